@@ -17,12 +17,15 @@ use Rattle.sctp_model.proofs.sender.PlanLaws.{continued_is, continued_new, conti
 use Rattle.sctp_model.proofs.sender.CountLaws.{is_named}
 use Rattle.sctp_model.proofs.sender.QueueLaws.{IsTaken}
 use Rattle.sctp_send.specs.SenderKept.{Item, Rest, Track, Kept}
-use Rattle.sctp_send.specs.SenderStands.{rest_here, Holds, Keeps}
-use Rattle.sctp_send.specs.inner.Walks.{total, one_if_rest}
+use Rattle.sctp_model.specs.sender.Abandoning.{waits, has_ticket}
+use Rattle.sctp_send.specs.SenderStands.{rest_here, track_here, Holds, Keeps}
+use Rattle.sctp_send.specs.inner.Walks.{total, one_if_rest, rest_has}
 use Rattle.sctp_send.specs.declared.message.Fate.TheVariants.{Numbered}
 pub use Rattle.sctp_send.specs.inner.Newcomers.{begun_items}
 use Rattle.sctp_send.proofs.KeepLemmas.{kept_length}
 use Rattle.sctp_send.proofs.QueueLemmas.{kept_in_part}
+use Rattle.sctp_send.proofs.TableLemmas.{length-table}
+use Rattle.sctp_send.proofs.OverLemmas.{no_item_more, no_item_one, no_begun, no_rest_set, no_rest_at, no_rest_begun, no_rest_after, not_waiting_taken, another_taken}
 use Rattle.sctp_send.proofs.GoneLemmas.{gone_item, holds_sent}
 use Rattle.sctp_send.proofs.NewItems.{new_item, new_items, numbered}
 use Rattle.sctp_send.proofs.AssignLemmas.{number_in, begun_track, track_at, holds_begun}
@@ -89,6 +92,18 @@ begun_kept f s v q rest d turn capacity room x k taken low first space =
     let count = kept_length f s v k in
     record {
       holds = holds_first (after_begun s q rest d turn capacity (get_or s.tracks q.lane.stream x)) u (suc (length v.plan.entries)) s.items behind (new_item (Part q.lane n 0) q.message) h (omega (arith, count));
+      over = record {
+        within = k.over.within;
+        each = λ t le.
+            let o = k.over.each t le in
+            let waits = ap (waits t) (sym k.holds.queue) ∙ o.queue in
+            let other = another_taken t q rest v.queue taken waits in
+            record {
+              queue = not_waiting_taken t q rest v.queue taken waits;
+              tracks = no_rest_set t q.lane.stream s.tracks (begun_track q (suc d) (get_or s.tracks q.lane.stream x)) o.tracks (no_rest_begun t q (suc d) (get_or s.tracks q.lane.stream x) other);
+              items = no_item_more t s.items (begun_items q.lane n q.message (suc d)) o.items (no_begun t q.lane n q.message d other);
+            };
+      };
       reached = Goes v room (newcomer v u) k.reached parts.0 parts.1;
     }
 
@@ -161,6 +176,19 @@ continued_kept f s v j turn capacity room e x k low on first space =
     let count = kept_length f s v k in
     record {
       holds = holds_first (after_continued s j r turn capacity (get_or s.tracks j x)) u (suc (length v.plan.entries)) s.items [] (rest_item r) h (omega (arith, count));
+      over = record {
+        within = k.over.within;
+        each = λ t le.
+            let o = k.over.each t le in
+            let long = ap (λ (ts : List Track). length ts) k.holds.tracks ∙ length-table (track_here v) 0 v.streams in
+            let there : (get_or s.tracks j x).rest ≡ Some r = ap (λ (y : Track). y.rest) (track_at f s v j x k low) ∙ ap (rest_here v.plan) on in
+            let other : has_ticket t r.message ≡ false = ap (rest_has t) (sym there) ∙ no_rest_at t j s.tracks x (omega (arith, long)) o.tracks in
+            record {
+              queue = o.queue;
+              tracks = no_rest_set t j s.tracks (record (get_or s.tracks j x) { rest = rest_after r.entry r.message }) o.tracks (no_rest_after t r.entry r.message other);
+              items = no_item_one t s.items (gone_item (rest_item r)) o.items other;
+            };
+      };
       reached = Goes v room (newcomer v u) k.reached parts.0 parts.1;
     }
 

@@ -7,7 +7,7 @@ use Rattle.sctp_model.specs.messages.Plan.{Message, Entry, Part, End, Plan, mess
 use Rattle.sctp_model.specs.sender.Assigning.{with_entry}
 use Rattle.sctp_model.specs.sender.SenderView.{SenderView}
 use Rattle.sctp_model.specs.sender.Entries.{entry_message, is_of, is_in_part, passes_at, continued, one_if_some}
-use Rattle.sctp_model.specs.sender.Abandoning.{Name, is_covered, with_abandoned, abandon_after}
+use Rattle.sctp_model.specs.sender.Abandoning.{Name, has_ticket, is_covered, with_abandoned, abandon_after}
 use Rattle.sctp_model.specs.sender.Reached.{IsReached, Abandons}
 use Rattle.sctp_model.proofs.sender.Bounds.{is_bounded}
 use Rattle.sctp_model.proofs.sender.CountLaws.{is_named}
@@ -23,6 +23,7 @@ use Rattle.sctp_send.specs.inner.Walks.{any_rest, rest_has, end_item, EndsAt}
 use Rattle.sctp_send.specs.declared.message.Fate.TheVariants.{Abandoned as WasAbandoned}
 use Rattle.sctp_send.proofs.TableLemmas.{table-set, table-same}
 use Rattle.sctp_send.proofs.TicketLemmas.{kept_goes_on}
+use Rattle.sctp_send.proofs.OverLemmas.{same_items, no_item_one, no_rest_set, no_rest_there}
 use Rattle.sctp_send.proofs.GivenLemmas.{given_item, all_own_drop, same_messages, same_entry_message, given-items_from, given_fates, IsKept, given_after}
 
 -- ---- abandoned: what stands above CUM
@@ -36,6 +37,14 @@ given_items f s v t n k m =
     let own = all_own_drop v.plan v.tickets v.cum v.plan.entries v.plan.entries (is_ticketed f v k.reached).owned in
     ap (map (given_item t)) k.holds.items
     ∙ given-items_from f v t n (suc v.cum) (drop v.cum v.plan.entries) k.reached m.named own (λ j lt. let next : suc v.cum + j ≡ suc (v.cum + j) = omega arith in rw next (get-drop v.cum v.plan.entries j))
+
+-- each item stays that of its message
+given_message : (t : ℕ) (x : Item) → (given_item t x).message ≡ x.message
+given_message t x = by_test (has_ticket t x.message)
+  where
+    by_test : (b : Bool) → (if b then record x { abandoned = true; marked = false } else x).message ≡ x.message
+    by_test true = refl
+    by_test false = refl
 
 -- ---- abandoned: what streams go on with
 
@@ -110,6 +119,7 @@ keeps_given f s v t n k m off partial none =
         covered = k.holds.covered;
         room = omega (arith, long, fewer, room);
       };
+      over = record { within = k.over.within; each = λ x le. let o = k.over.each x le in record { queue = o.queue; tracks = o.tracks; items = same_items x (given_item t) s.items (given_message t) ∙ o.items } };
       reached = rw after at reached;
     })
 
@@ -182,6 +192,17 @@ keeps_ended f s v t n r tracks k m off partial ends =
           fates = given_fates f s v t n k m.named m.low m.high;
           covered = k.holds.covered;
           room = omega (arith, long, more, fewer, parts, room);
+        };
+        over = record {
+          within = k.over.within;
+          each = λ x le.
+              let o = k.over.each x le in
+              let other : has_ticket x r.message ≡ false = ap (rest_has x) (sym ends.rest) ∙ no_rest_there x ends.at s.tracks ends.track ends.there o.tracks in
+              record {
+                queue = o.queue;
+                tracks = ap (any_rest x) ends.now ∙ no_rest_set x ends.at s.tracks (record ends.track { rest = None }) o.tracks refl;
+                items = no_item_one x (map (given_item t) s.items) (end_item r) (same_items x (given_item t) s.items (given_message t) ∙ o.items) other;
+              };
         };
         reached = rw after at reached;
       }),

@@ -16,7 +16,7 @@ use Rattle.sctp_send.specs.PartsKept.{OutstandingKept, IsSameRoom}
 use Rattle.sctp_send.specs.SenderKept.{Item, Rest, Track, Kept}
 use Rattle.sctp_send.specs.OutstandingFields.{item_meaning, queued_meaning, lane_meaning, message_meaning, entry_meaning}
 use Rattle.sctp_send.specs.inner.Newcomers.{gone_item, new_item, new_items, begun_items, fresh_track, track_of, number_on, without_place, number_in, counted_in, begun, gone_on}
-use Rattle.sctp_send.specs.inner.Drafting.{numbers_of, all_numbered, drafted, fragment_chunk, fragment_item, rest_from, counted_track, left_track}
+use Rattle.sctp_send.specs.inner.Drafting.{numbers_of, all_numbered, AreOpen, drafted, fragment_chunk, fragment_item, rest_from, counted_track, left_track}
 use Rattle.sctp_send.specs.SenderFields.{queued_by, latest_in, number_left, track_meaning, rest_meaning}
 use Rattle.std.specs.declared.alloc.Global.{Global}
 use Rattle.std.specs.declared.rc.Rc.{Rc}
@@ -137,10 +137,11 @@ numbered_more ts i at fates after d all lt is now before =
     let place : get_or (numbers_of ts) i d.0 - 1 ≡ at = ap (λ (n : ℕ). n - 1) (number_read ts i d) ∙ sym is in
     before ∙ numbered_step (numbers_of ts) i fates d.0 (omega (arith, long)) ∙ rw (place, one, now) refl
 
-pub set_past : (fates : List Fate) (at : ℕ) → length fates ≤ at → fates ≡ set fates at Numbered
-set_past [] at le = refl
-set_past (x ∷ xs) zero le = absurd (omega arith)
-set_past (x ∷ xs) (suc at) le = ap (λ (ys : List Fate). x ∷ ys) (set_past xs at (omega arith))
+-- it isn't over
+pub open_at : (ended : ℕ) (ts : List Ticket) (i : ℕ) (d : Ticket) → AreOpen ended (numbers_of ts) → i < length ts → ended < (get_or ts i d).0
+open_at ended [] i d are lt = absurd (omega arith)
+open_at ended (t ∷ ts) zero d are lt = are.0
+open_at ended (t ∷ ts) (suc i) d are lt = open_at ended ts i d are.1 (omega arith)
 
 pub numbered_end : (ts : List Ticket) (i : ℕ) (fates all : List Fate) → length ts ≤ i → all ≡ all_numbered fates (drop i (numbers_of ts)) → fates ≡ all
 numbered_end ts i fates all le before =

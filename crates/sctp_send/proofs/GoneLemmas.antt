@@ -10,6 +10,7 @@ use Rattle.sctp_model.specs.sender.Reached.{Goes}
 use Rattle.sctp_model.proofs.sender.FillLaws.{goes_parts}
 use Rattle.sctp_send.specs.SenderKept.{Item, Kept}
 use Rattle.sctp_send.specs.SenderStands.{item_here, items_from, Holds, Keeps}
+use Rattle.sctp_send.proofs.OverLemmas.{same_gone}
 pub use Rattle.sctp_send.specs.inner.Newcomers.{gone_item}
 
 item_other : (v : SenderView) (i j : ℕ) (e : Entry) → (j ≡ i → ⊥) → item_here (with_sent v i) j e ≡ item_here v j e
@@ -66,4 +67,8 @@ pub keeps_gone : (f : Format) (s : Kept) (v : SenderView) (room at : ℕ) (d : I
     → Keeps f (record s { items = set s.items at (gone_item (get_or s.items at d)) }) (gone (standing v (suc (v.cum + at))))
 keeps_gone f s v room at d k first low =
     let parts = goes_parts f room v (standing v (suc (v.cum + at))) first in
-    record { holds = holds_sent s v at d k.holds low; reached = Goes v room (standing v (suc (v.cum + at))) k.reached parts.0 parts.1 }
+    record {
+      holds = holds_sent s v at d k.holds low;
+      over = record { within = k.over.within; each = λ t le. let o = k.over.each t le in record { queue = o.queue; tracks = o.tracks; items = same_gone t at s.items d ∙ o.items } };
+      reached = Goes v room (standing v (suc (v.cum + at))) k.reached parts.0 parts.1;
+    }

@@ -23,6 +23,7 @@ use Rattle.sctp_send.proofs.TableLemmas.{table-replicate}
 use Rattle.sctp_send.proofs.ItemLemmas.{timed_item}
 use Rattle.sctp_send.proofs.RunLemmas.{AreOfBlocks, covered_behind}
 use Rattle.sctp_send.proofs.CoverLemmas.{items_told, count_items_told}
+use Rattle.sctp_send.proofs.OverLemmas.{no_item_behind, same_items, same_told, no_rests}
 
 -- ---- how much is kept
 
@@ -42,7 +43,7 @@ kept_length f s v k =
 next_cum : (f : Format) (s : Kept) (v : SenderView) (wire n : ℕ) → Keeps f s v → IsPassing v wire n → (s.cum + n) % 2 ^ 64 ≡ index_of v wire
 next_cum f s v wire n k p = let cum = k.holds.cum in let most = is_promised f v k.reached in omega (arith, cum, most, p.index, p.within)
 
-items_beyond : (v : SenderView) (es : List Entry) (i n : ℕ) → items_from v (n + i) (drop n es) ≡ drop n (items_from v i es)
+pub items_beyond : (v : SenderView) (es : List Entry) (i n : ℕ) → items_from v (n + i) (drop n es) ≡ drop n (items_from v i es)
 items_beyond v es i zero = ap (λ (j : ℕ). items_from v j es) (let same : 0 + i ≡ i = omega arith in same)
 items_beyond v [] i (suc n) = refl
 items_beyond v (e ∷ es) i (suc n) = let same : suc n + i ≡ n + suc i = omega arith in ap (λ (j : ℕ). items_from v j (drop n es)) same ∙ items_beyond v es (suc i) n
@@ -109,6 +110,10 @@ keeps_sacked f s v x n rs k p none runs =
         covered = sacked_runs rs (index_of v x.cumulative) x.blocks runs;
         room = omega (arith, count, fewer, room);
       };
+      over = record {
+        within = k.over.within;
+        each = λ t le. let o = k.over.each t le in record { queue = o.queue; tracks = o.tracks; items = same_told t (in_blocks 0 x.blocks) 1 (drop n s.items) ∙ no_item_behind t n s.items o.items };
+      };
       reached = Covers v x k.reached none;
     })
 
@@ -152,6 +157,7 @@ keeps_shut f s v wire n k p none =
         covered = covered_behind s.runs v.covered v.cum (index_of v wire) n p.index k.holds.covered;
         room = omega (arith, fewer, room);
       };
+      over = record { within = k.over.within; each = λ t le. let o = k.over.each t le in record { queue = o.queue; tracks = o.tracks; items = no_item_behind t n s.items o.items } };
       reached = Closes v wire k.reached none;
     })
 
@@ -187,12 +193,13 @@ keeps_timed f s v k =
         covered = k.holds.covered;
         room = omega (arith, long, room);
       };
+      over = record { within = k.over.within; each = λ t le. let o = k.over.each t le in record { queue = o.queue; tracks = o.tracks; items = same_items t timed_item s.items (λ y. refl) ∙ o.items } };
       reached = Repeats v k.reached;
     }
 
 -- a sender that was given nothing
 pub keeps_fresh : (f : Format) (initial streams fragment rwnd capacity : ℕ) (partial : Bool) → 0 < fragment
-    → Keeps f (record { initial = initial; streams = streams; fragment = fragment; partial = partial; cum = 0; rwnd = rwnd; turn = 0; items = []; queue = []; tracks = replicate streams (record { ordered = 0; unordered = 0; rest = None }); fates = []; runs = Some []; capacity = capacity })
+    → Keeps f (record { initial = initial; streams = streams; fragment = fragment; partial = partial; cum = 0; rwnd = rwnd; turn = 0; items = []; queue = []; tracks = replicate streams (record { ordered = 0; unordered = 0; rest = None }); fates = []; ended = 0; runs = Some []; capacity = capacity })
     (fresh_sender initial streams fragment rwnd partial)
 keeps_fresh f initial streams fragment rwnd capacity partial large = record {
   holds = record {
@@ -210,5 +217,6 @@ keeps_fresh f initial streams fragment rwnd capacity partial large = record {
     covered = (tt, λ i some. refl);
     room = let none = sum-zero (λ j. 0) streams (λ j. refl) in omega (arith, none);
   };
+  over = record { within = omega arith; each = λ t le. record { queue = refl; tracks = no_rests t streams; items = refl } };
   reached = Begins initial streams fragment rwnd partial large;
 }

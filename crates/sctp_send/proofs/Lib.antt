@@ -4,6 +4,7 @@ pub mod StoodLemmas
 pub mod ItemLemmas
 pub mod CoverLemmas
 pub mod RunLemmas
+pub mod OverLemmas
 pub mod KeepLemmas
 pub mod TellLemmas
 pub mod GapLemmas
@@ -65,3 +66,6 @@ pub mod PartWalks
 pub mod MomentWalks
 pub mod PartBounds
 pub mod QueueBounds
+pub mod FateLemmas
+pub mod OverKept
+pub mod PastLemmas

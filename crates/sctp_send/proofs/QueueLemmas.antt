@@ -29,6 +29,7 @@ use Rattle.sctp_send.specs.inner.Walks.{total, one_if_rest, rest_owes}
 use Rattle.sctp_send.specs.declared.message.Fate.{Fate}
 use Rattle.sctp_send.specs.declared.message.Fate.TheVariants.{Queued as StillQueued}
 use Rattle.sctp_send.proofs.TableLemmas.{table-push, table-same, length-table}
+use Rattle.sctp_send.proofs.OverLemmas.{not_waiting_more}
 use Rattle.sctp_send.proofs.KeepLemmas.{kept_length}
 
 -- ---- fragments
@@ -110,6 +111,10 @@ keeps_queued f s v lane payload ticket bytes until k free given =
         fates = fates;
         covered = k.holds.covered;
         room = k.holds.room;
+      };
+      over = let within = k.over.within in record {
+        within = omega arith;
+        each = λ t le. let o = k.over.each t le in record { queue = not_waiting_more t s.queue _ o.queue (λ is. omega arith); tracks = o.tracks; items = o.items };
       };
       reached = Queues v lane payload bytes until k.reached free;
     }

@@ -19,6 +19,7 @@ use Rattle.sctp_send.specs.SenderStands.{table, fate_here, fate_named, Keeps}
 use Rattle.sctp_send.specs.declared.message.Message.{Message as MessageFields}
 use Rattle.sctp_send.specs.declared.message.Fate.TheVariants.{Queued as StillQueued, Withdrawn}
 use Rattle.sctp_send.proofs.TableLemmas.{table-set}
+use Rattle.sctp_send.proofs.OverLemmas.{not_waiting_without}
 use Rattle.sctp_send.proofs.WalkLemmas.{none_behind, queue_read}
 
 -- ---- the place of a message that waits
@@ -121,5 +122,6 @@ keeps_withdrawn f s v t k on =
         covered = k.holds.covered;
         room = k.holds.room;
       };
+      over = record { within = k.over.within; each = λ x le. let o = k.over.each x le in record { queue = not_waiting_without x t s.queue o.queue; tracks = o.tracks; items = o.items } };
       reached = rw after at reached;
     })

@@ -3,6 +3,7 @@ use Rattle.std.specs.Prelude.{◌≡◌, ℕ, zero, suc, List, [], ◌∷◌}
 use Rattle.std.specs.declared.rc.Rc.{Rc}
 use Rattle.std.specs.declared.alloc.Global.{Global}
 use Rattle.sctp_send.specs.declared.message.Message.{Message}
+use Rattle.sctp_send.specs.declared.message.Fate.{Fate}
 use Rattle.sctp_send.specs.declared.entry.Entry.{Entry as EntryFields}
 use Rattle.sctp_send.specs.declared.track.Track.{Track}
 
@@ -22,6 +23,12 @@ pub record QueueKept : Type 0 where
 pub record StreamsKept : Type 0 where
   pub size : ℕ
   pub items : List Track
+
+-- what became of each ticket, from 1 on; of how many of the first of them this stands for good; and of how many there is room for
+pub record FatesKept : Type 0 where
+  pub items : List Fate
+  pub ended : ℕ
+  pub capacity : ℕ
 
 -- a list in which the element at a place is changed
 abbrev pub at_place : {A : Type 0} → (A → A) → ℕ → List A → List A

@@ -39,6 +39,8 @@ pub record Kept : Type 0 where
   pub tracks : List Track
   -- by ticket, from 1 on
   pub fates : List Fate
+  -- so many of the first tickets are over: nothing else is kept of them
+  pub ended : ℕ
   -- what is covered above CUM, where that is known
   pub runs : Option (List CoveredRun)
   -- how many entries above CUM there is room for

@@ -13,3 +13,4 @@ pub mod Lanes
 pub mod Bounding
 pub mod TicketOrder
 pub mod PartPairs
+pub mod FateBlocks

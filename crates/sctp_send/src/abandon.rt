@@ -66,12 +66,12 @@ impl<F: Framing> Sender<F> {
         if at > self.head.fates.len() {
             return Abandoned::Unknown;
         }
-        match self.head.fates[at - 1] {
+        match self.head.fates.get(at - 1) {
             Fate::Withdrawn => Abandoned::Withdrawn,
             Fate::Abandoned => Abandoned::Abandoned,
             Fate::Queued => {
                 withdraw(&mut self.parts.queue, ticket.0);
-                self.head.fates[at - 1] = Fate::Withdrawn;
+                self.head.fates.set(at - 1, Fate::Withdrawn);
                 Abandoned::Withdrawn
             }
             Fate::Numbered => self.abandon_numbered(ticket.0),
@@ -91,7 +91,7 @@ impl<F: Framing> Sender<F> {
         if !self.head.partial {
             return Abandoned::Reliable;
         }
-        self.head.fates[ticket as usize - 1] = Fate::Abandoned;
+        self.head.fates.set(ticket as usize - 1, Fate::Abandoned);
         self.parts.outstanding.abandon(ticket);
         if let Some(ending) = end(&mut self.parts.tracks, ticket) {
             push_end(&mut self.parts.outstanding, ending);

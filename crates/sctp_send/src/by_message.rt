@@ -1,12 +1,12 @@
 //! The outstanding entries message by message, in the order of their tickets: what is covered, and what is abandoned.
 
-ghost use Rattle.std.specs.Prelude.{◌≡◌, ℕ, ◌<◌, map, length};
+ghost use Rattle.std.specs.Prelude.{◌≡◌, ℕ, ◌<◌, ◌≤◌, true, false, map, length};
 ghost use Rattle.std.specs.VecDeque.{deque_capacity};
 ghost use Rattle.sctp_send.specs.OutstandingFields.{item_meaning};
 ghost use Rattle.sctp_send.specs.PartsKept.{IsSameRoom, at_place};
 ghost use Rattle.sctp_send.specs.inner.Changes.{given, all_given};
 ghost use Rattle.sctp_send.specs.inner.Counting.{IsCounted};
-ghost use Rattle.sctp_send.specs.inner.Walks.{any_uncovered, is_item_uncovered};
+ghost use Rattle.sctp_send.specs.inner.Walks.{any_item, any_uncovered, is_item_uncovered};
 
 use crate::counts::{Counts, stand_one};
 use crate::entry::{Entry, unmarked};
@@ -27,6 +27,13 @@ impl Outstanding {
             }
         }
         false
+    }
+
+    /// All entries are of messages with tickets behind this one.
+    pub fn is_past(&self, last: u64) -> bool
+        ensures { (size t : ℕ) → result ≡ true → t ≤ last → any_item t (map (item_meaning size) self.now.items) ≡ false }
+    {
+        self.by_ticket.place(last, usize::MAX) == 0
     }
 
     /// Each entry of the message with this ticket is abandoned.

@@ -4,10 +4,11 @@ ghost use Rattle.std.specs.Prelude.{◌≡◌, [], IfOk, OnErr, OnOk};
 ghost use Rattle.sctp_model.specs.sender.SenderView.{SenderView};
 ghost use Rattle.sctp_send.specs.SenderStands.{StandsFor, Keeps};
 ghost use Rattle.sctp_send.specs.FillAnswers.{FillAnswer, PutSomeOf};
-ghost use Rattle.sctp_send.specs.inner.Drafting.{bare, numbers_of, all_numbered, drafted, AllPut};
+ghost use Rattle.sctp_send.specs.inner.Drafting.{bare, numbers_of, all_numbered, drafted, AreOpen, AllPut};
 ghost use Rattle.sctp_send.specs.inner.Undoing.{IsSized, IsBehind};
 
 use crate::draft::{Draft, begin_anew, undo_all};
+use crate::fates::Fates;
 use crate::head::Head;
 use crate::message::Fate;
 use crate::sender::Sender;
@@ -74,13 +75,12 @@ impl Head {
 }
 
 /// The messages with these tickets have their numbers.
-fn number_all(fates: &mut Vec<Fate>, tickets: &[Ticket])
-    ensures { fates.new.items ≡ all_numbered fates.old.items (numbers_of tickets.now) }
+fn number_all(fates: &mut Fates, tickets: &[Ticket])
+    ensures items { AreOpen fates.old.ended (numbers_of tickets.now) → fates.new.items ≡ all_numbered fates.old.items (numbers_of tickets.now) }
+    ensures ended { fates.new.ended ≡ fates.old.ended }
 {
     for ticket in tickets {
         let at = (ticket.0 as usize).saturating_sub(1);
-        if at < fates.len() {
-            fates[at] = Fate::Numbered;
-        }
+        fates.set(at, Fate::Numbered);
     }
 }

@@ -1,7 +1,8 @@
 //! What of a sender a fill leaves as it is, but for the fates that it tells of in the end.
 
 use crate::entry::CoveredRun;
-use crate::message::{Fate, Message};
+use crate::fates::Fates;
+use crate::message::Message;
 use std::alloc::Global;
 use std::rc::Rc;
 
@@ -18,7 +19,7 @@ pub struct Head {
     // the peer's last advertised window, in bytes
     pub rwnd: u32,
     // by ticket, from 1 on
-    pub fates: Vec<Fate>,
+    pub fates: Fates,
     // what the last SACK covers above CUM, unless it had too many blocks; it has no room until a SACK comes behind the first entry
     pub covered: Vec<CoveredRun>,
     pub is_known: bool,

@@ -4,6 +4,7 @@
 
 mod abandon;
 mod assigning;
+mod blocks;
 mod bounds;
 mod by_message;
 mod by_moment;
@@ -14,6 +15,7 @@ mod draft;
 mod entering;
 mod entry;
 mod expire;
+mod fates;
 mod fill;
 mod forward;
 mod head;

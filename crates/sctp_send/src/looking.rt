@@ -57,6 +57,28 @@ pub fn goes_on_at(tracks: &[Track], stream: u16) -> bool
     }
 }
 
+/// The message in part of a stream, if there is one, has a ticket behind this one.
+fn is_past(track: &Track, last: u64) -> bool
+    ensures { (size t : ℕ) → result ≡ true → t ≤ last → rest_has t (track_meaning size track.now).rest ≡ false }
+{
+    match &track.rest {
+        Some(rest) => last < rest.message.ticket,
+        None => true,
+    }
+}
+
+/// All messages in part have tickets behind this one.
+pub fn are_past(tracks: &[Track], last: u64) -> bool
+    ensures { (size t : ℕ) → result ≡ true → t ≤ last → any_rest t (map (track_meaning size) tracks.now) ≡ false }
+{
+    for at in 0..tracks.len() {
+        if !is_past(&tracks[at], last) {
+            return false;
+        }
+    }
+    true
+}
+
 // ---- those that are listed
 
 /// The lowest ticket above the last one of messages in part that are past their time, or one found before: the first such in the list.

@@ -1,17 +1,21 @@
 //! Messages handed in: refused for the first reason that holds, or queued (RFC 9260, 6.9).
 
-ghost use Rattle.std.specs.Prelude.{◌≡◌, ℕ, ◌++◌, ◌∷◌, [], map, OnOk, OnErr, IfErr};
+ghost use Rattle.std.specs.Prelude.{◌≡◌, ℕ, ◌≤◌, ◌++◌, ◌∷◌, [], true, false, map, OnOk, OnErr, IfErr};
 ghost use Rattle.sctp_model.specs.sender.SenderView.{SenderView};
 ghost use Rattle.sctp_model.specs.sender.Queueing.{promised};
-ghost use Rattle.sctp_send.specs.OutstandingFields.{queued_meaning};
-ghost use Rattle.sctp_send.specs.SenderFields.{queued_by};
+ghost use Rattle.sctp_send.specs.OutstandingFields.{item_meaning, queued_meaning};
+ghost use Rattle.sctp_send.specs.SenderFields.{queued_by, track_meaning};
+ghost use Rattle.sctp_send.specs.inner.Walks.{any_item, any_rest};
 ghost use Rattle.sctp_send.specs.declared.queueing.SendFault.TheVariants.{NoMemory};
 ghost use Rattle.sctp_send.specs.SenderStands.{StandsFor};
 ghost use Rattle.sctp_send.specs.SenderAnswers.{QueueAnswer, queue_after, lane_for};
 
+use crate::looking::are_past;
 use crate::message::{Fate, Message, fragments_of, owed, placed};
+use crate::outstanding::Outstanding;
 use crate::queue::Queue;
 use crate::sender::Sender;
+use crate::streams::Streams;
 use sctp_framing::Framing;
 use sctp_values::{Kind, LONGEST_MESSAGE, QUEUE_LIMIT, TICKET_LIMIT, TSN_LIMIT, Ticket};
 use std::alloc::Global;
@@ -60,6 +64,24 @@ impl<F: Framing> Sender<F> {
         ensures step { (v : SenderView) → StandsFor F.format self.old v
             → StandsFor F.format self.new (queue_after v (lane_for stream ordered) payload_id bytes.items until result) }
     {
+        let answer = self.accept(stream, ordered, payload_id, bytes, until);
+        self.end_tickets();
+        answer
+    }
+
+    /// The same, without a look at the tickets that are over.
+    fn accept(
+        &mut self,
+        stream: u16,
+        ordered: bool,
+        payload_id: u32,
+        bytes: Vec<u8>,
+        until: Option<u64>,
+    ) -> Result<Ticket, SendFault>
+        ensures answer { (v : SenderView) → StandsFor F.format self.old v → QueueAnswer v stream bytes.items result }
+        ensures step { (v : SenderView) → StandsFor F.format self.old v
+            → StandsFor F.format self.new (queue_after v (lane_for stream ordered) payload_id bytes.items until result) }
+    {
         if stream >= self.head.streams {
             return Err(SendFault::NoSuchStream);
         }
@@ -81,7 +103,7 @@ impl<F: Framing> Sender<F> {
         if promised.wrapping_add(more) > TSN_LIMIT {
             return Err(SendFault::Spent);
         }
-        match self.head.fates.reserve(1) {
+        match self.head.fates.reserve() {
             Ok(()) => {}
             Err(_) => return Err(SendFault::NoMemory),
         }
@@ -101,8 +123,21 @@ impl<F: Framing> Sender<F> {
             message,
         )?;
         // There is room for it.
-        self.head.fates.push_reserved(Fate::Queued);
+        self.head.fates.push(Fate::Queued);
         Ok(Ticket(ticket))
+    }
+
+    /// Where nothing is kept of a block of tickets but their fates, these stand for good, and take less room where they are alike.
+    fn end_tickets(&mut self)
+        ensures { (v : SenderView) → StandsFor F.format self.old v → StandsFor F.format self.new v }
+    {
+        let Some(last) = self.head.fates.next_end() else {
+            return;
+        };
+        if !is_past(&self.parts.tracks, &self.parts.outstanding, last) {
+            return;
+        }
+        self.head.fates.end_block();
     }
 
     /// The TSNs assigned, and those that the accepted messages may still take.
@@ -137,4 +172,12 @@ fn enqueue(
         Ok(()) => Ok(()),
         Err(_) => Err(SendFault::NoMemory),
     }
+}
+
+/// No message up to this ticket is in part, or has an entry above CUM.
+fn is_past(tracks: &Streams, outstanding: &Outstanding, last: u64) -> bool
+    ensures tracks { (size t : ℕ) → result ≡ true → t ≤ last → any_rest t (map (track_meaning size) tracks.now.items) ≡ false }
+    ensures items { (size t : ℕ) → result ≡ true → t ≤ last → any_item t (map (item_meaning size) outstanding.now.items) ≡ false }
+{
+    outstanding.is_past(last) && are_past(tracks.tracks(), last)
 }

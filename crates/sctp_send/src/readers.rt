@@ -109,7 +109,7 @@ impl<F: Framing> Sender<F> {
         if at > self.head.fates.len() {
             return false;
         }
-        let fate = self.head.fates[at - 1];
+        let fate = self.head.fates.get(at - 1);
         if !is_numbered(fate) {
             return false;
         }
@@ -127,7 +127,7 @@ impl<F: Framing> Sender<F> {
         if at > self.head.fates.len() {
             return false;
         }
-        let fate = self.head.fates[at - 1];
+        let fate = self.head.fates.get(at - 1);
         was_abandoned(fate)
     }
 }

@@ -7,6 +7,7 @@ ghost use Rattle.sctp_model.specs.sender.SenderView.{SenderView, fresh_sender};
 ghost use Rattle.sctp_send.specs.SenderStands.{StandsFor};
 
 use crate::draft::Draft;
+use crate::fates::Fates;
 use crate::head::Head;
 use crate::message::SPENT;
 use crate::outstanding::Outstanding;
@@ -48,6 +49,7 @@ impl<F: Framing> Model for Sender<F> {
       queue = map (queued_by s.head.fragment) s.parts.queue.items;
       tracks = map (track_meaning s.head.fragment) s.parts.tracks.items;
       fates = s.head.fates.items;
+      ended = s.head.fates.ended;
       runs = when s.head.is_known s.head.covered.items;
       capacity = s.parts.outstanding.capacity;
     } };
@@ -87,7 +89,7 @@ impl<F: Framing> Sender<F> {
                 partial,
                 cum: 0,
                 rwnd: peer_rwnd,
-                fates: Vec::new(alloc),
+                fates: Fates::new(alloc),
                 covered: Vec::new(alloc),
                 is_known: true,
                 spare: Vec::new(alloc),

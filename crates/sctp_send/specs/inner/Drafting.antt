@@ -43,6 +43,11 @@ abbrev pub all_numbered : List Fate → List ℕ → List Fate
 all_numbered fates [] = fates
 all_numbered fates (t ∷ ts) = all_numbered (slice_set fates (t - 1) Numbered) ts
 
+-- all of these tickets lie behind those that are over
+abbrev pub AreOpen : (ended : ℕ) → List ℕ → Type 0
+AreOpen n [] = Unit {0}
+AreOpen n (t ∷ ts) = (n < t) × AreOpen n ts
+
 -- what a sender keeps with this head, whose parts have nothing in them
 abbrev pub bare : Head → Kept
 bare h = record {
@@ -57,6 +62,7 @@ bare h = record {
   queue = [];
   tracks = [];
   fates = h.fates.items;
+  ended = h.fates.ended;
   runs = when h.is_known h.covered.items;
   capacity = 0;
 }

@@ -55,6 +55,13 @@ is_numbered_fate Numbered = true
 is_numbered_fate Withdrawn = false
 is_numbered_fate WasAbandoned = false
 
+-- the message waits for its number
+abbrev pub is_queued_fate : Fate → Bool
+is_queued_fate StillQueued = true
+is_queued_fate Numbered = false
+is_queued_fate Withdrawn = false
+is_queued_fate WasAbandoned = false
+
 -- ---- a message by its ticket
 
 -- an item of the message with this ticket is not covered
@@ -65,6 +72,11 @@ is_item_uncovered t x = has_ticket t x.message && not x.covered
 abbrev pub any_uncovered : ℕ → List Item → Bool
 any_uncovered t [] = false
 any_uncovered t (x ∷ xs) = is_item_uncovered t x || any_uncovered t xs
+
+-- some item is of the message with this ticket
+abbrev pub any_item : ℕ → List Item → Bool
+any_item t [] = false
+any_item t (x ∷ xs) = has_ticket t x.message || any_item t xs
 
 -- what is left is of the message with this ticket
 abbrev pub rest_has : ℕ → Option Rest → Bool

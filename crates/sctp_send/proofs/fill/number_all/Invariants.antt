@@ -1,6 +1,9 @@
 use Rattle.std.proofs.Common.{◌≡◌, drop}
-use Rattle.sctp_send.specs.inner.Drafting.{numbers_of, all_numbered}
+use Rattle.sctp_send.specs.inner.Drafting.{numbers_of, all_numbered, AreOpen}
 use Rattle.sctp_send.proofs.fill.number_all.Given as goal
 
 abbrev pub invariant-loop-ticket : goal.invariant-loop-ticket
-invariant-loop-ticket l = all_numbered l.initial.fates.items (numbers_of l.tickets) ≡ all_numbered l.fates.items (drop l.ticket-index (numbers_of l.tickets))
+invariant-loop-ticket l = record {
+  ended : l.fates.ended ≡ l.initial.fates.ended;
+  done : AreOpen l.initial.fates.ended (numbers_of l.tickets) → all_numbered l.initial.fates.items (numbers_of l.tickets) ≡ all_numbered l.fates.items (drop l.ticket-index (numbers_of l.tickets));
+}

@@ -5,6 +5,7 @@ use Rattle.sctp_send.specs.inner.Walks.{is_numbered_fate}
 use Rattle.sctp_send.specs.declared.message.Fate.TheVariants.{Queued as StillQueued, Numbered, Withdrawn, Abandoned as WasAbandoned}
 use Rattle.sctp_send.proofs.WithdrawLemmas.{keeps_withdrawn}
 use Rattle.sctp_send.proofs.AnswerLemmas.{fate_read, answered_unknown, AnsweredBy, answered_by}
+use Rattle.sctp_send.proofs.OverKept.{open_waiting}
 use Rattle.sctp_send.proofs.sender.Sender.abandon.Goals as goal
 
 pub returns-then-at-eq0-clause-answer : goal.returns-then-at-eq0-clause-answer
@@ -36,7 +37,7 @@ unfolding StandsFor
 returns-in-Withdrawn-clause-answer g c = λ v stands.
     let s = c.self.inside in
     let keeps = subst (λ (k : Kept). Keeps g.F.Framing.format k v) (sym c.self.view_is) stands in
-    let fate = fate_read g.F.Framing.format _ v c.args.ticket.0 c.index.result.now Withdrawn keeps (omega arith) (omega arith) c.index.ensures c.in-Withdrawn.is in
+    let fate = fate_read g.F.Framing.format _ v c.args.ticket.0 c.get.result Withdrawn keeps (omega arith) (omega arith) c.get.ensures c.in-Withdrawn.is in
     let by = subst (AnsweredBy v c.args.ticket.0) fate (answered_by g.F.Framing.format _ v c.args.ticket.0 keeps (omega arith) (omega arith)) in
     by.answer
 
@@ -45,7 +46,7 @@ unfolding StandsFor
 returns-in-Withdrawn-clause-step g c = λ v stands.
     let s = c.self.inside in
     let keeps = subst (λ (k : Kept). Keeps g.F.Framing.format k v) (sym c.self.view_is) stands in
-    let fate = fate_read g.F.Framing.format _ v c.args.ticket.0 c.index.result.now Withdrawn keeps (omega arith) (omega arith) c.index.ensures c.in-Withdrawn.is in
+    let fate = fate_read g.F.Framing.format _ v c.args.ticket.0 c.get.result Withdrawn keeps (omega arith) (omega arith) c.get.ensures c.in-Withdrawn.is in
     let by = subst (AnsweredBy v c.args.ticket.0) fate (answered_by g.F.Framing.format _ v c.args.ticket.0 keeps (omega arith) (omega arith)) in
     rw by.after stands
 
@@ -54,7 +55,7 @@ unfolding StandsFor
 returns-in-Abandoned-clause-answer g c = λ v stands.
     let s = c.self.inside in
     let keeps = subst (λ (k : Kept). Keeps g.F.Framing.format k v) (sym c.self.view_is) stands in
-    let fate = fate_read g.F.Framing.format _ v c.args.ticket.0 c.index.result.now WasAbandoned keeps (omega arith) (omega arith) c.index.ensures c.in-Abandoned.is in
+    let fate = fate_read g.F.Framing.format _ v c.args.ticket.0 c.get.result WasAbandoned keeps (omega arith) (omega arith) c.get.ensures c.in-Abandoned.is in
     let by = subst (AnsweredBy v c.args.ticket.0) fate (answered_by g.F.Framing.format _ v c.args.ticket.0 keeps (omega arith) (omega arith)) in
     by.answer
 
@@ -63,7 +64,7 @@ unfolding StandsFor
 returns-in-Abandoned-clause-step g c = λ v stands.
     let s = c.self.inside in
     let keeps = subst (λ (k : Kept). Keeps g.F.Framing.format k v) (sym c.self.view_is) stands in
-    let fate = fate_read g.F.Framing.format _ v c.args.ticket.0 c.index.result.now WasAbandoned keeps (omega arith) (omega arith) c.index.ensures c.in-Abandoned.is in
+    let fate = fate_read g.F.Framing.format _ v c.args.ticket.0 c.get.result WasAbandoned keeps (omega arith) (omega arith) c.get.ensures c.in-Abandoned.is in
     let by = subst (AnsweredBy v c.args.ticket.0) fate (answered_by g.F.Framing.format _ v c.args.ticket.0 keeps (omega arith) (omega arith)) in
     rw by.after stands
 
@@ -72,7 +73,7 @@ unfolding StandsFor
 returns-in-Queued-clause-answer g c = λ v stands.
     let s = c.self.inside in
     let keeps = subst (λ (k : Kept). Keeps g.F.Framing.format k v) (sym c.self.view_is) stands in
-    let fate = fate_read g.F.Framing.format _ v c.args.ticket.0 c.index.result.now StillQueued keeps (omega arith) (omega arith) c.index.ensures c.in-Queued.is in
+    let fate = fate_read g.F.Framing.format _ v c.args.ticket.0 c.get.result StillQueued keeps (omega arith) (omega arith) c.get.ensures c.in-Queued.is in
     let by = subst (AnsweredBy v c.args.ticket.0) fate (answered_by g.F.Framing.format _ v c.args.ticket.0 keeps (omega arith) (omega arith)) in
     by.0
 
@@ -81,16 +82,17 @@ unfolding StandsFor
 returns-in-Queued-clause-step g c = λ v stands.
     let s = c.self.inside in
     let keeps = subst (λ (k : Kept). Keeps g.F.Framing.format k v) (sym c.self.view_is) stands in
-    let fate = fate_read g.F.Framing.format _ v c.args.ticket.0 c.index.result.now StillQueued keeps (omega arith) (omega arith) c.index.ensures c.in-Queued.is in
+    let fate = fate_read g.F.Framing.format _ v c.args.ticket.0 c.get.result StillQueued keeps (omega arith) (omega arith) c.get.ensures c.in-Queued.is in
     let by = subst (AnsweredBy v c.args.ticket.0) fate (answered_by g.F.Framing.format _ v c.args.ticket.0 keeps (omega arith) (omega arith)) in
-    rw (c.withdraw.ensures.items s.head.fragment) (keeps_withdrawn g.F.Framing.format _ v c.args.ticket.0 keeps by.1)
+    let behind = open_waiting g.F.Framing.format _ v c.args.ticket.0 keeps by.1 in
+    rw (c.withdraw.ensures.items s.head.fragment, c.set.ensures.items (omega (arith, behind)), c.set.ensures.ended) (keeps_withdrawn g.F.Framing.format _ v c.args.ticket.0 keeps by.1)
 
 pub returns-in-Numbered-clause-answer : goal.returns-in-Numbered-clause-answer
 unfolding StandsFor
 returns-in-Numbered-clause-answer g c = λ v stands.
     let s = c.self.inside in
     let keeps = subst (λ (k : Kept). Keeps g.F.Framing.format k v) (sym c.self.view_is) stands in
-    let fate = fate_read g.F.Framing.format _ v c.args.ticket.0 c.index.result.now Numbered keeps (omega arith) (omega arith) c.index.ensures c.in-Numbered.is in
+    let fate = fate_read g.F.Framing.format _ v c.args.ticket.0 c.get.result Numbered keeps (omega arith) (omega arith) c.get.ensures c.in-Numbered.is in
     let on = ap is_numbered_fate fate in
     c.abandon_numbered.ensures.answer v stands on
 
@@ -99,6 +101,6 @@ unfolding StandsFor
 returns-in-Numbered-clause-step g c = λ v stands.
     let s = c.self.inside in
     let keeps = subst (λ (k : Kept). Keeps g.F.Framing.format k v) (sym c.self.view_is) stands in
-    let fate = fate_read g.F.Framing.format _ v c.args.ticket.0 c.index.result.now Numbered keeps (omega arith) (omega arith) c.index.ensures c.in-Numbered.is in
+    let fate = fate_read g.F.Framing.format _ v c.args.ticket.0 c.get.result Numbered keeps (omega arith) (omega arith) c.get.ensures c.in-Numbered.is in
     let on = ap is_numbered_fate fate in
     c.abandon_numbered.ensures.step v stands on

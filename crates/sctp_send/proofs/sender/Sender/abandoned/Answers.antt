@@ -22,4 +22,4 @@ unfolding StandsFor
 returns g c = λ v stands.
     let s = c.self.inside in
     let keeps = subst (λ (k : Kept). Keeps g.F.Framing.format k v) (sym c.self.view_is) stands in
-    c.was_abandoned.ensures ∙ ap is_abandoned_fate c.index-fate.ensures ∙ is_abandoned_at g.F.Framing.format _ v c.args.ticket.0 c.index-fate.result.now keeps (omega arith) (omega arith)
+    c.was_abandoned.ensures ∙ ap is_abandoned_fate c.get-fate.ensures ∙ is_abandoned_at g.F.Framing.format _ v c.args.ticket.0 c.get-fate.result keeps (omega arith) (omega arith)

@@ -22,7 +22,7 @@ unfolding StandsFor
 returns-then-not-is_numbered g c = λ v stands.
     let s = c.self.inside in
     let keeps = subst (λ (k : Kept). Keeps g.F.Framing.format k v) (sym c.self.view_is) stands in
-    let fate = ap is_numbered_fate c.index-fate.ensures ∙ numbered_read g.F.Framing.format _ v c.args.ticket.0 c.index-fate.result.now keeps (omega arith) (omega arith) in
+    let fate = ap is_numbered_fate c.get-fate.ensures ∙ numbered_read g.F.Framing.format _ v c.args.ticket.0 c.get-fate.result keeps (omega arith) (omega arith) in
     sym (other_acknowledged g.F.Framing.format _ v c.args.ticket.0 keeps (sym fate ∙ sym c.is_numbered.ensures ∙ c.if-not-is_numbered.true))
 
 pub returns : goal.returns
@@ -30,6 +30,6 @@ unfolding StandsFor
 returns g c = λ v stands.
     let s = c.self.inside in
     let keeps = subst (λ (k : Kept). Keeps g.F.Framing.format k v) (sym c.self.view_is) stands in
-    let fate = ap is_numbered_fate c.index-fate.ensures ∙ numbered_read g.F.Framing.format _ v c.args.ticket.0 c.index-fate.result.now keeps (omega arith) (omega arith) in
+    let fate = ap is_numbered_fate c.get-fate.ensures ∙ numbered_read g.F.Framing.format _ v c.args.ticket.0 c.get-fate.result keeps (omega arith) (omega arith) in
     let is = numbered_acknowledged g.F.Framing.format _ v c.args.ticket.0 keeps (sym fate ∙ sym c.is_numbered.ensures ∙ c.if-not-is_numbered.false) in
     rw (c.is_all_covered.ensures s.head.fragment) is

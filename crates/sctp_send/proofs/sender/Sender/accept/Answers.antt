@@ -8,7 +8,7 @@ use Rattle.sctp_model.specs.sender.Queueing.{cut, owed_for}
 use Rattle.sctp_send.specs.SenderAnswers.{lane_for}
 use Rattle.sctp_send.specs.declared.message.Fate.TheVariants.{Queued as StillQueued}
 use Rattle.sctp_send.proofs.QueueLemmas.{memory_told, spent_ticket, spent_owed, none_refuses, keeps_queued, fates_given}
-use Rattle.sctp_send.proofs.sender.Sender.queue.Goals as goal
+use Rattle.sctp_send.proofs.sender.Sender.accept.Goals as goal
 
 pub returns-then-given-clause-answer : goal.returns-then-given-clause-answer
 unfolding StandsFor
@@ -71,6 +71,7 @@ returns-clause-step g c = λ v stands.
     let more = c.owed-more.ensures ∙ ap (λ (n : ℕ). owed_for n % 2 ^ 64) (c.fragments_of.ensures ∙ ap (λ (b : List ℕ). length (cut s.head.fragment b)) c.deref.ensures.value) in
     let none = (returns-clause-answer g c v stands).0 in
     let given = fates_given g.F.Framing.format _ v keeps in
-    let fates : c.push_reserved.new.self.items ≡ s.head.fates.items ++ StillQueued ∷ [] = rw (c.push_reserved.ensures.items, c.in-Ok.ensures.items) refl in
+    let fates : c.push.new.self.items ≡ s.head.fates.items ++ StillQueued ∷ [] = rw (c.push.ensures.items, c.in-Ok.ensures.items) refl in
+    let ended : c.push.new.self.ended ≡ s.head.fates.ended = rw (c.push.ensures.ended, c.in-Ok.ensures.ended) refl in
     let taken = keeps_queued g.F.Framing.format _ v (lane_for c.args.stream c.args.ordered) c.args.payload_id (c.len-given.result + 1) c.args.bytes.items c.args.until keeps none (omega (arith, given)) in
-    rw (c.in_ok-enqueue.ensures.waits s.head.fragment, fates, c.of_flag.ensures) taken
+    rw (c.in_ok-enqueue.ensures.waits s.head.fragment, fates, ended, c.of_flag.ensures) taken
