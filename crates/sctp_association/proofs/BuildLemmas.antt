@@ -14,7 +14,7 @@ use Rattle.sctp_model.specs.receiver.ReceiverView.{ReceiverView, fresh_receiver}
 use Rattle.sctp_model.specs.receiver.SackMade.{sack_sent}
 use Rattle.sctp_model.specs.end.EndView as model
 use Rattle.sctp_model.specs.end.EndView.{EndView, Configuration, Draw, Alarm, InitAlarm, Timer, has_association, format_of, format_for}
-use Rattle.sctp_model.specs.end.Clock.{running, replaced, started}
+use Rattle.sctp_model.specs.end.Clock.{started}
 use Rattle.sctp_model.specs.end.Closing.{with_due}
 use Rattle.sctp_model.specs.end.Opening.{own_init}
 use Rattle.sctp_model.specs.end.UserCalls.{peer_tag}
@@ -23,7 +23,7 @@ use Rattle.sctp_model.specs.end.Building.{packet_of as end_packet}
 use Rattle.sctp_packet.specs.Draft.{Draft, packet_of, after_try, has_room, with_chunks}
 use Rattle.sctp_packet.specs.PacketBytes.{WritesPacket}
 use Rattle.sctp_values.specs.declared.ticket.Ticket.{Ticket}
-use Rattle.sctp_association.specs.TimersMean.{timers_meaning}
+use Rattle.sctp_association.specs.StartsMean.{starts_at, with_start, started_from}
 use Rattle.sctp_association.specs.PhaseMeans.{phase_unjoined, phase_of}
 use Rattle.sctp_association.specs.TrafficStands.{TrafficStands}
 use Rattle.sctp_association.specs.MachineStands.{KeepsMachine, MachineStands}
@@ -34,7 +34,7 @@ use Rattle.sctp_association.specs.declared.life.Unjoined.{Unjoined}
 use Rattle.sctp_association.specs.declared.life.Association.{Association}
 use Rattle.sctp_association.specs.declared.life.Life.{Life}
 use Rattle.sctp_association.specs.declared.life.Life.TheVariants as life
-use Rattle.sctp_association.specs.declared.timers.Timers.{Timers}
+use Rattle.sctp_association.specs.declared.starts.Starts.{Starts}
 use Rattle.sctp_association.specs.declared.traffic.Traffic.{Traffic}
 use Rattle.sctp_association.specs.declared.packing.Marks.{Marks}
 use Rattle.sctp_association.specs.declared.packing.Packing.{Packing}
@@ -57,12 +57,12 @@ delayed_same : (b : Bool) (d : Option ℕ) → delayed_left b b d ≡ d
 delayed_same true d = refl
 delayed_same false d = refl
 
-pub drafted_same : (m : Marks) (e : EndView) → due_left m e.due ≡ e.due → m.sack ≡ e.due.sack → timers_meaning m.timers ≡ e.timers → drafted m e ≡ e
-drafted_same m e due sack timers =
+pub drafted_same : (m : Marks) (e : EndView) → due_left m e.due ≡ e.due → m.sack ≡ e.due.sack → starts_at m.starts ≡ (λ a. false) → drafted m e ≡ e
+drafted_same m e due sack starts =
     let r : receiver_left e.due.sack m.sack e.receiver ≡ e.receiver = ap (λ (b : Bool). receiver_left e.due.sack b e.receiver) sack ∙ receiver_same e.due.sack e.receiver in
     let w : delayed_left e.due.sack m.sack e.delayed ≡ e.delayed = ap (λ (b : Bool). delayed_left e.due.sack b e.delayed) sack ∙ delayed_same e.due.sack e.delayed in
     ap (λ (d : model.Due). record (drafted m e) { due = d }) due
-    ∙ (ap (λ (f : Alarm → Timer). record e { timers = f; delayed = delayed_left e.due.sack m.sack e.delayed; receiver = receiver_left e.due.sack m.sack e.receiver }) timers
+    ∙ (ap (λ (p : Alarm → Bool). record e { timers = started_from p e.moment e.timers; delayed = delayed_left e.due.sack m.sack e.delayed; receiver = receiver_left e.due.sack m.sack e.receiver }) starts
     ∙ (ap (λ (n : Option ℕ). record e { delayed = n; receiver = receiver_left e.due.sack m.sack e.receiver }) w
     ∙ ap (λ (x : ReceiverView). record e { receiver = x }) r))
 
@@ -117,19 +117,19 @@ init_fits c d w none limit some =
     ∙ ap (λ (l : ℕ). nat_le (size_of_packet (own_init c d ∷ [])) l) limit
     ∙ small (size_of_packet (own_init c d ∷ [])) c.limit (init_small_at c d c.partial c.interleave refl refl) some
 
-pub calls_packet : (e : EndView) (c : Configuration) (d : Draw) (old : Packing) (new : Draft) (t : Timers) (put : Bool) (moment : ℕ) (tickets : Vec Ticket Global) → e.configuration ≡ c
-    → e.phase ≡ model.Calling d → moment ≡ e.moment → IsEmpty e old → old.marks.init ≡ true → put ≡ true → new ≡ after_try old.writer (own_init c d) put
-    → timers_meaning t ≡ replaced InitAlarm (running moment (timers_meaning old.marks.timers InitAlarm) (timers_meaning old.marks.timers InitAlarm).expiry) (timers_meaning old.marks.timers)
-    → tickets.items ≡ [] → IsPacked e e.sender (record { writer = new; marks = record old.marks { init = false; timers = t } }) tickets
-calls_packet e c d old new t put moment tickets configured phase clock empty due is after starts none =
+pub calls_packet : (e : EndView) (c : Configuration) (d : Draw) (old : Packing) (new : Draft) (s : Starts) (put : Bool) (tickets : Vec Ticket Global) → e.configuration ≡ c
+    → e.phase ≡ model.Calling d → IsEmpty e old → old.marks.init ≡ true → put ≡ true → new ≡ after_try old.writer (own_init c d) put
+    → starts_at s ≡ with_start InitAlarm (starts_at old.marks.starts) → tickets.items ≡ []
+    → IsPacked e e.sender (record { writer = new; marks = record old.marks { init = false; starts = s } }) tickets
+calls_packet e c d old new s put tickets configured phase empty due is after starts none =
     let m = old.marks in
-    let n : Marks = record m { init = false; timers = t } in
+    let n : Marks = record m { init = false; starts = s } in
     let there : new ≡ with_chunks old.writer (own_init c d ∷ []) = after ∙ ap (after_try old.writer (own_init c d)) is in
     let calls : e.due.init ≡ true = sym (ap (λ (x : EndView). x.due.init) empty.same) ∙ due in
     let chunks : own_init e.configuration d ∷ [] ≡ old.writer.chunks ++ own_init c d ∷ [] =
     ap (λ (k : Configuration). own_init k d ∷ []) configured ∙ sym (ap (λ (xs : List ChunkMeaning). xs ++ own_init c d ∷ []) empty.chunks) in
     let leaves : started InitAlarm (with_due (record e.due { init = false }) e) ≡ drafted n e =
-    sym (ap (λ (x : EndView). started InitAlarm (with_due (record x.due { init = false }) x)) empty.same) ∙ started_left InitAlarm (record m { init = false }) e moment t clock starts in
+    sym (ap (λ (x : EndView). started InitAlarm (with_due (record x.due { init = false }) x)) empty.same) ∙ started_left InitAlarm (record m { init = false }) e s starts in
     let one : IsPacked e e.sender (record { writer = with_chunks old.writer (own_init c d ∷ []); marks = n }) tickets = record {
       builds = subst (λ (zs : List ChunkMeaning). Builds e zs (drafted n e)) chunks (subst (λ (y : EndView). Builds e (own_init e.configuration d ∷ []) y) leaves (Calls d phase calls));
       packet = record { limit = empty.packet.limit; source = empty.packet.source; destination = empty.packet.destination; tag = empty.packet.tag; sack = empty.packet.sack };

@@ -1,5 +1,5 @@
 -- What comes from the peer, at an association that is open: what its traffic takes, and what is left of the end.
-use Rattle.std.proofs.Common.{◌≡◌, ◌∙◌, ℕ, nat_le, nat_lt, Bool, true, false, List, length, refl, sym, ap, subst}
+use Rattle.std.proofs.Common.{◌≡◌, ◌∙◌, ℕ, nat_le, nat_lt, Bool, true, false, List, length, refl, ap, subst}
 use Rattle.std.specs.Prelude.{Option, Some, None, is_some, if◌then◌else◌, ◌&&◌, Result, Ok, Err, IfOk, OnErr}
 use Rattle.sctp_model.specs.wire.Chunk.{PieceMeaning, ForwardMeaning, SackMeaning}
 use Rattle.sctp_model.specs.receiver.ReceiverView.{ReceiverView}

@@ -8,6 +8,7 @@ pub mod ReportLemmas
 pub mod JoinLemmas
 pub mod OpeningLemmas
 pub mod FillLemmas
+pub mod StartLemmas
 pub mod RoomLemmas
 pub mod PutLemmas
 pub mod BuildLemmas

@@ -7,16 +7,17 @@ use Rattle.sctp_model.specs.numbers.Serial.{tsn}
 use Rattle.sctp_model.specs.receiver.ReceiverView.{ReceiverView, IsCumulative}
 use Rattle.sctp_model.specs.receiver.SackMade.{IsSack, sack_sent}
 use Rattle.sctp_model.specs.end.EndView.{EndView, Alarm, Timer}
-use Rattle.sctp_model.specs.end.Clock.{running, replaced, started}
+use Rattle.sctp_model.specs.end.Clock.{started}
 use Rattle.sctp_model.specs.end.Reports.{written}
 use Rattle.sctp_model.specs.end.Building.{Slot, SackSlot, ShutdownSlot, is_due, has_some, has_causes, Wants, Acknowledge, SayShutdown, once_built, Puts, NoMore, NotDue, Put, IsFull}
 use Rattle.sctp_model.proofs.TypedLemmas.{length-item}
 use Rattle.sctp_packet.specs.Draft.{Draft, has_room, after_try, with_chunks}
-use Rattle.sctp_association.specs.TimersMean.{timers_meaning}
+use Rattle.sctp_association.specs.StartsMean.{starts_at, with_start, started_from}
 use Rattle.sctp_association.specs.Drafted.{value_left, causes_left, receiver_left, delayed_left, drafted, IsOf, PutsAt}
-use Rattle.sctp_association.specs.declared.timers.Timers.{Timers}
+use Rattle.sctp_association.specs.declared.starts.Starts.{Starts}
 use Rattle.sctp_association.specs.declared.packing.Marks.{Marks}
 use Rattle.sctp_association.specs.declared.packing.Packing.{Packing}
+use Rattle.sctp_association.proofs.StartLemmas.{start_more}
 
 -- ---- one place
 
@@ -99,13 +100,10 @@ behind (Err failed) ss tt e a b c full is one other = other
 -- ---- what a chunk leaves
 
 -- a timer that starts
-pub started_left : (a : Alarm) (n : Marks) (e : EndView) (moment : ℕ) (t : Timers) → moment ≡ e.moment
-    → timers_meaning t ≡ replaced a (running moment (timers_meaning n.timers a) (timers_meaning n.timers a).expiry) (timers_meaning n.timers)
-    → started a (drafted n e) ≡ drafted (record n { timers = t }) e
-started_left a n e moment t clock starts =
-    let f = timers_meaning n.timers in
-    let from_now : timers_meaning t ≡ replaced a (running e.moment (f a) (f a).expiry) f = starts ∙ ap (λ (now : ℕ). replaced a (running now (f a) (f a).expiry) f) clock in
-    ap (λ (g : Alarm → Timer). record (drafted n e) { timers = g }) (sym from_now)
+pub started_left : (a : Alarm) (n : Marks) (e : EndView) (s : Starts) → starts_at s ≡ with_start a (starts_at n.starts) → started a (drafted n e) ≡ drafted (record n { starts = s }) e
+started_left a n e s starts =
+    let more = start_more a (starts_at n.starts) e.moment e.timers ∙ ap (λ (p : Alarm → Bool). started_from p e.moment e.timers) (sym starts) in
+    ap (λ (g : Alarm → Timer). record (drafted n e) { timers = g }) more
 
 -- a value that went out, or isn't there
 pub none_left : (b : Bool) (x : Option (List ℕ)) → x ≡ None → has_some (value_left b x) ≡ false

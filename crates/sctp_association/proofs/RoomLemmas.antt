@@ -1,4 +1,4 @@
--- Whether a fragment went out is seen by the room that is left.
+-- Whether a fragment went out is seen by the room that is left; if so, the timer of fragments starts.
 use Rattle.std.proofs.Common.{◌≡◌, ℕ, ◌+◌, ◌-◌, ◌<◌, nat_lt, Bool, true, false, List, [], ◌∷◌, ◌++◌, map, refl, ap, sym, arith}
 use Rattle.std.proofs.lemmas.List.{append-nil}
 use Rattle.std.proofs.lemmas.Bool.Decides.{nat_tests}
@@ -11,7 +11,10 @@ use Rattle.sctp_model.specs.end.EndView.{EndView, Alarm, InitAlarm, CookieAlarm,
 use Rattle.sctp_model.specs.end.Clock.{replaced}
 use Rattle.sctp_model.specs.end.Building.{timer_after}
 use Rattle.sctp_model.proofs.sender.FillLaws.{goes_parts, room_fits, room_some}
-use Rattle.sctp_association.specs.FillsBehind.{running_if}
+use Rattle.sctp_association.specs.StartsMean.{starts_at, with_fragments, started_from}
+use Rattle.sctp_association.specs.Drafted.{drafted}
+use Rattle.sctp_association.specs.declared.packing.Marks.{Marks}
+use Rattle.sctp_association.proofs.StartLemmas.{start_more}
 
 -- there is a wish
 abbrev pub some_wish : List Wish → Bool
@@ -26,9 +29,11 @@ data_same f DataAlarm = refl
 data_same f ShutdownAlarm = refl
 data_same f AckAlarm = refl
 
-pub running_after : (e : EndView) (ws : List Wish) → running_if (some_wish ws) e.moment e.timers ≡ replaced DataAlarm (timer_after e ws) e.timers
-running_after e [] = let there : replaced DataAlarm (e.timers DataAlarm) e.timers ≡ e.timers = λ i b. data_same e.timers b i in sym there
-running_after e (w ∷ ws) = refl
+-- the timers once that of fragments starts, if there is a wish
+pub fragments_after : (e : EndView) (m : Marks) (ws : List Wish)
+    → started_from (with_fragments (some_wish ws) (starts_at m.starts)) e.moment e.timers ≡ replaced DataAlarm (timer_after (drafted m e) ws) (drafted m e).timers
+fragments_after e m [] = let there : replaced DataAlarm ((drafted m e).timers DataAlarm) (drafted m e).timers ≡ (drafted m e).timers = λ i b. data_same (drafted m e).timers b i in sym there
+fragments_after e m (w ∷ ws) = sym (start_more DataAlarm (starts_at m.starts) e.moment e.timers)
 
 size_joined : (xs ys : List ChunkMeaning) → size_of_chunks (xs ++ ys) ≡ size_of_chunks xs + size_of_chunks ys
 size_joined [] ys = omega arith

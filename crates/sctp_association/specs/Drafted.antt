@@ -11,7 +11,7 @@ use Rattle.sctp_model.specs.end.EndView.{Configuration, EndView, format_of}
 use Rattle.sctp_model.specs.end.EndView as model
 use Rattle.sctp_model.specs.end.Building.{Slot, Puts, Builds, tag_to}
 use Rattle.sctp_values.specs.declared.ticket.Ticket.{Ticket}
-use Rattle.sctp_association.specs.TimersMean.{timers_meaning}
+use Rattle.sctp_association.specs.StartsMean.{starts_at, started_from}
 use Rattle.sctp_association.specs.DueStands.{DueStands}
 use Rattle.sctp_association.specs.TrafficStands.{TrafficStands}
 use Rattle.sctp_association.specs.declared.due.Due.{Due}
@@ -57,11 +57,11 @@ due_left m d = record d {
   shutdown_ack = m.shutdown_ack;
 }
 
--- the end, once what isn't marked any more went out
+-- the end, once what isn't marked any more went out at its moment
 abbrev pub drafted : Marks → EndView → EndView
 drafted m e = record e {
   due = due_left m e.due;
-  timers = timers_meaning m.timers;
+  timers = started_from (starts_at m.starts) e.moment e.timers;
   delayed = delayed_left e.due.sack m.sack e.delayed;
   receiver = receiver_left e.due.sack m.sack e.receiver;
 }
@@ -96,8 +96,7 @@ pub record IsPacked (e : EndView) (s : SenderView) (p : Packing) (tickets : Vec 
 -- ---- where the chunks come from
 
 -- All that a packet is made of while the association is open stands for its part of the end.
-pub record IsPartOf (config : Configuration) (traffic : Traffic) (due : Due) (moment : ℕ) (e : EndView) : Type 0 where
+pub record IsPartOf (config : Configuration) (traffic : Traffic) (due : Due) (e : EndView) : Type 0 where
   pub configured : config ≡ e.configuration
-  pub clock : moment ≡ e.moment
   pub due_stands : DueStands due e.due
   pub traffic_stands : TrafficStands traffic (format_of e) e.sender e.receiver

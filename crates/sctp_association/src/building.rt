@@ -54,7 +54,7 @@ impl Machine {
     {
         let moment = self.moment.max(now);
         let mut packing = self.packing();
-        let tickets = self.pack(moment, &mut packing)?;
+        let tickets = self.pack(&mut packing)?;
         Ok(self.sent(moment, packing, tickets))
     }
 
@@ -72,7 +72,7 @@ impl Machine {
                 config.peer_port(),
                 tag,
             ),
-            marks: Marks::of(&self.due, self.timers),
+            marks: Marks::of(&self.due),
         }
     }
 
@@ -80,23 +80,21 @@ impl Machine {
     ///
     /// # Errors
     /// Memory ran out.
-    fn pack(&mut self, moment: u64, packing: &mut Packing) -> Result<Vec<Ticket>, NoMemory>
-        ensures packed { (v : EndView) → MachineStands self.old v → IsEmpty (record v { moment = moment }) packing.old
+    fn pack(&mut self, packing: &mut Packing) -> Result<Vec<Ticket>, NoMemory>
+        ensures packed { (v : EndView) (moment : ℕ) → MachineStands self.old v → IsEmpty (record v { moment = moment }) packing.old
             → IfOk result (λ tickets. (s : SenderView) × IsPacked (record v { moment = moment }) s packing.new tickets × MachineStands self.new (record v { sender = s })) }
         ensures memory { (v : EndView) → MachineStands self.old v → OnErr result (MachineStands self.new v) }
     {
         let alloc = self.alloc;
         match &mut self.life {
-            Life::Unjoined(unjoined) => {
-                pack_unjoined(alloc, &self.config, *unjoined, moment, packing)
-            }
+            Life::Unjoined(unjoined) => { pack_unjoined(alloc, &self.config, *unjoined, packing) }
             Life::Joined(association) => {
-                pack_joined(alloc, &self.config, association, &self.due, moment, packing)
+                pack_joined(alloc, &self.config, association, &self.due, packing)
             }
         }
     }
 
-    /// What went in is due no more, its timers run, and the packet is ready, if anything is in it.
+    /// What went in is due no more, its timers start, and the packet is ready, if anything is in it.
     fn sent(&mut self, moment: u64, packing: Packing, tickets: Vec<Ticket>) -> Option<Built>
         ensures stands { (v : EndView) → MachineStands self.old v → MachineStands self.new (drafted packing.marks (record v { moment = moment })) }
         ensures packet { MatchOption result (packing.writer.chunks ≡ []) (λ b. WritesPacket b.packet.items (packet_of packing.writer)) }
@@ -106,7 +104,7 @@ impl Machine {
     {
         self.moment = moment;
         self.when_sack_sent(self.due.sack, packing.marks.sack);
-        self.timers = packing.marks.timers;
+        self.timers.start_all(packing.marks.starts, moment);
         self.due.leave(self.alloc, packing.marks);
         match packing.writer.finish() {
             Some(packet) => Some(Built { packet, tickets }),
@@ -145,16 +143,15 @@ fn pack_unjoined(
     alloc: Global,
     config: &Config,
     unjoined: Unjoined,
-    moment: u64,
     packing: &mut Packing,
 ) -> Result<Vec<Ticket>, NoMemory>
-    ensures { (e : EndView) → e.configuration ≡ config.now → e.phase ≡ phase_unjoined unjoined → moment ≡ e.moment → IsEmpty e packing.old
+    ensures { (e : EndView) → e.configuration ≡ config.now → e.phase ≡ phase_unjoined unjoined → IsEmpty e packing.old
         → IfOk result (λ tickets. IsPacked e e.sender packing.new tickets) }
 {
     match unjoined {
         Unjoined::Idle => Ok(Vec::new(alloc)),
         Unjoined::Listening => Ok(Vec::new(alloc)),
-        Unjoined::Calling(draw) => pack_init(alloc, config, draw, moment, packing),
+        Unjoined::Calling(draw) => pack_init(alloc, config, draw, packing),
         Unjoined::Failed(_) => Ok(Vec::new(alloc)),
     }
 }
@@ -164,10 +161,9 @@ fn pack_init(
     alloc: Global,
     config: &Config,
     draw: Draw,
-    moment: u64,
     packing: &mut Packing,
 ) -> Result<Vec<Ticket>, NoMemory>
-    ensures { (e : EndView) → e.configuration ≡ config.now → e.phase ≡ model.Calling draw → moment ≡ e.moment → IsEmpty e packing.old
+    ensures { (e : EndView) → e.configuration ≡ config.now → e.phase ≡ model.Calling draw → IsEmpty e packing.old
         → IfOk result (λ tickets. IsPacked e e.sender packing.new tickets) }
 {
     // So its packet has room for it.
@@ -179,7 +175,7 @@ fn pack_init(
         return Ok(Vec::new(alloc));
     }
     packing.marks.init = false;
-    packing.marks.timers.start(Alarm::Init, moment);
+    packing.marks.starts.add(Alarm::Init);
     Ok(Vec::new(alloc))
 }
 
@@ -189,26 +185,16 @@ fn pack_joined(
     config: &Config,
     association: &mut Association,
     due: &Due,
-    moment: u64,
     packing: &mut Packing,
 ) -> Result<Vec<Ticket>, NoMemory>
-    ensures packed { (e : EndView) → phase_in association.old.tags association.old.progress ≡ e.phase → IsPartOf config.now association.old.traffic due.now moment e → IsEmpty e packing.old
+    ensures packed { (e : EndView) → phase_in association.old.tags association.old.progress ≡ e.phase → IsPartOf config.now association.old.traffic due.now e → IsEmpty e packing.old
         → IfOk result (λ tickets. (s : SenderView) × IsPacked e s packing.new tickets × TrafficStands association.new.traffic (format_of e) s e.receiver) }
     ensures memory { (f : Format) (s : SenderView) (r : ReceiverView) → TrafficStands association.old.traffic f s r → OnErr result (TrafficStands association.new.traffic f s r) }
     ensures kept { association.new ≡ record association.old { traffic = association.new.traffic } }
 {
     match &association.progress {
-        Progress::Echoing(cookie) => pack_echoing(alloc, cookie, due, moment, packing),
-        Progress::Open(_) => {
-            pack_open(
-                alloc,
-                config,
-                &mut association.traffic,
-                due,
-                moment,
-                packing,
-            )
-        }
+        Progress::Echoing(cookie) => pack_echoing(alloc, cookie, due, packing),
+        Progress::Open(_) => { pack_open(alloc, config, &mut association.traffic, due, packing) }
         Progress::Over(_) => Ok(Vec::new(alloc)),
     }
 }
@@ -218,13 +204,12 @@ fn pack_echoing(
     alloc: Global,
     cookie: &EchoedCookie,
     due: &Due,
-    moment: u64,
     packing: &mut Packing,
 ) -> Result<Vec<Ticket>, NoMemory>
-    ensures { (e : EndView) (t : model.Tags) → e.phase ≡ model.Echoing t cookie.now.bytes.items → moment ≡ e.moment → DueStands due.now e.due → IsEmpty e packing.old
+    ensures { (e : EndView) (t : model.Tags) → e.phase ≡ model.Echoing t cookie.now.bytes.items → DueStands due.now e.due → IsEmpty e packing.old
         → IfOk result (λ tickets. IsPacked e e.sender packing.new tickets) }
 {
-    let _room = put_echoing(cookie, due, moment, packing)?;
+    let _room = put_echoing(cookie, due, packing)?;
     Ok(Vec::new(alloc))
 }
 
@@ -234,15 +219,14 @@ fn pack_open(
     config: &Config,
     traffic: &mut Traffic,
     due: &Due,
-    moment: u64,
     packing: &mut Packing,
 ) -> Result<Vec<Ticket>, NoMemory>
-    ensures packed { (e : EndView) (t : model.Tags) (g : model.Stage) → e.phase ≡ model.Open t g → IsPartOf config.now traffic.old due.now moment e → IsEmpty e packing.old
+    ensures packed { (e : EndView) (t : model.Tags) (g : model.Stage) → e.phase ≡ model.Open t g → IsPartOf config.now traffic.old due.now e → IsEmpty e packing.old
         → IfOk result (λ tickets. (s : SenderView) × IsPacked e s packing.new tickets × TrafficStands traffic.new (format_of e) s e.receiver) }
     ensures memory { (f : Format) (s : SenderView) (r : ReceiverView) → TrafficStands traffic.old f s r → OnErr result (TrafficStands traffic.new f s r) }
 {
-    if !put_open(config, traffic, due, moment, packing)? {
+    if !put_open(config, traffic, due, packing)? {
         return Ok(Vec::new(alloc));
     }
-    fill_behind(traffic, moment, packing)
+    fill_behind(traffic, packing)
 }

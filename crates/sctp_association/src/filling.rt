@@ -12,13 +12,14 @@ ghost use Rattle.sctp_model.specs.end.EndView.{EndView, format_of};
 ghost use Rattle.sctp_model.specs.end.Clock.{is_point_past};
 ghost use Rattle.sctp_packet.specs.Draft.{room_in, with_chunks, has_room, after_try};
 ghost use Rattle.sctp_send.specs.SenderStands.{StandsFor};
-ghost use Rattle.sctp_association.specs.TimersMean.{timers_meaning};
+ghost use Rattle.sctp_association.specs.StartsMean.{starts_at, with_fragments};
 ghost use Rattle.sctp_association.specs.TrafficStands.{TrafficStands};
 ghost use Rattle.sctp_association.specs.Drafted.{IsOf};
-ghost use Rattle.sctp_association.specs.FillsBehind.{running_if, FillsBehind};
+ghost use Rattle.sctp_association.specs.FillsBehind.{FillsBehind};
 
 use crate::packing::Packing;
-use crate::timers::{Alarm, Timers};
+use crate::starts::Starts;
+use crate::timers::Alarm;
 use crate::traffic::Traffic;
 use sctp_framing::Framing;
 use sctp_packet::PacketWriter;
@@ -86,26 +87,25 @@ fn fill_from<F: Framing>(
 /// Memory ran out; nothing of the traffic changed.
 pub(crate) fn fill_behind(
     traffic: &mut Traffic,
-    moment: u64,
     packing: &mut Packing,
 ) -> Result<Vec<Ticket>, NoMemory>
-    ensures filled { (e : EndView) → TrafficStands traffic.old (format_of e) e.sender e.receiver → moment ≡ e.moment → IsOf e packing.old
+    ensures filled { (e : EndView) → TrafficStands traffic.old (format_of e) e.sender e.receiver → IsOf e packing.old
         → IfOk result (λ tickets. FillsBehind e packing.old packing.new traffic.new tickets) }
     ensures memory { (f : Format) (s : SenderView) (r : ReceiverView) → TrafficStands traffic.old f s r → OnErr result (TrafficStands traffic.new f s r) }
 {
     let before = packing.writer.room();
     let filled = traffic.fill(&mut packing.writer)?;
     let went_out = packing.writer.room() < before;
-    run_fragments(&mut packing.marks.timers, went_out, moment);
+    start_fragments(&mut packing.marks.starts, went_out);
     Ok(filled.tickets)
 }
 
-/// The timer of fragments runs from this moment on, if something went out.
-fn run_fragments(timers: &mut Timers, went_out: bool, moment: u64)
-    ensures { timers_meaning timers.new ≡ running_if went_out moment (timers_meaning timers.old) }
+/// The timer of fragments is to start, if something went out.
+fn start_fragments(starts: &mut Starts, went_out: bool)
+    ensures { starts_at starts.new ≡ with_fragments went_out (starts_at starts.old) }
 {
     if !went_out {
         return;
     }
-    timers.start(Alarm::Fragments, moment);
+    starts.add(Alarm::Fragments);
 }

@@ -5,17 +5,16 @@ ghost use Rattle.std.specs.Prelude.{◌≡◌, List, option_map};
 ghost use Rattle.sctp_model.specs.wire.Typed.{Typed, WritesTyped};
 ghost use Rattle.sctp_model.specs.end.EndView as model;
 ghost use Rattle.sctp_model.specs.end.EndView.{EndView};
-ghost use Rattle.sctp_association.specs.TimersMean.{timers_meaning};
 ghost use Rattle.sctp_association.specs.DueStands.{DueStands, info_bytes};
 ghost use Rattle.sctp_association.specs.Drafted.{value_left, causes_left, due_left, drafted};
 
 use crate::carried::{HeartbeatInfo, WaitingCauses};
 use crate::due::Due;
-use crate::timers::Timers;
+use crate::starts::Starts;
 use sctp_packet::PacketWriter;
 use std::alloc::Global;
 
-/// What a packet changes at its end, besides sender and receiver: what is still due, and the timers.
+/// What a packet changes at its end, besides sender and receiver: what is still due, and which timers start.
 #[derive(Clone, Copy)]
 pub(crate) struct Marks {
     pub(crate) init: bool,
@@ -29,7 +28,7 @@ pub(crate) struct Marks {
     pub(crate) forward: bool,
     pub(crate) shutdown: bool,
     pub(crate) shutdown_ack: bool,
-    pub(crate) timers: Timers,
+    pub(crate) starts: Starts,
 }
 
 /// A packet in the making, and what it leaves.
@@ -40,9 +39,9 @@ pub(crate) struct Packing {
 }
 
 impl Marks {
-    /// All that is due, and the timers as they are.
-    pub(crate) fn of(due: &Due, timers: Timers) -> Marks
-        ensures same { (v : EndView) → DueStands due.now v.due → timers_meaning timers ≡ v.timers → drafted result v ≡ v }
+    /// All that is due; no timer starts.
+    pub(crate) fn of(due: &Due) -> Marks
+        ensures same { (v : EndView) → DueStands due.now v.due → drafted result v ≡ v }
         ensures sack { result.sack ≡ due.now.sack }
     {
         Marks {
@@ -55,7 +54,7 @@ impl Marks {
             forward: due.forward,
             shutdown: due.shutdown,
             shutdown_ack: due.shutdown_ack,
-            timers,
+            starts: Starts::none(),
         }
     }
 }

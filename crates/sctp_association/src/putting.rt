@@ -27,10 +27,9 @@ pub(crate) fn put_open(
     config: &Config,
     traffic: &Traffic,
     due: &Due,
-    moment: u64,
     packing: &mut Packing,
 ) -> Result<bool, NoMemory>
-    ensures { (e : EndView) → IsPartOf config.now traffic.now due.now moment e → IsOf e packing.old → IfOk result (λ room. PutsAt open_slots e packing.old packing.new room) }
+    ensures { (e : EndView) → IsPartOf config.now traffic.now due.now e → IsOf e packing.old → IfOk result (λ room. PutsAt open_slots e packing.old packing.new room) }
 {
     if !put_answers(due, packing)? {
         return Ok(false);
@@ -38,13 +37,13 @@ pub(crate) fn put_open(
     if !put_sack(traffic, packing)? {
         return Ok(false);
     }
-    if !put_forward(config, traffic, moment, packing)? {
+    if !put_forward(config, traffic, packing)? {
         return Ok(false);
     }
-    if !put_shutdown(traffic, moment, packing)? {
+    if !put_shutdown(traffic, packing)? {
         return Ok(false);
     }
-    put_shutdown_ack(moment, packing)
+    put_shutdown_ack(packing)
 }
 
 /// What is due while a cookie is echoed.
@@ -54,21 +53,20 @@ pub(crate) fn put_open(
 pub(crate) fn put_echoing(
     cookie: &EchoedCookie,
     due: &Due,
-    moment: u64,
     packing: &mut Packing,
 ) -> Result<bool, NoMemory>
-    ensures { (e : EndView) (t : model.Tags) → e.phase ≡ Echoing t cookie.now.bytes.items → moment ≡ e.moment → DueStands due.now e.due → IsOf e packing.old
+    ensures { (e : EndView) (t : model.Tags) → e.phase ≡ Echoing t cookie.now.bytes.items → DueStands due.now e.due → IsOf e packing.old
         → IfOk result (λ room. PutsAt echoing_slots e packing.old packing.new room) }
 {
-    if !put_echo(cookie, moment, packing)? {
+    if !put_echo(cookie, packing)? {
         return Ok(false);
     }
     put_error(due, packing)
 }
 
 /// COOKIE ECHO (RFC 9260, 5.1, C).
-fn put_echo(cookie: &EchoedCookie, moment: u64, packing: &mut Packing) -> Result<bool, NoMemory>
-    ensures { (e : EndView) (t : model.Tags) → e.phase ≡ Echoing t cookie.now.bytes.items → moment ≡ e.moment → IsOf e packing.old
+fn put_echo(cookie: &EchoedCookie, packing: &mut Packing) -> Result<bool, NoMemory>
+    ensures { (e : EndView) (t : model.Tags) → e.phase ≡ Echoing t cookie.now.bytes.items → IsOf e packing.old
         → IfOk result (λ room. PutsAt (EchoSlot ∷ []) e packing.old packing.new room) }
 {
     if !packing.marks.cookie_echo {
@@ -81,7 +79,7 @@ fn put_echo(cookie: &EchoedCookie, moment: u64, packing: &mut Packing) -> Result
         return Ok(false);
     }
     packing.marks.cookie_echo = false;
-    packing.marks.timers.start(Alarm::Cookie, moment);
+    packing.marks.starts.add(Alarm::Cookie);
     Ok(true)
 }
 
@@ -102,13 +100,8 @@ fn put_sack(traffic: &Traffic, packing: &mut Packing) -> Result<bool, NoMemory>
 }
 
 /// FORWARD-TSN or I-FORWARD-TSN, where there is something to skip, as far as one packet tells (RFC 3758, 3.5; RFC 8260, 2.3.1).
-fn put_forward(
-    config: &Config,
-    traffic: &Traffic,
-    moment: u64,
-    packing: &mut Packing,
-) -> Result<bool, NoMemory>
-    ensures { (e : EndView) → config.now ≡ e.configuration → TrafficStands traffic.now (format_of e) e.sender e.receiver → moment ≡ e.moment → IsOf e packing.old
+fn put_forward(config: &Config, traffic: &Traffic, packing: &mut Packing) -> Result<bool, NoMemory>
+    ensures { (e : EndView) → config.now ≡ e.configuration → TrafficStands traffic.now (format_of e) e.sender e.receiver → IsOf e packing.old
         → IfOk result (λ room. PutsAt (ForwardSlot ∷ []) e packing.old packing.new room) }
 {
     if !packing.marks.forward {
@@ -121,13 +114,13 @@ fn put_forward(
         return Ok(false);
     }
     packing.marks.forward = false;
-    packing.marks.timers.start(Alarm::Fragments, moment);
+    packing.marks.starts.add(Alarm::Fragments);
     Ok(true)
 }
 
 /// SHUTDOWN (RFC 9260, 9.2).
-fn put_shutdown(traffic: &Traffic, moment: u64, packing: &mut Packing) -> Result<bool, NoMemory>
-    ensures { (e : EndView) → TrafficStands traffic.now (format_of e) e.sender e.receiver → moment ≡ e.moment → IsOf e packing.old
+fn put_shutdown(traffic: &Traffic, packing: &mut Packing) -> Result<bool, NoMemory>
+    ensures { (e : EndView) → TrafficStands traffic.now (format_of e) e.sender e.receiver → IsOf e packing.old
         → IfOk result (λ room. PutsAt (ShutdownSlot ∷ []) e packing.old packing.new room) }
 {
     if !packing.marks.shutdown {
@@ -138,13 +131,13 @@ fn put_shutdown(traffic: &Traffic, moment: u64, packing: &mut Packing) -> Result
         return Ok(false);
     }
     packing.marks.shutdown = false;
-    packing.marks.timers.start(Alarm::Shutdown, moment);
+    packing.marks.starts.add(Alarm::Shutdown);
     Ok(true)
 }
 
 /// SHUTDOWN ACK (RFC 9260, 9.2).
-fn put_shutdown_ack(moment: u64, packing: &mut Packing) -> Result<bool, NoMemory>
-    ensures { (e : EndView) → moment ≡ e.moment → IsOf e packing.old
+fn put_shutdown_ack(packing: &mut Packing) -> Result<bool, NoMemory>
+    ensures { (e : EndView) → IsOf e packing.old
         → IfOk result (λ room. PutsAt (ShutdownAckSlot ∷ []) e packing.old packing.new room) }
 {
     if !packing.marks.shutdown_ack {
@@ -154,6 +147,6 @@ fn put_shutdown_ack(moment: u64, packing: &mut Packing) -> Result<bool, NoMemory
         return Ok(false);
     }
     packing.marks.shutdown_ack = false;
-    packing.marks.timers.start(Alarm::ShutdownAck, moment);
+    packing.marks.starts.add(Alarm::ShutdownAck);
     Ok(true)
 }

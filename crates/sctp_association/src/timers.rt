@@ -7,7 +7,9 @@ ghost use Rattle.sctp_model.specs.end.EndView.{unused_timer};
 ghost use Rattle.sctp_model.specs.end.Clock.{running, stopped, expired_timer, is_over_at, repeats_of, replaced, renewed, renewed_expiry};
 ghost use Rattle.sctp_model.specs.end.Moments.{earlier, earliest, all_alarms};
 ghost use Rattle.sctp_association.specs.TimersMean.{alarm_meaning, timer_meaning, timers_meaning, kept_if, open_timers, resting};
+ghost use Rattle.sctp_association.specs.StartsMean.{starts_at, started_if, started_from};
 
+use crate::starts::Starts;
 use sctp_values::{FIRST_WAIT, LONGEST_WAIT, OPENING_REPEATS, REPEATS};
 
 /// Which timer of an end.
@@ -57,6 +59,16 @@ impl Timer {
                 ..self
             },
         }
+    }
+
+    /// The timer starts at this moment, where it is wanted and doesn't run.
+    fn start_if(&mut self, wanted: bool, now: u64)
+        ensures { timer_meaning self.new ≡ started_if wanted now (timer_meaning self.old) }
+    {
+        if !wanted {
+            return;
+        }
+        *self = self.running(now);
     }
 
     /// The timer at rest.
@@ -215,12 +227,15 @@ impl Timers {
         }
     }
 
-    /// Starts a timer at this moment, if it doesn't run.
-    pub fn start(&mut self, alarm: Alarm, now: u64)
-        ensures { timers_meaning self.new
-            ≡ replaced (alarm_meaning alarm) (running now (timers_meaning self.old (alarm_meaning alarm)) (timers_meaning self.old (alarm_meaning alarm)).expiry) (timers_meaning self.old) }
+    /// Starts those that are to start, as far as they don't run, at this moment.
+    pub(crate) fn start_all(&mut self, starts: Starts, now: u64)
+        ensures { timers_meaning self.new ≡ started_from (starts_at starts) now (timers_meaning self.old) }
     {
-        self.put(alarm, self.get(alarm).running(now));
+        self.init.start_if(starts.init, now);
+        self.cookie.start_if(starts.cookie, now);
+        self.fragments.start_if(starts.fragments, now);
+        self.shutdown.start_if(starts.shutdown, now);
+        self.shutdown_ack.start_if(starts.shutdown_ack, now);
     }
 
     /// Stops a timer.

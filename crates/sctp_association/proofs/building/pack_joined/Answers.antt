@@ -6,7 +6,7 @@ use Rattle.sctp_association.proofs.building.pack_joined.Goals as goal
 pub returns-in-Echoing-clause-packed : goal.returns-in-Echoing-clause-packed
 returns-in-Echoing-clause-packed c = λ e phase part empty.
     let echoing = sym phase ∙ ap (phase_in c.args.association.now.tags) c.in-Echoing.is in
-    with_traffic_kept c.pack_echoing.result e c.pack_echoing.new.packing _ (c.pack_echoing.ensures e _ echoing part.clock part.due_stands empty) part.traffic_stands
+    with_traffic_kept c.pack_echoing.result e c.pack_echoing.new.packing _ (c.pack_echoing.ensures e _ echoing part.due_stands empty) part.traffic_stands
 
 pub returns-in-Open-clause-packed : goal.returns-in-Open-clause-packed
 returns-in-Open-clause-packed c = λ e phase part empty.

@@ -9,4 +9,4 @@ pub returns-clause-packed : goal.returns-clause-packed
 returns-clause-packed c = λ e t g phase part empty.
     let puts = c.in_ok-put_open.ensures e part empty.packet in
     fills_packet c.fill_behind.result e t g c.args.packing.now c.put_open.new.packing c.fill_behind.new.packing _ c.fill_behind.new.traffic phase empty c.if-not-branch.false puts
-    (c.fill_behind.ensures.filled e part.traffic_stands part.clock puts.packet)
+    (c.fill_behind.ensures.filled e part.traffic_stands puts.packet)

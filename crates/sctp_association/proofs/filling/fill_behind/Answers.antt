@@ -1,19 +1,18 @@
 use Rattle.std.proofs.Common.{◌≡◌, ◌∙◌, ℕ, ◌-◌, ◌++◌, nat_lt, Bool, map, refl, ap, subst}
 use Rattle.sctp_model.specs.wire.Packet.{size_of_packet}
 use Rattle.sctp_model.specs.sender.Filling.{Fill, fill, chunk_of, newly_numbered}
-use Rattle.sctp_model.specs.end.EndView.{format_of}
+use Rattle.sctp_model.specs.end.EndView.{Alarm, format_of}
 use Rattle.sctp_model.specs.end.Building.{filled_behind}
 use Rattle.sctp_model.proofs.sender.FillLaws.{fill_is_fill}
 use Rattle.sctp_packet.specs.Draft.{Draft, room_in, with_chunks}
-use Rattle.sctp_association.specs.TimersMean.{timers_meaning}
+use Rattle.sctp_association.specs.StartsMean.{starts_at, with_fragments, started_from}
 use Rattle.sctp_association.specs.TrafficStands.{TrafficStands}
 use Rattle.sctp_association.specs.Drafted.{drafted}
-use Rattle.sctp_association.specs.FillsBehind.{running_if}
-use Rattle.sctp_association.proofs.RoomLemmas.{some_wish, less_room, running_after}
+use Rattle.sctp_association.proofs.RoomLemmas.{some_wish, less_room, fragments_after}
 use Rattle.sctp_association.proofs.filling.fill_behind.Goals as goal
 
 pub returns-clause-filled : goal.returns-clause-filled
-returns-clause-filled c = λ e stands clock packet.
+returns-clause-filled c = λ e stands packet.
     let p = c.args.packing.now in
     let f = format_of e in
     let v = e.sender in
@@ -38,10 +37,8 @@ returns-clause-filled c = λ e stands clock packet.
         sack = packet.sack;
       };
       marks = refl;
-      timers = c.run_fragments.ensures
-          ∙ (ap (λ (b : Bool). running_if b c.args.moment (timers_meaning p.marks.timers)) went_out
-          ∙ (ap (λ (now : ℕ). running_if (some_wish (filled_behind x zs).wishes) now (timers_meaning p.marks.timers)) clock
-          ∙ running_after x (filled_behind x zs).wishes));
+      timers = ap (λ (q : Alarm → Bool). started_from q e.moment e.timers) (c.start_fragments.ensures ∙ ap (λ (b : Bool). with_fragments b (starts_at p.marks.starts)) went_out)
+          ∙ fragments_after e p.marks (filled_behind x zs).wishes;
       traffic_stands = subst (λ (y : Fill). TrafficStands c.fill.new.self f y.view e.receiver) same (c.in_ok-filled.ensures.step f v e.receiver stands);
       tickets_are = c.in_ok-filled.ensures.tickets f v e.receiver stands ∙ ap (λ (y : Fill). newly_numbered v y.view) same;
     }

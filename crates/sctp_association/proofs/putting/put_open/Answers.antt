@@ -19,7 +19,7 @@ pub returns-then-not-branch-3 : goal.returns-then-not-branch-3
 returns-then-not-branch-3 c = λ e part packet.
     let one = c.in_ok-put_answers.ensures e part.due_stands packet in
     let two = c.in_ok-put_sack.ensures e part.traffic_stands one.packet in
-    let three = c.in_ok-put_forward.ensures e part.configured part.traffic_stands part.clock two.packet in
+    let three = c.in_ok-put_forward.ensures e part.configured part.traffic_stands two.packet in
     let upto = joined (CookieAckSlot ∷ HeartbeatSlot ∷ ErrorSlot ∷ []) (SackSlot ∷ []) e c.args.packing.now c.put_answers.new.packing c.put_sack.new.packing _ _ c.if-not-branch.false one two in
     let onto = joined ((CookieAckSlot ∷ HeartbeatSlot ∷ ErrorSlot ∷ []) ++ SackSlot ∷ []) (ForwardSlot ∷ []) e c.args.packing.now c.put_sack.new.packing c.put_forward.new.packing _ _ c.if-not-branch-2.false upto three in
     cut ((CookieAckSlot ∷ HeartbeatSlot ∷ ErrorSlot ∷ []) ++ SackSlot ∷ ForwardSlot ∷ []) (ShutdownSlot ∷ ShutdownAckSlot ∷ []) e c.args.packing.now c.put_forward.new.packing _ c.if-not-branch-3.true onto
@@ -28,8 +28,8 @@ pub returns-then-not-branch-4 : goal.returns-then-not-branch-4
 returns-then-not-branch-4 c = λ e part packet.
     let one = c.in_ok-put_answers.ensures e part.due_stands packet in
     let two = c.in_ok-put_sack.ensures e part.traffic_stands one.packet in
-    let three = c.in_ok-put_forward.ensures e part.configured part.traffic_stands part.clock two.packet in
-    let four = c.in_ok-put_shutdown.ensures e part.traffic_stands part.clock three.packet in
+    let three = c.in_ok-put_forward.ensures e part.configured part.traffic_stands two.packet in
+    let four = c.in_ok-put_shutdown.ensures e part.traffic_stands three.packet in
     let upto = joined (CookieAckSlot ∷ HeartbeatSlot ∷ ErrorSlot ∷ []) (SackSlot ∷ []) e c.args.packing.now c.put_answers.new.packing c.put_sack.new.packing _ _ c.if-not-branch.false one two in
     let onto = joined ((CookieAckSlot ∷ HeartbeatSlot ∷ ErrorSlot ∷ []) ++ SackSlot ∷ []) (ForwardSlot ∷ []) e c.args.packing.now c.put_sack.new.packing c.put_forward.new.packing _ _ c.if-not-branch-2.false upto three in
     let shut = joined ((CookieAckSlot ∷ HeartbeatSlot ∷ ErrorSlot ∷ []) ++ SackSlot ∷ ForwardSlot ∷ []) (ShutdownSlot ∷ []) e c.args.packing.now c.put_forward.new.packing c.put_shutdown.new.packing _ _ c.if-not-branch-3.false onto four in
@@ -39,10 +39,10 @@ pub returns : goal.returns
 returns c = λ e part packet.
     let one = c.in_ok-put_answers.ensures e part.due_stands packet in
     let two = c.in_ok-put_sack.ensures e part.traffic_stands one.packet in
-    let three = c.in_ok-put_forward.ensures e part.configured part.traffic_stands part.clock two.packet in
-    let four = c.in_ok-put_shutdown.ensures e part.traffic_stands part.clock three.packet in
+    let three = c.in_ok-put_forward.ensures e part.configured part.traffic_stands two.packet in
+    let four = c.in_ok-put_shutdown.ensures e part.traffic_stands three.packet in
     let upto = joined (CookieAckSlot ∷ HeartbeatSlot ∷ ErrorSlot ∷ []) (SackSlot ∷ []) e c.args.packing.now c.put_answers.new.packing c.put_sack.new.packing _ _ c.if-not-branch.false one two in
     let onto = joined ((CookieAckSlot ∷ HeartbeatSlot ∷ ErrorSlot ∷ []) ++ SackSlot ∷ []) (ForwardSlot ∷ []) e c.args.packing.now c.put_sack.new.packing c.put_forward.new.packing _ _ c.if-not-branch-2.false upto three in
     let shut = joined ((CookieAckSlot ∷ HeartbeatSlot ∷ ErrorSlot ∷ []) ++ SackSlot ∷ ForwardSlot ∷ []) (ShutdownSlot ∷ []) e c.args.packing.now c.put_forward.new.packing c.put_shutdown.new.packing _ _ c.if-not-branch-3.false onto four in
     behind c.put_shutdown_ack.result ((CookieAckSlot ∷ HeartbeatSlot ∷ ErrorSlot ∷ []) ++ SackSlot ∷ ForwardSlot ∷ ShutdownSlot ∷ []) (ShutdownAckSlot ∷ []) e c.args.packing.now c.put_shutdown.new.packing c.put_shutdown_ack.new.packing _
-    c.if-not-branch-4.false shut (c.put_shutdown_ack.ensures e part.clock four.packet)
+    c.if-not-branch-4.false shut (c.put_shutdown_ack.ensures e four.packet)

@@ -1,4 +1,4 @@
-use Rattle.std.proofs.Common.{◌∙◌, Bool, ap, sym}
+use Rattle.std.proofs.Common.{◌∙◌, ap, sym}
 use Rattle.std.proofs.lemmas.Bool.{false≢true}
 use Rattle.sctp_model.specs.end.EndView.{Configuration}
 use Rattle.sctp_association.specs.MachineStands.{MachineStands}

@@ -1,6 +1,6 @@
 use Rattle.std.proofs.Common.{◌∙◌, ℕ, ap, sym}
 use Rattle.std.specs.Prelude.{Option, unwrap_or}
-use Rattle.sctp_model.specs.end.EndView.{Configuration, EndView}
+use Rattle.sctp_model.specs.end.EndView.{Configuration}
 use Rattle.sctp_packet.specs.Draft.{Draft}
 use Rattle.sctp_association.specs.MachineStands.{MachineStands}
 use Rattle.sctp_association.proofs.BuildLemmas.{tag_by}
@@ -19,5 +19,5 @@ returns c = λ v moment stands.
         sack = λ still. sym stands.due.sack ∙ (sym c.of.ensures.sack ∙ still);
       };
       chunks = ap (λ (w : Draft). w.chunks) d;
-      same = ap (λ (x : EndView). record x { moment = moment }) (c.of.ensures.same v stands.due stands.timers);
+      same = c.of.ensures.same (record v { moment = moment }) stands.due;
     }

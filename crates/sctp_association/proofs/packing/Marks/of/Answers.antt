@@ -4,7 +4,7 @@ use Rattle.sctp_association.proofs.BuildLemmas.{due_same, drafted_same}
 use Rattle.sctp_association.proofs.packing.Marks.of.Goals as goal
 
 pub returns-clause-same : goal.returns-clause-same
-returns-clause-same c = λ v stands timers.
+returns-clause-same c = λ v stands.
     let d = c.args.due.now in
     let m : Marks = record {
       init = d.init;
@@ -16,6 +16,6 @@ returns-clause-same c = λ v stands timers.
       forward = d.forward;
       shutdown = d.shutdown;
       shutdown_ack = d.shutdown_ack;
-      timers = c.args.timers;
+      starts = c.none.result;
     } in
-    drafted_same m v (due_same m v.due stands.init stands.cookie_echo stands.cookie_ack refl refl stands.sack stands.forward stands.shutdown stands.shutdown_ack) stands.sack timers
+    drafted_same m v (due_same m v.due stands.init stands.cookie_echo stands.cookie_ack refl refl stands.sack stands.forward stands.shutdown stands.shutdown_ack) stands.sack c.none.ensures
