@@ -1,0 +1,4 @@
+mod Apart
+mod RoomLemmas
+mod SendLemmas
+mod TicketLemmas

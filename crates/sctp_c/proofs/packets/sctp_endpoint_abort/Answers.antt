@@ -1,0 +1,14 @@
+use Rattle.sctp_endpoint.specs.EndpointStands.{EndpointStands}
+use Rattle.sctp_c.proofs.RoomLemmas.{abort_fits}
+use Rattle.sctp_c.proofs.packets.sctp_endpoint_abort.Goals as goal
+
+pub returns-clause-did : goal.returns-clause-did
+returns-clause-did c = λ v holds large.
+    let stands : EndpointStands c.deref_mut.result.now v = rw c.deref_mut.ensures.value (rw c.in-Some.ensures.taken at holds) in
+    let said = c.abort-answer.ensures in
+    record {
+      answer = c.abort-answer.result;
+      answers = said.answer v stands;
+      step = rw c.put-2.ensures (said.step v stands);
+      told = c.tell_abort.ensures (abort_fits v.configuration.limit c.abort-answer.result _ (said.within v stands) large);
+    }

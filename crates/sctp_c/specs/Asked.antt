@@ -1,0 +1,48 @@
+-- What C asks for, in the words of the definitions.
+use Rattle.std.specs.Prelude.{◌≡◌, ℕ, ◌⊎◌, ◌+◌, ◌==◌, ◌&&◌, Bool, true, false, List, [], ◌∷◌, Option, Some, None}
+use Rattle.sctp_model.specs.end.EndView.{Configuration, Draw}
+use Rattle.sctp_model.specs.end.Configured.{ConfigurationFault, configuration_fault}
+use Rattle.sctp_terms.specs.Meanings.{config_code}
+use Rattle.sctp_c.specs.declared.codes.TheConstants.{OK, NO_MEMORY, MISUSE, BAD_RESERVED, BAD_CONFIG}
+use Rattle.sctp_c.specs.declared.crossing.SctpConfig.{SctpConfig}
+use Rattle.sctp_c.specs.declared.crossing.SctpDraw.{SctpDraw}
+
+-- the configuration of these numbers
+abbrev pub asked_by : SctpConfig → Configuration
+asked_by c = record {
+  own_port = c.own_port;
+  peer_port = c.peer_port;
+  limit = c.packet_limit;
+  fragment = c.fragment;
+  buffer = c.buffer;
+  outbound = c.outbound;
+  inbound = c.inbound;
+  interleave = c.interleave;
+  partial = c.partial;
+  delay = c.delay;
+  standard_closing = c.standard_closing;
+}
+
+-- the draw of these numbers
+abbrev pub drawn : SctpDraw → Draw
+drawn d = record { tag = d.tag; tsn = d.tsn }
+
+-- every number that is kept for later is 0
+abbrev pub is_zeroed : List ℕ → Bool
+is_zeroed [] = true
+is_zeroed (n ∷ ns) = (n == 0) && is_zeroed ns
+
+-- the answer where nothing is wrong beside the configuration, of which this is the first fault
+abbrev pub IsMadeUnless : Option ConfigurationFault → ℕ → Type 0
+IsMadeUnless (Some fault) n = n ≡ BAD_CONFIG + config_code fault
+IsMadeUnless None n = (n ≡ OK) ⊎ (n ≡ NO_MEMORY)
+
+-- the answer by whether the reserved numbers are 0
+abbrev pub IsMadeZeroed : Bool → SctpConfig → ℕ → Type 0
+IsMadeZeroed false c n = n ≡ BAD_RESERVED
+IsMadeZeroed true c n = IsMadeUnless (configuration_fault (asked_by c)) n
+
+-- What is answered to making an end: there is one already; a reserved number isn't 0; the first fault of the configuration; made, or no memory.
+abbrev pub IsMade : (full : Bool) → SctpConfig → ℕ → Type 0
+IsMade true c n = n ≡ MISUSE
+IsMade false c n = IsMadeZeroed (is_zeroed c.reserved) c n

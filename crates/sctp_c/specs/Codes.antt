@@ -1,0 +1,94 @@
+-- The numbers by which C is told what a call answers.
+use Rattle.std.specs.Prelude.{◌≡◌, ℕ, ◌⊎◌, ◌-◌, ◌^◌, ◌==◌, if◌then◌else◌, Option, Some, None}
+use Rattle.sctp_model.specs.sender.Queueing as queueing
+use Rattle.sctp_model.specs.sender.Abandoning as abandoning
+use Rattle.sctp_model.specs.end.EndView as view
+use Rattle.sctp_model.specs.end.UserCalls as calls
+use Rattle.sctp_association.specs.declared.calls.Refused.{Refused}
+use Rattle.sctp_association.specs.declared.calls.Refused.TheVariants.{NotOpen, Fault}
+use Rattle.sctp_send.specs.declared.queueing.SendFault.{SendFault}
+use Rattle.sctp_send.specs.declared.queueing.SendFault.TheVariants as fault
+use Rattle.sctp_c.specs.declared.codes.TheConstants.{OK, NO_SUCH_STREAM, EMPTY, TOO_LONG, QUEUE_FULL, SPENT, NO_MEMORY, NOT_OPEN, BAD_STATE}
+
+-- ---- moments
+
+-- no moment, as C says it: the last one that there is
+abbrev pub NEVER : ℕ
+NEVER = 2 ^ 64 - 1
+
+-- the moment that C says
+abbrev pub moment_of : ℕ → Option ℕ
+moment_of n = if n == NEVER then None else Some n
+
+-- what C is told of a moment
+abbrev pub moment_code : Option ℕ → ℕ
+moment_code None = NEVER
+moment_code (Some n) = n
+
+-- ---- answers
+
+abbrev pub connect_code : calls.ConnectAnswer → ℕ
+connect_code calls.Called = OK
+connect_code calls.NotIdle = BAD_STATE
+
+abbrev pub shutdown_code : calls.ShutdownAnswer → ℕ
+shutdown_code calls.Shut = OK
+shutdown_code calls.NotShut = NOT_OPEN
+
+-- why a message is refused
+abbrev pub refusal_code : queueing.Refusal → ℕ
+refusal_code queueing.NoSuchStream = NO_SUCH_STREAM
+refusal_code queueing.Empty = EMPTY
+refusal_code queueing.TooLong = TOO_LONG
+refusal_code queueing.QueueFull = QUEUE_FULL
+refusal_code queueing.Spent = SPENT
+
+-- the same, as code has it
+abbrev pub fault_code : SendFault → ℕ
+fault_code fault.NoSuchStream = NO_SUCH_STREAM
+fault_code fault.Empty = EMPTY
+fault_code fault.TooLong = TOO_LONG
+fault_code fault.QueueFull = QUEUE_FULL
+fault_code fault.Spent = SPENT
+fault_code fault.NoMemory = NO_MEMORY
+
+abbrev pub refused_code : Refused → ℕ
+refused_code NotOpen = NOT_OPEN
+refused_code (Fault f) = fault_code f
+
+-- What is answered to send: the end's answer; or memory ran out.
+abbrev pub IsSendCode : calls.SendAnswer → (code ticket : ℕ) → Type 0
+IsSendCode (calls.Ticket t) n k = ((n ≡ OK) × (k ≡ t)) ⊎ (n ≡ NO_MEMORY)
+IsSendCode (calls.Refused r) n k = (n ≡ refusal_code r) ⊎ (n ≡ NO_MEMORY)
+IsSendCode calls.NotOpen n k = (n ≡ NOT_OPEN) ⊎ (n ≡ NO_MEMORY)
+
+-- ---- numbers that name something
+
+-- what has become of a message that is given up
+abbrev pub fate_number : abandoning.AbandonAnswer → ℕ
+fate_number abandoning.Withdrawn = 1
+fate_number abandoning.Abandoned = 2
+fate_number abandoning.Acknowledged = 3
+fate_number abandoning.Unknown = 4
+fate_number abandoning.Reliable = 5
+
+-- the states (RFC 9260, 4)
+abbrev pub state_number : view.State → ℕ
+state_number view.Closed = 1
+state_number view.Listen = 2
+state_number view.CookieWait = 3
+state_number view.CookieEchoed = 4
+state_number (view.InStage view.Established) = 5
+state_number (view.InStage view.ShutdownPending) = 6
+state_number (view.InStage view.ShutdownSent) = 7
+state_number (view.InStage view.ShutdownReceived) = 8
+state_number (view.InStage view.ShutdownAckSent) = 9
+
+-- how an association ended, 0 where it hasn't
+abbrev pub ended_number : Option view.Ended → ℕ
+ended_number None = 0
+ended_number (Some view.Completed) = 1
+ended_number (Some view.Aborted) = 2
+ended_number (Some view.AbortedHere) = 3
+ended_number (Some view.TimedOut) = 4
+ended_number (Some view.StaleCookie) = 5

@@ -1,0 +1,6 @@
+pub mod Asked
+pub mod Codes
+pub mod Holds
+pub mod Slot
+pub mod Status
+pub mod Told

@@ -1,0 +1,25 @@
+-- What C is told of an end.
+use Rattle.std.specs.Prelude.{◌≡◌, length}
+use Rattle.sctp_model.specs.sender.Readers.{outstanding}
+use Rattle.sctp_model.specs.receiver.ReceiverView.{held_bytes}
+use Rattle.sctp_model.specs.end.EndView.{EndView, state_of, ended_of}
+use Rattle.sctp_model.specs.end.Moments.{next_moment}
+use Rattle.sctp_send.specs.Waiting.{queued_bytes}
+use Rattle.sctp_c.specs.Codes.{moment_code, state_number, ended_number}
+use Rattle.sctp_c.specs.declared.status.SctpStatus.{SctpStatus}
+
+-- each number is the view's
+pub record IsStatus (s : SctpStatus) (v : EndView) : Type 0 where
+  pub moment : s.next_moment ≡ moment_code (next_moment v)
+  pub tickets : s.tickets ≡ v.sender.tickets
+  pub outstanding : s.outstanding ≡ outstanding v.sender
+  pub queued : s.queued ≡ length v.sender.queue
+  pub bytes : s.queued_bytes ≡ queued_bytes v.sender
+  pub held : s.held_bytes ≡ held_bytes v.receiver
+  pub window : s.peer_window ≡ v.sender.rwnd
+  pub state : s.state ≡ state_number (state_of v.phase)
+  pub ended : s.ended ≡ ended_number (ended_of v.phase)
+  pub outbound : s.outbound ≡ v.terms.outbound
+  pub inbound : s.inbound ≡ v.receiver.streams
+  pub interleaved : s.interleaved ≡ v.terms.interleave
+  pub partial : s.partial ≡ v.terms.partial

@@ -1,0 +1,125 @@
+-- What C is told of a packet, of a message, of an answer, and what that leaves.
+use Rattle.std.specs.Prelude.{◌≡◌, ℕ, ◌-◌, ◌^◌, min, not, if◌then◌else◌, List, length, map, take, Option, Some, None, Result, Ok, Err, IfOk, OnErr}
+use Rattle.std.specs.declared.vec.Vec.{Vec}
+use Rattle.std.specs.declared.alloc.Global.{Global}
+use Rattle.sctp_model.specs.world.Calls.{Call}
+use Rattle.sctp_model.specs.wire.Packet.{Packet}
+use Rattle.sctp_model.specs.receiver.ReceiverView.{Handed}
+use Rattle.sctp_model.specs.receiver.Reading.{lane_of}
+use Rattle.sctp_model.specs.end.EndView.{Draw, EndView}
+use Rattle.sctp_model.specs.end.Clock.{at_moment}
+use Rattle.sctp_model.specs.end.UserCalls.{UserTakes}
+use Rattle.sctp_values.specs.declared.no_memory.NoMemory.{NoMemory}
+use Rattle.sctp_values.specs.declared.ticket.Ticket.{Ticket}
+use Rattle.sctp_terms.specs.Meanings.{reason_code}
+use Rattle.sctp_terms.specs.declared.calls.AbortFault.{AbortFault}
+use Rattle.sctp_terms.specs.declared.calls.AbortFault.TheVariants as abort
+use Rattle.sctp_association.specs.AbortAnswers.{AbortAnswers, aborted_view}
+use Rattle.sctp_association.specs.CallAnswers.{SendAnswers, sent_view}
+use Rattle.sctp_association.specs.declared.calls.Refused.{Refused}
+use Rattle.sctp_endpoint.specs.Logs.{TellsAnew}
+use Rattle.sctp_endpoint.specs.declared.after.Verdict.{Verdict}
+use Rattle.sctp_endpoint.specs.declared.after.Verdict.TheVariants.{Taken, Dropped, Answer}
+use Rattle.sctp_endpoint.specs.declared.transmit.Sent.{Sent}
+use Rattle.sctp_endpoint.specs.declared.endpoint.Endpoint.{Endpoint}
+use Rattle.sctp_c.specs.Codes.{refused_code}
+use Rattle.sctp_c.specs.Holds.{Holds, TransmitsIn, HandledIn, SendsNotes, GivesNotes, TakesNote}
+use Rattle.sctp_c.specs.declared.codes.TheConstants.{OK, TOO_LONG, NO_MEMORY, BAD_STATE}
+use Rattle.sctp_c.specs.declared.crossing.SctpMessage.{SctpMessage}
+use Rattle.sctp_c.specs.declared.crossing.SctpSent.{SctpSent}
+use Rattle.sctp_c.specs.declared.crossing.SctpVerdict.{SctpVerdict}
+
+-- ---- bytes in a room
+
+-- so many bytes are told, and these lie at the beginning of the room
+abbrev pub IsPut : (bytes : List ℕ) → (count : ℕ) → (room : List ℕ) → Type 0
+IsPut bytes n room = (n ≡ length bytes) × (take n room ≡ bytes)
+
+-- ---- a packet that goes out
+
+-- so many tickets are told, and as many as the room has place for lie at its beginning: all of them where there is place for all
+abbrev pub AreTold : List Ticket → (count : ℕ) → (room : List ℕ) → Type 0
+AreTold ts n room = (n ≡ length ts) × (take (min n (length room)) room ≡ take (min n (length room)) (map (λ t. t.0) ts))
+
+-- what is told of the next packet
+abbrev pub PollTold : Result (Option Sent) NoMemory → (code : ℕ) → SctpSent → (room tickets : List ℕ) → Type 0
+PollTold (Err e) n s room tickets = n ≡ NO_MEMORY
+PollTold (Ok None) n s room tickets = (n ≡ OK) × (s.length ≡ 0) × (s.tickets ≡ 0)
+PollTold (Ok (Some p)) n s room tickets = (n ≡ OK) × IsPut p.packet.items s.length room × AreTold p.tickets.items s.tickets tickets
+
+-- The end answered this to being asked for its next packet, C is told of it, and it is left so.
+pub record Polled (v : EndView) (now : ℕ) (e : Option Endpoint) (code : ℕ) (s : SctpSent) (room tickets : List ℕ) : Type 0 where
+  pub answer : Result (Option Sent) NoMemory
+  pub step : IfOk answer (λ sent. TransmitsIn (at_moment v now) sent e)
+  pub refused : OnErr answer (Holds e v)
+  pub notes : IfOk answer (λ sent. SendsNotes v sent e)
+  pub anew : IfOk answer (λ sent. TellsAnew v sent)
+  pub told : PollTold answer code s room tickets
+
+-- ---- a packet that comes
+
+-- what is told of it
+abbrev pub HeardTold : Result Verdict NoMemory → (code : ℕ) → SctpVerdict → (room : List ℕ) → Type 0
+HeardTold (Err e) n w room = n ≡ NO_MEMORY
+HeardTold (Ok Taken) n w room = (n ≡ OK) × (w.verdict ≡ 0) × (w.reason ≡ 0) × (w.length ≡ 0)
+HeardTold (Ok (Answer bytes)) n w room = (n ≡ OK) × (w.verdict ≡ 1) × (w.reason ≡ 0) × IsPut bytes.items w.length room
+HeardTold (Ok (Dropped reason)) n w room = (n ≡ OK) × (w.verdict ≡ 2) × (w.reason ≡ reason_code reason) × (w.length ≡ 0)
+
+-- The end answered this to the packet, C is told of it, and it is left so.
+pub record Heard (v : EndView) (now : ℕ) (d : Draw) (o : Option Packet) (e : Option Endpoint) (code : ℕ) (w : SctpVerdict) (room : List ℕ) : Type 0 where
+  pub answer : Result Verdict NoMemory
+  pub step : HandledIn v now d o answer e
+  pub told : HeardTold answer code w room
+
+-- ---- an ABORT
+
+-- what is told of it
+abbrev pub AbortTold : Result (Vec ℕ Global) AbortFault → (code count : ℕ) → (room : List ℕ) → Type 0
+AbortTold (Ok bytes) n k room = (n ≡ OK) × IsPut bytes.items k room
+AbortTold (Err abort.State) n k room = n ≡ BAD_STATE
+AbortTold (Err abort.TooLong) n k room = n ≡ TOO_LONG
+AbortTold (Err abort.NoMemory) n k room = n ≡ NO_MEMORY
+
+-- The end answered this to abort, C is told of it, and it is left so.
+pub record Aborted (v : EndView) (reason : List ℕ) (e : Option Endpoint) (code count : ℕ) (room : List ℕ) : Type 0 where
+  pub answer : Result (Vec ℕ Global) AbortFault
+  pub answers : AbortAnswers v reason answer
+  pub step : Holds e (aborted_view v reason answer)
+  pub told : AbortTold answer code count room
+
+-- ---- a message that is handed in
+
+-- what is told of it
+abbrev pub SendTold : Result Ticket Refused → (code ticket : ℕ) → Type 0
+SendTold (Ok given) n t = (n ≡ OK) × (t ≡ given.0)
+SendTold (Err why) n t = n ≡ refused_code why
+
+-- The end answered this, C is told of it, and it is left so.
+pub record Sends (v : EndView) (c : Call) (e : Option Endpoint) (code ticket : ℕ) : Type 0 where
+  pub answer : Result Ticket Refused
+  pub answers : SendAnswers v c answer
+  pub step : Holds e (sent_view v c answer)
+  pub notes : GivesNotes v answer e
+  pub told : SendTold answer code ticket
+
+-- ---- a message that waits or was taken
+
+-- its head says this of it
+pub record IsHead (m : SctpMessage) (h : Handed) : Type 0 where
+  pub length : m.length ≡ min (length h.bytes) (2 ^ 64 - 1)
+  pub payload : m.payload_id ≡ h.payload
+  pub lane : lane_of m.stream (not m.ordered) ≡ h.lane
+  pub number : (if m.numbered then Some m.number else None) ≡ h.number
+
+-- the whole message lies at the beginning of the room
+pub record IsTold (m : SctpMessage) (room : List ℕ) (h : Handed) : Type 0 where
+  pub head : IsHead m h
+  pub bytes : take (length h.bytes) room ≡ h.bytes
+
+-- This message was taken, C is told of it, the end is left so, and its user notes it.
+pub record Takes (v : EndView) (stream : ℕ) (h : Handed) (e : Option Endpoint) (m : SctpMessage) (room : List ℕ) : Type 0 where
+  pub after : EndView
+  pub takes : UserTakes v stream (Some h) after
+  pub step : Holds e after
+  pub notes : TakesNote v stream h e
+  pub told : IsTold m room h

@@ -1,0 +1,59 @@
+//! What C keeps of an endpoint, and how a call takes the endpoint out of it and puts it back.
+
+ghost use Rattle.std.specs.Prelude.{◌≡◌, Some, None, MatchOption};
+ghost use Rattle.sctp_c.specs.Slot.{is_full};
+
+use crate::slot::Slot;
+use sctp_endpoint::Endpoint;
+use std::alloc::Global;
+
+/// What C keeps of an endpoint, in memory of its own: zeroed, or as a call left it.
+#[repr(C)]
+#[derive(Drop)]
+pub struct SctpEndpoint {
+    full: bool,
+    pub(crate) slot: Slot,
+    ghost tells: { full ≡ is_full slot.endpoint },
+}
+
+impl SctpEndpoint {
+    /// A handle with nothing in it.
+    fn empty(alloc: Global) -> SctpEndpoint
+        ensures { result.slot.endpoint ≡ None }
+    {
+        SctpEndpoint {
+            full: false,
+            slot: Slot::empty(alloc),
+        }
+    }
+
+    /// There is an endpoint.
+    pub(crate) fn is_full(&self) -> bool
+        ensures { result ≡ is_full self.now.slot.endpoint }
+    {
+        self.full
+    }
+
+    /// Keeps an endpoint, where there was none.
+    pub(crate) fn put(&mut self, endpoint: Box<Endpoint>)
+        requires { self.old.slot.endpoint ≡ None }
+        ensures { self.new.slot.endpoint ≡ Some endpoint.value }
+    {
+        *self = SctpEndpoint {
+            full: true,
+            slot: Slot::of_box(endpoint),
+        };
+    }
+
+    /// Gives its endpoint away.
+    pub(crate) fn take(&mut self, alloc: Global) -> Option<Box<Endpoint>>
+        ensures taken { MatchOption result (self.old.slot.endpoint ≡ None) (λ endpoint. self.old.slot.endpoint ≡ Some endpoint.value) }
+        ensures left { self.new.slot.endpoint ≡ None }
+    {
+        if !self.full {
+            return None;
+        }
+        let SctpEndpoint { slot, .. } = std::mem::replace(self, SctpEndpoint::empty(alloc));
+        Some(slot.into_box())
+    }
+}

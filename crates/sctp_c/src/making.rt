@@ -1,0 +1,135 @@
+//! How C makes an end, and frees it.
+
+ghost use Rattle.std.specs.Prelude.{◌≡◌, ◌<◌, ◌⊎◌, false, true, None, Some};
+ghost use Rattle.sctp_model.specs.end.Sealing.{Sealing};
+ghost use Rattle.sctp_model.specs.end.EndView as model;
+ghost use Rattle.sctp_model.specs.end.EndView.{fresh_end};
+ghost use Rattle.sctp_model.specs.end.Opening.{opened};
+ghost use Rattle.sctp_cookie.specs.Seals.{IsUnder};
+ghost use Rattle.sctp_c.specs.Slot.{is_full};
+ghost use Rattle.sctp_c.specs.Holds.{Holds};
+ghost use Rattle.sctp_c.specs.Asked.{asked_by, drawn, IsMade};
+
+use crate::codes::{BAD_DRAW, BAD_RESERVED, MISUSE, NO_MEMORY, OK};
+use crate::config::{config_answer, config_of, is_zeroed};
+use crate::crossing::{SctpConfig, SctpDraw, SctpKey};
+use crate::handle::SctpEndpoint;
+use sctp_endpoint::{Draw, Endpoint, Key};
+use std::alloc::Global;
+
+/// The version of what crosses: structs, calls and numbers. It is 1.
+#[unsafe(no_mangle)]
+pub extern "C" fn sctp_endpoint_abi() -> u32
+    ensures { result ≡ 1 }
+{
+    1
+}
+
+/// Keeps an end that was made.
+fn keep(alloc: Global, handle: &mut SctpEndpoint, end: Endpoint) -> u32
+    requires { handle.old.slot.endpoint ≡ None }
+    ensures made { (result ≡ OK) → handle.new.slot.endpoint ≡ Some end }
+    ensures answer { (result ≡ OK) ⊎ (result ≡ NO_MEMORY) }
+    ensures kept { ((result ≡ OK) → ⊥) → handle.new ≡ handle.old }
+{
+    match Box::new(alloc, end) {
+        Ok(end) => {
+            handle.put(end);
+            OK
+        }
+        Err(_) => NO_MEMORY,
+    }
+}
+
+/// Makes the end that calls its peer.
+#[unsafe(no_mangle)]
+pub extern "C" fn sctp_endpoint_caller(
+    alloc: Global,
+    handle: &mut SctpEndpoint,
+    config: &SctpConfig,
+) -> u32
+    ensures made { (result ≡ OK) → Holds handle.new.slot.endpoint (fresh_end (asked_by config.now) model.Caller model.Idle) }
+    ensures answer { IsMade (is_full handle.old.slot.endpoint) config.now result }
+    ensures kept { ((result ≡ OK) → ⊥) → handle.new ≡ handle.old }
+{
+    if handle.is_full() {
+        return MISUSE;
+    }
+    if !is_zeroed(config) {
+        return BAD_RESERVED;
+    }
+    match config_of(config) {
+        Ok(config) => keep(alloc, handle, Endpoint::caller(alloc, config)),
+        Err(fault) => config_answer(fault),
+    }
+}
+
+/// Makes the end that listens: it seals its cookies with this key.
+#[unsafe(no_mangle)]
+pub extern "C" fn sctp_endpoint_listener(
+    alloc: Global,
+    handle: &mut SctpEndpoint,
+    config: &SctpConfig,
+    key: &SctpKey,
+) -> u32
+    ensures made { (s : Sealing) → IsUnder key.now.bytes s → (result ≡ OK)
+        → Holds handle.new.slot.endpoint (fresh_end (asked_by config.now) (model.Listener s) model.Listening) }
+    ensures answer { IsMade (is_full handle.old.slot.endpoint) config.now result }
+    ensures kept { ((result ≡ OK) → ⊥) → handle.new ≡ handle.old }
+{
+    if handle.is_full() {
+        return MISUSE;
+    }
+    if !is_zeroed(config) {
+        return BAD_RESERVED;
+    }
+    match config_of(config) {
+        Ok(config) => keep(
+            alloc,
+            handle,
+            Endpoint::listener(alloc, config, Key::new(key.bytes)),
+        ),
+        Err(fault) => config_answer(fault),
+    }
+}
+
+/// Makes one of two ends that are established at once, without packets: its peer is opened with the two draws the other way round.
+#[unsafe(no_mangle)]
+pub extern "C" fn sctp_endpoint_opened(
+    alloc: Global,
+    handle: &mut SctpEndpoint,
+    config: &SctpConfig,
+    own: &SctpDraw,
+    peer: &SctpDraw,
+) -> u32
+    ensures made { (result ≡ OK) → Holds handle.new.slot.endpoint (opened (asked_by config.now) (drawn own.now) (drawn peer.now)) }
+    ensures undrawn { (own.now.tag ≡ 0) ⊎ (peer.now.tag ≡ 0) → result ≡ BAD_DRAW }
+    ensures answer { 0 < own.now.tag → 0 < peer.now.tag → IsMade (is_full handle.old.slot.endpoint) config.now result }
+    ensures kept { ((result ≡ OK) → ⊥) → handle.new ≡ handle.old }
+{
+    let (Some(own), Some(peer)) = (Draw::new(own.tag, own.tsn), Draw::new(peer.tag, peer.tsn))
+    else {
+        return BAD_DRAW;
+    };
+    if handle.is_full() {
+        return MISUSE;
+    }
+    if !is_zeroed(config) {
+        return BAD_RESERVED;
+    }
+    match config_of(config) {
+        Ok(config) => match Endpoint::opened(alloc, config, own, peer) {
+            Ok(end) => keep(alloc, handle, end),
+            Err(_) => NO_MEMORY,
+        },
+        Err(fault) => config_answer(fault),
+    }
+}
+
+/// Frees what the handle holds, and empties it; nothing happens to an empty one.
+#[unsafe(no_mangle)]
+pub extern "C" fn sctp_endpoint_free(alloc: Global, handle: &mut SctpEndpoint)
+    ensures { handle.new.slot.endpoint ≡ None }
+{
+    drop(handle.take(alloc));
+}

@@ -1,0 +1,89 @@
+//! A message that C hands in (RFC 9260, 11.1.5).
+
+ghost use Rattle.std.specs.Prelude.{◌≡◌, ◌⊎◌, None, take};
+ghost use Rattle.sctp_model.specs.end.EndView.{EndView};
+ghost use Rattle.sctp_send.specs.SenderAnswers.{lane_for};
+ghost use Rattle.sctp_association.specs.CallAnswers.{call_of};
+ghost use Rattle.sctp_c.specs.Holds.{Holds};
+ghost use Rattle.sctp_c.specs.Codes.{moment_of, refused_code};
+ghost use Rattle.sctp_c.specs.Told.{SendTold, Sends};
+
+use crate::codes::{
+    EMPTY, MISUSE, NO_MEMORY, NO_SUCH_STREAM, NOT_OPEN, OK, QUEUE_FULL, SPENT, TOO_LONG,
+};
+use crate::handle::SctpEndpoint;
+use sctp_endpoint::{Refused, SendFault, Ticket};
+use std::alloc::Global;
+
+/// As many bytes say that a message is too long, as any more would.
+const LONGEST_LOOK: usize = 65_537;
+
+/// The moment that C says: None for the last one.
+fn until_of(moment: u64) -> Option<u64>
+    ensures { result ≡ moment_of moment }
+{
+    if moment == u64::MAX {
+        None
+    } else {
+        Some(moment)
+    }
+}
+
+/// The number of a refusal.
+fn send_code(why: Refused) -> u32
+    ensures { result ≡ refused_code why }
+{
+    match why {
+        Refused::NotOpen => NOT_OPEN,
+        Refused::Fault(SendFault::NoSuchStream) => NO_SUCH_STREAM,
+        Refused::Fault(SendFault::Empty) => EMPTY,
+        Refused::Fault(SendFault::TooLong) => TOO_LONG,
+        Refused::Fault(SendFault::QueueFull) => QUEUE_FULL,
+        Refused::Fault(SendFault::Spent) => SPENT,
+        Refused::Fault(SendFault::NoMemory) => NO_MEMORY,
+    }
+}
+
+/// What C is told of a message that it handed in.
+fn tell_send(answer: Result<Ticket, Refused>, ticket: &mut u64) -> u32
+    ensures { SendTold answer result ticket.new }
+{
+    match answer {
+        Ok(given) => {
+            *ticket = given.0;
+            OK
+        }
+        Err(why) => send_code(why),
+    }
+}
+
+/// Queues a message for the peer: its bytes are copied, the first 65,537 of them at the most, which say that it is too long. Its ticket goes to
+/// `ticket`.
+#[unsafe(no_mangle)]
+pub extern "C" fn sctp_endpoint_send(
+    alloc: Global,
+    handle: &mut SctpEndpoint,
+    stream: u16,
+    ordered: bool,
+    payload_id: u32,
+    bytes: &[u8],
+    until: u64,
+    ticket: &mut u64,
+) -> u32
+    ensures misuse { handle.old.slot.endpoint ≡ None → (result ≡ MISUSE) × (handle.new.slot.endpoint ≡ None) }
+    ensures did { (v : EndView) → Holds handle.old.slot.endpoint v
+        → Sends v (call_of (lane_for stream ordered) payload_id (take 65537 bytes.now) (moment_of until)) handle.new.slot.endpoint result ticket.new
+        ⊎ (result ≡ NO_MEMORY) × (handle.new.slot.endpoint ≡ handle.old.slot.endpoint) }
+{
+    let Some(mut end) = handle.take(alloc) else {
+        return MISUSE;
+    };
+    let count = LONGEST_LOOK.min(bytes.len());
+    let Ok(bytes) = Vec::from_slice(alloc, &bytes[..count]) else {
+        handle.put(end);
+        return NO_MEMORY;
+    };
+    let answer = end.send(stream, ordered, payload_id, bytes, until_of(until));
+    handle.put(end);
+    tell_send(answer, ticket)
+}

@@ -1,0 +1,171 @@
+//! What an end tells C of itself (RFC 9260, 4 and 11.1).
+
+ghost use Rattle.std.specs.Prelude.{◌≡◌, None, option_map};
+ghost use Rattle.sctp_model.specs.sender.Readers as sender;
+ghost use Rattle.sctp_model.specs.end.EndView.{EndView};
+ghost use Rattle.sctp_terms.specs.Meanings.{end_meaning, state_meaning};
+ghost use Rattle.sctp_endpoint.specs.EndpointStands.{EndpointStands};
+ghost use Rattle.sctp_c.specs.Holds.{Holds};
+ghost use Rattle.sctp_c.specs.Codes.{moment_code, state_number, ended_number};
+ghost use Rattle.sctp_c.specs.Status.{IsStatus};
+
+use crate::codes::{MISUSE, OK};
+use crate::handle::SctpEndpoint;
+use sctp_endpoint::{End, Endpoint, State, Ticket};
+use std::alloc::Global;
+
+/// Where an end stands, in one look.
+#[repr(C)]
+#[derive(Clone, Copy)]
+pub struct SctpStatus {
+    /// When to call `on_moment` next, in milliseconds; 2^64 - 1 for never.
+    pub next_moment: u64,
+    /// How many tickets `send` gave: they are 1, 2, 3 and so on.
+    pub tickets: u64,
+    /// How many TSNs are assigned that the peer hasn't acknowledged, with one for each message in part.
+    pub outstanding: u64,
+    /// How many messages wait to go out: nothing of them has a TSN.
+    pub queued: u64,
+    /// The bytes of these messages.
+    pub queued_bytes: u64,
+    /// The bytes of user data that came and weren't taken.
+    pub held_bytes: u64,
+    /// The peer's receiver window in bytes, as it last advertised it.
+    pub peer_window: u64,
+    /// The state, 1 to 9.
+    pub state: u32,
+    /// How the association ended, 1 to 5; 0 where it hasn't.
+    pub ended: u32,
+    /// The streams that `send` may use; 0 before an association.
+    pub outbound: u16,
+    /// The streams that the peer may send on; 0 before an association.
+    pub inbound: u16,
+    /// User data goes as I-DATA, as both ends agreed.
+    pub interleaved: bool,
+    /// Messages that have gone out may be abandoned, as both ends agreed.
+    pub partial: bool,
+    /// 0.
+    pub reserved: [u32; 4],
+}
+
+/// The number of a state.
+fn state_of(state: State) -> u32
+    ensures { result ≡ state_number (state_meaning state) }
+{
+    match state {
+        State::Closed => 1,
+        State::Listen => 2,
+        State::CookieWait => 3,
+        State::CookieEchoed => 4,
+        State::Established => 5,
+        State::ShutdownPending => 6,
+        State::ShutdownSent => 7,
+        State::ShutdownReceived => 8,
+        State::ShutdownAckSent => 9,
+    }
+}
+
+/// The number of an end.
+fn ended_of(ended: Option<End>) -> u32
+    ensures { result ≡ ended_number (option_map end_meaning ended) }
+{
+    match ended {
+        None => 0,
+        Some(End::Completed) => 1,
+        Some(End::Aborted) => 2,
+        Some(End::AbortedHere) => 3,
+        Some(End::TimedOut) => 4,
+        Some(End::StaleCookie) => 5,
+    }
+}
+
+/// The moment as C is told it.
+fn moment_told(moment: Option<u64>) -> u64
+    ensures { result ≡ moment_code moment }
+{
+    match moment {
+        None => u64::MAX,
+        Some(moment) => moment,
+    }
+}
+
+/// What an end tells of itself.
+fn status_of(end: &Endpoint) -> SctpStatus
+    ensures { (v : EndView) → EndpointStands end.now v → IsStatus result v }
+{
+    SctpStatus {
+        next_moment: moment_told(end.next_moment()),
+        tickets: end.tickets(),
+        outstanding: u64::from(end.outstanding()),
+        queued: end.queued() as u64,
+        queued_bytes: end.queued_bytes(),
+        held_bytes: u64::from(end.held_bytes()),
+        peer_window: u64::from(end.peer_window()),
+        state: state_of(end.state()),
+        ended: ended_of(end.ended()),
+        outbound: end.outbound(),
+        inbound: end.inbound(),
+        interleaved: end.is_interleaved(),
+        partial: end.is_partial(),
+        reserved: [0; 4],
+    }
+}
+
+/// Where the end stands.
+#[unsafe(no_mangle)]
+pub extern "C" fn sctp_endpoint_status(
+    alloc: Global,
+    handle: &mut SctpEndpoint,
+    status: &mut SctpStatus,
+) -> u32
+    ensures misuse { handle.old.slot.endpoint ≡ None → result ≡ MISUSE }
+    ensures answer { (v : EndView) → Holds handle.old.slot.endpoint v → (result ≡ OK) × IsStatus status.new v }
+    ensures kept { handle.new.slot.endpoint ≡ handle.old.slot.endpoint }
+{
+    let Some(end) = handle.take(alloc) else {
+        return MISUSE;
+    };
+    *status = status_of(&end);
+    handle.put(end);
+    OK
+}
+
+/// Whether the peer has acknowledged all of a message that wasn't abandoned goes to `is`.
+#[unsafe(no_mangle)]
+pub extern "C" fn sctp_endpoint_acknowledged(
+    alloc: Global,
+    handle: &mut SctpEndpoint,
+    ticket: u64,
+    is: &mut bool,
+) -> u32
+    ensures misuse { handle.old.slot.endpoint ≡ None → result ≡ MISUSE }
+    ensures answer { (v : EndView) → Holds handle.old.slot.endpoint v → (result ≡ OK) × (is.new ≡ sender.acknowledged v.sender ticket) }
+    ensures kept { handle.new.slot.endpoint ≡ handle.old.slot.endpoint }
+{
+    let Some(end) = handle.take(alloc) else {
+        return MISUSE;
+    };
+    *is = end.acknowledged(Ticket(ticket));
+    handle.put(end);
+    OK
+}
+
+/// Whether a message has gone out, in part at least, and was abandoned goes to `is`.
+#[unsafe(no_mangle)]
+pub extern "C" fn sctp_endpoint_abandoned(
+    alloc: Global,
+    handle: &mut SctpEndpoint,
+    ticket: u64,
+    is: &mut bool,
+) -> u32
+    ensures misuse { handle.old.slot.endpoint ≡ None → result ≡ MISUSE }
+    ensures answer { (v : EndView) → Holds handle.old.slot.endpoint v → (result ≡ OK) × (is.new ≡ sender.abandoned v.sender ticket) }
+    ensures kept { handle.new.slot.endpoint ≡ handle.old.slot.endpoint }
+{
+    let Some(end) = handle.take(alloc) else {
+        return MISUSE;
+    };
+    *is = end.abandoned(Ticket(ticket));
+    handle.put(end);
+    OK
+}
