@@ -1,0 +1,101 @@
+#!/usr/bin/env bash
+# The library for C, tried: tests/c.sh, behind (cd crates/sctp_c && rt lib). It needs `rt` and a C compiler; C++, valgrind, cargo and
+# python3 are used where they are, and it says what it leaves out. It takes a minute or two, and prints a line for each try.
+
+set -euo pipefail
+root=$(CDPATH='' cd -- "$(dirname -- "$0")/.." && pwd -P)
+at=$(mktemp -d)
+trap 'rm -rf "$at"' EXIT
+cc=${CC:-cc}
+cd "$root"
+./install.sh "$at/prefix"
+prefix=$at/prefix
+flags=(-std=c99 -D_DEFAULT_SOURCE -O2 -g -Wall -Wextra -Wpedantic -Werror -I"$prefix/include")
+static=("$prefix/lib/libsctp_endpoint.a" "$prefix/lib/libsctp_endpoint_malloc.a")
+
+say() { echo "c: $*"; }
+there() { command -v "$1" > /dev/null || { say "left out, no $1: $2"; return 1; }; }
+
+# ---- the header's calls are the library's, and nothing else is seen of it
+grep -o 'sctp_endpoint_[a-z_]*(' "$prefix/include/sctp_endpoint.h" | tr -d '(' | sort -u > "$at/header"
+nm -g --defined-only "$prefix/lib/libsctp_endpoint.a" | awk '$2 == "T" && $3 ~ /^sctp_endpoint_/ { print $3 }' | sort -u > "$at/static"
+nm -D --defined-only "$prefix/lib/libsctp_endpoint.so.0" | awk '{ print $3 }' | sort -u > "$at/shared"
+diff "$at/header" "$at/static"
+diff "$at/header" "$at/shared"
+say "$(wc -l < "$at/header") calls in header, static and shared library"
+
+# ---- C99, C++, sizes, misuse, refused allocations
+"$cc" "${flags[@]}" -o "$at/layout" tests/c/layout.c "${static[@]}"
+"$at/layout"
+"$cc" "${flags[@]}" -o "$at/refused" tests/c/refused.c "$prefix/lib/libsctp_endpoint.a"
+told=$("$at/refused"); say "$told"
+if there "${CXX:-c++}" "the header in C++"; then
+    printf '#include "sctp_endpoint.h"\nint main() { struct sctp_endpoint e = SCTP_ENDPOINT_INIT; sctp_endpoint_free(&e); return sctp_endpoint_abi() != SCTP_EP_ABI; }\n' > "$at/plus.cc"
+    "${CXX:-c++}" -std=c++11 -Wall -Wextra -Werror -I"$prefix/include" -o "$at/plus" "$at/plus.cc" "${static[@]}"
+    "$at/plus"
+    say "the header in C++"
+fi
+if there pkg-config "pkg-config"; then
+    # shellcheck disable=SC2046
+    "$cc" -o "$at/by_package" tests/c/layout.c $(PKG_CONFIG_PATH=$prefix/lib/pkgconfig pkg-config --cflags --libs sctp_endpoint)
+    LD_LIBRARY_PATH=$prefix/lib "$at/by_package"
+    say "pkg-config"
+fi
+
+# ---- two ends over a lossy link, in four modes
+"$cc" "${flags[@]}" -o "$at/lossy" examples/c/lossy.c "${static[@]}"
+for mode in 0 1 2 3; do
+    for lost in 0 10 30; do
+        told=$("$at/lossy" $((mode * 10 + lost + 1)) 500 "$lost" "$mode"); say "mode $mode, $lost percent lost: $told"
+    done
+done
+for flag in address,undefined; do
+    if "$cc" "${flags[@]}" -fsanitize=$flag -fno-sanitize-recover=all -o "$at/sanitized" examples/c/lossy.c "${static[@]}" 2> /dev/null; then
+        "$at/sanitized" 5 200 10 3 > /dev/null
+        "$cc" "${flags[@]}" -fsanitize=$flag -fno-sanitize-recover=all -o "$at/sanitized" tests/c/layout.c "${static[@]}"
+        "$at/sanitized"
+        say "under -fsanitize=$flag"
+    else
+        say "left out: -fsanitize=$flag"
+    fi
+done
+if there valgrind "valgrind"; then
+    valgrind -q --error-exitcode=1 --leak-check=full "$at/lossy" 7 50 10 3 > /dev/null
+    valgrind -q --error-exitcode=1 --leak-check=full "$at/layout"
+    say "under valgrind: nothing is read uninitialised, nothing leaks"
+    "$cc" "${flags[@]}" -o "$at/cost" tests/c/cost.c "${static[@]}"
+    count() { valgrind --tool=callgrind --callgrind-out-file=/dev/null "$at/cost" "$@" 2>&1 | sed -n 's/.*Collected : \([0-9]*\).*/\1/p'; }
+    each() { say "$1: $((($(count "$2" "$3" 300 ${4:+"$4"}) - $(count "$2" "$3" 100 ${4:+"$4"})) / 200 / $2)) instructions a message"; }
+    each "64 bytes, 9.5 to a packet" 19 64
+    each "the same as I-DATA" 19 64 i
+    each "64 bytes, one to a packet" 1 64
+    each "16 KiB" 1 16384
+fi
+
+# ---- one end over UDP, twice
+"$cc" "${flags[@]}" -o "$at/udp" examples/c/udp.c "${static[@]}"
+seq 1 2000 > "$at/lines"
+"$at/udp" listen 19899 > "$at/came" 2> "$at/listener" &
+listener=$!
+sleep 0.3
+timeout 60 "$at/udp" call 19900 127.0.0.1 19899 < "$at/lines" 2> "$at/caller"
+wait "$listener"
+diff "$at/lines" "$at/came"
+say "2000 lines over UDP"
+
+# ---- the page's first program
+awk '/^```c$/ { inside = 1; next } /^```$/ { inside = 0 } inside' docs/C.md > "$at/first.c"
+"$cc" "${flags[@]}" -o "$at/first" "$at/first.c" "${static[@]}"
+[ "$("$at/first")" = "Hi" ]
+say "the first program of docs/C.md: $(wc -l < "$at/first.c") lines"
+
+# ---- from Rust and Python
+if there cargo "bindings/rust"; then
+    (cd bindings/rust && SCTP_ENDPOINT_PREFIX=$prefix CARGO_TARGET_DIR=$at/rust cargo test --quiet --offline > "$at/rust.log" 2>&1) || { cat "$at/rust.log"; exit 1; }
+    say "bindings/rust: $(grep -c '^test result: ok' "$at/rust.log") suites"
+fi
+if there python3 "bindings/python"; then
+    (cd bindings/python && SCTP_ENDPOINT_LIBRARY=$prefix/lib/libsctp_endpoint.so.0 python3 -B -m unittest -q 2> "$at/python.log") || { cat "$at/python.log"; exit 1; }
+    say "bindings/python"
+fi
+say "all passed"

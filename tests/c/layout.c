@@ -1,0 +1,120 @@
+/* The header says what the library does: sizes, places of fields, numbers of answers. */
+#include "sctp_endpoint.h"
+#include <stdio.h>
+#include <string.h>
+
+#define HOLDS(x) do { if (!(x)) { fprintf(stderr, "line %d: %s\n", __LINE__, #x); return 1; } } while (0)
+
+/* A struct with bytes behind it that no call may write. */
+#define BEFORE 0xa5
+#define IN_BYTES(type) union { struct type it; uint8_t bytes[sizeof(struct type) + 64]; }
+static int is_kept(const uint8_t *bytes, size_t from, size_t to) {
+    for (; from < to; from++) if (bytes[from] != BEFORE) return 0;
+    return 1;
+}
+
+int main(void) {
+    struct sctp_endpoint a = SCTP_ENDPOINT_INIT, b = SCTP_ENDPOINT_INIT, other = SCTP_ENDPOINT_INIT;
+    struct sctp_endpoint_config config = SCTP_ENDPOINT_CONFIG(5000, 5001), wrong;
+    struct sctp_endpoint_draw own = { 7, 100 }, peer = { 9, 500 }, none = { 0, 1 };
+    uint8_t room[SCTP_EP_LONGEST_PACKET], text[8] = "message";
+    uint64_t tickets[SCTP_EP_MOST_TICKETS], ticket = 0;
+    IN_BYTES(sctp_endpoint_status) status;
+    IN_BYTES(sctp_endpoint_message) message;
+    IN_BYTES(sctp_endpoint_sent) sent;
+    IN_BYTES(sctp_endpoint_verdict) verdict;
+    uint32_t fate = 0;
+    uint16_t stream = 0;
+    size_t length = 0;
+    bool is = false;
+
+    HOLDS(sctp_endpoint_abi() == SCTP_EP_ABI);
+    HOLDS(sizeof(struct sctp_endpoint) == 16 && sizeof config == 36 && sizeof own == 8 && sizeof(struct sctp_endpoint_key) == 32);
+    HOLDS(sizeof(struct sctp_endpoint_sent) == 16 && sizeof(struct sctp_endpoint_verdict) == 16);
+
+    /* Nothing is in the handle. */
+    memset(&status, 0, sizeof status);
+    HOLDS(sctp_endpoint_status(&a, &status.it) == SCTP_EP_MISUSE);
+    HOLDS(sctp_endpoint_connect(&a, 0, &own) == SCTP_EP_MISUSE && sctp_endpoint_shutdown(&a) == SCTP_EP_MISUSE);
+    HOLDS(sctp_endpoint_send(&a, 0, true, 0, text, 7, SCTP_EP_NEVER, &ticket) == SCTP_EP_MISUSE);
+    HOLDS(sctp_endpoint_on_moment(&a, 0) == SCTP_EP_MISUSE && sctp_endpoint_abandon(&a, 1, &fate) == SCTP_EP_MISUSE);
+    HOLDS(sctp_endpoint_acknowledged(&a, 1, &is) == SCTP_EP_MISUSE && sctp_endpoint_abandoned(&a, 1, &is) == SCTP_EP_MISUSE);
+    HOLDS(sctp_endpoint_abort(&a, text, 7, room, sizeof room, &length) == SCTP_EP_MISUSE);
+    sctp_endpoint_free(&a);
+
+    /* The faults of a configuration, each by its field. */
+    wrong = config; wrong.own_port = 0; HOLDS(sctp_endpoint_caller(&a, &wrong) == SCTP_EP_BAD_PORT);
+    wrong = config; wrong.peer_port = 0; HOLDS(sctp_endpoint_caller(&a, &wrong) == SCTP_EP_BAD_PORT);
+    wrong = config; wrong.packet_limit = 575; HOLDS(sctp_endpoint_caller(&a, &wrong) == SCTP_EP_BAD_PACKET_LIMIT);
+    wrong = config; wrong.fragment = 1201; HOLDS(sctp_endpoint_caller(&a, &wrong) == SCTP_EP_BAD_FRAGMENT);
+    wrong = config; wrong.buffer = 65535; HOLDS(sctp_endpoint_caller(&a, &wrong) == SCTP_EP_BAD_BUFFER);
+    wrong = config; wrong.outbound = 0; HOLDS(sctp_endpoint_caller(&a, &wrong) == SCTP_EP_BAD_STREAMS);
+    wrong = config; wrong.inbound = 1025; HOLDS(sctp_endpoint_caller(&a, &wrong) == SCTP_EP_BAD_STREAMS);
+    for (int i = 0; i < 4; i++) { wrong = config; wrong.reserved[i] = 1u << 31; HOLDS(sctp_endpoint_caller(&a, &wrong) == SCTP_EP_BAD_RESERVED); }
+    HOLDS(sctp_endpoint_opened(&a, &config, &none, &peer) == SCTP_EP_BAD_DRAW && sctp_endpoint_opened(&a, &config, &own, &none) == SCTP_EP_BAD_DRAW);
+    HOLDS(!a.full);
+
+    /* Two ends, opened at once; opened twice. */
+    HOLDS(sctp_endpoint_opened(&a, &config, &own, &peer) == SCTP_EP_OK);
+    HOLDS(sctp_endpoint_opened(&a, &config, &own, &peer) == SCTP_EP_MISUSE && sctp_endpoint_caller(&a, &config) == SCTP_EP_MISUSE);
+    config.own_port = 5001, config.peer_port = 5000;
+    HOLDS(sctp_endpoint_opened(&b, &config, &peer, &own) == SCTP_EP_OK);
+
+    HOLDS(sctp_endpoint_connect(&a, 0, &own) == SCTP_EP_BAD_STATE && sctp_endpoint_connect(&a, 0, &none) == SCTP_EP_BAD_DRAW);
+    HOLDS(sctp_endpoint_send(&a, 64, true, 0, text, 7, SCTP_EP_NEVER, &ticket) == SCTP_EP_NO_SUCH_STREAM);
+    HOLDS(sctp_endpoint_send(&a, 0, true, 0, text, 0, SCTP_EP_NEVER, &ticket) == SCTP_EP_EMPTY && ticket == 0);
+    HOLDS(sctp_endpoint_send(&a, 3, false, 51, text, 7, SCTP_EP_NEVER, &ticket) == SCTP_EP_OK && ticket == 1);
+    HOLDS(sctp_endpoint_send(&a, 4, true, 52, text, 6, SCTP_EP_NEVER, &ticket) == SCTP_EP_OK && ticket == 2);
+
+    memset(&status, BEFORE, sizeof status);
+    HOLDS(sctp_endpoint_status(&a, &status.it) == SCTP_EP_OK && status.it.queued == 2 && status.it.queued_bytes == 13 && status.it.peer_window == 1048576);
+
+    /* A room that is too small takes nothing. */
+    memset(&sent, BEFORE, sizeof sent);
+    HOLDS(sctp_endpoint_poll_transmit(&a, 0, room, 1231, tickets, SCTP_EP_MOST_TICKETS, &sent.it) == SCTP_EP_NEEDS_ROOM && sent.it.length == 1232);
+    HOLDS(is_kept(sent.bytes, sizeof sent.it, sizeof sent.bytes));
+    memset(tickets, BEFORE, sizeof tickets);
+    HOLDS(sctp_endpoint_poll_transmit(&a, 0, room, 1232, tickets, 1, &sent.it) == SCTP_EP_OK && sent.it.length > 12 && sent.it.tickets == 2);
+    HOLDS(tickets[0] == 1 && is_kept((uint8_t *)tickets, 8, sizeof tickets));
+    memset(&verdict, BEFORE, sizeof verdict);
+    HOLDS(sctp_endpoint_handle_packet(&b, 0, room, sent.it.length, &own, room, 1231, &verdict.it) == SCTP_EP_NEEDS_ROOM && verdict.it.length == 1232);
+    {
+        uint8_t answer[1232];
+        HOLDS(sctp_endpoint_handle_packet(&b, 0, room, sent.it.length, &none, answer, sizeof answer, &verdict.it) == SCTP_EP_BAD_DRAW);
+        HOLDS(sctp_endpoint_handle_packet(&b, 0, room, 11, &own, answer, sizeof answer, &verdict.it) == SCTP_EP_OK);
+        HOLDS(verdict.it.verdict == SCTP_EP_DROPPED && verdict.it.reason == SCTP_EP_FAULT && verdict.it.length == 0);
+        HOLDS(sctp_endpoint_handle_packet(&b, 0, room, sent.it.length, &own, answer, sizeof answer, &verdict.it) == SCTP_EP_OK);
+        HOLDS(verdict.it.verdict == SCTP_EP_TAKEN && verdict.it.reason == SCTP_EP_NO_REASON && verdict.it.length == 0);
+        HOLDS(is_kept(verdict.bytes, sizeof verdict.it, sizeof verdict.bytes));
+    }
+
+    /* What came. */
+    memset(&status, BEFORE, sizeof status);
+    HOLDS(sctp_endpoint_status(&b, &status.it) == SCTP_EP_OK && status.it.held_bytes == 13 && status.it.state == SCTP_EP_ESTABLISHED);
+    HOLDS(status.it.ended == SCTP_EP_NOT_ENDED && status.it.outbound == 64 && status.it.inbound == 64 && status.it.interleaved && status.it.partial);
+    HOLDS(status.it.tickets == 0 && status.it.outstanding == 0 && status.it.next_moment == SCTP_EP_NEVER && status.it.reserved[0] == 0 && status.it.reserved[3] == 0);
+    HOLDS(is_kept(status.bytes, sizeof status.it, sizeof status.bytes));
+    HOLDS(sctp_endpoint_status(&a, &status.it) == SCTP_EP_OK && status.it.outstanding == 2 && status.it.tickets == 2 && status.it.next_moment == 1000);
+    memset(&message, BEFORE, sizeof message);
+    HOLDS(sctp_endpoint_readable(&b, 0, &stream) == SCTP_EP_OK && stream == 3 && sctp_endpoint_readable(&b, 4, &stream) == SCTP_EP_OK && stream == 4);
+    HOLDS(sctp_endpoint_readable(&b, 5, &stream) == SCTP_EP_NOTHING && sctp_endpoint_readable(&other, 0, &stream) == SCTP_EP_MISUSE && stream == 4);
+    HOLDS(sctp_endpoint_peek(&b, 0, &message.it) == SCTP_EP_NOTHING && sctp_endpoint_take(&b, 0, &message.it, room, 7) == SCTP_EP_NOTHING);
+    HOLDS(sctp_endpoint_take(&b, 3, &message.it, room, 6) == SCTP_EP_NEEDS_ROOM && message.it.length == 7);
+    HOLDS(sctp_endpoint_peek(&b, 4, &message.it) == SCTP_EP_OK && message.it.ordered && message.it.numbered && message.it.number == 0);
+    HOLDS(sctp_endpoint_take(&b, 3, &message.it, room, 7) == SCTP_EP_OK && memcmp(room, text, 7) == 0);
+    HOLDS(message.it.stream == 3 && !message.it.ordered && message.it.payload_id == 51 && message.it.length == 7);
+    HOLDS(message.it.reserved[0] == 0 && message.it.reserved[3] == 0 && is_kept(message.bytes, sizeof message.it, sizeof message.bytes));
+    HOLDS(sctp_endpoint_peek(&b, 3, &message.it) == SCTP_EP_NOTHING);
+
+    HOLDS(sctp_endpoint_abandon(&a, 1, &fate) == SCTP_EP_OK && fate == SCTP_EP_ABANDONED);
+    HOLDS(sctp_endpoint_abandon(&a, 9, &fate) == SCTP_EP_OK && fate == SCTP_EP_UNKNOWN);
+    HOLDS(sctp_endpoint_abandoned(&a, 1, &is) == SCTP_EP_OK && is && sctp_endpoint_acknowledged(&a, 1, &is) == SCTP_EP_OK && !is);
+    HOLDS(sctp_endpoint_abort(&b, text, 7, room, 1231, &length) == SCTP_EP_NEEDS_ROOM && length == 1232);
+    HOLDS(sctp_endpoint_abort(&b, text, 7, room, 1232, &length) == SCTP_EP_OK && length > 12);
+    HOLDS(sctp_endpoint_abort(&b, text, 7, room, 1232, &length) == SCTP_EP_BAD_STATE);
+    HOLDS(sctp_endpoint_shutdown(&b) == SCTP_EP_NOT_OPEN && sctp_endpoint_send(&b, 0, true, 0, text, 7, SCTP_EP_NEVER, &ticket) == SCTP_EP_NOT_OPEN);
+
+    sctp_endpoint_free(&a), sctp_endpoint_free(&b), sctp_endpoint_free(&b), sctp_endpoint_free(&other);
+    HOLDS(sctp_endpoint_on_moment(&a, 0) == SCTP_EP_MISUSE && !a.full && !b.full);
+    return 0;
+}
