@@ -1,0 +1,145 @@
+//! The header `sctp_endpoint.h`, as far as the calls of this crate go.
+
+use core::ffi::c_void;
+
+#[repr(C)]
+pub struct Handle {
+    pub full: bool,
+    pub at: *mut c_void,
+}
+
+#[repr(C)]
+#[derive(Clone, Copy)]
+pub struct Config {
+    pub own_port: u16,
+    pub peer_port: u16,
+    pub packet_limit: u16,
+    pub fragment: u16,
+    pub buffer: u32,
+    pub outbound: u16,
+    pub inbound: u16,
+    pub interleave: bool,
+    pub partial: bool,
+    pub delay: bool,
+    pub standard_closing: bool,
+    pub reserved: [u32; 4],
+}
+
+#[repr(C)]
+#[derive(Clone, Copy)]
+pub struct Draw {
+    pub tag: u32,
+    pub tsn: u32,
+}
+
+#[repr(C)]
+pub struct Key {
+    pub bytes: [u8; 32],
+}
+
+#[repr(C)]
+#[derive(Clone, Copy, Default)]
+pub struct Verdict {
+    pub length: usize,
+    pub verdict: u32,
+    pub reason: u32,
+}
+
+#[repr(C)]
+#[derive(Clone, Copy, Default)]
+pub struct Sent {
+    pub length: usize,
+    pub tickets: u64,
+}
+
+#[repr(C)]
+#[derive(Clone, Copy, Default)]
+pub struct Message {
+    pub length: usize,
+    pub number: u64,
+    pub payload_id: u32,
+    pub stream: u16,
+    pub ordered: bool,
+    pub numbered: bool,
+    pub reserved: [u32; 4],
+}
+
+#[repr(C)]
+#[derive(Clone, Copy, Default)]
+pub struct Status {
+    pub next_moment: u64,
+    pub tickets: u64,
+    pub outstanding: u64,
+    pub queued: u64,
+    pub queued_bytes: u64,
+    pub held_bytes: u64,
+    pub peer_window: u64,
+    pub state: u32,
+    pub ended: u32,
+    pub outbound: u16,
+    pub inbound: u16,
+    pub interleaved: bool,
+    pub partial: bool,
+    pub reserved: [u32; 4],
+}
+
+extern "C" {
+    pub fn sctp_endpoint_abi() -> u32;
+    pub fn sctp_endpoint_caller(end: *mut Handle, config: *const Config) -> u32;
+    pub fn sctp_endpoint_listener(end: *mut Handle, config: *const Config, key: *const Key) -> u32;
+    pub fn sctp_endpoint_opened(end: *mut Handle, config: *const Config, own: *const Draw, peer: *const Draw) -> u32;
+    pub fn sctp_endpoint_free(end: *mut Handle);
+    pub fn sctp_endpoint_connect(end: *mut Handle, now: u64, draw: *const Draw) -> u32;
+    pub fn sctp_endpoint_handle_packet(
+        end: *mut Handle,
+        now: u64,
+        packet: *const u8,
+        packet_length: usize,
+        draw: *const Draw,
+        room: *mut u8,
+        room_length: usize,
+        verdict: *mut Verdict,
+    ) -> u32;
+    pub fn sctp_endpoint_poll_transmit(
+        end: *mut Handle,
+        now: u64,
+        room: *mut u8,
+        room_length: usize,
+        tickets: *mut u64,
+        tickets_length: usize,
+        sent: *mut Sent,
+    ) -> u32;
+    pub fn sctp_endpoint_on_moment(end: *mut Handle, now: u64) -> u32;
+    pub fn sctp_endpoint_send(
+        end: *mut Handle,
+        stream: u16,
+        ordered: bool,
+        payload_id: u32,
+        bytes: *const u8,
+        length: usize,
+        until: u64,
+        ticket: *mut u64,
+    ) -> u32;
+    pub fn sctp_endpoint_readable(end: *mut Handle, from: u16, stream: *mut u16) -> u32;
+    pub fn sctp_endpoint_peek(end: *mut Handle, stream: u16, message: *mut Message) -> u32;
+    pub fn sctp_endpoint_take(
+        end: *mut Handle,
+        stream: u16,
+        message: *mut Message,
+        room: *mut u8,
+        room_length: usize,
+    ) -> u32;
+    pub fn sctp_endpoint_abandon(end: *mut Handle, ticket: u64, fate: *mut u32) -> u32;
+    pub fn sctp_endpoint_acknowledged(end: *mut Handle, ticket: u64, is: *mut bool) -> u32;
+    pub fn sctp_endpoint_abandoned(end: *mut Handle, ticket: u64, is: *mut bool) -> u32;
+    pub fn sctp_endpoint_shutdown(end: *mut Handle) -> u32;
+    pub fn sctp_endpoint_abort(
+        end: *mut Handle,
+        reason: *const u8,
+        reason_length: usize,
+        room: *mut u8,
+        room_length: usize,
+        length: *mut usize,
+    ) -> u32;
+    pub fn sctp_endpoint_status(end: *mut Handle, status: *mut Status) -> u32;
+}

@@ -1,0 +1,83 @@
+use sctp_endpoint::{Config, Draw, Ended, Endpoint, Error, Fate, State, Verdict};
+use std::num::NonZeroU32;
+
+fn draw(tag: u32) -> Draw {
+    Draw { tag: NonZeroU32::new(tag).unwrap(), tsn: tag * 1_000 }
+}
+
+/// Packets go to and fro until neither end has one.
+fn exchange(a: &mut Endpoint, b: &mut Endpoint, now: u64) -> Vec<u64> {
+    let mut tickets = Vec::new();
+    for from_a in [true, false].into_iter().cycle().take(40) {
+        let (from, to) = if from_a { (&mut *a, &mut *b) } else { (&mut *b, &mut *a) };
+        while let Some(sent) = from.poll_transmit(now).unwrap() {
+            tickets.extend(sent.tickets);
+            if let Verdict::Answer(answer) = to.handle_packet(now, &sent.packet, draw(9)).unwrap() {
+                from.handle_packet(now, &answer, draw(11)).unwrap();
+            }
+        }
+    }
+    tickets
+}
+
+fn opened() -> (Endpoint, Endpoint) {
+    let mut caller = Endpoint::caller(&Config::new(5_000, 5_001)).unwrap();
+    let mut listener = Endpoint::listener(&Config::new(5_001, 5_000), [7; 32]).unwrap();
+    caller.connect(0, draw(7)).unwrap();
+    exchange(&mut caller, &mut listener, 0);
+    (caller, listener)
+}
+
+#[test]
+fn two_ends_open_talk_and_close() {
+    let (mut caller, mut listener) = opened();
+    assert_eq!(caller.status().state, State::Established);
+    let long = vec![5; 65_536];
+    assert_eq!(caller.send(3, true, 51, b"Hi", None), Ok(1));
+    assert_eq!(caller.send(4, false, 52, &long, None), Ok(2));
+    assert_eq!((caller.status().queued, caller.status().queued_bytes, caller.status().peer_window), (2, 65_538, 1 << 20));
+    assert_eq!(exchange(&mut caller, &mut listener, 10), [1, 2]);
+    assert_eq!((listener.readable(0), listener.readable(4), listener.readable(5)), (Some(3), Some(4), None));
+    let hi = listener.take(3).unwrap();
+    assert_eq!((hi.stream, hi.ordered, hi.number, hi.payload_id, &hi.bytes[..]), (3, true, Some(0), 51, &b"Hi"[..]));
+    assert_eq!(listener.status().held_bytes, 65_536);
+    assert_eq!(listener.take(4).unwrap().bytes, long);
+    assert_eq!(listener.take(4), None);
+    assert!(caller.acknowledged(2) && !caller.abandoned(2));
+    assert_eq!(caller.abandon(2), Fate::Acknowledged);
+    caller.shutdown().unwrap();
+    exchange(&mut caller, &mut listener, 20);
+    assert_eq!(caller.status().ended, Some(Ended::Completed));
+    assert_eq!(listener.status().ended, Some(Ended::Completed));
+}
+
+#[test]
+fn refusals_say_why() {
+    let mut config = Config::new(5_000, 5_001);
+    config.buffer = 1;
+    assert_eq!(Endpoint::caller(&config).unwrap_err(), Error::Config(4));
+    let (mut caller, mut listener) = opened();
+    assert_eq!(caller.connect(0, draw(7)), Err(Error::BadState));
+    assert_eq!(caller.send(64, true, 0, b"x", None), Err(Error::NoSuchStream));
+    assert_eq!(caller.send(0, true, 0, b"", None), Err(Error::Empty));
+    assert_eq!(caller.send(0, true, 0, &[0; 65_537], None), Err(Error::TooLong));
+    assert_eq!(caller.handle_packet(0, b"x", draw(7)), Ok(Verdict::Dropped(1)));
+    assert_eq!(caller.abort(&[0; 1_500]), Err(Error::TooLong));
+    let abort = caller.abort(b"enough").unwrap();
+    assert_eq!(listener.handle_packet(0, &abort, draw(8)), Ok(Verdict::Taken));
+    assert_eq!(listener.status().ended, Some(Ended::Aborted));
+    assert_eq!(caller.status().ended, Some(Ended::AbortedHere));
+    assert_eq!(caller.send(0, true, 0, b"x", None), Err(Error::NotOpen));
+}
+
+#[test]
+fn ends_opened_without_packets_talk() {
+    let mut a = Endpoint::opened(&Config::new(5_000, 5_001), draw(7), draw(9)).unwrap();
+    let mut b = Endpoint::opened(&Config::new(5_001, 5_000), draw(9), draw(7)).unwrap();
+    b.send(0, true, 0, b"Hi", Some(50)).unwrap();
+    b.on_moment(60);
+    assert_eq!(b.abandon(1), Fate::Withdrawn);
+    b.send(0, true, 0, b"Ho", None).unwrap();
+    exchange(&mut a, &mut b, 60);
+    assert_eq!(a.take(0).unwrap().bytes, b"Ho");
+}
