@@ -27,10 +27,12 @@ moment_code (Some n) = n
 
 -- ---- answers
 
+-- what is answered to connect
 abbrev pub connect_code : calls.ConnectAnswer → ℕ
 connect_code calls.Called = OK
 connect_code calls.NotIdle = BAD_STATE
 
+-- what is answered to shutdown
 abbrev pub shutdown_code : calls.ShutdownAnswer → ℕ
 shutdown_code calls.Shut = OK
 shutdown_code calls.NotShut = NOT_OPEN
@@ -52,6 +54,7 @@ fault_code fault.QueueFull = QUEUE_FULL
 fault_code fault.Spent = SPENT
 fault_code fault.NoMemory = NO_MEMORY
 
+-- why send is refused: there is no association, or what is wrong with the message
 abbrev pub refused_code : Refused → ℕ
 refused_code NotOpen = NOT_OPEN
 refused_code (Fault f) = fault_code f

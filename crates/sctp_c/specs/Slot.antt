@@ -17,6 +17,7 @@ abbrev pub is_full : {A : Type 0} → Option A → Bool
 is_full None = false
 is_full (Some x) = true
 
+-- the same, as a proposition
 abbrev pub IsFull : {A : Type 0} → Option A → Type 0
 IsFull None = ⊥
 IsFull (Some x) = Unit {0}

@@ -1,5 +1,5 @@
 -- What C is told of an end.
-use Rattle.std.specs.Prelude.{◌≡◌, length}
+use Rattle.std.specs.Prelude.{◌≡◌, [], ◌∷◌, length}
 use Rattle.sctp_model.specs.sender.Readers.{outstanding}
 use Rattle.sctp_model.specs.receiver.ReceiverView.{held_bytes}
 use Rattle.sctp_model.specs.end.EndView.{EndView, state_of, ended_of}
@@ -23,3 +23,4 @@ pub record IsStatus (s : SctpStatus) (v : EndView) : Type 0 where
   pub inbound : s.inbound ≡ v.receiver.streams
   pub interleaved : s.interleaved ≡ v.terms.interleave
   pub partial : s.partial ≡ v.terms.partial
+  pub reserved : s.reserved ≡ 0 ∷ 0 ∷ 0 ∷ 0 ∷ []

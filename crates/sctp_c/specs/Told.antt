@@ -1,5 +1,5 @@
 -- What C is told of a packet, of a message, of an answer, and what that leaves.
-use Rattle.std.specs.Prelude.{◌≡◌, ℕ, ◌-◌, ◌^◌, min, not, if◌then◌else◌, List, length, map, take, Option, Some, None, Result, Ok, Err, IfOk, OnErr}
+use Rattle.std.specs.Prelude.{◌≡◌, ℕ, ◌-◌, ◌^◌, min, not, if◌then◌else◌, List, [], ◌∷◌, length, map, take, Option, Some, None, Result, Ok, Err, IfOk, OnErr}
 use Rattle.std.specs.declared.vec.Vec.{Vec}
 use Rattle.std.specs.declared.alloc.Global.{Global}
 use Rattle.sctp_model.specs.world.Calls.{Call}
@@ -110,6 +110,7 @@ pub record IsHead (m : SctpMessage) (h : Handed) : Type 0 where
   pub payload : m.payload_id ≡ h.payload
   pub lane : lane_of m.stream (not m.ordered) ≡ h.lane
   pub number : (if m.numbered then Some m.number else None) ≡ h.number
+  pub reserved : m.reserved ≡ 0 ∷ 0 ∷ 0 ∷ 0 ∷ []
 
 -- the whole message lies at the beginning of the room
 pub record IsTold (m : SctpMessage) (room : List ℕ) (h : Handed) : Type 0 where
