@@ -1,15 +1,21 @@
 -- Chunks that act one after the other: what acted so far, and what is still to come.
-use Rattle.std.proofs.Common.{◌≡◌, ℕ, Bool, List, [], ◌∷◌, ◌++◌, sym, subst, append_assoc}
+use Rattle.std.proofs.Common.{◌≡◌, ℕ, ◌<◌, Bool, true, false, List, [], ◌∷◌, ◌++◌, length, refl, sym, subst, append_assoc, arith}
+use Rattle.std.specs.Prelude.{◌==◌}
+use Rattle.std.proofs.lemmas.Grind.{common_steps}
 use Rattle.std.proofs.lemmas.List.{append-nil}
-use Rattle.sctp_model.specs.wire.Chunk.{ChunkMeaning}
-use Rattle.sctp_model.specs.end.EndView.{EndView}
+use Rattle.sctp_model.specs.wire.Chunk.{PieceMeaning, ChunkMeaning}
+use Rattle.sctp_model.specs.messages.Framing.{data_chunk}
+use Rattle.sctp_model.specs.end.EndView.{EndView, format_for}
 use Rattle.sctp_model.specs.end.Closing.{rested}
 use Rattle.sctp_model.specs.end.PeerFaults.{Note, GoesOn, PassedOver}
-use Rattle.sctp_model.specs.end.Acting.{Acts}
+use Rattle.sctp_model.specs.end.Acting.{PieceActs, Acts}
 use Rattle.sctp_model.specs.end.Strays.{Verdict}
 use Rattle.sctp_model.specs.end.Arriving.{AllAct, NoneLeft, Next, Passes, Notes, noted, verdict_of}
 use Rattle.sctp_outcomes.proofs.SetUp.{chunks_leave_the_configuration}
-use Rattle.sctp_endpoint.specs.inner.Acted.{notes_meaning, GoesOnBehind, EndsWith}
+use Rattle.sctp_endpoint.specs.inner.Acted.{notes_meaning, HasTag, GoesOnBehind, EndsWith}
+use Rattle.sctp_association.specs.declared.machine.Machine.{Machine}
+use Rattle.sctp_endpoint.specs.Left.{Left}
+use Rattle.sctp_endpoint.specs.declared.after.After.{After}
 use Rattle.sctp_endpoint.specs.declared.after.Notes as declared
 
 -- What these chunks left: whatever acts from there on, acts behind them.
@@ -53,3 +59,29 @@ pub behind_end : (tag : ℕ) (v t u : EndView) (k : Notes) (n l : declared.Notes
     → AllAct tag v k ms u (notes_meaning l) x
 behind_end tag v t u k n l ms done rest m x same split before ends =
     subst (λ (i : declared.Notes). AllAct tag v k ms u (notes_meaning i) x) (sym same) (rw split (before (m ∷ rest) u (notes_meaning n) x (ends rest)))
+
+-- a list that begins with a chunk in two ways
+pub same_first : (xs : List ChunkMeaning) (a m : ChunkMeaning) (bs ms : List ChunkMeaning) → xs ≡ a ∷ bs → xs ≡ m ∷ ms → a ≡ m
+same_first xs a m bs ms p q = cc
+
+pub same_others : (xs : List ChunkMeaning) (a m : ChunkMeaning) (bs ms : List ChunkMeaning) → xs ≡ a ∷ bs → xs ≡ m ∷ ms → bs ≡ ms
+same_others xs a m bs ms p q = cc
+
+-- a list that isn't empty begins with a chunk
+pub begins : (xs : List ChunkMeaning) → (length xs == 0) ≡ false → (m : ChunkMeaning) × (ms : List ChunkMeaning) × (xs ≡ m ∷ ms)
+begins [] e = absurd (cc)
+begins (m ∷ ms) e = (m, ms, refl)
+
+pub ends : (xs : List ChunkMeaning) → (length xs == 0) ≡ true → xs ≡ []
+ends [] e = refl
+ends (m ∷ ms) e = absurd (let some : 0 < length (m ∷ ms) = omega arith in grind (arith, common_steps))
+
+-- what a piece leaves is what its chunk leaves
+pub piece_left : (interleaved : Bool) (a : After) (v : EndView) (tag : ℕ) (p : PieceMeaning) (m : Machine)
+    → Left a v (PieceActs (format_for interleaved) v p) m → Left a v (Acts v tag (data_chunk (format_for interleaved) p)) m
+piece_left true a v tag p m left = left
+piece_left false a v tag p m left = left
+
+pub piece_tagged : (interleaved : Bool) (p : PieceMeaning) → HasTag (data_chunk (format_for interleaved) p)
+piece_tagged true p = tt
+piece_tagged false p = tt

@@ -4,6 +4,7 @@ pub mod ClosingLemmas
 pub mod UnknownLemmas
 pub mod ChunksInTurn
 pub mod TagLemmas
+pub mod PassingLemmas
 pub mod ArrivingLemmas
 pub mod HandlingLemmas
 pub mod LogLemmas

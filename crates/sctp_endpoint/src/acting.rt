@@ -1,9 +1,11 @@
 //! What a chunk does, by its type, and chunks one after the other (RFC 9260, 3.2 and 6.10).
 
-ghost use Rattle.std.specs.Prelude.{◌≡◌, IfOk, OnErr};
-ghost use Rattle.sctp_model.specs.end.EndView.{EndView};
+ghost use Rattle.std.specs.Prelude.{◌≡◌, ℕ, ◌∷◌, List, Ok, IfOk, OnErr};
+ghost use Rattle.sctp_model.specs.wire.Chunk.{ChunkMeaning};
+ghost use Rattle.sctp_model.specs.messages.Framing.{data_chunk};
+ghost use Rattle.sctp_model.specs.end.EndView.{EndView, format_for};
 ghost use Rattle.sctp_model.specs.end.Acting.{Acts};
-ghost use Rattle.sctp_wire.specs.ChunkTree.{chunk_meaning};
+ghost use Rattle.sctp_wire.specs.ChunkTree.{chunk_meaning, piece_meaning};
 ghost use Rattle.sctp_association.specs.MachineStands.{MachineStands};
 ghost use Rattle.sctp_endpoint.specs.Left.{Left};
 ghost use Rattle.sctp_endpoint.specs.inner.Acted.{HasTag, ActsOne, ActsAll};
@@ -19,7 +21,7 @@ use crate::small::{on_heartbeat, on_unknown};
 use sctp_association::Machine;
 use sctp_terms::Reason;
 use sctp_values::NoMemory;
-use sctp_wire::{Chunk, Chunks};
+use sctp_wire::{Chunk, Chunks, Piece};
 
 /// What one chunk does, by its type; the tag is that of its packet.
 ///
@@ -51,7 +53,48 @@ fn act(machine: &mut Machine, tag: u32, chunk: &Chunk<'_>) -> Result<After, NoMe
     }
 }
 
-/// One chunk acts, and an end that is drained goes on with closing at once. None where the packet goes on behind it.
+/// What a chunk left is noted, and an end that is drained goes on with closing at once. None where the packet goes on
+/// behind it.
+fn note(machine: &mut Machine, notes: &mut Notes, after: After) -> Option<Verdict>
+    ensures { (tag : ℕ) (v : EndView) (m : ChunkMeaning) → Left after v (Acts v tag m) machine.old
+        → ActsOne tag v notes.old m (Ok result) machine.new notes.new }
+{
+    match after {
+        After::GoesOn => {
+            machine.rest();
+            notes.listed = true;
+            None
+        }
+        After::Acknowledges { is_data, at_once } => {
+            machine.rest();
+            notes.acknowledge(is_data, at_once);
+            None
+        }
+        After::PassedOver => None,
+        After::Ends => Some(Verdict::Taken),
+        After::Replies(packet) => Some(Verdict::Answer(packet)),
+        After::Drops(reason) => Some(Verdict::Dropped(reason)),
+    }
+}
+
+/// A DATA acts, or an I-DATA, and is noted. None where the packet goes on behind it.
+///
+/// # Errors
+/// Memory ran out, and nothing changed.
+fn go_on_piece(
+    machine: &mut Machine,
+    interleaved: bool,
+    notes: &mut Notes,
+    piece: &Piece<'_>,
+) -> Result<Option<Verdict>, NoMemory>
+    ensures { (tag : ℕ) (v : EndView) → MachineStands machine.old v
+        → ActsOne tag v notes.old (data_chunk (format_for interleaved) (piece_meaning piece.now)) result machine.new notes.new }
+{
+    let after = on_piece(machine, interleaved, piece)?;
+    Ok(note(machine, notes, after))
+}
+
+/// A chunk acts, and is noted. None where the packet goes on behind it.
 ///
 /// # Errors
 /// Memory ran out, and nothing changed.
@@ -63,21 +106,33 @@ fn go_on(
 ) -> Result<Option<Verdict>, NoMemory>
     ensures { (v : EndView) → MachineStands machine.old v → ActsOne tag v notes.old (chunk_meaning chunk.now) result machine.new notes.new }
 {
-    match act(machine, tag, chunk)? {
-        After::GoesOn => {
-            machine.rest();
-            notes.listed = true;
-            Ok(None)
-        }
-        After::Acknowledges { is_data, at_once } => {
-            machine.rest();
-            notes.acknowledge(is_data, at_once);
-            Ok(None)
-        }
-        After::PassedOver => Ok(None),
-        After::Ends => Ok(Some(Verdict::Taken)),
-        After::Replies(packet) => Ok(Some(Verdict::Answer(packet))),
-        After::Drops(reason) => Ok(Some(Verdict::Dropped(reason))),
+    let after = act(machine, tag, chunk)?;
+    Ok(note(machine, notes, after))
+}
+
+/// The first chunk acts and is taken away: data, which most chunks are, as the piece that it is.
+///
+/// # Errors
+/// Memory ran out, and nothing changed but that the chunk is taken away.
+fn act_next(
+    machine: &mut Machine,
+    tag: u32,
+    notes: &mut Notes,
+    chunks: &mut Chunks<'_>,
+) -> Result<Option<Verdict>, NoMemory>
+    ensures taken { (m : ChunkMeaning) (ms : List ChunkMeaning) → chunks.old ≡ m ∷ ms → chunks.new ≡ ms }
+    ensures step { (v : EndView) (m : ChunkMeaning) (ms : List ChunkMeaning) → chunks.old ≡ m ∷ ms
+        → MachineStands machine.old v → ActsOne tag v notes.old m result machine.new notes.new }
+{
+    if let Some(piece) = chunks.next_data() {
+        return go_on_piece(machine, false, notes, &piece);
+    }
+    if let Some(piece) = chunks.next_i_data() {
+        return go_on_piece(machine, true, notes, &piece);
+    }
+    match chunks.next() {
+        Some(chunk) => go_on(machine, tag, notes, &chunk),
+        None => Ok(None),
     }
 }
 
@@ -93,8 +148,9 @@ pub(crate) fn act_all(
 ) -> Result<Verdict, NoMemory>
     ensures { (v : EndView) → MachineStands machine.old v → ActsAll tag v notes.old chunks.entry result machine.new notes.new }
 {
-    for chunk in chunks {
-        if let Some(verdict) = go_on(machine, tag, notes, &chunk)? {
+    let mut rest = chunks;
+    while !rest.is_empty() {
+        if let Some(verdict) = act_next(machine, tag, notes, &mut rest)? {
             return Ok(verdict);
         }
     }

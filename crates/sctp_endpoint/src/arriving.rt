@@ -69,7 +69,7 @@ pub(crate) fn arrive(
     if !has_ports(machine, packet.destination, packet.source) {
         return Ok(Verdict::Dropped(Reason::Ports));
     }
-    if !passes(machine, packet.tag, packet.chunks.again()) {
+    if !passes(machine, packet.tag, &packet.chunks) {
         return Ok(Verdict::Dropped(Reason::Tag));
     }
     if machine.has_association() {

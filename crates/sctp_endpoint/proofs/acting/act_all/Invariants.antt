@@ -1,4 +1,4 @@
-use Rattle.std.proofs.Common.{◌≡◌, List, ◌++◌}
+use Rattle.std.proofs.Common.{◌≡◌, List, ◌++◌, length}
 use Rattle.sctp_model.specs.wire.Chunk.{ChunkMeaning}
 use Rattle.sctp_model.specs.end.EndView.{EndView}
 use Rattle.sctp_association.specs.MachineStands.{MachineStands}
@@ -7,8 +7,11 @@ use Rattle.sctp_endpoint.proofs.ChunksInTurn.{ActsBehind}
 use Rattle.sctp_endpoint.proofs.acting.act_all.Given as goal
 
 -- whatever acts from here on, acts behind what was done
-abbrev pub invariant-loop-chunk : goal.invariant-loop-chunk
-invariant-loop-chunk l =
+abbrev pub invariant-loop-rest : goal.invariant-loop-rest
+invariant-loop-rest l =
     (v : EndView) → MachineStands l.fn.machine v
-    → (done : List ChunkMeaning) × (t : EndView) × (l.fn.chunks ≡ done ++ l.chunk-iterator) × MachineStands l.machine t
+    → (done : List ChunkMeaning) × (t : EndView) × (l.fn.chunks ≡ done ++ l.rest) × MachineStands l.machine t
     × ActsBehind l.tag v (notes_meaning l.fn.notes) done t (notes_meaning l.notes)
+
+abbrev pub decreases-loop-rest : goal.decreases-loop-rest
+decreases-loop-rest l = length l.rest

@@ -1,43 +1,5 @@
-use Rattle.std.proofs.Common.{refl}
-use Rattle.sctp_model.specs.end.Closing.{rested}
-use Rattle.sctp_model.specs.end.PeerFaults.{Unnoted, ToAcknowledge}
-use Rattle.sctp_model.specs.end.Strays as model
-use Rattle.sctp_model.specs.end.Arriving.{Last, EndsAnswered, Stopped}
-use Rattle.sctp_terms.specs.Meanings.{reason_code}
-use Rattle.sctp_endpoint.specs.inner.Acted.{notes_meaning}
-use Rattle.sctp_endpoint.proofs.ChunksInTurn.{goes_on, passes_over}
+use Rattle.sctp_wire.specs.ChunkTree.{chunk_meaning}
 use Rattle.sctp_endpoint.proofs.acting.go_on.Goals as goal
 
-pub returns-in-GoesOn : goal.returns-in-GoesOn
-returns-in-GoesOn c = λ v stands.
-    let a = rw c.in-GoesOn.is at c.in_ok-act.ensures.step v stands in
-    (rested a.0, c.rest.ensures a.0 a.2, goes_on c.args.tag v a.0 (notes_meaning c.args.notes.now) Unnoted _ a.1)
-
-pub returns-in-Acknowledges : goal.returns-in-Acknowledges
-returns-in-Acknowledges c = λ v stands.
-    let a = rw c.in-Acknowledges.is at c.in_ok-act.ensures.step v stands in
-    let note = ToAcknowledge c.in-Acknowledges.is_data c.in-Acknowledges.at_once in (
-      rested a.0,
-      c.rest-in-Acknowledges.ensures a.0 a.2,
-      rw c.acknowledge.ensures (goes_on c.args.tag v a.0 (notes_meaning c.args.notes.now) note _ a.1),
-    )
-
-pub returns-in-PassedOver : goal.returns-in-PassedOver
-returns-in-PassedOver c = λ v stands.
-    let a = rw c.in-PassedOver.is at c.in_ok-act.ensures.step v stands in
-    (v, a.1, passes_over c.args.tag v (notes_meaning c.args.notes.now) _ a.0)
-
-pub returns-in-Ends : goal.returns-in-Ends
-returns-in-Ends c = λ v stands.
-    let a = rw c.in-Ends.is at c.in_ok-act.ensures.step v stands in
-    (a.0, model.Taken, refl, λ rest. Last v a.0 (notes_meaning c.args.notes.now) _ rest a.1, refl, tt, a.2)
-
-pub returns-in-Replies : goal.returns-in-Replies
-returns-in-Replies c = λ v stands.
-    let a = rw c.in-Replies.is at c.in_ok-act.ensures.step v stands in
-    (a.0, model.Answer a.1, refl, λ rest. EndsAnswered v a.0 (notes_meaning c.args.notes.now) _ rest a.1 a.2, a.3, a.4, a.5)
-
-pub returns-in-Drops : goal.returns-in-Drops
-returns-in-Drops c = λ v stands.
-    let a = rw c.in-Drops.is at c.in_ok-act.ensures.step v stands in
-    (v, model.Dropped (reason_code c.in-Drops.reason), refl, λ rest. Stopped v (notes_meaning c.args.notes.now) _ rest _ a.0, refl, tt, a.1)
+pub returns : goal.returns
+returns c = λ v stands. c.note.ensures c.args.tag v (chunk_meaning c.args.chunk.now) (c.in_ok-after.ensures.step v stands)

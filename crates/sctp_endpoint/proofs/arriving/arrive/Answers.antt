@@ -14,7 +14,7 @@ pub returns-then-not-passes : goal.returns-then-not-passes
 returns-then-not-passes c = λ e now stands. (
   at_moment e now,
   model.Dropped TAG,
-  ReadAs _ _ _ (NotOurs (sym (c.has_ports.ensures _ stands) ∙ c.if-not-has_ports.false) (sym (rw c.again.ensures at c.passes.ensures _ stands) ∙ c.if-not-passes.true)),
+  ReadAs _ _ _ (NotOurs (sym (c.has_ports.ensures _ stands) ∙ c.if-not-has_ports.false) (sym (c.passes.ensures _ stands) ∙ c.if-not-passes.true)),
   refl,
   tt,
   stands,
@@ -23,11 +23,11 @@ returns-then-not-passes c = λ e now stands. (
 pub returns-then-has_association : goal.returns-then-has_association
 returns-then-has_association c = λ e now stands.
     arrived_heard e now _ _
-    (record { ports = sym (c.has_ports.ensures _ stands) ∙ c.if-not-has_ports.false; tag = sym (rw c.again.ensures at c.passes.ensures _ stands) ∙ c.if-not-passes.false })
+    (record { ports = sym (c.has_ports.ensures _ stands) ∙ c.if-not-has_ports.false; tag = sym (c.passes.ensures _ stands) ∙ c.if-not-passes.false })
     (sym (c.has_association.ensures _ stands) ∙ c.if-has_association.true) _ _ _ c.none.ensures (c.hear.ensures _ stands)
 
 pub returns : goal.returns
 returns c = λ e now stands.
     c.arrive_outside.ensures e now stands
-    (record { ports = sym (c.has_ports.ensures _ stands) ∙ c.if-not-has_ports.false; tag = sym (rw c.again.ensures at c.passes.ensures _ stands) ∙ c.if-not-passes.false })
+    (record { ports = sym (c.has_ports.ensures _ stands) ∙ c.if-not-has_ports.false; tag = sym (c.passes.ensures _ stands) ∙ c.if-not-passes.false })
     (sym (c.has_association.ensures _ stands) ∙ c.if-has_association.false)
