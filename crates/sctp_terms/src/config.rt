@@ -1,9 +1,8 @@
 //! What an endpoint is set up with.
 
-ghost use Rattle.std.specs.Prelude.{◌≡◌, ◌≤◌, ◌<◌, ◌+◌, true, ◌&&◌, Some, None, MatchResult};
-ghost use Rattle.sctp_model.specs.wire.Chunk.{padded};
+ghost use Rattle.std.specs.Prelude.{◌≡◌, true, ◌&&◌, Some, None, MatchResult};
 ghost use Rattle.sctp_model.specs.end.EndView.{Configuration};
-ghost use Rattle.sctp_model.specs.end.Configured.{IsConfiguration, configuration_fault, plain_configuration, is_between, is_fragment};
+ghost use Rattle.sctp_model.specs.end.Configured.{configuration_fault, plain_configuration, is_between, is_fragment};
 ghost use Rattle.sctp_model.specs.numbers.Limits as limits;
 ghost use Rattle.sctp_terms.specs.Meanings.{config_fault_meaning};
 
@@ -18,17 +17,17 @@ use std::marker::Model;
 /// which timers it closes. Contracts see the definitions' `Configuration`, which is within its limits.
 #[derive(Clone, Copy, Debug, PartialEq, Eq)]
 pub struct Config {
-    own_port: u16,
-    peer_port: u16,
-    limit: u16,
-    fragment: u16,
-    buffer: u32,
-    outbound: u16,
-    inbound: u16,
-    interleave: bool,
-    partial: bool,
-    delay: bool,
-    standard_closing: bool,
+    pub(crate) own_port: u16,
+    pub(crate) peer_port: u16,
+    pub(crate) limit: u16,
+    pub(crate) fragment: u16,
+    pub(crate) buffer: u32,
+    pub(crate) outbound: u16,
+    pub(crate) inbound: u16,
+    pub(crate) interleave: bool,
+    pub(crate) partial: bool,
+    pub(crate) delay: bool,
+    pub(crate) standard_closing: bool,
 }
 
 impl Model for Config {
@@ -170,98 +169,6 @@ impl Config {
             standard_closing: true,
             ..self
         }
-    }
-
-    /// The endpoint's own port, which isn't 0.
-    pub fn own_port(&self) -> u16
-        ensures exact { result ≡ self.now.own_port }
-        ensures some { 0 < result }
-    {
-        self.own_port
-    }
-
-    /// Its peer's port, which isn't 0.
-    pub fn peer_port(&self) -> u16
-        ensures exact { result ≡ self.now.peer_port }
-        ensures some { 0 < result }
-    {
-        self.peer_port
-    }
-
-    /// The bytes of the longest packet that it sends, 576 to 1,500.
-    pub fn limit(&self) -> u16
-        ensures exact { result ≡ self.now.limit }
-        ensures least { 576 ≤ result }
-        ensures greatest { result ≤ 1500 }
-        // Every configuration is within its limits.
-        ensures configured { IsConfiguration self.now }
-    {
-        self.limit
-    }
-
-    /// The bytes of every fragment but a message's last, 4 to 1,400.
-    pub fn fragment(&self) -> u16
-        ensures exact { result ≡ self.now.fragment }
-        ensures least { 4 ≤ result }
-        ensures greatest { result ≤ 1400 }
-        ensures fits { 32 + padded result ≤ self.now.limit }
-    {
-        self.fragment
-    }
-
-    /// The bytes of its receive buffer, 65,536 to 16,777,216.
-    pub fn buffer(&self) -> u32
-        ensures exact { result ≡ self.now.buffer }
-        ensures least { 65536 ≤ result }
-        ensures greatest { result ≤ 16777216 }
-    {
-        self.buffer
-    }
-
-    /// The streams that it asks for to its peer, 1 to 1,024.
-    pub fn outbound(&self) -> u16
-        ensures exact { result ≡ self.now.outbound }
-        ensures some { 0 < result }
-        ensures greatest { result ≤ 1024 }
-    {
-        self.outbound
-    }
-
-    /// The streams that it allows from its peer, 1 to 1,024.
-    pub fn inbound(&self) -> u16
-        ensures exact { result ≡ self.now.inbound }
-        ensures some { 0 < result }
-        ensures greatest { result ≤ 1024 }
-    {
-        self.inbound
-    }
-
-    /// Whether it asks for I-DATA.
-    pub fn interleave(&self) -> bool
-        ensures { result ≡ self.now.interleave }
-    {
-        self.interleave
-    }
-
-    /// Whether it asks for partial reliability.
-    pub fn partial(&self) -> bool
-        ensures { result ≡ self.now.partial }
-    {
-        self.partial
-    }
-
-    /// Whether its SACKs may wait for a second packet.
-    pub fn delay(&self) -> bool
-        ensures { result ≡ self.now.delay }
-    {
-        self.delay
-    }
-
-    /// Whether it closes by the RFC's timers.
-    pub fn standard_closing(&self) -> bool
-        ensures { result ≡ self.now.standard_closing }
-    {
-        self.standard_closing
     }
 }
 

@@ -5,6 +5,7 @@
 mod calls;
 mod config;
 mod config_fault;
+mod configured;
 mod draw;
 mod laws;
 mod life;
