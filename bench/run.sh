@@ -2,7 +2,7 @@
 # Counts instructions by callgrind, of programs that `rt run` proves and builds: what a byte of crc32c takes (beside the same loop in C at -O2), and what a
 # receiver and a sender take for a message; what an endpoint adds to that; what an end takes at rest; what calls of a receiver and of a sender take that keep much; and what one packet
 # of each chunk costs an end at the most. `./run.sh` runs all, `./run.sh crc32c`, `./run.sh receiver`, `./run.sh sender`, `./run.sh endpoint`, `./run.sh rest`, `./run.sh growth`
-# and `./run.sh packets` one of them. Needs rt, valgrind and cc.
+# `./run.sh groups` and `./run.sh packets` one of them. Needs rt, valgrind and cc.
 set -e
 here=$(cd "$(dirname "$0")" && pwd)
 work=$(mktemp -d)
@@ -97,13 +97,31 @@ endpoint() {
     for over in halves ends interleaved; do
         each "$over: a message of 64 bytes, 9.5 to a packet" 100 300 19 "$built" "$over" 19 64 1
         each "$over: a message of 64 bytes, one to a packet" 1000 3000 1 "$built" "$over" 1 64 1
-        each "$over: a message of 16,384 bytes in 12 fragments" 50 150 1 "$built" "$over" 1 16384 1
+        each "$over: a message of 16,384 bytes in 12 fragments, with the making of its bytes" 50 150 1 "$built" "$over" 1 16384 1
     done
+    each 'of it the making of its bytes' 50 150 1 "$built" bytes 1 16384 1
     for over in ends interleaved; do
         for streams in 32 1024; do
             each "$over: a message of 64 bytes, 9.5 to a packet, on the last of $streams streams" 100 300 19 "$built" "$over" 19 64 "$streams"
         done
     done
+}
+
+# the same by what runs
+groups() {
+    # shellcheck disable=SC2086
+    build endpoint $end
+    while read -r name over many size few most; do
+        for turns in $few $most; do
+            valgrind --tool=callgrind --callgrind-out-file="$work/out.$turns" "$built" "$over" "$many" "$size" 1 "$turns" > "$work/log" 2>&1
+        done
+        python3 -B "$here/groups.py" "$name" $(((most - few) * many)) "$work/out.$few" "$work/out.$most"
+    done << CASES
+9.5-to-a-packet ends 19 64 100 300
+as-I-DATA interleaved 19 64 100 300
+one-to-a-packet ends 1 64 1000 3000
+16-KiB ends 1 16384 50 150
+CASES
 }
 
 # the bytes of an end at rest: half of what two take at most that were opened and carried nothing
@@ -177,7 +195,9 @@ sender_growth() {
     for format in data i-data; do
         grows "$format: expire, all of so many late, by message" 1024 1 kept "$built" "$format" late
         grows "$format: expire, none of so many late" 1024 100 call "$built" "$format" early
-        grows "$format: expire, one of so many late" 1024 20 call "$built" "$format" one-late
+        for size in 20 200 1024 4096; do
+            grows "$format: expire, one of so many late" "$size" 20 call "$built" "$format" one-late
+        done
         grows "$format: expire, one of so many late that wait" 250 20 call "$built" "$format" one-late-waits
         grows "$format: expire, all of so many late that wait, by message" 250 1 kept "$built" "$format" late-waits
         grows "$format: expire, every other one of so many late that wait, by message that waits" 250 1 kept "$built" "$format" half-late-waits
@@ -221,6 +241,6 @@ packets() {
 }
 
 case ${1:-all} in
-    all) crc32c; receiver; sender; endpoint; rest; growth; packets ;;
+    all) crc32c; receiver; sender; endpoint; groups; rest; growth; packets ;;
     *) "$1" ;;
 esac
