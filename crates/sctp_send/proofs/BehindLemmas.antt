@@ -1,17 +1,18 @@
 -- Each change that a fill notes leads back to the parts before it.
-use Rattle.std.proofs.Common.{◌≡◌, ℕ, ◌-◌, List, [], ◌∷◌, ◌++◌, length, take, get_or, set, remove, refl, sym, ap, ◌∙◌, ◌<◌}
+use Rattle.std.proofs.Common.{◌≡◌, ℕ, ◌-◌, List, [], ◌∷◌, ◌++◌, suc, length, take, get_or, set, remove, Option, refl, sym, ap, ◌∙◌, ◌<◌}
 use Rattle.std.specs.declared.rc.Rc.{Rc}
 use Rattle.std.specs.declared.alloc.Global.{Global}
 use Rattle.sctp_send.specs.PartsKept.{at_place}
 use Rattle.sctp_send.specs.inner.Drafting.{went_out}
-use Rattle.sctp_send.specs.inner.Undoing.{Parts, parts_of, before_all, origin, waits_again}
+use Rattle.sctp_send.specs.inner.Undoing.{Parts, parts_of, before_all, origin, waits_again, waiting_again, fragment_entry, counted_to}
 use Rattle.sctp_send.specs.declared.draft.Change.{Change}
-use Rattle.sctp_send.specs.declared.draft.Change.TheVariants.{Out, Taken, In}
+use Rattle.sctp_send.specs.declared.draft.Change.TheVariants.{Out, Begun, Left, In}
 use Rattle.sctp_send.specs.declared.draft.Draft.{Draft}
 use Rattle.sctp_send.specs.declared.message.Message.{Message}
 use Rattle.sctp_send.specs.declared.entry.Entry.{Entry as EntryFields}
+use Rattle.sctp_send.specs.declared.entry.Standing.TheVariants.{Sent}
 use Rattle.sctp_send.specs.declared.track.Track.{Track}
-use Rattle.sctp_send.proofs.UndoLemmas.{out_undone, taken_undone, before_last}
+use Rattle.sctp_send.proofs.UndoLemmas.{out_undone, taken_undone, cut_behind, before_last}
 
 -- an entry went out
 pub out_behind : (old : Draft) (cs : List Change) (es : List EntryFields) (at : ℕ) (x : EntryFields) → x ≡ get_or old.outstanding.items at x → cs ≡ old.log.items ++ Out at x.standing ∷ [] → es ≡ at_place went_out at old.outstanding.items
@@ -22,12 +23,28 @@ out_behind old cs es at x read noted went =
     ∙ before_last old.log.items (Out at x.standing) (record (parts_of old) { items = at_place went_out at old.outstanding.items })
     ∙ ap (λ (ys : List EntryFields). before_all old.log.items (record (parts_of old) { items = ys })) (out_undone at old.outstanding.items x read)
 
--- a message was taken out of the queue
-pub taken_behind : (cs ds : List Change) (place : ℕ) (ms rest : List (Rc Message Global)) (m : Rc Message Global) (p : Parts) → place < length ms → m ≡ get_or ms place m → rest ≡ remove ms place
-    → ds ≡ cs ++ Taken place m ∷ [] → p.queue ≡ rest → before_all ds p ≡ before_all cs (record p { queue = ms })
-taken_behind cs ds place ms rest m p low read out noted is =
-    ap (λ (es : List Change). before_all es p) noted ∙ before_last cs (Taken place m) p
-    ∙ ap (λ (qs : List (Rc Message Global)). before_all cs (record p { queue = qs })) (ap (waits_again place m) (is ∙ out) ∙ taken_undone place ms m low read)
+-- a message took its number, and its first fragment came behind all entries
+pub begun_behind : (old : Draft) (cs : List Change) (es : List EntryFields) (qs : List (Rc Message Global)) (ts : List Track) (place turn n : ℕ) (m : Rc Message Global)
+    → cs ≡ old.log.items ++ Begun place (length old.outstanding.items) old.turn ∷ [] → take (suc (length old.outstanding.items)) es ≡ old.outstanding.items ++ fragment_entry m n 0 Sent ∷ []
+    → place < length old.queue.items → m ≡ get_or old.queue.items place m → qs ≡ remove old.queue.items place → at_place (counted_to m.value.kind n) m.value.stream ts ≡ old.tracks.items
+    → before_all cs (record { items = es; queue = qs; tracks = ts; turn = turn }) ≡ origin old
+begun_behind old cs es qs ts place turn n m noted first low read out counted =
+    let from = length old.outstanding.items in
+    let p : Parts = record { items = es; queue = qs; tracks = ts; turn = turn } in
+    let e = fragment_entry m n 0 Sent in
+    let cut = cut_behind old.outstanding.items es e first in
+    ap (λ (ds : List Change). before_all ds p) noted ∙ before_last old.log.items (Begun place from old.turn) p
+    ∙ ap (λ (o : Option EntryFields). before_all old.log.items (waiting_again place from old.turn o p)) cut.0
+    ∙ ap (λ (xs : List EntryFields). before_all old.log.items (record { items = xs; queue = waits_again place m qs; tracks = at_place (counted_to m.value.kind n) m.value.stream ts; turn = old.turn })) cut.1
+    ∙ ap (λ (ms : List (Rc Message Global)). before_all old.log.items (record { items = old.outstanding.items; queue = ms; tracks = at_place (counted_to m.value.kind n) m.value.stream ts; turn = old.turn })) (ap (waits_again place m) out ∙ taken_undone place old.queue.items m low read)
+    ∙ ap (λ (us : List Track). before_all old.log.items (record { items = old.outstanding.items; queue = old.queue.items; tracks = us; turn = old.turn })) counted
+
+-- what was left on a stream changed
+pub left_behind : (cs ds : List Change) (stream : ℕ) (track : Track) (ts us : List Track) (p : Parts) → ds ≡ cs ++ Left stream track ∷ [] → set us stream track ≡ ts → p.tracks ≡ us
+    → before_all ds p ≡ before_all cs (record p { tracks = ts })
+left_behind cs ds stream track ts us p noted went is =
+    ap (λ (xs : List Change). before_all xs p) noted ∙ before_last cs (Left stream track) p
+    ∙ ap (λ (xs : List Track). before_all cs (record p { tracks = xs })) (ap (λ (xs : List Track). set xs stream track) is ∙ went)
 
 -- entries came, a stream went on, and the turn is another's
 pub in_behind : (old : Draft) (cs ds : List Change) (es : List EntryFields) (qs : List (Rc Message Global)) (ts : List Track) (count stream turn : ℕ) (track : Track)

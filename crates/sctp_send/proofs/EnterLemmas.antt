@@ -1,6 +1,6 @@
 -- Fragments that take indexes, tickets that are numbered, the chunk of a fragment: what the code writes is what is kept.
 use Rattle.std.proofs.Common.{◌≡◌, ℕ, zero, suc, ◌+◌, ◌-◌, ◌*◌, ◌<◌, ◌≤◌, min, List, [], ◌∷◌, ◌++◌, length, map, take, drop, get_or, set, Bool, true, false, Option, Some, refl, sym, ap, ◌∙◌, arith, length-drop, remove}
-use Rattle.std.specs.Prelude.{◌==◌, nat_le}
+use Rattle.std.specs.Prelude.{◌==◌, nat_le, Result, Ok, Err, OnOk}
 use Rattle.std.proofs.lemmas.Bool.Decides.{nat_tests}
 use Rattle.std.proofs.lemmas.List.{length-map, map-append, map-set, take-map, drop-map, take_all, take-take}
 use Rattle.sctp_model.specs.messages.Format.{Format, Lane, Kind, Ordered, Unordered}
@@ -48,11 +48,12 @@ begun_push l n m (suc d) some =
     let place : 1 + d ≡ suc d = omega arith in
     rw next (ap (λ (xs : List Item). gone_item (new_item (Part l n 0) m) ∷ xs) (rw place at (new_push l n m 1 d)))
 
--- So many first fragments of a message came behind the entries that there were, and there is as much room.
+-- Behind the first fragment of a message came those up to so many, and there is as much room.
 pub record IsPushed (old new : OutstandingKept) (m : MessageFields) (number count : ℕ) : Type 0 where
-  pub items : (size : ℕ) → map (item_meaning size) new.items ≡ map (item_meaning size) old.items ++ begun_items (lane_meaning m) number (message_meaning size m) count
+  pub items : (size : ℕ) (before : List Item) → map (item_meaning size) old.items ≡ before ++ begun_items (lane_meaning m) number (message_meaning size m) 1
+      → map (item_meaning size) new.items ≡ before ++ begun_items (lane_meaning m) number (message_meaning size m) count
   pub before : old.items ≡ take (length old.items) new.items
-  pub long : length new.items ≡ length old.items + count
+  pub long : length new.items + 1 ≡ length old.items + count
   pub room : IsSameRoom old new
 
 -- those before are the same where one more comes
@@ -61,9 +62,18 @@ before_more xs ys zs first le more long =
     let one : length zs - 1 ≡ length ys = omega arith in
     first ∙ ap (take (length xs)) (more ∙ ap (λ (n : ℕ). take n zs) one) ∙ take-take (length xs) (length ys) zs le
 
--- one that came is behind all before
-pub before_one : (xs ys : List EntryFields) → xs ≡ take (length ys - 1) ys → length ys ≡ length xs + 1 → xs ≡ take (length xs) ys
-before_one xs ys more long = let one : length ys - 1 ≡ length xs = omega arith in more ∙ ap (λ (n : ℕ). take n ys) one
+-- the last of a list
+pub last_read : {A : Type 0} (xs : List A) (x : A) (n : ℕ) → n ≡ length xs → x ≡ get_or (xs ++ x ∷ []) n x
+last_read xs x n is = rw is (by_list xs)
+  where
+    by_list : (ys : List _) → x ≡ get_or (ys ++ x ∷ []) (length ys) x
+    by_list [] = refl
+    by_list (y ∷ ys) = by_list ys
+
+-- what follows where it went well
+pub on_ok : {A E : Type 0} (P Q : Type 0) (r : Result A E) → (P → Q) → OnOk r P → OnOk r Q
+on_ok P Q (Ok x) so p = so p
+on_ok P Q (Err e) so p = tt
 
 -- ---- bytes of a fragment
 

@@ -46,6 +46,7 @@ pub mod AssignedKept
 pub mod RoomLemmas
 pub mod ChunkLemmas
 pub mod EnterLemmas
+pub mod TrackCounts
 pub mod FewLemmas
 pub mod NewlyLemmas
 pub mod PutLemmas

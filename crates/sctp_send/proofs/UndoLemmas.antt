@@ -1,6 +1,6 @@
 -- What a fill noted is taken back, the last change first: then the parts are as they were.
-use Rattle.std.proofs.Common.{◌≡◌, ℕ, zero, suc, ◌+◌, ◌<◌, ◌≤◌, List, [], ◌∷◌, ◌++◌, length, get_or, remove, insert, Bool, true, false, refl, sym, ap, ◌∙◌, subst, arith, length-append}
-use Rattle.std.specs.Prelude.{nat_le, if◌then◌else◌}
+use Rattle.std.proofs.Common.{◌≡◌, ℕ, zero, suc, ◌+◌, ◌<◌, ◌≤◌, List, [], ◌∷◌, ◌++◌, length, get_or, take, remove, insert, Bool, true, false, Option, Some, None, refl, sym, ap, ◌∙◌, subst, arith, length-append}
+use Rattle.std.specs.Prelude.{nat_le, slice_get, if◌then◌else◌}
 use Rattle.std.proofs.lemmas.Bool.Decides.{nat_tests}
 use Rattle.std.proofs.lemmas.List.Edits.{length-insert, length-remove}
 use Rattle.std.specs.declared.rc.Rc.{Rc}
@@ -8,9 +8,9 @@ use Rattle.std.specs.declared.alloc.Global.{Global}
 use Rattle.sctp_send.specs.PartsKept.{OutstandingKept, at_place, changed}
 use Rattle.sctp_send.specs.inner.Changes.{stood}
 use Rattle.sctp_send.specs.inner.Drafting.{went_out}
-use Rattle.sctp_send.specs.inner.Undoing.{Parts, parts_of, stands_so, waits_again, undone, before_all, origin, IsSized, IsKeptRoom, IsBehind}
+use Rattle.sctp_send.specs.inner.Undoing.{Parts, parts_of, stands_so, waits_again, waiting_again, undone, before_all, origin, IsSized, IsKeptRoom, IsBehind}
 use Rattle.sctp_send.specs.declared.draft.Change.{Change}
-use Rattle.sctp_send.specs.declared.draft.Change.TheVariants.{Out, Taken, In}
+use Rattle.sctp_send.specs.declared.draft.Change.TheVariants.{Out, Begun, Left, In}
 use Rattle.sctp_send.specs.declared.draft.Draft.{Draft}
 use Rattle.sctp_send.specs.declared.message.Message.{Message}
 use Rattle.sctp_send.specs.declared.entry.Entry.{Entry as EntryFields}
@@ -54,6 +54,17 @@ taken_undone place ms m low read =
     test : (a b : ℕ) → a ≤ b → nat_le a b ≡ true
     test a b h = grind (arith, nat_tests)
 
+-- a list that is cut behind an element
+pub cut_behind : {A : Type 0} (xs ys : List A) (e : A) → take (suc (length xs)) ys ≡ xs ++ e ∷ [] → (slice_get ys (length xs) ≡ Some e) × (take (length xs) ys ≡ xs)
+cut_behind [] [] e is = absurd (cc)
+cut_behind [] (y ∷ ys) e is = let head : y ≡ e = cc in (ap Some head, refl)
+cut_behind (x ∷ xs) [] e is = absurd (cc)
+cut_behind (x ∷ xs) (y ∷ ys) e is =
+    let head : y ≡ x = cc in
+    let tail : take (suc (length xs)) ys ≡ xs ++ e ∷ [] = cc in
+    let rest = cut_behind xs ys e tail in
+    (rest.0, ap (λ zs. y ∷ zs) rest.1 ∙ ap (λ z. z ∷ xs) head)
+
 -- an entry that was read stands as it is told
 pub stood_again : (w : OutstandingKept) (at : ℕ) (x : EntryFields) (s : Standing) → x ≡ get_or w.items at x → changed (stood s x.covered x.abandoned) at w ≡ changed (stands_so s) at w
 stood_again w at x s read = ap (λ (es : List EntryFields). record w { items = es }) (at_place_like (stood s x.covered x.abandoned) (stands_so s) at w.items x read refl)
@@ -74,11 +85,16 @@ before_last (d ∷ cs) c p = ap (undone d) (before_last cs c p)
 -- no message is lost from the queue
 queue_grows : (c : Change) (p : Parts) → length p.queue ≤ length (undone c p).queue
 queue_grows (Out at standing) p = omega arith
-queue_grows (Taken place m) p = by_test (nat_le place (length p.queue)) refl
+queue_grows (Begun place from turn) p = by_entry (slice_get p.items from)
   where
-    by_test : (b : Bool) → nat_le place (length p.queue) ≡ b → length p.queue ≤ length (if b then insert p.queue place m else p.queue)
-    by_test true le = let low : place ≤ length p.queue = grind (arith, nat_tests) in let long = length-insert p.queue place m low in omega arith
-    by_test false gt = omega arith
+    by_test : (m : Rc Message Global) (b : Bool) → nat_le place (length p.queue) ≡ b → length p.queue ≤ length (if b then insert p.queue place m else p.queue)
+    by_test m true le = let low : place ≤ length p.queue = grind (arith, nat_tests) in let long = length-insert p.queue place m low in omega arith
+    by_test m false gt = omega arith
+
+    by_entry : (o : Option EntryFields) → length p.queue ≤ length (waiting_again place from turn o p).queue
+    by_entry None = omega arith
+    by_entry (Some e) = by_test e.message (nat_le place (length p.queue)) refl
+queue_grows (Left stream track) p = omega arith
 queue_grows (In count stream track turn) p = omega arith
 
 pub queue_grown : (cs : List Change) (p : Parts) → length p.queue ≤ length (before_all cs p).queue

@@ -2,16 +2,17 @@
 
 ghost use Rattle.std.specs.Prelude.{◌≡◌, ℕ, ◌<◌, ◌≤◌, ◌+◌, ◌++◌, ◌∷◌, [], set, length, IfOk};
 ghost use Rattle.std.specs.Vec.{vec_len, vec_capacity};
-ghost use Rattle.sctp_send.specs.PartsKept.{changed};
-ghost use Rattle.sctp_send.specs.inner.Undoing.{parts_of, undone, origin, stands_so, waits_again, IsKeptRoom};
+ghost use Rattle.sctp_send.specs.PartsKept.{at_place, changed};
+ghost use Rattle.sctp_send.specs.inner.Undoing.{parts_of, undone, origin, stands_so, waits_again, counted_to, IsKeptRoom};
+ghost use Rattle.sctp_send.specs.declared.draft.Change.TheVariants.{Begun};
 
-use crate::entry::Standing;
+use crate::entry::{Entry, Standing};
 use crate::message::Message;
 use crate::outstanding::Outstanding;
 use crate::queue::Queue;
 use crate::streams::Streams;
 use crate::track::Track;
-use sctp_values::Ticket;
+use sctp_values::{Kind, Ticket};
 use std::rc::Rc;
 
 /// What filling changes: entries, the queue, streams and the turn as in a sender; the messages that took their numbers, in order; and what was
@@ -34,10 +35,16 @@ pub enum Change {
         at: usize,
         standing: Standing,
     },
-    /// A message stopped waiting; it had this place in the queue.
-    Taken {
+    /// A message that waited at this place of the queue took its number: its entries stand from this offset on; the turn was so.
+    Begun {
         place: usize,
-        message: Rc<Message>,
+        from: usize,
+        turn: u16,
+    },
+    /// What was left on a stream changed; the stream was so.
+    Left {
+        stream: u16,
+        track: Track,
     },
     /// So many entries came behind the others; the stream and the turn were so.
     In {
@@ -57,7 +64,16 @@ pub fn begin_anew(draft: &mut Draft)
 {
     let _waiting = draft.queue.len();
     draft.tickets.clear();
-    draft.log.clear();
+    forget_changes(&mut draft.log);
+}
+
+/// Nothing is noted any more.
+pub(crate) fn forget_changes(log: &mut Vec<Change>)
+    ensures { log.new.items ≡ [] }
+{
+    if !log.is_empty() {
+        log.clear();
+    }
 }
 
 /// A change is noted, where there is room for that.
@@ -95,7 +111,8 @@ fn undo(draft: &mut Draft, change: Change)
 {
     match change {
         Change::Out { at, standing } => stand_again(&mut draft.outstanding, at, standing),
-        Change::Taken { place, message } => queue_again(&mut draft.queue, place, message),
+        Change::Begun { place, from, turn } => wait_again(draft, place, from, turn),
+        Change::Left { stream, track } => go_on_again(&mut draft.tracks, stream, track),
         Change::In {
             count,
             stream,
@@ -119,6 +136,40 @@ fn stand_again(outstanding: &mut Outstanding, at: usize, standing: Standing)
         let covered = entry.covered;
         let abandoned = entry.abandoned;
         outstanding.stand(at, standing, covered, abandoned);
+    }
+}
+
+/// The message whose entries stand from an offset on, where there are such, waits again at its place.
+fn wait_again(draft: &mut Draft, place: usize, from: usize, turn: u16)
+    requires { length (undone (Begun place from turn) (parts_of draft.old)).queue ≤ draft.old.queue.capacity }
+    ensures parts { parts_of draft.new ≡ undone (Begun place from turn) (parts_of draft.old) }
+    ensures log { draft.new.log ≡ draft.old.log }
+    ensures tickets { draft.new.tickets ≡ draft.old.tickets }
+    ensures room { IsKeptRoom draft.old draft.new }
+{
+    if from >= draft.outstanding.len() {
+        return;
+    }
+    draft.outstanding.truncate(from + 1);
+    if let Some(entry) = draft.outstanding.pop_back() {
+        let Entry {
+            message,
+            number,
+            ..
+        } = entry;
+        number_again(&mut draft.tracks, message.stream, message.kind, number);
+        queue_again(&mut draft.queue, place, message);
+        draft.turn = turn;
+    }
+}
+
+/// So many messages of a kind have a number on a stream, where there is such a one.
+fn number_again(tracks: &mut Streams, stream: u16, kind: Kind, many: u64)
+    ensures { tracks.new ≡ record tracks.old { items = at_place (counted_to kind many) stream tracks.old.items } }
+{
+    let at = usize::from(stream);
+    if at < tracks.tracks().len() {
+        tracks.count_to(at, kind, many);
     }
 }
 

@@ -7,7 +7,7 @@ ghost use Rattle.sctp_send.specs.FillAnswers.{FillAnswer, PutSomeOf};
 ghost use Rattle.sctp_send.specs.inner.Drafting.{bare, numbers_of, all_numbered, drafted, AreOpen, AllPut};
 ghost use Rattle.sctp_send.specs.inner.Undoing.{IsSized, IsBehind};
 
-use crate::draft::{Draft, begin_anew, undo_all};
+use crate::draft::{Draft, begin_anew, forget_changes, undo_all};
 use crate::fates::Fates;
 use crate::head::Head;
 use crate::message::Fate;
@@ -38,7 +38,7 @@ impl<F: Framing> Sender<F> {
         begin_anew(&mut self.parts);
         match self.head.put_all::<F>(&mut self.parts, packet) {
             Ok(()) => {
-                self.parts.log.clear();
+                forget_changes(&mut self.parts.log);
                 let tickets = mem::replace(&mut self.parts.tickets, Vec::new(self.head.alloc));
                 number_all(&mut self.head.fates, &tickets);
                 Ok(Filled { tickets })

@@ -1,6 +1,6 @@
 //! The entries above CUM, and what is counted of them, so that no call goes over all of them for it.
 
-ghost use Rattle.std.specs.Prelude.{◌≡◌, ℕ, ◌+◌, ◌*◌, ◌-◌, ◌<◌, ◌≤◌, ◌%◌, ◌^◌, ◌++◌, ◌∷◌, [], take, drop, map, length, slice_index_or, OnOk, OnErr, IfSome};
+ghost use Rattle.std.specs.Prelude.{◌≡◌, ℕ, ◌+◌, ◌*◌, ◌-◌, ◌<◌, ◌≤◌, ◌%◌, ◌^◌, ◌++◌, ◌∷◌, [], take, drop, map, length, slice_index_or, OnOk, OnErr, IfSome, IfNone};
 ghost use Rattle.sctp_send.specs.OutstandingFields.{item_meaning};
 ghost use Rattle.sctp_send.specs.PartsKept.{changed};
 ghost use Rattle.sctp_send.specs.inner.Changes.{stood, told};
@@ -185,7 +185,8 @@ impl Outstanding {
     }
 
     /// One entry more, behind the others, for which there is room.
-    fn put(&mut self, entry: Entry)
+    #[inline(always)]
+    pub(crate) fn put(&mut self, entry: Entry)
         requires { length self.old.items < self.old.capacity }
         ensures { self.new ≡ record self.old { items = self.old.items ++ entry ∷ [] } }
     {
@@ -214,8 +215,10 @@ impl Outstanding {
     }
 
     /// The last entry goes, where there is one.
-    fn pop_back(&mut self)
-        ensures { self.new ≡ record self.old { items = take (length self.old.items - 1) self.old.items } }
+    pub(crate) fn pop_back(&mut self) -> Option<Entry>
+        ensures entries { self.new ≡ record self.old { items = take (length self.old.items - 1) self.old.items } }
+        ensures last { IfSome result (λ entry. self.old.items ≡ self.new.items ++ entry ∷ []) }
+        ensures none { IfNone result (self.old.items ≡ []) }
     {
         if let Some(entry) = self.entries.pop_back() {
             self.by_ticket.pop_back(entry.message.ticket);
@@ -223,7 +226,9 @@ impl Outstanding {
             self.counts.marked = self.counts.marked.min(self.entries.len());
             self.counts.unsent = self.counts.unsent.min(self.entries.len());
             self.counts.front = self.counts.front.min(self.entries.len());
+            return Some(entry);
         }
+        None
     }
 
     /// The entries behind the first so many go.
@@ -231,7 +236,7 @@ impl Outstanding {
         ensures { self.new ≡ record self.old { items = take many self.old.items } }
     {
         for _ in many..self.len() {
-            self.pop_back();
+            let _gone = self.pop_back();
         }
     }
 

@@ -1,17 +1,36 @@
-//! Fragments take the next indexes: all that are to, or none where memory runs out.
+//! Fragments take the next indexes, as far as memory goes.
 
-ghost use Rattle.std.specs.Prelude.{◌≡◌, ℕ, ◌+◌, ◌-◌, ◌<◌, ◌≤◌, ◌^◌, ◌∷◌, [], ◌++◌, map, take, length, OnOk, OnErr};
+ghost use Rattle.std.specs.Prelude.{◌≡◌, ℕ, ◌+◌, ◌-◌, ◌<◌, ◌≤◌, ◌^◌, List, ◌∷◌, [], ◌++◌, map, take, length, slice_index_or, OnOk, OnErr};
 ghost use Rattle.sctp_send.specs.OutstandingFields.{item_meaning, lane_meaning, message_meaning};
 ghost use Rattle.sctp_send.specs.PartsKept.{IsSameRoom};
 ghost use Rattle.sctp_send.specs.inner.Newcomers.{begun_items};
 ghost use Rattle.sctp_send.specs.inner.Drafting.{fragment_item};
-ghost use Rattle.sctp_model.specs.numbers.Limits.{WINDOW};
+ghost use Rattle.sctp_send.specs.SenderKept.{Item};
+ghost use Rattle.sctp_send.specs.inner.Undoing.{fragment_entry};
+ghost use Rattle.sctp_send.specs.declared.entry.Entry.{Entry as Fields};
+ghost use Rattle.sctp_send.specs.declared.entry.Standing.TheVariants.{Sent};
 
 use crate::entry::{Entry, Place, Standing};
 use crate::message::{Message, shared};
 use crate::outstanding::Outstanding;
 use sctp_values::NoMemory;
 use std::rc::Rc;
+
+/// The first fragment of a message takes the next index, and goes out.
+#[inline(always)]
+pub(crate) fn push_first(outstanding: &mut Outstanding, message: Rc<Message>, number: u64)
+    requires { length outstanding.old.items < outstanding.old.capacity }
+    ensures { outstanding.new ≡ record outstanding.old { items = outstanding.old.items ++ fragment_entry message number 0 Sent ∷ [] } }
+{
+    outstanding.put(Entry {
+        message,
+        number,
+        place: Place::Fragment(0),
+        standing: Standing::Sent,
+        covered: false,
+        abandoned: false,
+    });
+}
 
 /// A fragment takes the next index.
 pub fn push_fragment(
@@ -30,28 +49,8 @@ pub fn push_fragment(
     ensures capacity { outstanding.old.capacity ≤ outstanding.new.capacity }
     ensures in_place { length outstanding.old.items < outstanding.old.capacity → outstanding.new.capacity ≡ outstanding.old.capacity }
 {
-    push_owned(outstanding, shared(message)?, number, fragment, standing)
-}
-
-/// A fragment takes the next index, with a message that nothing else is to have from here.
-fn push_owned(
-    outstanding: &mut Outstanding,
-    message: Rc<Message>,
-    number: u64,
-    fragment: u32,
-    standing: Standing,
-) -> Result<(), NoMemory>
-    ensures items { (size : ℕ) → OnOk result (map (item_meaning size) outstanding.new.items
-        ≡ map (item_meaning size) outstanding.old.items ++ fragment_item size message.value number fragment standing ∷ []) }
-    ensures more { OnOk result (outstanding.old.items ≡ take (length outstanding.new.items - 1) outstanding.new.items) }
-    ensures long { OnOk result (length outstanding.new.items ≡ length outstanding.old.items + 1) }
-    ensures unchanged { OnErr result (outstanding.new.items ≡ outstanding.old.items) }
-    ensures size { outstanding.new.size ≡ outstanding.old.size }
-    ensures capacity { outstanding.old.capacity ≤ outstanding.new.capacity }
-    ensures in_place { length outstanding.old.items < outstanding.old.capacity → outstanding.new.capacity ≡ outstanding.old.capacity }
-{
     let entry = Entry {
-        message,
+        message: shared(message)?,
         number,
         place: Place::Fragment(fragment),
         standing,
@@ -61,40 +60,35 @@ fn push_owned(
     outstanding.push(entry)
 }
 
-/// The first fragments of a message take the next indexes, and there is room for so many entries more than them; or no entry came.
-pub fn push_begun(
+/// The further ones of the first so many fragments of a message take the next indexes, as far as memory goes. Its very first one stands at an
+/// offset, behind all others, and there is room.
+#[inline(always)]
+pub(crate) fn push_further(
     outstanding: &mut Outstanding,
-    message: Rc<Message>,
+    from: usize,
     number: u64,
     count: usize,
-    more: u16,
 ) -> Result<(), NoMemory>
     requires some { 0 < count }
-    requires few { count ≤ WINDOW + 1 }
-    ensures items { (size : ℕ) → OnOk result (map (item_meaning size) outstanding.new.items
-        ≡ map (item_meaning size) outstanding.old.items ++ begun_items (lane_meaning message.value) number (message_meaning size message.value) count) }
-    ensures before { OnOk result (outstanding.old.items ≡ take (length outstanding.new.items - count) outstanding.new.items) }
-    ensures long { OnOk result (length outstanding.new.items ≡ length outstanding.old.items + count) }
-    ensures room { OnOk result (more + length outstanding.new.items ≤ outstanding.new.capacity) }
-    ensures unchanged { OnErr result (outstanding.new.items ≡ outstanding.old.items) }
-    ensures size { outstanding.new.size ≡ outstanding.old.size }
-    ensures capacity { outstanding.old.capacity ≤ outstanding.new.capacity }
+    requires few { count < 2 ^ 32 }
+    requires last { length outstanding.old.items ≡ from + 1 }
+    requires room { from + count ≤ outstanding.old.capacity }
+    ensures items { (size : ℕ) (before : List Item) (e : Fields) → e ≡ slice_index_or outstanding.old.items from e
+        → map (item_meaning size) outstanding.old.items ≡ before ++ begun_items (lane_meaning e.message.value) number (message_meaning size e.message.value) 1
+        → OnOk result (map (item_meaning size) outstanding.new.items ≡ before ++ begun_items (lane_meaning e.message.value) number (message_meaning size e.message.value) count) }
+    ensures before { outstanding.old.items ≡ take (length outstanding.old.items) outstanding.new.items }
+    ensures long { OnOk result (length outstanding.new.items ≡ from + count) }
+    ensures room { IsSameRoom outstanding.old outstanding.new }
 {
-    let before = outstanding.len();
-    outstanding.reserve(count + usize::from(more))?;
     if count == 1 {
-        return push_owned(outstanding, message, number, 0, Standing::Sent);
+        return Ok(());
     }
-    match push_fragments(outstanding, &message, number, count) {
-        Ok(()) => Ok(()),
-        Err(failed) => {
-            outstanding.truncate(before);
-            Err(failed)
-        }
-    }
+    let message = shared(&outstanding.get(from).message)?;
+    push_fragments(outstanding, &message, number, count)
 }
 
-/// The first fragments of a message take the next indexes, as far as memory goes; the very first of them goes out.
+/// The fragments of a message behind its first one take the next indexes, up to so many with that, as far as memory goes.
+#[inline(never)]
 fn push_fragments(
     outstanding: &mut Outstanding,
     message: &Rc<Message>,
@@ -103,14 +97,13 @@ fn push_fragments(
 ) -> Result<(), NoMemory>
     requires some { 0 < count }
     requires few { count < 2 ^ 32 }
-    requires room { length outstanding.old.items + count ≤ outstanding.old.capacity }
-    ensures items { (size : ℕ) → OnOk result (map (item_meaning size) outstanding.new.items
-        ≡ map (item_meaning size) outstanding.old.items ++ begun_items (lane_meaning message.now.value) number (message_meaning size message.now.value) count) }
+    requires room { length outstanding.old.items + count ≤ outstanding.old.capacity + 1 }
+    ensures items { (size : ℕ) (before : List Item) → map (item_meaning size) outstanding.old.items ≡ before ++ begun_items (lane_meaning message.now.value) number (message_meaning size message.now.value) 1
+        → OnOk result (map (item_meaning size) outstanding.new.items ≡ before ++ begun_items (lane_meaning message.now.value) number (message_meaning size message.now.value) count) }
     ensures before { outstanding.old.items ≡ take (length outstanding.old.items) outstanding.new.items }
-    ensures long { OnOk result (length outstanding.new.items ≡ length outstanding.old.items + count) }
+    ensures long { OnOk result (length outstanding.new.items + 1 ≡ length outstanding.old.items + count) }
     ensures room { IsSameRoom outstanding.old outstanding.new }
 {
-    push_fragment(outstanding, message, number, 0, Standing::Sent)?;
     for fragment in 1..count {
         push_fragment(
             outstanding,

@@ -12,10 +12,9 @@ ghost use Rattle.sctp_send.specs.inner.Newcomers.{IsBegun, IsContinued};
 
 use crate::assigning::{Beginning, Next, copied, has_window, next_new, rest_of};
 use crate::draft::Draft;
-use crate::entering::number_next;
 use crate::entry::Place;
 use crate::head::Head;
-use crate::message::{Message, fragments_of, shared};
+use crate::message::{Message, fragments_of};
 use crate::pieces::{bytes_of, fits};
 use crate::wishes::may_flow;
 use sctp_framing::Framing;
@@ -86,10 +85,9 @@ impl Head {
         ensures behind { IsBehind draft.old draft.new }
     {
         let message = draft.queue.get(next.place);
-        let Some(track) = draft.tracks.tracks().get(usize::from(message.stream)) else {
+        if usize::from(message.stream) >= draft.tracks.tracks().len() {
             return Ok(false);
-        };
-        let number = number_next(track, message.kind);
+        }
         let more = next.count < fragments_of(self.fragment, &message.bytes);
         if !has_window(
             &draft.outstanding,
@@ -103,9 +101,8 @@ impl Head {
         if !self.is_let_in::<F>(message, 0, flying, packet) {
             return Ok(false);
         }
-        let message = shared(message)?;
         let at = draft.outstanding.len();
-        self.begin(draft, next, message, number)?;
+        self.begin(draft, next)?;
         self.put_at::<F>(draft, at, packet)
     }
 

@@ -5,6 +5,8 @@ ghost use Rattle.sctp_send.specs.SenderFields.{track_meaning};
 ghost use Rattle.sctp_send.specs.inner.Walks.{total, one_if_rest, rest_owes, any_rest, GoesOnAt};
 ghost use Rattle.sctp_send.specs.inner.Newcomers.{IsNextPart};
 ghost use Rattle.sctp_send.specs.inner.Expiring.{soonest, rest_messages};
+ghost use Rattle.sctp_send.specs.inner.Undoing.{counted_to};
+ghost use Rattle.sctp_send.specs.PartsKept.{at_place};
 
 use crate::bounds::{GROUPS, keep_above, least, replace};
 use crate::looking::{
@@ -13,7 +15,7 @@ use crate::looking::{
 };
 use crate::part_lists::PartLists;
 use crate::track::{Track, owed_by_track};
-use sctp_values::NoMemory;
+use sctp_values::{Kind, NoMemory};
 use std::alloc::Global;
 use std::marker::Model;
 use std::mem;
@@ -95,6 +97,15 @@ impl Streams {
         ensures { result ≡ total (λ t. rest_owes t.rest) (map (track_meaning self.now.size) self.now.items) % 2 ^ 64 }
     {
         self.owed
+    }
+
+    /// So many messages of a kind have a number on a stream. What is left on it stays.
+    #[inline(always)]
+    pub(crate) fn count_to(&mut self, at: usize, kind: Kind, many: u64)
+        requires { at < length self.old.items }
+        ensures { self.new ≡ record self.old { items = at_place (counted_to kind many) at self.old.items } }
+    {
+        set_count(&mut self.tracks[at], kind, many);
     }
 
     /// A stream goes on with this, in place of what it answers.
@@ -191,6 +202,17 @@ impl Streams {
         bound_listed(&self.tracks, &self.lists, &self.bounds, now, &mut fresh);
         self.earliest = least(&fresh);
         replace(&mut self.bounds, &fresh);
+    }
+}
+
+/// So many messages of a kind have a number on a stream.
+#[inline(always)]
+fn set_count(track: &mut Track, kind: Kind, many: u64)
+    ensures { track.new ≡ counted_to kind many track.old }
+{
+    match kind {
+        Kind::Ordered => track.ordered = many,
+        Kind::Unordered => track.unordered = many,
     }
 }
 

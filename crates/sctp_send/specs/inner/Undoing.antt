@@ -1,15 +1,18 @@
 -- What a fill changed, and how it is taken back.
-use Rattle.std.specs.Prelude.{◌≡◌, ℕ, ◌-◌, ◌<◌, ◌≤◌, nat_le, if◌then◌else◌, List, [], ◌∷◌, length, take, set, insert}
+use Rattle.std.specs.Prelude.{◌≡◌, ℕ, ◌-◌, ◌<◌, ◌≤◌, nat_le, if◌then◌else◌, false, List, [], ◌∷◌, length, take, set, insert, slice_get, Option, None, Some}
 use Rattle.std.specs.declared.rc.Rc.{Rc}
 use Rattle.std.specs.declared.alloc.Global.{Global}
 use Rattle.sctp_model.specs.numbers.Limits.{GREATEST_FRAGMENT}
 use Rattle.sctp_send.specs.PartsKept.{at_place}
 use Rattle.sctp_send.specs.declared.draft.Change.{Change}
-use Rattle.sctp_send.specs.declared.draft.Change.TheVariants.{Out, Taken, In}
+use Rattle.sctp_send.specs.declared.draft.Change.TheVariants.{Out, Begun, Left, In}
 use Rattle.sctp_send.specs.declared.draft.Draft.{Draft}
 use Rattle.sctp_send.specs.declared.message.Message.{Message}
 use Rattle.sctp_send.specs.declared.entry.Entry.{Entry as EntryFields}
 use Rattle.sctp_send.specs.declared.entry.Standing.{Standing}
+use Rattle.sctp_send.specs.declared.entry.Place.TheVariants.{Fragment}
+use Rattle.sctp_values.specs.declared.kind.Kind.{Kind}
+use Rattle.sctp_values.specs.declared.kind.Kind.TheVariants.{Ordered, Unordered}
 use Rattle.sctp_send.specs.declared.track.Track.{Track}
 
 -- what a fill may change
@@ -31,10 +34,35 @@ stands_so s e = record e { standing = s }
 abbrev pub waits_again : (place : ℕ) → Rc Message Global → List (Rc Message Global) → List (Rc Message Global)
 waits_again place m ms = if nat_le place (length ms) then insert ms place m else ms
 
+-- the entry of a fragment
+abbrev pub fragment_entry : Rc Message Global → (number fragment : ℕ) → Standing → EntryFields
+fragment_entry m n k standing = record { message = m; number = n; place = Fragment k; standing = standing; covered = false; abandoned = false }
+
+-- how many messages of a kind have a number on a stream
+abbrev pub count_of : Kind → Track → ℕ
+count_of Ordered t = t.ordered
+count_of Unordered t = t.unordered
+
+-- a stream on which so many have one
+abbrev pub counted_to : Kind → ℕ → Track → Track
+counted_to Ordered n t = record t { ordered = n }
+counted_to Unordered n t = record t { unordered = n }
+
+-- the parts before a message took its number, of whose entries this is the first one, at this offset: it waits again at its place
+abbrev pub waiting_again : (place from turn : ℕ) → Option EntryFields → Parts → Parts
+waiting_again place from turn None p = p
+waiting_again place from turn (Some e) p = record {
+  items = take from p.items;
+  queue = waits_again place e.message p.queue;
+  tracks = at_place (counted_to e.message.value.kind e.number) e.message.value.stream p.tracks;
+  turn = turn;
+}
+
 -- the parts before a change
 abbrev pub undone : Change → Parts → Parts
 undone (Out at standing) p = record p { items = at_place (stands_so standing) at p.items }
-undone (Taken place m) p = record p { queue = waits_again place m p.queue }
+undone (Begun place from turn) p = waiting_again place from turn (slice_get p.items from) p
+undone (Left stream track) p = record p { tracks = set p.tracks stream track }
 undone (In count stream track turn) p = record p { items = take (length p.items - count) p.items; tracks = set p.tracks stream track; turn = turn }
 
 -- the parts before all of these changes, of which the last is undone first
