@@ -8,7 +8,7 @@
  *  - No pointer is NULL, also where the length beside it is 0. Each is aligned, and what it points to is the caller's for
  *    the whole call. Memory that a call writes (what is no pointer to const) overlaps nothing else that the same call is given.
  *  - What a call writes is initialised before: all of it may be zero. A bool is 0 or 1.
- *  - One endpoint is used by one thread, which is the one that made it. Two endpoints share nothing.
+ *  - One endpoint is used by one thread at a time, whichever. Two endpoints share nothing.
  *  - No call is made from a signal handler, or in the child of a fork of a program with threads.
  *
  * Each call but two answers a number of enum sctp_endpoint_result. An answer that isn't SCTP_EP_OK leaves the endpoint as it
@@ -17,8 +17,8 @@
  *
  * Moments are milliseconds since any beginning, the same for all calls of an endpoint. One before the latest counts as that.
  *
- * Memory comes from three functions. libsctp_endpoint_malloc.a has them over malloc, realloc and free; a program that defines
- * its own leaves that library out (rattle_alloc below).
+ * Memory comes from three functions, which each thread that uses an endpoint calls. libsctp_endpoint_malloc.a has them over
+ * malloc, realloc and free; a program that defines its own leaves that library out (rattle_alloc below).
  */
 #ifndef SCTP_ENDPOINT_H
 #define SCTP_ENDPOINT_H

@@ -25,7 +25,7 @@ TOOLS = {'cc', 'gdb', 'jq', 'python3', 'rt', 'text2pcap', 'tshark', 'valgrind', 
 RT = {'all', 'check', 'ci', 'doc', 'expand', 'fmt', 'lemma', 'lib', 'must-fail', 'new', 'plant', 'run', 'seed', 'test', 'tidy', 'try', 'verdict', 'version'}
 # Names that stand in no file of the tree: of the C library, of the toolchain's line.
 ALLOWED = {'kit', 'logic', 'malloc_consolidate'}
-STD = {'Box', 'Option', 'Rc', 'Result', 'String', 'Vec', 'VecDeque'}
+STD = {'Arc', 'Box', 'Option', 'Result', 'String', 'Vec', 'VecDeque'}
 ENDINGS = ('.antt', '.c', '.calls', '.edit', '.h', '.md', '.py', '.rattle', '.rt', '.script', '.sh', '.txt')
 OF_A_CRATE = ('src/', 'specs/', 'proofs/', 'must-fail/', 'wrong-bodies/')
 REMARK = {'.rt': r'//.*', '.rattle': r'//.*', '.c': r'//.*', '.h': r'//.*', '.antt': r'--.*', '.py': r'(?m)^\s*#.*', '.sh': r'(?m)^\s*#.*'}

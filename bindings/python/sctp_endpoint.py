@@ -2,7 +2,7 @@
 
 The core has no socket, no clock and no chance: packets, moments and random numbers go in, packets and messages come out.
 The library is the one that SCTP_ENDPOINT_LIBRARY names, or libsctp_endpoint.so.0 where the loader finds it.
-An endpoint stays on the thread that made it.
+An endpoint is used by one thread at a time.
 """
 
 import ctypes

@@ -1,7 +1,7 @@
 //! One end of an SCTP association (RFC 9260, with FORWARD-TSN of RFC 3758 and I-DATA of RFC 8260): the proved core behind
 //! `sctp_endpoint.h`, without sockets, clock or chance. Moments are milliseconds since any beginning.
 //!
-//! An [`Endpoint`] stays on the thread that made it.
+//! An [`Endpoint`] may go to another thread.
 
 mod raw;
 
@@ -238,6 +238,9 @@ pub struct Status {
 
 /// One end of an association; what it holds is freed when it is dropped.
 pub struct Endpoint(raw::Handle);
+
+// SAFETY: the library's calls keep nothing of a thread, and two endpoints share nothing; the handle goes by `&mut` or is read alone.
+unsafe impl Send for Endpoint {}
 
 impl Drop for Endpoint {
     fn drop(&mut self) {

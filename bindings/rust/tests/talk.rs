@@ -81,3 +81,17 @@ fn ends_opened_without_packets_talk() {
     exchange(&mut a, &mut b, 60);
     assert_eq!(a.take(0).unwrap().bytes, b"Ho");
 }
+
+#[test]
+fn an_end_goes_to_another_thread() {
+    let (caller, mut listener) = opened();
+    let mut caller = std::thread::spawn(move || {
+        let mut caller = caller;
+        assert_eq!(caller.send(0, true, 0, b"Hi", None), Ok(1));
+        caller
+    })
+    .join()
+    .unwrap();
+    assert_eq!(exchange(&mut caller, &mut listener, 10), [1]);
+    assert_eq!(listener.take(0).unwrap().bytes, b"Hi");
+}

@@ -4,7 +4,7 @@ use Rattle.std.specs.Prelude.{nat_le, nat_lt, ◌&&◌, Option, IsSome, None}
 use Rattle.std.proofs.lemmas.Option.{get_or_from_slice_get}
 use Rattle.std.proofs.lemmas.List.{length-map}
 use Rattle.std.proofs.lemmas.Bool.{and_parts}
-use Rattle.std.specs.declared.rc.Rc.{Rc}
+use Rattle.std.specs.declared.sync.Arc.{Arc}
 use Rattle.std.specs.declared.alloc.Global.{Global}
 use Rattle.sctp_model.specs.numbers.Limits.{WINDOW}
 use Rattle.sctp_model.specs.messages.Format.{Format}
@@ -50,7 +50,7 @@ use Rattle.sctp_send.proofs.NewMayLemmas.{flows, in_window, new_may, next_is, fe
 -- ---- a message begins
 
 -- the message that was read from the draft's queue is the one that begins
-pub begun_message : (f : Format) (s : Kept) (v : SenderView) (old : Draft) (place count turn : ℕ) (x : Rc MessageFields Global) → Keeps f (drafted s old) v → (b : IsBegun f v place count turn) → x ≡ get_or old.queue.items place x
+pub begun_message : (f : Format) (s : Kept) (v : SenderView) (old : Draft) (place count turn : ℕ) (x : Arc MessageFields Global) → Keeps f (drafted s old) v → (b : IsBegun f v place count turn) → x ≡ get_or old.queue.items place x
     → queued_meaning s.fragment x.value ≡ b.message
 begun_message f s v old place count turn x k b read =
     sym (map_read (queued_by s.fragment) old.queue.items place x read) ∙ ap (λ (qs : List Queued). get_or qs place (queued_by s.fragment x)) k.holds.queue

@@ -1,6 +1,6 @@
 -- Each change that a fill notes leads back to the parts before it.
 use Rattle.std.proofs.Common.{◌≡◌, ℕ, ◌-◌, List, [], ◌∷◌, ◌++◌, suc, length, take, get_or, set, remove, Option, refl, sym, ap, ◌∙◌, ◌<◌}
-use Rattle.std.specs.declared.rc.Rc.{Rc}
+use Rattle.std.specs.declared.sync.Arc.{Arc}
 use Rattle.std.specs.declared.alloc.Global.{Global}
 use Rattle.sctp_send.specs.PartsKept.{at_place}
 use Rattle.sctp_send.specs.inner.Drafting.{went_out}
@@ -24,7 +24,7 @@ out_behind old cs es at x read noted went =
     ∙ ap (λ (ys : List EntryFields). before_all old.log.items (record (parts_of old) { items = ys })) (out_undone at old.outstanding.items x read)
 
 -- a message took its number, and its first fragment came behind all entries
-pub begun_behind : (old : Draft) (cs : List Change) (es : List EntryFields) (qs : List (Rc Message Global)) (ts : List Track) (place turn n : ℕ) (m : Rc Message Global)
+pub begun_behind : (old : Draft) (cs : List Change) (es : List EntryFields) (qs : List (Arc Message Global)) (ts : List Track) (place turn n : ℕ) (m : Arc Message Global)
     → cs ≡ old.log.items ++ Begun place (length old.outstanding.items) old.turn ∷ [] → take (suc (length old.outstanding.items)) es ≡ old.outstanding.items ++ fragment_entry m n 0 Sent ∷ []
     → place < length old.queue.items → m ≡ get_or old.queue.items place m → qs ≡ remove old.queue.items place → at_place (counted_to m.value.kind n) m.value.stream ts ≡ old.tracks.items
     → before_all cs (record { items = es; queue = qs; tracks = ts; turn = turn }) ≡ origin old
@@ -36,7 +36,7 @@ begun_behind old cs es qs ts place turn n m noted first low read out counted =
     ap (λ (ds : List Change). before_all ds p) noted ∙ before_last old.log.items (Begun place from old.turn) p
     ∙ ap (λ (o : Option EntryFields). before_all old.log.items (waiting_again place from old.turn o p)) cut.0
     ∙ ap (λ (xs : List EntryFields). before_all old.log.items (record { items = xs; queue = waits_again place m qs; tracks = at_place (counted_to m.value.kind n) m.value.stream ts; turn = old.turn })) cut.1
-    ∙ ap (λ (ms : List (Rc Message Global)). before_all old.log.items (record { items = old.outstanding.items; queue = ms; tracks = at_place (counted_to m.value.kind n) m.value.stream ts; turn = old.turn })) (ap (waits_again place m) out ∙ taken_undone place old.queue.items m low read)
+    ∙ ap (λ (ms : List (Arc Message Global)). before_all old.log.items (record { items = old.outstanding.items; queue = ms; tracks = at_place (counted_to m.value.kind n) m.value.stream ts; turn = old.turn })) (ap (waits_again place m) out ∙ taken_undone place old.queue.items m low read)
     ∙ ap (λ (us : List Track). before_all old.log.items (record { items = old.outstanding.items; queue = old.queue.items; tracks = us; turn = old.turn })) counted
 
 -- what was left on a stream changed
@@ -47,7 +47,7 @@ left_behind cs ds stream track ts us p noted went is =
     ∙ ap (λ (xs : List Track). before_all cs (record p { tracks = xs })) (ap (λ (xs : List Track). set xs stream track) is ∙ went)
 
 -- entries came, a stream went on, and the turn is another's
-pub in_behind : (old : Draft) (cs ds : List Change) (es : List EntryFields) (qs : List (Rc Message Global)) (ts : List Track) (count stream turn : ℕ) (track : Track)
+pub in_behind : (old : Draft) (cs ds : List Change) (es : List EntryFields) (qs : List (Arc Message Global)) (ts : List Track) (count stream turn : ℕ) (track : Track)
     → ((p : Parts) → p.queue ≡ qs → before_all cs p ≡ before_all old.log.items (record p { queue = old.queue.items }))
     → ds ≡ cs ++ In count stream track old.turn ∷ [] → old.outstanding.items ≡ take (length es - count) es → set ts stream track ≡ old.tracks.items
     → before_all ds (record { items = es; queue = qs; tracks = ts; turn = turn }) ≡ origin old
@@ -60,4 +60,4 @@ in_behind old cs ds es qs ts count stream turn track back noted came went =
 
 -- what was noted before leads back from any parts with the queue as it was
 pub noted_before : (old : Draft) (cs : List Change) → cs ≡ old.log.items → (p : Parts) → p.queue ≡ old.queue.items → before_all cs p ≡ before_all old.log.items (record p { queue = old.queue.items })
-noted_before old cs same p is = ap (λ (xs : List Change). before_all xs p) same ∙ ap (λ (qs : List (Rc Message Global)). before_all old.log.items (record p { queue = qs })) is
+noted_before old cs same p is = ap (λ (xs : List Change). before_all xs p) same ∙ ap (λ (qs : List (Arc Message Global)). before_all old.log.items (record p { queue = qs })) is

@@ -19,7 +19,7 @@ use Rattle.sctp_send.specs.inner.Newcomers.{gone_item, new_item, new_items, begu
 use Rattle.sctp_send.specs.inner.Drafting.{numbers_of, all_numbered, AreOpen, drafted, fragment_chunk, fragment_item, rest_from, counted_track, left_track}
 use Rattle.sctp_send.specs.SenderFields.{queued_by, latest_in, number_left, track_meaning, rest_meaning}
 use Rattle.std.specs.declared.alloc.Global.{Global}
-use Rattle.std.specs.declared.rc.Rc.{Rc}
+use Rattle.std.specs.declared.sync.Arc.{Arc}
 use Rattle.sctp_send.specs.declared.track.Track.{Track as TrackFields}
 use Rattle.sctp_send.specs.declared.draft.Draft.{Draft}
 use Rattle.sctp_send.specs.declared.track.Rest.{Rest as RestFields}
@@ -201,7 +201,7 @@ pub gone_on_is : (s : Kept) (old new : Draft) (t : Track) (r : RestFields) (stre
 gone_on_is s old new t r stream turn left items queue tracks rest told turned = rw (items, queue, tracks, told, turned, rest) refl
 
 -- a place of the queue is empty now
-pub taken_out : (size place : ℕ) (ms : List (Rc MessageFields Global)) → map (queued_by size) (remove ms place) ≡ without_place place (map (queued_by size) ms)
+pub taken_out : (size place : ℕ) (ms : List (Arc MessageFields Global)) → map (queued_by size) (remove ms place) ≡ without_place place (map (queued_by size) ms)
 taken_out size place ms = map-append (queued_by size) (take place ms) (drop (suc place) ms) ∙ sym (rw (take-map (queued_by size) place ms, drop-map (queued_by size) (suc place) ms) refl)
 
 -- a stream's track is another now

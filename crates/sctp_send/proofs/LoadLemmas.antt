@@ -2,7 +2,7 @@
 use Rattle.std.proofs.Common.{◌≡◌, ℕ, suc, ◌+◌, ◌-◌, ◌*◌, ◌%◌, ◌^◌, ◌<◌, ◌≤◌, List, [], ◌∷◌, ◌++◌, length, map, get_or, Bool, true, false, refl, sym, ap, ◌∙◌, subst, arith, length-append}
 use Rattle.std.specs.Prelude.{insert, remove, if◌then◌else◌}
 use Rattle.std.specs.List.{sum_by}
-use Rattle.std.specs.declared.rc.Rc.{Rc}
+use Rattle.std.specs.declared.sync.Arc.{Arc}
 use Rattle.std.specs.declared.alloc.Global.{Global}
 use Rattle.std.proofs.lemmas.List.Sums.{sum_by-cons, sum_by-insert, sum_by-remove}
 use Rattle.sctp_model.specs.numbers.Limits.{LONGEST_MESSAGE, QUEUE_LIMIT}
@@ -26,7 +26,7 @@ use Rattle.sctp_send.specs.declared.message.Message.{Message as MessageFields}
 -- ---- messages come and go
 
 -- joined, the fragments are the message
-pub waiting_is : (size : ℕ) (ms : List (Rc MessageFields Global)) → 0 < size → waiting_bytes (map (queued_by size) ms) ≡ sum_by bytes_of ms
+pub waiting_is : (size : ℕ) (ms : List (Arc MessageFields Global)) → 0 < size → waiting_bytes (map (queued_by size) ms) ≡ sum_by bytes_of ms
 waiting_is size [] some = refl
 waiting_is size (m ∷ ms) some =
     let rest = waiting_is size ms some in
@@ -35,13 +35,13 @@ waiting_is size (m ∷ ms) some =
     omega (arith, rest, here, all)
 
 -- one message more
-pub bytes_inserted : (sum n bytes : ℕ) (ms next : List (Rc MessageFields Global)) (x : Rc MessageFields Global) → sum ≡ sum_by bytes_of ms % 2 ^ 64 → next ≡ insert ms n x → bytes ≡ bytes_of x → (sum + bytes) % 2 ^ 64 ≡ sum_by bytes_of next % 2 ^ 64
+pub bytes_inserted : (sum n bytes : ℕ) (ms next : List (Arc MessageFields Global)) (x : Arc MessageFields Global) → sum ≡ sum_by bytes_of ms % 2 ^ 64 → next ≡ insert ms n x → bytes ≡ bytes_of x → (sum + bytes) % 2 ^ 64 ≡ sum_by bytes_of next % 2 ^ 64
 bytes_inserted sum n bytes ms next x before is own =
     let all : sum_by bytes_of next ≡ sum_by bytes_of ms + bytes_of x = ap (sum_by bytes_of) is ∙ sum_by-insert bytes_of ms n x in
     omega (arith, all, before, own)
 
 -- one less
-pub bytes_removed : (sum n bytes : ℕ) (ms next : List (Rc MessageFields Global)) (x : Rc MessageFields Global) → sum ≡ sum_by bytes_of ms % 2 ^ 64 → n < length ms → x ≡ get_or ms n x → next ≡ remove ms n → bytes ≡ bytes_of x → bytes < 2 ^ 64
+pub bytes_removed : (sum n bytes : ℕ) (ms next : List (Arc MessageFields Global)) (x : Arc MessageFields Global) → sum ≡ sum_by bytes_of ms % 2 ^ 64 → n < length ms → x ≡ get_or ms n x → next ≡ remove ms n → bytes ≡ bytes_of x → bytes < 2 ^ 64
     → (sum + (2 ^ 64 - bytes)) % 2 ^ 64 ≡ sum_by bytes_of next % 2 ^ 64
 bytes_removed sum n bytes ms next x before lt read is own fits =
     let here : bytes_of (get_or ms n x) ≡ bytes_of x = ap bytes_of (sym read) in

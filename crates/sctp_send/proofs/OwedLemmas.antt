@@ -2,7 +2,7 @@
 use Rattle.std.proofs.Common.{◌≡◌, ℕ, zero, suc, ◌+◌, ◌-◌, ◌%◌, ◌^◌, ◌<◌, ◌≤◌, min, List, [], ◌∷◌, ◌++◌, length, map, Option, Some, None, refl, ap, ◌∙◌, arith, get_or}
 use Rattle.std.specs.Prelude.{set, insert, remove, replicate}
 use Rattle.std.proofs.lemmas.List.{length-set, length-replicate}
-use Rattle.std.specs.declared.rc.Rc.{Rc}
+use Rattle.std.specs.declared.sync.Arc.{Arc}
 use Rattle.std.specs.declared.alloc.Global.{Global}
 use Rattle.sctp_model.specs.numbers.Limits.{LAST_MOMENT}
 use Rattle.sctp_model.specs.sender.SenderView.{Queued}
@@ -21,29 +21,29 @@ use Rattle.sctp_send.proofs.WorthLemmas.{worth_push, worth_insert, worth_remove,
 -- ---- messages that wait
 
 -- what one of them may take
-abbrev pub owed_by : (size : ℕ) → Rc MessageFields Global → ℕ
+abbrev pub owed_by : (size : ℕ) → Arc MessageFields Global → ℕ
 owed_by size m = owed_for (length (cut size m.value.bytes.items))
 
 -- what all may take
-abbrev pub owed_by_all : (size : ℕ) → List (Rc MessageFields Global) → ℕ
+abbrev pub owed_by_all : (size : ℕ) → List (Arc MessageFields Global) → ℕ
 owed_by_all size ms = owed_by_queue (map (queued_by size) ms)
 
-sum_push : (size : ℕ) (ms : List (Rc MessageFields Global)) (x : Rc MessageFields Global) → owed_by_all size (ms ++ x ∷ []) ≡ owed_by_all size ms + owed_by size x
+sum_push : (size : ℕ) (ms : List (Arc MessageFields Global)) (x : Arc MessageFields Global) → owed_by_all size (ms ++ x ∷ []) ≡ owed_by_all size ms + owed_by size x
 sum_push size [] x = omega arith
 sum_push size (m ∷ ms) x = let rest = sum_push size ms x in omega (arith, rest)
 
-sum_insert : (size : ℕ) (ms : List (Rc MessageFields Global)) (n : ℕ) (x : Rc MessageFields Global) → owed_by_all size (insert ms n x) ≡ owed_by_all size ms + owed_by size x
+sum_insert : (size : ℕ) (ms : List (Arc MessageFields Global)) (n : ℕ) (x : Arc MessageFields Global) → owed_by_all size (insert ms n x) ≡ owed_by_all size ms + owed_by size x
 sum_insert size ms zero x = omega arith
 sum_insert size [] (suc n) x = omega arith
 sum_insert size (m ∷ ms) (suc n) x = let rest = sum_insert size ms n x in omega (arith, rest)
 
-sum_remove : (size : ℕ) (ms : List (Rc MessageFields Global)) (n : ℕ) (x : Rc MessageFields Global) → n < length ms → x ≡ get_or ms n x → owed_by_all size (remove ms n) + owed_by size x ≡ owed_by_all size ms
+sum_remove : (size : ℕ) (ms : List (Arc MessageFields Global)) (n : ℕ) (x : Arc MessageFields Global) → n < length ms → x ≡ get_or ms n x → owed_by_all size (remove ms n) + owed_by size x ≡ owed_by_all size ms
 sum_remove size [] n x lt read = absurd (omega arith)
 sum_remove size (m ∷ ms) zero x lt read = let same : owed_by size x ≡ owed_by size m = ap (owed_by size) read in omega (arith, same)
 sum_remove size (m ∷ ms) (suc n) x lt read = let rest = sum_remove size ms n x (omega arith) read in omega (arith, rest)
 
 -- the counts once a message more waits, which owes so much and is worthless from this moment on
-pub owed_pushed : (size sum first owed moment least : ℕ) (ms next : List (Rc MessageFields Global)) (x : Rc MessageFields Global) → IsOwedOf size ms sum first → next ≡ ms ++ x ∷ [] → owed ≡ owed_by size x % 2 ^ 64
+pub owed_pushed : (size sum first owed moment least : ℕ) (ms next : List (Arc MessageFields Global)) (x : Arc MessageFields Global) → IsOwedOf size ms sum first → next ≡ ms ++ x ∷ [] → owed ≡ owed_by size x % 2 ^ 64
     → moment ≡ moment_from (Some (message_meaning size x.value)) → least ≡ min first moment → IsOwedOf size next ((sum + owed) % 2 ^ 64) least
 owed_pushed size sum first owed moment least ms next x h is owes from low =
     let all : owed_by_all size next ≡ owed_by_all size ms + owed_by size x = ap (owed_by_all size) is ∙ sum_push size ms x in
@@ -55,7 +55,7 @@ owed_pushed size sum first owed moment least ms next x h is owes from low =
     }
 
 -- once it waits again at its place
-pub owed_inserted : (size sum first owed moment least n : ℕ) (ms next : List (Rc MessageFields Global)) (x : Rc MessageFields Global) → IsOwedOf size ms sum first → next ≡ insert ms n x → owed ≡ owed_by size x % 2 ^ 64
+pub owed_inserted : (size sum first owed moment least n : ℕ) (ms next : List (Arc MessageFields Global)) (x : Arc MessageFields Global) → IsOwedOf size ms sum first → next ≡ insert ms n x → owed ≡ owed_by size x % 2 ^ 64
     → moment ≡ moment_from (Some (message_meaning size x.value)) → least ≡ min first moment → IsOwedOf size next ((sum + owed) % 2 ^ 64) least
 owed_inserted size sum first owed moment least n ms next x h is owes from low =
     let all : owed_by_all size next ≡ owed_by_all size ms + owed_by size x = ap (owed_by_all size) is ∙ sum_insert size ms n x in
@@ -67,7 +67,7 @@ owed_inserted size sum first owed moment least n ms next x h is owes from low =
     }
 
 -- once it waits no more
-pub owed_removed : (size sum first owed n : ℕ) (ms next : List (Rc MessageFields Global)) (x : Rc MessageFields Global) → IsOwedOf size ms sum first → n < length ms → x ≡ get_or ms n x → next ≡ remove ms n → owed ≡ owed_by size x % 2 ^ 64
+pub owed_removed : (size sum first owed n : ℕ) (ms next : List (Arc MessageFields Global)) (x : Arc MessageFields Global) → IsOwedOf size ms sum first → n < length ms → x ≡ get_or ms n x → next ≡ remove ms n → owed ≡ owed_by size x % 2 ^ 64
     → IsOwedOf size next ((sum + (2 ^ 64 - owed)) % 2 ^ 64) first
 owed_removed size sum first owed n ms next x h lt read is owes =
     let less : owed_by_all size (remove ms n) + owed_by size x ≡ owed_by_all size ms = sum_remove size ms n x lt read in

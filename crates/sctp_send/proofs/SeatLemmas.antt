@@ -1,7 +1,7 @@
 -- The messages that wait, by their tickets and by their streams: where the first one of a stream stands, and that the seats are theirs.
 use Rattle.std.proofs.Common.{◌≡◌, ℕ, zero, suc, ◌+◌, ◌*◌, ◌<◌, ◌≤◌, ◌^◌, List, [], ◌∷◌, length, map, get_or, Bool, true, false, Some, None, refl, sym, ap, ◌∙◌, arith, subst}
 use Rattle.std.specs.Prelude.{nat_lt, if◌then◌else◌}
-use Rattle.std.specs.declared.rc.Rc.{Rc}
+use Rattle.std.specs.declared.sync.Arc.{Arc}
 use Rattle.std.specs.declared.alloc.Global.{Global}
 use Rattle.std.proofs.lemmas.Bool.Decides.{nat_tests}
 use Rattle.std.proofs.lemmas.List.{length-map, get_or-map}
@@ -27,13 +27,13 @@ any_default (x ∷ xs) zero d e lt = refl
 any_default (x ∷ xs) (suc at) d e lt = any_default xs at d e (omega arith)
 
 -- each message has its seat
-seat_there : (ms : List (Rc MessageFields Global)) (ps : List Pair) (at : ℕ) (x : Rc MessageFields Global) (d : Pair) → AreSeats ms ps → at < length ms → (k : ℕ) × (k < length ps) × (get_or ps k d ≡ seat_of (get_or ms at x))
+seat_there : (ms : List (Arc MessageFields Global)) (ps : List Pair) (at : ℕ) (x : Arc MessageFields Global) (d : Pair) → AreSeats ms ps → at < length ms → (k : ℕ) × (k < length ps) × (get_or ps k d ≡ seat_of (get_or ms at x))
 seat_there ms ps at x d same lt =
     let long = length-map ms seat_of in
     among (seat_of (get_or ms at x)) ps (map seat_of ms) at d same (omega (arith, long)) (get_or-map seat_of ms at x d lt)
 
 -- and each seat is a message's
-message_there : (ms : List (Rc MessageFields Global)) (ps : List Pair) (at : ℕ) (x : Rc MessageFields Global) (d : Pair) → AreSeats ms ps → at < length ps → (k : ℕ) × (k < length ms) × (seat_of (get_or ms k x) ≡ get_or ps at d)
+message_there : (ms : List (Arc MessageFields Global)) (ps : List Pair) (at : ℕ) (x : Arc MessageFields Global) (d : Pair) → AreSeats ms ps → at < length ps → (k : ℕ) × (k < length ms) × (seat_of (get_or ms k x) ≡ get_or ps at d)
 message_there ms ps at x d same lt =
     let long = length-map ms seat_of in
     let found = among (get_or ps at d) (map seat_of ms) ps at d (λ f. sym (same f)) lt refl in
@@ -41,7 +41,7 @@ message_there ms ps at x d same lt =
     (found.0, low, sym (get_or-map seat_of ms found.0 x d low) ∙ found.2)
 
 -- none of the first messages is of a stream
-passed_upto : (s size : ℕ) (ms : List (Rc MessageFields Global)) (x : Rc MessageFields Global) (at : ℕ) → at ≤ length ms → ((j : ℕ) → j < at → (get_or ms j x).value.stream ≡ s → ⊥) → IsPassedOn s at (map (queued_by size) ms)
+passed_upto : (s size : ℕ) (ms : List (Arc MessageFields Global)) (x : Arc MessageFields Global) (at : ℕ) → at ≤ length ms → ((j : ℕ) → j < at → (get_or ms j x).value.stream ≡ s → ⊥) → IsPassedOn s at (map (queued_by size) ms)
 passed_upto s size ms x zero le apart = passed_none s (map (queued_by size) ms)
 passed_upto s size ms x (suc at) le apart =
     let long = length-map ms (queued_by size) in
@@ -51,7 +51,7 @@ passed_upto s size ms x (suc at) le apart =
     subst (λ (n : ℕ). IsPassedOn s n (map (queued_by size) ms)) one
     (passed_more s at (map (queued_by size) ms) (queued_by size m) (omega (arith, long)) (queue_read size ms at m (any_default ms at x m (omega arith))) (apart at (omega arith)) before)
 
-none_on : (s size : ℕ) (ms : List (Rc MessageFields Global)) (x : Rc MessageFields Global) → ((j : ℕ) → j < length ms → (get_or ms j x).value.stream ≡ s → ⊥) → first_on s (map (queued_by size) ms) ≡ None
+none_on : (s size : ℕ) (ms : List (Arc MessageFields Global)) (x : Arc MessageFields Global) → ((j : ℕ) → j < length ms → (get_or ms j x).value.stream ≡ s → ⊥) → first_on s (map (queued_by size) ms) ≡ None
 none_on s size ms x apart =
     let long = length-map ms (queued_by size) in
     passed_all s (length ms) (map (queued_by size) ms) (omega (arith, long)) (passed_upto s size ms x (length ms) (omega arith) apart)
@@ -63,7 +63,7 @@ record IsSeatAt (ps : List Pair) (stream ticket : ℕ) : Type 0 where
   key_is : (d : Pair) → key (get_or ps at d) ≡ stream * 2 ^ 64 + ticket
   small : ticket < 2 ^ 64
 
-is_seated : (ms : List (Rc MessageFields Global)) (ps : List Pair) (j : ℕ) (x : Rc MessageFields Global) → AreOrdered ps → AreSeats ms ps → j < length ms → IsSeatAt ps (get_or ms j x).value.stream (ticket_in (get_or ms j x))
+is_seated : (ms : List (Arc MessageFields Global)) (ps : List Pair) (j : ℕ) (x : Arc MessageFields Global) → AreOrdered ps → AreSeats ms ps → j < length ms → IsSeatAt ps (get_or ms j x).value.stream (ticket_in (get_or ms j x))
 is_seated ms ps j x o same lt =
     let d : Pair = record { first = 0; second = 0 } in
     let found = seat_there ms ps j x d same lt in
@@ -77,7 +77,7 @@ is_seated ms ps j x o same lt =
     }
 
 -- no seat from a stream on: no message on one of these streams
-pub next_none : (from below size at : ℕ) (ms : List (Rc MessageFields Global)) (ps : List Pair) → AreOrdered ps → AreSeats ms ps → at ≡ before key (key (record { first = from; second = 0 })) ps → length ps ≤ at
+pub next_none : (from below size at : ℕ) (ms : List (Arc MessageFields Global)) (ps : List Pair) → AreOrdered ps → AreSeats ms ps → at ≡ before key (key (record { first = from; second = 0 })) ps → length ps ≤ at
     → NextOnAnswer from below (map (queued_by size) ms) None
 next_none from below size at [] ps o same is all s le high = refl
 next_none from below size at (m ∷ ms) ps o same is all s le high = none_on s size (m ∷ ms) m (λ j lt on.
@@ -93,7 +93,7 @@ record IsLater (stream ticket s t : ℕ) : Type 0 where
   small : t < 2 ^ 64
 
 -- a message on a stream from one on has a seat no earlier than the first from there
-later_seat : (from at j s : ℕ) (ms : List (Rc MessageFields Global)) (ps : List Pair) (seat : Pair) (x : Rc MessageFields Global) → AreOrdered ps → AreSeats ms ps → at ≡ before key (key (record { first = from; second = 0 })) ps → at < length ps
+later_seat : (from at j s : ℕ) (ms : List (Arc MessageFields Global)) (ps : List Pair) (seat : Pair) (x : Arc MessageFields Global) → AreOrdered ps → AreSeats ms ps → at ≡ before key (key (record { first = from; second = 0 })) ps → at < length ps
     → seat ≡ get_or ps at seat → j < length ms → (get_or ms j x).value.stream ≡ s → from ≤ s → IsLater seat.first seat.second s (ticket_in (get_or ms j x))
 later_seat from at j s ms ps seat x o same is lt read low on le = by_test (nat_lt own.at at) refl
   where
@@ -117,7 +117,7 @@ later_seat from at j s ms ps seat x o same is lt read low on le = by_test (nat_l
         record { no_lower = omega (arith, more, here, first, on); small = own.small }
 
 -- the message of the first seat from a stream on stands where its ticket is, and nothing waits on the streams between
-record IsFirstSeat (from size place stream : ℕ) (ms : List (Rc MessageFields Global)) (x : Rc MessageFields Global) : Type 0 where
+record IsFirstSeat (from size place stream : ℕ) (ms : List (Arc MessageFields Global)) (x : Arc MessageFields Global) : Type 0 where
   within : place < length ms
   own : x.value.stream ≡ stream
   above : from ≤ stream
@@ -125,7 +125,7 @@ record IsFirstSeat (from size place stream : ℕ) (ms : List (Rc MessageFields G
   before : (s : ℕ) → from ≤ s → s < stream → first_on s (map (queued_by size) ms) ≡ None
 
 -- a ticket that is there stands where the lower ones end
-ticket_place : (t j : ℕ) (ms : List (Rc MessageFields Global)) (x : Rc MessageFields Global) → DoTicketsRise 0 ms → j < length ms → ticket_in (get_or ms j x) ≡ t → before ticket_in t ms ≡ j
+ticket_place : (t j : ℕ) (ms : List (Arc MessageFields Global)) (x : Arc MessageFields Global) → DoTicketsRise 0 ms → j < length ms → ticket_in (get_or ms j x) ≡ t → before ticket_in t ms ≡ j
 ticket_place t j ms x h lt is = by_test (nat_lt (before ticket_in t ms) j) refl
   where
     low : before ticket_in t ms ≤ j
@@ -139,7 +139,7 @@ ticket_place t j ms x h lt is = by_test (nat_lt (before ticket_in t ms) j) refl
         absurd (omega (arith, lower, no, is))
     by_test false off = let more : j ≤ before ticket_in t ms = grind (arith, nat_tests) in omega (arith, low, more)
 
-first_seat : (from size at place : ℕ) (ms : List (Rc MessageFields Global)) (ps : List Pair) (seat : Pair) (x : Rc MessageFields Global) → DoTicketsRise 0 ms → AreOrdered ps → AreSeats ms ps
+first_seat : (from size at place : ℕ) (ms : List (Arc MessageFields Global)) (ps : List Pair) (seat : Pair) (x : Arc MessageFields Global) → DoTicketsRise 0 ms → AreOrdered ps → AreSeats ms ps
     → at ≡ before key (key (record { first = from; second = 0 })) ps → at < length ps → seat ≡ get_or ps at seat → place ≡ before ticket_in seat.second ms → IsFirstSeat from size place seat.first ms (get_or ms place x)
 first_seat from size at place ms ps seat x h o same is lt read by_ticket =
     let found = message_there ms ps at x seat same lt in
@@ -172,12 +172,12 @@ first_seat from size at place ms ps seat x h o same is lt read by_ticket =
     }
 
 -- the answer, from the message that was read
-pub next_found : (from below size at place : ℕ) (ms : List (Rc MessageFields Global)) (ps : List Pair) (seat : Pair) (found : Found) (x : Rc MessageFields Global) → DoTicketsRise 0 ms → AreOrdered ps → AreSeats ms ps
+pub next_found : (from below size at place : ℕ) (ms : List (Arc MessageFields Global)) (ps : List Pair) (seat : Pair) (found : Found) (x : Arc MessageFields Global) → DoTicketsRise 0 ms → AreOrdered ps → AreSeats ms ps
     → at ≡ before key (key (record { first = from; second = 0 })) ps → at < length ps → seat ≡ get_or ps at seat → place ≡ before ticket_in seat.second ms → x ≡ get_or ms place x → found.stream ≡ x.value.stream → found.place ≡ place
     → found.stream < below → NextOnAnswer from below (map (queued_by size) ms) (Some found)
 next_found from below size at place ms ps seat found x h o same is lt read by_ticket here stream at_place low =
     let f = first_seat from size at place ms ps seat x h o same is lt read by_ticket in
-    let one : seat.first ≡ found.stream = sym f.own ∙ ap (λ (m : Rc MessageFields Global). m.value.stream) (sym here) ∙ sym stream in
+    let one : seat.first ≡ found.stream = sym f.own ∙ ap (λ (m : Arc MessageFields Global). m.value.stream) (sym here) ∙ sym stream in
     record {
       above = omega (arith, f.above, one);
       low = low;
@@ -186,15 +186,15 @@ next_found from below size at place ms ps seat found x h o same is lt read by_ti
     }
 
 -- or its stream is none of them
-pub next_past : (from below size at place : ℕ) (ms : List (Rc MessageFields Global)) (ps : List Pair) (seat : Pair) (x : Rc MessageFields Global) → DoTicketsRise 0 ms → AreOrdered ps → AreSeats ms ps
+pub next_past : (from below size at place : ℕ) (ms : List (Arc MessageFields Global)) (ps : List Pair) (seat : Pair) (x : Arc MessageFields Global) → DoTicketsRise 0 ms → AreOrdered ps → AreSeats ms ps
     → at ≡ before key (key (record { first = from; second = 0 })) ps → at < length ps → seat ≡ get_or ps at seat → place ≡ before ticket_in seat.second ms → x ≡ get_or ms place x → below ≤ x.value.stream
     → NextOnAnswer from below (map (queued_by size) ms) None
 next_past from below size at place ms ps seat x h o same is lt read by_ticket here le =
     let f = first_seat from size at place ms ps seat x h o same is lt read by_ticket in
-    let one : seat.first ≡ x.value.stream = sym f.own ∙ ap (λ (m : Rc MessageFields Global). m.value.stream) (sym here) in
+    let one : seat.first ≡ x.value.stream = sym f.own ∙ ap (λ (m : Arc MessageFields Global). m.value.stream) (sym here) in
     λ s low high. f.before s low (omega (arith, high, le, one))
 
-pub next_within : (from at place : ℕ) (ms : List (Rc MessageFields Global)) (ps : List Pair) (seat : Pair) → DoTicketsRise 0 ms → AreSeats ms ps → at < length ps → seat ≡ get_or ps at seat → place ≡ before ticket_in seat.second ms → place < length ms
+pub next_within : (from at place : ℕ) (ms : List (Arc MessageFields Global)) (ps : List Pair) (seat : Pair) → DoTicketsRise 0 ms → AreSeats ms ps → at < length ps → seat ≡ get_or ps at seat → place ≡ before ticket_in seat.second ms → place < length ms
 next_within from at place [] ps seat h same lt read by_ticket =
     let found = among (get_or ps at seat) [] ps at seat (λ f. sym (same f)) lt refl in
     absurd (omega (arith, found.1))
@@ -214,5 +214,5 @@ pub from_stream : (n at from : ℕ) (ps : List Pair) → n ≡ from → at ≡ b
 from_stream n at from ps same is = is ∙ ap (λ (k : ℕ). before key (key (record { first = k; second = 0 })) ps) same
 
 -- a seat by what it says
-pub seat_is : (p : Pair) (m : MessageFields) (x : Rc MessageFields Global) → p.first ≡ m.stream → p.second ≡ m.ticket → m ≡ x.value → p ≡ seat_of x
+pub seat_is : (p : Pair) (m : MessageFields) (x : Arc MessageFields Global) → p.first ≡ m.stream → p.second ≡ m.ticket → m ≡ x.value → p ≡ seat_of x
 seat_is p m x first second is = ap (λ (n : ℕ). pair_of n p.second) (first ∙ ap (λ (y : MessageFields). y.stream) is) ∙ ap (λ (n : ℕ). pair_of x.value.stream n) (second ∙ ap (λ (y : MessageFields). y.ticket) is)

@@ -1,7 +1,7 @@
 -- The seats as messages come and go, and what is asked of the messages by their tickets.
 use Rattle.std.proofs.Common.{◌≡◌, ℕ, zero, suc, ◌+◌, ◌<◌, ◌≤◌, ◌^◌, min, List, [], ◌∷◌, ◌++◌, length, map, take, drop, get_or, Bool, true, false, Option, Some, None, refl, sym, ap, ◌∙◌, arith, subst}
 use Rattle.std.specs.Prelude.{insert, remove, nat_lt, ◌&&◌, if◌then◌else◌}
-use Rattle.std.specs.declared.rc.Rc.{Rc}
+use Rattle.std.specs.declared.sync.Arc.{Arc}
 use Rattle.std.specs.declared.alloc.Global.{Global}
 use Rattle.std.specs.List.{sum_by}
 use Rattle.std.proofs.lemmas.Bool.Decides.{nat_tests}
@@ -39,7 +39,7 @@ mapped_removed f (y ∷ xs) zero = refl
 mapped_removed f (y ∷ xs) (suc n) = ap (λ ys. f y ∷ ys) (mapped_removed f xs n)
 
 -- no message waits
-pub seated_fresh : (size : ℕ) (seated : Bool) (ms : List (Rc MessageFields Global)) (ps : List Pair) (bs : List ℕ) → 0 < size → ms ≡ [] → ps ≡ [] → IsQueueOf size ms 0 LAST_MOMENT true seated ps bs 0
+pub seated_fresh : (size : ℕ) (seated : Bool) (ms : List (Arc MessageFields Global)) (ps : List Pair) (bs : List ℕ) → 0 < size → ms ≡ [] → ps ≡ [] → IsQueueOf size ms 0 LAST_MOMENT true seated ps bs 0
 seated_fresh size seated ms ps bs some none empty = rw (none, empty) (record {
   owed = record { some = some; owed = omega arith; earliest = tt };
   seats = record { order = λ on. tt; seats = λ on f. refl };
@@ -48,11 +48,11 @@ seated_fresh size seated ms ps bs some none empty = rw (none, empty) (record {
 })
 
 -- the same messages and seats
-pub seated_same : (size sum first : ℕ) (rises seated : Bool) (ms next : List (Rc MessageFields Global)) (ps qs : List Pair) (bs cs : List ℕ) (bytes : ℕ) → IsQueueOf size ms sum first rises seated ps bs bytes → next ≡ ms → qs ≡ ps → AreMessagesBounded cs ms → IsQueueOf size next sum first rises seated qs cs bytes
+pub seated_same : (size sum first : ℕ) (rises seated : Bool) (ms next : List (Arc MessageFields Global)) (ps qs : List Pair) (bs cs : List ℕ) (bytes : ℕ) → IsQueueOf size ms sum first rises seated ps bs bytes → next ≡ ms → qs ≡ ps → AreMessagesBounded cs ms → IsQueueOf size next sum first rises seated qs cs bytes
 seated_same size sum first rises seated ms next ps qs bs cs bytes h is same bounded = rw (is, same) (record { owed = h.owed; seats = h.seats; bounded = bounded; bytes = h.bytes })
 
 -- one message more
-pub seated_inserted : (was rises had seated : Bool) (n : ℕ) (x : Rc MessageFields Global) (ms next : List (Rc MessageFields Global)) (ps qs : List Pair) (p : Pair) → IsSeatedOf was had ms ps → next ≡ insert ms n x → n ≤ length ms
+pub seated_inserted : (was rises had seated : Bool) (n : ℕ) (x : Arc MessageFields Global) (ms next : List (Arc MessageFields Global)) (ps qs : List Pair) (p : Pair) → IsSeatedOf was had ms ps → next ≡ insert ms n x → n ≤ length ms
     → (rises ≡ true → was ≡ true) → (rises ≡ true → IsBetween n (ticket_in x) ms) → (seated ≡ true → had ≡ true) → (seated ≡ true → qs ≡ insert ps (before key (key p) ps) p) → p ≡ seat_of x → IsSeatedOf rises seated next qs
 seated_inserted was rises had seated n x ms next ps qs p h is le up between kept taken own = record {
   order = λ on. subst (DoTicketsRise 0) (sym is) (rise_inserted 0 n x ms (omega arith) le (between on) (h.order (up on)));
@@ -62,12 +62,12 @@ seated_inserted was rises had seated n x ms next ps qs p h is le up between kept
       let other = sum_by-insert f (map seat_of ms) n (seat_of x) in
       let same : f p ≡ f (seat_of x) = ap f own in
       let left : sum_by f qs ≡ sum_by f ps + f p = ap (sum_by f) (taken on) ∙ one in
-      let right : sum_by f (map seat_of next) ≡ sum_by f (map seat_of ms) + f (seat_of x) = ap (λ (ys : List (Rc MessageFields Global)). sum_by f (map seat_of ys)) is ∙ ap (sum_by f) (mapped_inserted seat_of ms n x) ∙ other in
+      let right : sum_by f (map seat_of next) ≡ sum_by f (map seat_of ms) + f (seat_of x) = ap (λ (ys : List (Arc MessageFields Global)). sum_by f (map seat_of ys)) is ∙ ap (sum_by f) (mapped_inserted seat_of ms n x) ∙ other in
       omega (arith, left, right, before_it, same);
 }
 
 -- one less
-pub seated_removed : (rises seated : Bool) (n : ℕ) (x : Rc MessageFields Global) (ms next : List (Rc MessageFields Global)) (ps qs : List Pair) (p : Pair) → IsSeatedOf rises seated ms ps → AreOrdered ps → n < length ms → x ≡ get_or ms n x → next ≡ remove ms n
+pub seated_removed : (rises seated : Bool) (n : ℕ) (x : Arc MessageFields Global) (ms next : List (Arc MessageFields Global)) (ps qs : List Pair) (p : Pair) → IsSeatedOf rises seated ms ps → AreOrdered ps → n < length ms → x ≡ get_or ms n x → next ≡ remove ms n
     → p ≡ seat_of x → (before key (key p) ps < length ps → qs ≡ remove ps (before key (key p) ps)) → IsSeatedOf rises seated next qs
 seated_removed rises seated n x ms next ps qs p h o lt read is own taken = record {
   order = λ on. subst (DoTicketsRise 0) (sym is) (rise_removed 0 n ms (h.order on));
@@ -88,19 +88,19 @@ seated_removed rises seated n x ms next ps qs p h o lt read is own taken = recor
       let before_it = all f in
       let same : f (get_or ps at p) ≡ f (get_or (map seat_of ms) n p) = ap f (here ∙ sym there) in
       let left : sum_by f qs ≡ sum_by f (remove ps at) = ap (sum_by f) (taken within) in
-      let right : sum_by f (map seat_of next) ≡ sum_by f (remove (map seat_of ms) n) = ap (λ (ys : List (Rc MessageFields Global)). sum_by f (map seat_of ys)) is ∙ ap (sum_by f) (mapped_removed seat_of ms n) in
+      let right : sum_by f (map seat_of next) ≡ sum_by f (remove (map seat_of ms) n) = ap (λ (ys : List (Arc MessageFields Global)). sum_by f (map seat_of ys)) is ∙ ap (sum_by f) (mapped_removed seat_of ms n) in
       omega (arith, left, right, one, other, before_it, same);
 }
 
 -- ---- by ticket
 
 -- where the lower ones end, or nowhere
-pub lower_there : (b : Bool) (t n : ℕ) (ms : List (Rc MessageFields Global)) → n ≡ (if b then before ticket_in t ms else 0) → AreLower t n ms
+pub lower_there : (b : Bool) (t n : ℕ) (ms : List (Arc MessageFields Global)) → n ≡ (if b then before ticket_in t ms else 0) → AreLower t n ms
 lower_there true t n ms is = λ k d lt. comes_before ticket_in t k ms d (omega (arith, lt, is))
 lower_there false t n ms is = λ k d lt. absurd (omega (arith, lt, is))
 
 -- a message with a ticket isn't among those with lower ones
-pub place_from : (t size n : ℕ) (ms : List (Rc MessageFields Global)) → n ≤ length ms → AreLower t n ms → without t (map (queued_by size) ms) ≡ take n (map (queued_by size) ms) ++ without t (drop n (map (queued_by size) ms))
+pub place_from : (t size n : ℕ) (ms : List (Arc MessageFields Global)) → n ≤ length ms → AreLower t n ms → without t (map (queued_by size) ms) ≡ take n (map (queued_by size) ms) ++ without t (drop n (map (queued_by size) ms))
 place_from t size n [] le low = by_place n
   where
     by_place : (k : ℕ) → without t [] ≡ take k [] ++ without t (drop k [])
@@ -117,7 +117,7 @@ place_from t size (suc n) (m ∷ ms) le low =
 -- ---- the lowest that is late
 
 -- messages with tickets no higher than the last one are passed by
-pub late_from : (now last size n : ℕ) (found : Option ℕ) (ms : List (Rc MessageFields Global)) → n ≤ length ms → AreLower last n ms
+pub late_from : (now last size n : ℕ) (found : Option ℕ) (ms : List (Arc MessageFields Global)) → n ≤ length ms → AreLower last n ms
     → soonest now last found (queue_messages (map (queued_by size) ms)) ≡ soonest now last found (drop n (queue_messages (map (queued_by size) ms)))
 late_from now last size zero found ms le low = refl
 late_from now last size (suc n) found [] le low = refl
@@ -133,7 +133,7 @@ late_from now last size (suc n) found (m ∷ ms) le low =
     unfound (Some t) = refl
 
 -- behind one that is late none has a lower ticket
-rest_later : (now last size here t : ℕ) (ms : List (Rc MessageFields Global)) → DoTicketsRise here ms → t ≤ here → soonest now last (Some t) (queue_messages (map (queued_by size) ms)) ≡ Some t
+rest_later : (now last size here t : ℕ) (ms : List (Arc MessageFields Global)) → DoTicketsRise here ms → t ≤ here → soonest now last (Some t) (queue_messages (map (queued_by size) ms)) ≡ Some t
 rest_later now last size here t [] h le = refl
 rest_later now last size here t (m ∷ ms) h le =
     ap (λ (o : Option ℕ). soonest now last o (queue_messages (map (queued_by size) ms))) (by_test (nat_lt last (ticket_in m) && is_past now (message_meaning size m.value)))
@@ -143,13 +143,13 @@ rest_later now last size here t (m ∷ ms) h le =
     by_test false = refl
     by_test true = let low : min t (ticket_in m) ≡ t = omega (arith, h.0, le) in ap (λ (n : ℕ). Some n) low
 
-rise_dropped : (here at : ℕ) (ms : List (Rc MessageFields Global)) (x : Rc MessageFields Global) → DoTicketsRise here ms → at < length ms → DoTicketsRise (suc (ticket_in (get_or ms at x))) (drop (suc at) ms)
+rise_dropped : (here at : ℕ) (ms : List (Arc MessageFields Global)) (x : Arc MessageFields Global) → DoTicketsRise here ms → at < length ms → DoTicketsRise (suc (ticket_in (get_or ms at x))) (drop (suc at) ms)
 rise_dropped here at [] x h lt = absurd (omega arith)
 rise_dropped here zero (m ∷ ms) x h lt = h.1
 rise_dropped here (suc at) (m ∷ ms) x h lt = rise_dropped (suc (ticket_in m)) at ms x h.1 (omega arith)
 
 -- the first late one ends the walk
-pub late_ends : (now last size at t : ℕ) (start found : Option ℕ) (ms : List (Rc MessageFields Global)) (x : Rc MessageFields Global) → DoTicketsRise 0 ms → at < length ms → x ≡ get_or ms at x
+pub late_ends : (now last size at t : ℕ) (start found : Option ℕ) (ms : List (Arc MessageFields Global)) (x : Arc MessageFields Global) → DoTicketsRise 0 ms → at < length ms → x ≡ get_or ms at x
     → late_after now last (Some (message_meaning size x.value)) ≡ Some t → t ≡ ticket_in x
     → soonest now last start (queue_messages (map (queued_by size) ms)) ≡ soonest now last found (drop at (queue_messages (map (queued_by size) ms)))
     → sooner found (late_after now last (Some (message_meaning size x.value))) ≡ soonest now last start (queue_messages (map (queued_by size) ms))
@@ -164,6 +164,6 @@ late_ends now last size at t start found ms x h lt read late own before_it =
     ∙ ap (λ (ys : List (Option Message)). soonest now last (sooner found (late_after now last (Some (message_meaning size x.value)))) ys) moved
     ∙ ap (λ (o : Option ℕ). soonest now last (sooner found o) (queue_messages (map (queued_by size) (drop (suc at) ms)))) late ∙ rest ∙ ap (λ (o : Option ℕ). sooner found o) (sym late))
   where
-    by_found : (o : Option ℕ) (ys : List (Rc MessageFields Global)) → t ≤ suc (ticket_in (get_or ms at x)) → DoTicketsRise (suc (ticket_in (get_or ms at x))) ys → soonest now last (sooner o (Some t)) (queue_messages (map (queued_by size) ys)) ≡ sooner o (Some t)
+    by_found : (o : Option ℕ) (ys : List (Arc MessageFields Global)) → t ≤ suc (ticket_in (get_or ms at x)) → DoTicketsRise (suc (ticket_in (get_or ms at x))) ys → soonest now last (sooner o (Some t)) (queue_messages (map (queued_by size) ys)) ≡ sooner o (Some t)
     by_found None ys le up = rest_later now last size (suc (ticket_in (get_or ms at x))) t ys up le
     by_found (Some u) ys le up = rest_later now last size (suc (ticket_in (get_or ms at x))) (min u t) ys up (omega (arith, le))

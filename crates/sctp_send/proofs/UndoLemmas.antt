@@ -3,7 +3,7 @@ use Rattle.std.proofs.Common.{◌≡◌, ℕ, zero, suc, ◌+◌, ◌<◌, ◌�
 use Rattle.std.specs.Prelude.{nat_le, slice_get, if◌then◌else◌}
 use Rattle.std.proofs.lemmas.Bool.Decides.{nat_tests}
 use Rattle.std.proofs.lemmas.List.Edits.{length-insert, length-remove}
-use Rattle.std.specs.declared.rc.Rc.{Rc}
+use Rattle.std.specs.declared.sync.Arc.{Arc}
 use Rattle.std.specs.declared.alloc.Global.{Global}
 use Rattle.sctp_send.specs.PartsKept.{OutstandingKept, at_place, changed}
 use Rattle.sctp_send.specs.inner.Changes.{stood}
@@ -45,7 +45,7 @@ inserted zero (y ∷ ys) x lt read = ap (λ z. z ∷ ys) read
 inserted (suc n) (y ∷ ys) x lt read = ap (λ zs. y ∷ zs) (inserted n ys x (omega arith) read)
 
 -- a message that was taken out waits at its place
-pub taken_undone : (place : ℕ) (ms : List (Rc Message Global)) (m : Rc Message Global) → place < length ms → m ≡ get_or ms place m → waits_again place m (remove ms place) ≡ ms
+pub taken_undone : (place : ℕ) (ms : List (Arc Message Global)) (m : Arc Message Global) → place < length ms → m ≡ get_or ms place m → waits_again place m (remove ms place) ≡ ms
 taken_undone place ms m low read =
     let long = length-remove ms place low in
     let le : nat_le place (length (remove ms place)) ≡ true = test place (length (remove ms place)) (omega arith) in
@@ -87,7 +87,7 @@ queue_grows : (c : Change) (p : Parts) → length p.queue ≤ length (undone c p
 queue_grows (Out at standing) p = omega arith
 queue_grows (Begun place from turn) p = by_entry (slice_get p.items from)
   where
-    by_test : (m : Rc Message Global) (b : Bool) → nat_le place (length p.queue) ≡ b → length p.queue ≤ length (if b then insert p.queue place m else p.queue)
+    by_test : (m : Arc Message Global) (b : Bool) → nat_le place (length p.queue) ≡ b → length p.queue ≤ length (if b then insert p.queue place m else p.queue)
     by_test m true le = let low : place ≤ length p.queue = grind (arith, nat_tests) in let long = length-insert p.queue place m low in omega arith
     by_test m false gt = omega arith
 

@@ -1,6 +1,6 @@
 -- Walks over entries, streams and the queue: what is read, and the end.
 use Rattle.std.proofs.Common.{◌≡◌, ℕ, zero, suc, ◌≤◌, List, [], ◌∷◌, length, map, drop, refl, sym, ap, ◌∙◌, arith, get_or}
-use Rattle.std.specs.declared.rc.Rc.{Rc}
+use Rattle.std.specs.declared.sync.Arc.{Arc}
 use Rattle.std.specs.declared.alloc.Global.{Global}
 use Rattle.sctp_send.specs.SenderFields.{track_meaning, queued_by}
 use Rattle.sctp_send.specs.declared.message.Message.{Message as MessageFields}
@@ -24,10 +24,10 @@ track_read size ts i x read = of_map ts i x ∙ ap (track_meaning size) (sym rea
     of_map (e ∷ ds) zero d = refl
     of_map (e ∷ ds) (suc j) d = of_map ds j d
 
-pub queue_read : (size : ℕ) (ms : List (Rc MessageFields Global)) (i : ℕ) (x : Rc MessageFields Global) → x ≡ get_or ms i x → get_or (map (queued_by size) ms) i (queued_by size x) ≡ queued_by size x
+pub queue_read : (size : ℕ) (ms : List (Arc MessageFields Global)) (i : ℕ) (x : Arc MessageFields Global) → x ≡ get_or ms i x → get_or (map (queued_by size) ms) i (queued_by size x) ≡ queued_by size x
 queue_read size ms i x read = of_map ms i x ∙ ap (queued_by size) (sym read)
   where
-    of_map : (ds : List (Rc MessageFields Global)) (j : ℕ) (d : Rc MessageFields Global) → get_or (map (queued_by size) ds) j (queued_by size d) ≡ queued_by size (get_or ds j d)
+    of_map : (ds : List (Arc MessageFields Global)) (j : ℕ) (d : Arc MessageFields Global) → get_or (map (queued_by size) ds) j (queued_by size d) ≡ queued_by size (get_or ds j d)
     of_map [] j d = refl
     of_map (e ∷ ds) zero d = refl
     of_map (e ∷ ds) (suc j) d = of_map ds j d

@@ -3,7 +3,7 @@ use Rattle.std.proofs.Common.{◌≡◌, ℕ, zero, suc, ◌+◌, ◌-◌, ◌<�
 use Rattle.std.specs.Prelude.{◌==◌, if◌then◌else◌}
 use Rattle.std.proofs.lemmas.List.{length-map, map-append, take-map, drop-map}
 use Rattle.std.proofs.lemmas.Bool.Decides.{nat_tests}
-use Rattle.std.specs.declared.rc.Rc.{Rc}
+use Rattle.std.specs.declared.sync.Arc.{Arc}
 use Rattle.std.specs.declared.alloc.Global.{Global}
 use Rattle.sctp_model.specs.messages.Format.{Format}
 use Rattle.sctp_model.specs.sender.SenderView.{Queued, SenderView}
@@ -34,7 +34,7 @@ take_more [] at d rest lt = absurd (omega arith)
 take_more (q ∷ qs) zero d rest lt = refl
 take_more (q ∷ qs) (suc at) d rest lt = ap (λ (xs : List Queued). q ∷ xs) (take_more qs at d rest (omega arith))
 
-pub walked_place : (t size : ℕ) (ms : List (Rc MessageFields Global)) (at : ℕ) (x : Rc MessageFields Global) → at < length ms → x ≡ get_or ms at x → (x.value.ticket ≡ t → ⊥)
+pub walked_place : (t size : ℕ) (ms : List (Arc MessageFields Global)) (at : ℕ) (x : Arc MessageFields Global) → at < length ms → x ≡ get_or ms at x → (x.value.ticket ≡ t → ⊥)
     → without t (map (queued_by size) ms) ≡ take at (map (queued_by size) ms) ++ without t (drop at (map (queued_by size) ms))
     → without t (map (queued_by size) ms) ≡ take (at + 1) (map (queued_by size) ms) ++ without t (drop (at + 1) (map (queued_by size) ms))
 walked_place t size ms at x lt read ne before =
@@ -46,7 +46,7 @@ walked_place t size ms at x lt read ne before =
     let more = take_more (map (queued_by size) ms) at (queued_by size x) (without t (drop (suc at) (map (queued_by size) ms))) (omega arith) in
     before ∙ split ∙ rw (here, off, one) (rw here at more)
 
-pub found_place : (t size : ℕ) (ms : List (Rc MessageFields Global)) (at : ℕ) (x : Rc MessageFields Global) → at < length ms → x ≡ get_or ms at x → x.value.ticket ≡ t
+pub found_place : (t size : ℕ) (ms : List (Arc MessageFields Global)) (at : ℕ) (x : Arc MessageFields Global) → at < length ms → x ≡ get_or ms at x → x.value.ticket ≡ t
     → without t (map (queued_by size) ms) ≡ take at (map (queued_by size) ms) ++ without t (drop at (map (queued_by size) ms))
     → without t (map (queued_by size) ms) ≡ take at (map (queued_by size) ms) ++ drop (at + 1) (map (queued_by size) ms)
 found_place t size ms at x lt read same before =
@@ -57,7 +57,7 @@ found_place t size ms at x lt read same before =
     let split = split_at t (map (queued_by size) ms) at (queued_by size x) (omega arith) in
     before ∙ split ∙ rw (here, on, one) refl
 
-pub ended_place : (t size : ℕ) (ms : List (Rc MessageFields Global)) (at n : ℕ) → length ms ≤ at → n ≡ length ms
+pub ended_place : (t size : ℕ) (ms : List (Arc MessageFields Global)) (at n : ℕ) → length ms ≤ at → n ≡ length ms
     → without t (map (queued_by size) ms) ≡ take at (map (queued_by size) ms) ++ without t (drop at (map (queued_by size) ms))
     → without t (map (queued_by size) ms) ≡ take n (map (queued_by size) ms) ++ drop (n + 1) (map (queued_by size) ms)
 ended_place t size ms at n le is before =
@@ -76,15 +76,15 @@ ended_place t size ms at n le is before =
     all_taken (suc a) (suc b) (q ∷ qs) x y = ap (λ (xs : List Queued). q ∷ xs) (all_taken a b qs (omega arith) (omega arith))
 
 -- what is left around the place, or all where it is past the end
-pub withdrawn_is : (p : ℕ) (old new : QueueKept) (taken : Option (Rc MessageFields Global)) → (p < length old.items → new ≡ record old { items = remove old.items p }) → IfSome taken (λ m. (p < length old.items) × (m ≡ get_or old.items p m))
+pub withdrawn_is : (p : ℕ) (old new : QueueKept) (taken : Option (Arc MessageFields Global)) → (p < length old.items → new ≡ record old { items = remove old.items p }) → IfSome taken (λ m. (p < length old.items) × (m ≡ get_or old.items p m))
     → IfNone taken ((length old.items ≤ p) × (new ≡ old)) → new ≡ record old { items = remove old.items p }
 withdrawn_is p old new (Some m) there some none = there some.0
 withdrawn_is p old new None there some none =
     let all : remove old.items p ≡ old.items = rw (none_behind (suc p) old.items (omega (arith, none.0)), take_all p old.items none.0) (append-nil old.items) in
-    none.1 ∙ ap (λ (ms : List (Rc MessageFields Global)). record old { items = ms }) (sym all)
+    none.1 ∙ ap (λ (ms : List (Arc MessageFields Global)). record old { items = ms }) (sym all)
 
 -- the message with a ticket waits no more
-pub withdrawn_place : (size t p : ℕ) (ms : List (Rc MessageFields Global)) → without t (map (queued_by size) ms) ≡ take p (map (queued_by size) ms) ++ drop (p + 1) (map (queued_by size) ms)
+pub withdrawn_place : (size t p : ℕ) (ms : List (Arc MessageFields Global)) → without t (map (queued_by size) ms) ≡ take p (map (queued_by size) ms) ++ drop (p + 1) (map (queued_by size) ms)
     → map (queued_by size) (remove ms p) ≡ without t (map (queued_by size) ms)
 withdrawn_place size t p ms is =
     let one : p + 1 ≡ suc p = omega arith in

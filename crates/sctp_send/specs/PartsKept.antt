@@ -1,6 +1,6 @@
 -- What the parts of a sender keep: the entries above CUM, the messages that wait, the streams.
 use Rattle.std.specs.Prelude.{◌≡◌, ℕ, zero, suc, List, [], ◌∷◌}
-use Rattle.std.specs.declared.rc.Rc.{Rc}
+use Rattle.std.specs.declared.sync.Arc.{Arc}
 use Rattle.std.specs.declared.alloc.Global.{Global}
 use Rattle.sctp_send.specs.declared.message.Message.{Message}
 use Rattle.sctp_send.specs.declared.message.Fate.{Fate}
@@ -16,7 +16,7 @@ pub record OutstandingKept : Type 0 where
 -- the messages that wait, the first to come in front
 pub record QueueKept : Type 0 where
   pub size : ℕ
-  pub items : List (Rc Message Global)
+  pub items : List (Arc Message Global)
   pub capacity : ℕ
 
 -- the streams, by number

@@ -1,6 +1,6 @@
 -- What a sender's fields hold.
 use Rattle.std.specs.Prelude.{ℕ, ◌-◌, Option, None, Some}
-use Rattle.std.specs.declared.rc.Rc.{Rc}
+use Rattle.std.specs.declared.sync.Arc.{Arc}
 use Rattle.std.specs.declared.alloc.Global.{Global}
 use Rattle.sctp_model.specs.messages.Format.{Kind, Ordered, Unordered}
 use Rattle.sctp_model.specs.messages.Plan.{Part}
@@ -14,7 +14,7 @@ use Rattle.sctp_send.specs.declared.track.Rest.{Rest as RestFields}
 use Rattle.sctp_send.specs.declared.track.Track.{Track as TrackFields}
 
 -- a message that waits
-abbrev pub queued_by : ℕ → Rc MessageFields Global → Queued
+abbrev pub queued_by : ℕ → Arc MessageFields Global → Queued
 queued_by size m = queued_meaning size m.value
 
 -- of so many ordered and so many unordered messages that have a number, the number of the latest of a kind

@@ -13,7 +13,7 @@ use crate::queue::Queue;
 use crate::streams::Streams;
 use crate::track::Track;
 use sctp_values::{Kind, Ticket};
-use std::rc::Rc;
+use std::sync::Arc;
 
 /// What filling changes: entries, the queue, streams and the turn as in a sender; the messages that took their numbers, in order; and what was
 /// changed, the last change last.
@@ -174,7 +174,7 @@ fn number_again(tracks: &mut Streams, stream: u16, kind: Kind, many: u64)
 }
 
 /// A message stands in the queue again, at its place, where there is such a place.
-fn queue_again(queue: &mut Queue, place: usize, message: Rc<Message>)
+fn queue_again(queue: &mut Queue, place: usize, message: Arc<Message>)
     requires { place ≤ length queue.old.items → length queue.old.items < queue.old.capacity }
     ensures size { queue.new.size ≡ queue.old.size }
     ensures items { queue.new.items ≡ waits_again place message queue.old.items }

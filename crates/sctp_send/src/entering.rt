@@ -23,7 +23,7 @@ use crate::streams::Streams;
 use crate::track::{Rest, Track};
 use sctp_values::{Kind, NoMemory, Ticket};
 use std::alloc::Global;
-use std::rc::Rc;
+use std::sync::Arc;
 
 /// Room for so many tickets is taken at once.
 const TICKETS: usize = 32;
@@ -39,13 +39,13 @@ impl Head {
         requires some { 0 < next.count }
         requires few { next.count ≤ WINDOW + 1 }
         requires place { next.place < length draft.old.queue.items }
-        requires stream { (m : Rc Message Global) → m ≡ slice_index_or draft.old.queue.items next.place m → m.value.stream < length draft.old.tracks.items }
+        requires stream { (m : Arc Message Global) → m ≡ slice_index_or draft.old.queue.items next.place m → m.value.stream < length draft.old.tracks.items }
         requires sized { IsSized self.now.fragment draft.old }
-        ensures kept { (m : Rc Message Global) → m ≡ slice_index_or draft.old.queue.items next.place m → suc (number_on (drafted (bare self.now) draft.old).tracks (lane_meaning m.value)) < 2 ^ 64
+        ensures kept { (m : Arc Message Global) → m ≡ slice_index_or draft.old.queue.items next.place m → suc (number_on (drafted (bare self.now) draft.old).tracks (lane_meaning m.value)) < 2 ^ 64
             → OnOk result (drafted (bare self.now) draft.new
             ≡ begun (drafted (bare self.now) draft.old) (queued_meaning self.now.fragment m.value) next.place next.count next.turn draft.new.outstanding.capacity) }
         ensures room { OnOk result (self.now.streams + length draft.new.outstanding.items ≤ draft.new.outstanding.capacity) }
-        ensures told { (m : Rc Message Global) → m ≡ slice_index_or draft.old.queue.items next.place m → OnOk result (numbers_of draft.new.tickets.items ≡ numbers_of draft.old.tickets.items ++ m.value.ticket ∷ []) }
+        ensures told { (m : Arc Message Global) → m ≡ slice_index_or draft.old.queue.items next.place m → OnOk result (numbers_of draft.new.tickets.items ≡ numbers_of draft.old.tickets.items ++ m.value.ticket ∷ []) }
         ensures more { OnOk result (length draft.old.outstanding.items < length draft.new.outstanding.items) }
         ensures behind { IsBehind draft.old draft.new }
     {
@@ -79,7 +79,7 @@ impl Head {
         requires some { 0 < self.now.fragment }
         requires few { next.count ≤ WINDOW + 1 }
         requires place { next.place < length draft.old.queue.items }
-        ensures rest { (m : Rc Message Global) (t : KeptTrack) → m ≡ slice_index_or draft.old.queue.items next.place m
+        ensures rest { (m : Arc Message Global) (t : KeptTrack) → m ≡ slice_index_or draft.old.queue.items next.place m
             → IfOk result (λ rest. rests_meaning self.now.fragment t rest ≡ rest_from self.now.fragment m.value (latest_in (kind_meaning m.value.kind) t) next.count) }
         ensures same { draft.new ≡ record draft.old { outstanding = draft.new.outstanding; tickets = draft.new.tickets; log = draft.new.log } }
         ensures size { draft.new.outstanding.size ≡ draft.old.outstanding.size }
@@ -148,7 +148,7 @@ impl Head {
 }
 
 /// What is left of a message from a fragment on.
-fn rest_from(message: &Rc<Message>, next: u32, size: u16) -> Result<Option<Rest>, NoMemory>
+fn rest_from(message: &Arc<Message>, next: u32, size: u16) -> Result<Option<Rest>, NoMemory>
     requires { 0 < size }
     ensures { (t : KeptTrack) → IfOk result (λ rest. rests_meaning size t rest ≡ rest_from size message.now.value (latest_in (kind_meaning message.now.value.kind) t) next) }
 {

@@ -4,7 +4,7 @@ ghost use Rattle.std.specs.Prelude.{◌≡◌};
 ghost use Rattle.sctp_send.specs.inner.Changes.{unmarked};
 
 use crate::message::Message;
-use std::rc::Rc;
+use std::sync::Arc;
 
 /// Whether an entry went out, and whether it is to go out again.
 #[derive(Clone, Copy, PartialEq, Eq)]
@@ -39,7 +39,7 @@ pub enum Place {
 /// One index above CUM: the fragment or end mark that has it, and what became of it.
 #[derive(Drop)]
 pub struct Entry {
-    pub message: Rc<Message>,
+    pub message: Arc<Message>,
     /// Its message's place in the lane (SSN or MID, as a count).
     pub number: u64,
     pub place: Place,

@@ -4,7 +4,7 @@ use crate::entry::CoveredRun;
 use crate::fates::Fates;
 use crate::message::Message;
 use std::alloc::Global;
-use std::rc::Rc;
+use std::sync::Arc;
 
 /// All of a sender but the parts that filling a packet changes.
 #[derive(Drop)]
@@ -26,5 +26,5 @@ pub struct Head {
     // the place of the next SACK's runs
     pub spare: Vec<CoveredRun>,
     // the places of messages that are gone, for messages to come
-    pub spent: Vec<Rc<Message>>,
+    pub spent: Vec<Arc<Message>>,
 }

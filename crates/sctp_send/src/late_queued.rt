@@ -1,7 +1,7 @@
 //! Before which moment no message that waits is past its time, for groups of tickets.
 
 ghost use Rattle.std.specs.Prelude.{◌≡◌, ℕ, ◌<◌, ◌≤◌, true, map, length, slice_index_or};
-ghost use Rattle.std.specs.declared.rc.Rc.{Rc};
+ghost use Rattle.std.specs.declared.sync.Arc.{Arc};
 ghost use Rattle.std.specs.declared.alloc.Global.{Global};
 ghost use Rattle.sctp_send.specs.SenderFields.{queued_by};
 ghost use Rattle.sctp_send.specs.inner.Bounding.{bound_of, spot_of, IsMessageBounded, AreMessagesBounded};
@@ -14,7 +14,7 @@ use crate::bounds::{begin, lower, passed};
 use crate::message::{Message, moment_of};
 use crate::seats::first_from;
 use std::collections::VecDeque;
-use std::rc::Rc;
+use std::sync::Arc;
 
 /// Tickets that lie so far apart share a bound.
 const APART: u64 = 1_024;
@@ -72,7 +72,7 @@ fn begin_among(bounds: &mut Vec<u64>, earliest: u64, others: usize)
 
 /// A place behind messages, from one on, whose tickets' bounds lie above this moment.
 pub fn behind(
-    messages: &VecDeque<Rc<Message>>,
+    messages: &VecDeque<Arc<Message>>,
     rises: bool,
     bounds: &[u64],
     place: usize,
@@ -82,7 +82,7 @@ pub fn behind(
     requires within { place < length messages.now.items }
     ensures order { place ≤ result }
     ensures within { result ≤ length messages.now.items }
-    ensures passed { (k : ℕ) (d : Rc MessageFields Global) → place ≤ k → k < result → now < bound_of bounds.now (spot_of (ticket_in (slice_index_or messages.now.items k d))) }
+    ensures passed { (k : ℕ) (d : Arc MessageFields Global) → place ≤ k → k < result → now < bound_of bounds.now (spot_of (ticket_in (slice_index_or messages.now.items k d))) }
 {
     let ticket = messages[place].ticket;
     let spot = spot_of(ticket);
@@ -97,7 +97,7 @@ pub fn behind(
 
 /// Bounds anew: those of groups whose moments haven't come are there, and the messages of the others are looked at.
 pub fn look_queued(
-    messages: &VecDeque<Rc<Message>>,
+    messages: &VecDeque<Arc<Message>>,
     rises: bool,
     bounds: &[u64],
     now: u64,
@@ -121,7 +121,7 @@ pub fn look_queued(
 }
 
 /// The first moment from which one of the messages is worthless.
-pub fn earliest_of(messages: &VecDeque<Rc<Message>>) -> u64
+pub fn earliest_of(messages: &VecDeque<Arc<Message>>) -> u64
     ensures { (size : ℕ) → AreWorth result (queue_messages (map (queued_by size) messages.now.items)) }
 {
     let mut earliest = u64::MAX;

@@ -7,7 +7,7 @@ ghost use Rattle.sctp_send.specs.inner.Counting.{moment_from};
 
 use sctp_values::{Kind, NoMemory};
 use std::alloc::Global;
-use std::rc::Rc;
+use std::sync::Arc;
 
 /// What `queue` was given for a message. Its bytes are kept once: fragments are ranges of them.
 #[derive(Drop)]
@@ -36,12 +36,12 @@ pub const SPENT: usize = 64;
 
 /// Keeps the place of a message, without its bytes, where nothing else has it and there is room. What is kept shows in no answer, so that
 /// its contract says nothing.
-pub fn lay_by(spent: &mut Vec<Rc<Message>>, alloc: Global, message: Rc<Message>) {
+pub fn lay_by(spent: &mut Vec<Arc<Message>>, alloc: Global, message: Arc<Message>) {
     if spent.len() >= spent.capacity() {
         return;
     }
     let mut place = message;
-    match Rc::get_mut(&mut place) {
+    match Arc::get_mut(&mut place) {
         Some(gone) => gone.bytes = Vec::new(alloc),
         None => return,
     }
@@ -53,19 +53,19 @@ pub fn lay_by(spent: &mut Vec<Rc<Message>>, alloc: Global, message: Rc<Message>)
 /// # Errors
 /// `NoMemory`.
 pub fn placed(
-    spent: &mut Vec<Rc<Message>>,
+    spent: &mut Vec<Arc<Message>>,
     alloc: Global,
     message: Message,
-) -> Result<Rc<Message>, NoMemory>
+) -> Result<Arc<Message>, NoMemory>
     ensures { IfOk result (λ placed. placed.value ≡ message) }
 {
     if let Some(mut place) = spent.pop() {
-        if let Some(gone) = Rc::get_mut(&mut place) {
+        if let Some(gone) = Arc::get_mut(&mut place) {
             *gone = message;
             return Ok(place);
         }
     }
-    Rc::new(alloc, message).map_err(|_| NoMemory)
+    Arc::new(alloc, message).map_err(|_| NoMemory)
 }
 
 /// What became of an accepted message.
@@ -82,10 +82,10 @@ pub enum Fate {
 }
 
 /// The same message, owned once more.
-pub fn shared(message: &Rc<Message>) -> Result<Rc<Message>, NoMemory>
+pub fn shared(message: &Arc<Message>) -> Result<Arc<Message>, NoMemory>
     ensures { IfOk result (λ copy. copy.value ≡ message.now.value) }
 {
-    message.clone().map_err(|_| NoMemory)
+    Arc::try_clone(message).map_err(|_| NoMemory)
 }
 
 /// How many fragments of this size so many bytes make.

@@ -18,7 +18,7 @@ use sctp_values::NoMemory;
 use std::alloc::Global;
 use std::collections::VecDeque;
 use std::marker::Model;
-use std::rc::Rc;
+use std::sync::Arc;
 
 /// An entry for each index above CUM, that of CUM + 1 in front, with counts of them, and their order by ticket.
 #[derive(Drop)]
@@ -199,7 +199,7 @@ impl Outstanding {
     }
 
     /// The first entry goes, where there is one. It answers the message of that.
-    pub fn pop_front(&mut self) -> Option<Rc<Message>>
+    pub fn pop_front(&mut self) -> Option<Arc<Message>>
         ensures { self.new ≡ record self.old { items = drop 1 self.old.items } }
     {
         if let Some(entry) = self.entries.pop_front() {

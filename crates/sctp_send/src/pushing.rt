@@ -14,11 +14,11 @@ use crate::entry::{Entry, Place, Standing};
 use crate::message::{Message, shared};
 use crate::outstanding::Outstanding;
 use sctp_values::NoMemory;
-use std::rc::Rc;
+use std::sync::Arc;
 
 /// The first fragment of a message takes the next index, and goes out.
 #[inline(always)]
-pub(crate) fn push_first(outstanding: &mut Outstanding, message: Rc<Message>, number: u64)
+pub(crate) fn push_first(outstanding: &mut Outstanding, message: Arc<Message>, number: u64)
     requires { length outstanding.old.items < outstanding.old.capacity }
     ensures { outstanding.new ≡ record outstanding.old { items = outstanding.old.items ++ fragment_entry message number 0 Sent ∷ [] } }
 {
@@ -35,7 +35,7 @@ pub(crate) fn push_first(outstanding: &mut Outstanding, message: Rc<Message>, nu
 /// A fragment takes the next index.
 pub fn push_fragment(
     outstanding: &mut Outstanding,
-    message: &Rc<Message>,
+    message: &Arc<Message>,
     number: u64,
     fragment: u32,
     standing: Standing,
@@ -91,7 +91,7 @@ pub(crate) fn push_further(
 #[inline(never)]
 fn push_fragments(
     outstanding: &mut Outstanding,
-    message: &Rc<Message>,
+    message: &Arc<Message>,
     number: u64,
     count: usize,
 ) -> Result<(), NoMemory>

@@ -20,7 +20,7 @@ use crate::wishes::may_flow;
 use sctp_framing::Framing;
 use sctp_packet::PacketWriter;
 use sctp_values::NoMemory;
-use std::rc::Rc;
+use std::sync::Arc;
 
 impl Head {
     /// Puts the next wish into the packet; false where there is none that may go.
@@ -142,7 +142,7 @@ impl Head {
     /// A fragment that is to take the next index may flow, while so much is in flight, and fits.
     fn is_let_in<F: Framing>(
         &self,
-        message: &Rc<Message>,
+        message: &Arc<Message>,
         fragment: u32,
         flying: u64,
         packet: &PacketWriter,

@@ -17,14 +17,14 @@ use sctp_values::NoMemory;
 use std::alloc::Global;
 use std::collections::VecDeque;
 use std::marker::Model;
-use std::rc::Rc;
+use std::sync::Arc;
 
 /// The messages without a number, with counts of them.
 #[derive(Drop)]
 pub struct Queue {
     // the most bytes of a fragment
     pub(crate) size: u16,
-    pub(crate) messages: VecDeque<Rc<Message>>,
+    pub(crate) messages: VecDeque<Arc<Message>>,
     // the TSNs that they may take, modulo 2^64
     pub(crate) owed: u64,
     // their bytes, modulo 2^64
@@ -84,7 +84,7 @@ impl Queue {
     }
 
     /// The message at a place.
-    pub fn get(&self, at: usize) -> &Rc<Message>
+    pub fn get(&self, at: usize) -> &Arc<Message>
         requires { at < length self.now.items }
         ensures { result.now ≡ slice_index_or self.now.items at result.now }
     {
@@ -109,7 +109,7 @@ impl Queue {
     ///
     /// # Errors
     /// `NoMemory`: it doesn't wait.
-    pub fn push(&mut self, message: Rc<Message>) -> Result<(), NoMemory>
+    pub fn push(&mut self, message: Arc<Message>) -> Result<(), NoMemory>
         ensures size { self.new.size ≡ self.old.size }
         ensures items { OnOk result (self.new.items ≡ self.old.items ++ message ∷ []) }
         ensures unchanged { OnErr result (self.new.items ≡ self.old.items) }
@@ -135,7 +135,7 @@ impl Queue {
     }
 
     /// The message at a place waits no more, where there is one.
-    pub fn remove(&mut self, place: usize) -> Option<Rc<Message>>
+    pub fn remove(&mut self, place: usize) -> Option<Arc<Message>>
         ensures some { place < length self.old.items → self.new ≡ record self.old { items = remove self.old.items place } }
         ensures message { IfSome result (λ message. (place < length self.old.items) × (message ≡ slice_index_or self.old.items place message)) }
         ensures none { IfNone result ((length self.old.items ≤ place) × (self.new ≡ self.old)) }
@@ -150,7 +150,7 @@ impl Queue {
     }
 
     /// A message waits again at its place, where there is room since it went.
-    pub fn put_back(&mut self, place: usize, message: Rc<Message>)
+    pub fn put_back(&mut self, place: usize, message: Arc<Message>)
         requires place { place ≤ length self.old.items }
         requires room { length self.old.items < self.old.capacity }
         ensures size { self.new.size ≡ self.old.size }
@@ -216,7 +216,7 @@ impl Queue {
 }
 
 /// The message at a place goes, where there is one. The first one moves no other.
-fn remove_at(messages: &mut VecDeque<Rc<Message>>, place: usize) -> Option<Rc<Message>>
+fn remove_at(messages: &mut VecDeque<Arc<Message>>, place: usize) -> Option<Arc<Message>>
     ensures value { IfSome result (λ message. message ≡ slice_index_or messages.old.items place message) }
     ensures items { OnSome result (messages.new.items ≡ remove messages.old.items place) }
     ensures variant { IsSome result ↔ (place < deque_len messages.old) }

@@ -19,7 +19,7 @@ use crate::streams::Streams;
 use sctp_framing::Framing;
 use sctp_values::{Kind, LONGEST_MESSAGE, QUEUE_LIMIT, TICKET_LIMIT, TSN_LIMIT, Ticket};
 use std::alloc::Global;
-use std::rc::Rc;
+use std::sync::Arc;
 use thiserror::Error;
 
 /// Why a message is not accepted: the first reason that holds, in this order.
@@ -155,7 +155,7 @@ impl<F: Framing> Sender<F> {
 /// A message comes to the end of the queue.
 fn enqueue(
     queue: &mut Queue,
-    spent: &mut Vec<Rc<Message>>,
+    spent: &mut Vec<Arc<Message>>,
     alloc: Global,
     message: Message,
 ) -> Result<(), SendFault>

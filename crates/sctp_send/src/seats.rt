@@ -12,7 +12,7 @@ use crate::message::Message;
 use crate::ordered::{Ordered, Pair};
 use sctp_values::NoMemory;
 use std::collections::VecDeque;
-use std::rc::Rc;
+use std::sync::Arc;
 
 /// A stream on which a message waits, and the place of the message that has waited longest on it.
 #[derive(Clone, Copy)]
@@ -33,7 +33,7 @@ pub fn seat_of(message: &Message) -> Pair
 }
 
 /// Tickets rise, and go on rising with one at a place: it lies between those of its neighbours there.
-pub fn fits_at(messages: &VecDeque<Rc<Message>>, rises: bool, place: usize, ticket: u64) -> bool
+pub fn fits_at(messages: &VecDeque<Arc<Message>>, rises: bool, place: usize, ticket: u64) -> bool
     requires { place ≤ length messages.now.items }
     ensures rises { result ≡ true → rises ≡ true }
     ensures between { result ≡ true → IsBetween place ticket messages.now.items }
@@ -44,7 +44,7 @@ pub fn fits_at(messages: &VecDeque<Rc<Message>>, rises: bool, place: usize, tick
 }
 
 /// How many of the first messages have lower tickets, by halves, where tickets rise; else none.
-pub fn first_from(messages: &VecDeque<Rc<Message>>, rises: bool, ticket: u64) -> usize
+pub fn first_from(messages: &VecDeque<Arc<Message>>, rises: bool, ticket: u64) -> usize
     requires { rises ≡ true → DoTicketsRise 0 messages.now.items }
     ensures place { result ≡ (if rises then before ticket_in ticket messages.now.items else 0) }
     ensures within { result ≤ length messages.now.items }
@@ -92,7 +92,7 @@ pub fn add_seat(seats: &mut Ordered, is_seated: bool, seat: Pair) -> bool
 }
 
 /// The place of the message that has waited longest on a stream.
-fn first_on(messages: &VecDeque<Rc<Message>>, stream: u16) -> Option<usize>
+fn first_on(messages: &VecDeque<Arc<Message>>, stream: u16) -> Option<usize>
     ensures first { (size : ℕ) → FirstOnAnswer stream (map (queued_by size) messages.now.items) result }
     ensures within { IfSome result (λ at. at < length messages.now.items) }
 {
@@ -106,7 +106,7 @@ fn first_on(messages: &VecDeque<Rc<Message>>, stream: u16) -> Option<usize>
 }
 
 /// The message in front of all is of a stream, which is below another.
-pub fn is_in_front(messages: &VecDeque<Rc<Message>>, stream: u16, below: u16) -> bool
+pub fn is_in_front(messages: &VecDeque<Arc<Message>>, stream: u16, below: u16) -> bool
     ensures first { (size : ℕ) → result ≡ true → IsFirstOn stream 0 (map (queued_by size) messages.now.items) }
     ensures low { result ≡ true → stream < below }
     ensures within { result ≡ true → 0 < length messages.now.items }
@@ -122,7 +122,7 @@ pub fn is_in_front(messages: &VecDeque<Rc<Message>>, stream: u16, below: u16) ->
 }
 
 /// The first stream from one on, below another, on which a message waits, and where, by looking through all messages for each.
-pub fn next_by_looking(messages: &VecDeque<Rc<Message>>, from: u16, below: u16) -> Option<Found>
+pub fn next_by_looking(messages: &VecDeque<Arc<Message>>, from: u16, below: u16) -> Option<Found>
     ensures next { (size : ℕ) → NextOnAnswer from below (map (queued_by size) messages.now.items) result }
     ensures within { IfSome result (λ found. found.place < length messages.now.items) }
 {

@@ -14,7 +14,7 @@ use crate::message::{Message, lay_by};
 use crate::outstanding::Outstanding;
 use sctp_wire::Blocks;
 use std::alloc::Global;
-use std::rc::Rc;
+use std::sync::Arc;
 
 /// A run of entries is covered: those from the offset `from` up to before the offset `to`.
 fn cover_run(outstanding: &mut Outstanding, from: usize, to: usize)
@@ -59,7 +59,7 @@ pub fn cover(outstanding: &mut Outstanding, blocks: &Blocks<'_>)
 /// The first entries go: so many are acknowledged cumulatively. What they leave is laid by for messages to come.
 pub fn forget(
     outstanding: &mut Outstanding,
-    spent: &mut Vec<Rc<Message>>,
+    spent: &mut Vec<Arc<Message>>,
     alloc: Global,
     passed: usize,
 )

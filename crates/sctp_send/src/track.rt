@@ -6,12 +6,12 @@ ghost use Rattle.sctp_send.specs.inner.Walks.{rest_owes};
 
 use crate::message::{Message, fragments_of, owed};
 use sctp_values::Kind;
-use std::rc::Rc;
+use std::sync::Arc;
 
 /// What is left of a message in part: the fragment that it takes next. Its number is the latest that its kind took on its stream.
 #[derive(Drop)]
 pub struct Rest {
-    pub message: Rc<Message>,
+    pub message: Arc<Message>,
     pub fragment: u32,
 }
 

@@ -13,4 +13,6 @@ mod statuses;
 #[cfg(test)]
 mod streams;
 #[cfg(test)]
+mod threads;
+#[cfg(test)]
 mod writing;

@@ -1,6 +1,6 @@
 -- Before which moment no message is past its time, for groups of tickets.
 use Rattle.std.specs.Prelude.{◌≡◌, ℕ, ◌*◌, ◌/◌, ◌%◌, ◌<◌, ◌≤◌, ◌||◌, false, List, length, slice_index_or, Some, unwrap_or}
-use Rattle.std.specs.declared.rc.Rc.{Rc}
+use Rattle.std.specs.declared.sync.Arc.{Arc}
 use Rattle.std.specs.declared.alloc.Global.{Global}
 use Rattle.sctp_model.specs.numbers.Limits.{LAST_MOMENT}
 use Rattle.sctp_model.specs.numbers.Lists.{Has}
@@ -16,7 +16,7 @@ unfoldable pub bound_of : List ℕ → (ticket : ℕ) → ℕ
 bound_of bs t = bound_at bs (t / 64)
 
 -- the moment from which a message is worthless, or the last one
-abbrev pub until_of : Rc MessageFields Global → ℕ
+abbrev pub until_of : Arc MessageFields Global → ℕ
 until_of m = unwrap_or m.value.until LAST_MOMENT
 
 -- an entry's message isn't worthless before its ticket's bound, unless the entry is covered or abandoned
@@ -38,5 +38,5 @@ abbrev pub IsMessageBounded : List ℕ → MessageFields → Type 0
 IsMessageBounded bs m = (until : ℕ) → m.until ≡ Some until → bound_of bs (spot_of m.ticket) ≤ until
 
 -- nor is any of these
-abbrev pub AreMessagesBounded : List ℕ → List (Rc MessageFields Global) → Type 0
-AreMessagesBounded bs ms = (k : ℕ) (d : Rc MessageFields Global) → k < length ms → IsMessageBounded bs (slice_index_or ms k d).value
+abbrev pub AreMessagesBounded : List ℕ → List (Arc MessageFields Global) → Type 0
+AreMessagesBounded bs ms = (k : ℕ) (d : Arc MessageFields Global) → k < length ms → IsMessageBounded bs (slice_index_or ms k d).value

@@ -1,6 +1,6 @@
 -- What is counted of entries, of messages that wait, and of streams.
 use Rattle.std.specs.Prelude.{◌≡◌, ℕ, suc, Bool, not, ◌==◌, ◌&&◌, ◌+◌, ◌-◌, ◌%◌, ◌^◌, ◌<◌, ◌≤◌, min, if◌then◌else◌, List, [], ◌∷◌, map, take, length, Option, None, Some, unwrap_or}
-use Rattle.std.specs.declared.rc.Rc.{Rc}
+use Rattle.std.specs.declared.sync.Arc.{Arc}
 use Rattle.std.specs.declared.alloc.Global.{Global}
 use Rattle.sctp_model.specs.numbers.Limits.{LAST_MOMENT}
 use Rattle.sctp_model.specs.messages.Plan.{Message}
@@ -90,7 +90,7 @@ pub record IsCounted (size : ℕ) (es : List EntryFields) (c : Counts) : Type 0 
 -- ---- messages that wait, and streams
 
 -- what the messages that wait may take, and when the first of them is worthless
-pub record IsOwedOf (size : ℕ) (ms : List (Rc MessageFields Global)) (sum first : ℕ) : Type 0 where
+pub record IsOwedOf (size : ℕ) (ms : List (Arc MessageFields Global)) (sum first : ℕ) : Type 0 where
   pub some : 0 < size
   pub owed : sum ≡ owed_by_queue (map (queued_by size) ms) % 2 ^ 64
   pub earliest : AreWorth first (queue_messages (map (queued_by size) ms))

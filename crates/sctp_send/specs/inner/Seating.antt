@@ -1,7 +1,7 @@
 -- Where a message that waits stands: by its ticket, and by its stream.
 use Rattle.std.specs.Prelude.{◌≡◌, ℕ, suc, ◌-◌, ◌%◌, ◌^◌, slice_index_or, ◌<◌, ◌≤◌, Bool, true, List, [], ◌∷◌, map, length, Option, None, Some}
 use Rattle.std.specs.List.{sum_by}
-use Rattle.std.specs.declared.rc.Rc.{Rc}
+use Rattle.std.specs.declared.sync.Arc.{Arc}
 use Rattle.std.specs.declared.alloc.Global.{Global}
 use Rattle.sctp_model.specs.sender.SenderView.{Queued}
 use Rattle.sctp_model.specs.sender.Assigning.{first_on}
@@ -13,42 +13,42 @@ use Rattle.sctp_send.specs.declared.ordered.Pair.{Pair}
 use Rattle.sctp_send.specs.declared.seats.Found.{Found}
 
 -- a message's ticket
-abbrev pub ticket_in : Rc MessageFields Global → ℕ
+abbrev pub ticket_in : Arc MessageFields Global → ℕ
 ticket_in m = m.value.ticket
 
 -- a message by its stream and its ticket
-abbrev pub seat_of : Rc MessageFields Global → Pair
+abbrev pub seat_of : Arc MessageFields Global → Pair
 seat_of m = record { first = m.value.stream; second = m.value.ticket }
 
 -- each ticket is above those in front of it, the first no lower than here
-abbrev pub DoTicketsRise : (here : ℕ) → List (Rc MessageFields Global) → Type 0
+abbrev pub DoTicketsRise : (here : ℕ) → List (Arc MessageFields Global) → Type 0
 DoTicketsRise n [] = Unit {0}
 DoTicketsRise n (m ∷ ms) = (n ≤ ticket_in m) × DoTicketsRise (suc (ticket_in m)) ms
 
 -- so many messages have lower tickets
-abbrev pub AreLower : (ticket many : ℕ) → List (Rc MessageFields Global) → Type 0
-AreLower t n ms = (k : ℕ) (d : Rc MessageFields Global) → k < n → ticket_in (slice_index_or ms k d) < t
+abbrev pub AreLower : (ticket many : ℕ) → List (Arc MessageFields Global) → Type 0
+AreLower t n ms = (k : ℕ) (d : Arc MessageFields Global) → k < n → ticket_in (slice_index_or ms k d) < t
 
 -- a ticket lies between the neighbours' at a place
-pub record IsBetween (place ticket : ℕ) (ms : List (Rc MessageFields Global)) : Type 0 where
-  pub behind : (d : Rc MessageFields Global) → 0 < place → ticket_in (slice_index_or ms (place - 1) d) < ticket
-  pub ahead : (d : Rc MessageFields Global) → place < length ms → ticket < ticket_in (slice_index_or ms place d)
+pub record IsBetween (place ticket : ℕ) (ms : List (Arc MessageFields Global)) : Type 0 where
+  pub behind : (d : Arc MessageFields Global) → 0 < place → ticket_in (slice_index_or ms (place - 1) d) < ticket
+  pub ahead : (d : Arc MessageFields Global) → place < length ms → ticket < ticket_in (slice_index_or ms place d)
 
 -- The messages' seats are these: whatever is summed over the ones and over the others is the same.
-abbrev pub AreSeats : List (Rc MessageFields Global) → List Pair → Type 0
+abbrev pub AreSeats : List (Arc MessageFields Global) → List Pair → Type 0
 AreSeats ms ps = (f : Pair → ℕ) → sum_by f ps ≡ sum_by f (map seat_of ms)
 
 -- Tickets rise, and the seats are those of the messages, where it is said so.
-pub record IsSeatedOf (rises seated : Bool) (ms : List (Rc MessageFields Global)) (ps : List Pair) : Type 0 where
+pub record IsSeatedOf (rises seated : Bool) (ms : List (Arc MessageFields Global)) (ps : List Pair) : Type 0 where
   pub order : rises ≡ true → DoTicketsRise 0 ms
   pub seats : seated ≡ true → AreSeats ms ps
 
 -- how many bytes a message has
-abbrev pub bytes_of : Rc MessageFields Global → ℕ
+abbrev pub bytes_of : Arc MessageFields Global → ℕ
 bytes_of m = length m.value.bytes.items
 
 -- What is counted of the messages that wait, where they stand, and before which moments none of them is worthless.
-pub record IsQueueOf (size : ℕ) (ms : List (Rc MessageFields Global)) (sum first : ℕ) (rises seated : Bool) (ps : List Pair) (bs : List ℕ) (load : ℕ) : Type 0 where
+pub record IsQueueOf (size : ℕ) (ms : List (Arc MessageFields Global)) (sum first : ℕ) (rises seated : Bool) (ps : List Pair) (bs : List ℕ) (load : ℕ) : Type 0 where
   pub owed : IsOwedOf size ms sum first
   pub seats : IsSeatedOf rises seated ms ps
   pub bounded : AreMessagesBounded bs ms

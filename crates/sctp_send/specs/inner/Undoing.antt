@@ -1,6 +1,6 @@
 -- What a fill changed, and how it is taken back.
 use Rattle.std.specs.Prelude.{◌≡◌, ℕ, ◌-◌, ◌<◌, ◌≤◌, nat_le, if◌then◌else◌, false, List, [], ◌∷◌, length, take, set, insert, slice_get, Option, None, Some}
-use Rattle.std.specs.declared.rc.Rc.{Rc}
+use Rattle.std.specs.declared.sync.Arc.{Arc}
 use Rattle.std.specs.declared.alloc.Global.{Global}
 use Rattle.sctp_model.specs.numbers.Limits.{GREATEST_FRAGMENT}
 use Rattle.sctp_send.specs.PartsKept.{at_place}
@@ -18,7 +18,7 @@ use Rattle.sctp_send.specs.declared.track.Track.{Track}
 -- what a fill may change
 pub record Parts : Type 0 where
   pub items : List EntryFields
-  pub queue : List (Rc Message Global)
+  pub queue : List (Arc Message Global)
   pub tracks : List Track
   pub turn : ℕ
 
@@ -31,11 +31,11 @@ abbrev pub stands_so : Standing → EntryFields → EntryFields
 stands_so s e = record e { standing = s }
 
 -- a message waits again at its place, where there is such a place
-abbrev pub waits_again : (place : ℕ) → Rc Message Global → List (Rc Message Global) → List (Rc Message Global)
+abbrev pub waits_again : (place : ℕ) → Arc Message Global → List (Arc Message Global) → List (Arc Message Global)
 waits_again place m ms = if nat_le place (length ms) then insert ms place m else ms
 
 -- the entry of a fragment
-abbrev pub fragment_entry : Rc Message Global → (number fragment : ℕ) → Standing → EntryFields
+abbrev pub fragment_entry : Arc Message Global → (number fragment : ℕ) → Standing → EntryFields
 fragment_entry m n k standing = record { message = m; number = n; place = Fragment k; standing = standing; covered = false; abandoned = false }
 
 -- how many messages of a kind have a number on a stream

@@ -1,7 +1,7 @@
 use Rattle.std.proofs.Common.{◌≡◌, ◌∙◌, ℕ, ◌+◌, ◌%◌, ◌^◌, ◌<◌, suc, List, [], ◌∷◌, ◌++◌, length, map, take, get_or, remove, refl, sym, ap, subst, arith, length-append}
 use Rattle.std.specs.Prelude.{OnOk}
 use Rattle.std.proofs.lemmas.List.{map-append}
-use Rattle.std.specs.declared.rc.Rc.{Rc}
+use Rattle.std.specs.declared.sync.Arc.{Arc}
 use Rattle.std.specs.declared.alloc.Global.{Global}
 use Rattle.sctp_values.specs.Meanings.{kind_meaning}
 use Rattle.sctp_send.specs.PartsKept.{OutstandingKept, QueueKept, StreamsKept, at_place}
@@ -59,7 +59,7 @@ returns-clause-kept c = λ m is small.
     let number : n ≡ number_on (map (track_meaning size) old.tracks.items) (lane_meaning x.value) =
     rw (c.deref.ensures, c.deref-2.ensures, tracks) at (c.number_one-number.ensures.number size) in
     let few : suc (number_on (map (track_meaning size) old.tracks.items) (lane_meaning x.value)) < 2 ^ 64 =
-    subst (λ (y : Rc MessageFields Global). suc (number_on (map (track_meaning size) old.tracks.items) (lane_meaning y.value)) < 2 ^ 64) own small in
+    subst (λ (y : Arc MessageFields Global). suc (number_on (map (track_meaning size) old.tracks.items) (lane_meaning y.value)) < 2 ^ 64) own small in
     let left = rests_meaning size (counted_in k t) c.in_ok-rest.rest in
     let rest : left ≡ rest_from size x.value n count = c.in_ok-rest.ensures.rest x (counted_in k t) read ∙ ap (λ (j : ℕ). rest_from size x.value j count) (latest_counted k t ∙ sym number) in
     let told : numbers_of c.tell.new.tickets.items ≡ numbers_of old.tickets.items ++ x.value.ticket ∷ [] =
@@ -78,7 +78,7 @@ returns-clause-kept c = λ m is small.
     let streams = entered_tracks size n many x.value c.deref.result.now c.deref-2.result.now old.tracks.items c.number_one-number.new.tracks.items c.leave_rest.new.tracks.items c.in_ok-rest.rest c.deref.ensures c.deref-2.ensures
     (c.requires.stream x read) counted (omega (arith, few, number)) number (c.leave_rest.ensures.items size) in
     let d : Draft = record { outstanding = c.push_further.new.outstanding; queue = c.remove.new.self; tracks = c.leave_rest.new.tracks; turn = c.args.next.turn; tickets = c.tell.new.tickets; log = c.leave_rest.new.log } in
-    subst (λ (y : Rc MessageFields Global). OnOk c.push_further.result (drafted s d ≡ begun (drafted s old) (queued_meaning size y.value) place count c.args.next.turn c.push_further.new.outstanding.capacity)) (sym own)
+    subst (λ (y : Arc MessageFields Global). OnOk c.push_further.result (drafted s d ≡ begun (drafted s old) (queued_meaning size y.value) place count c.args.next.turn c.push_further.new.outstanding.capacity)) (sym own)
     (on_ok _ _ c.push_further.result (λ all. begun_is s old d x.value place count n c.args.next.turn left all waits streams rest told refl number)
     (c.push_further.ensures.items size (map (item_meaning size) old.outstanding.items) e there items))
 

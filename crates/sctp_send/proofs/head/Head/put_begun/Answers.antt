@@ -1,6 +1,6 @@
 use Rattle.std.proofs.Common.{ℕ, suc, ◌+◌, length, map, true, false, Some, refl, sym, ap, ◌∙◌, arith}
 use Rattle.std.specs.Prelude.{nat_lt}
-use Rattle.std.specs.declared.rc.Rc.{Rc}
+use Rattle.std.specs.declared.sync.Arc.{Arc}
 use Rattle.std.specs.declared.alloc.Global.{Global}
 use Rattle.sctp_model.specs.messages.Plan.{Part}
 use Rattle.sctp_send.specs.OutstandingFields.{lane_meaning, message_meaning}
@@ -17,7 +17,7 @@ pub begin-requires-clause-stream : goal.begin-requires-clause-stream
 begin-requires-clause-stream g c = λ m read.
     let x = c.get-message.result.now in
     let same = read ∙ any_default c.args.draft.now.queue.items c.args.next.place m x c.requires.place ∙ sym c.get-message.ensures in
-    let stream = ap (λ (y : Rc MessageFields Global). y.value.stream) same in
+    let stream = ap (λ (y : Arc MessageFields Global). y.value.stream) same in
     let first = c.from.ensures ∙ ap (λ (y : MessageFields). y.stream) c.deref.ensures in
     let wide = ap length c.tracks.ensures in
     omega (arith, stream, first, wide, c.if-from-tracks.false)
