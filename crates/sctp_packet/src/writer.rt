@@ -1,6 +1,6 @@
 //! A packet in the making: its header, and chunks for as long as they fit (RFC 9260, 3 and 6.10).
 
-ghost use Rattle.std.specs.Prelude.{◌≡◌, ◌<◌, ◌≤◌, ◌+◌, ◌^◌, ◌++◌, [], true, length, take, drop, vec_len, vec_capacity, IfOk, OnOk, OnErr, IfSome, MatchOption};
+ghost use Rattle.std.specs.Prelude.{◌≡◌, ◌<◌, ◌≤◌, ◌+◌, ◌^◌, ◌++◌, [], true, length, take, drop, vec_len, vec_capacity, IfOk, OnOk, OnErr, IfSome, MatchOption, MatchResult};
 ghost use Rattle.byteorder.specs.Endian.{little_bytes};
 ghost use Rattle.sctp_model.specs.wire.Packet.{size_of_packet};
 ghost use Rattle.sctp_wire.specs.ChunkTree.{chunk_meaning};
@@ -18,7 +18,8 @@ use std::marker::Model;
 
 /// A packet in the making: the most bytes that it may have, its ports and tag, and the chunks put in so far.
 ///
-/// It takes no memory before its first chunk: with that one it takes the room for it alone, and with the second, once, the room for all that it may have.
+/// It takes no memory before its first chunk: with that one it takes the room for it alone, and with the second, once, the room for all that it may
+/// have. In a room that it was given it takes what is wanting there.
 #[derive(Drop)]
 pub struct PacketWriter {
     limit: u16,
@@ -53,12 +54,27 @@ impl PacketWriter {
     pub fn new(alloc: Global, limit: u16, source: u16, destination: u16, tag: u32) -> PacketWriter
         ensures { result ≡ empty_draft limit source destination tag }
     {
+        PacketWriter::in_room(Vec::new(alloc), limit, source, destination, tag)
+    }
+
+    /// The same, made in a room that nobody needs any more: what lies there is forgotten.
+    pub fn in_room(
+        room: Vec<u8>,
+        limit: u16,
+        source: u16,
+        destination: u16,
+        tag: u32,
+    ) -> PacketWriter
+        ensures { result ≡ empty_draft limit source destination tag }
+    {
+        let mut bytes = room;
+        bytes.clear();
         PacketWriter {
             limit,
             source,
             destination,
             tag,
-            bytes: Vec::new(alloc),
+            bytes,
         }
     }
 
@@ -102,13 +118,25 @@ impl PacketWriter {
         ensures size { IfSome result (λ packet. length packet.items ≡ size_of_packet self.chunks) }
         ensures within { IfSome result (λ packet. length packet.items ≤ self.limit) }
     {
+        match self.finish_or_room() {
+            Ok(packet) => Some(packet),
+            Err(_) => None,
+        }
+    }
+
+    /// The same; where there is no chunk, the room in which the packet was to be made, whatever lies there.
+    pub fn finish_or_room(self) -> Result<Vec<u8>, Vec<u8>>
+        ensures packet { MatchResult result (λ packet. WritesPacket packet.items (packet_of self)) (λ _. self.chunks ≡ []) }
+        ensures size { IfOk result (λ packet. length packet.items ≡ size_of_packet self.chunks) }
+        ensures within { IfOk result (λ packet. length packet.items ≤ self.limit) }
+    {
         let PacketWriter { mut bytes, .. } = self;
         if bytes.len() <= HEADER {
-            return None;
+            return Err(bytes);
         }
         let sum = crc32c(&bytes);
         put_sum(&mut bytes, sum);
-        Some(bytes)
+        Ok(bytes)
     }
 }
 

@@ -5,7 +5,7 @@ use Rattle.sctp_packet.specs.Checksum.{crc32c}
 use Rattle.sctp_packet.specs.PacketBytes.{header_bytes}
 use Rattle.sctp_packet.specs.Draft.{packet_of}
 use Rattle.sctp_packet.proofs.DraftLemmas.{finished, IsFinished, kept_all, length-finished, draft_packet, draft_none}
-use Rattle.sctp_packet.proofs.writer.PacketWriter.finish.Goals as goal
+use Rattle.sctp_packet.proofs.writer.PacketWriter.finish_or_room.Goals as goal
 
 pub returns-then-len-le-HEADER-clause-packet : goal.returns-then-len-le-HEADER-clause-packet
 returns-then-len-le-HEADER-clause-packet c =
