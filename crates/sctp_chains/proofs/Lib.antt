@@ -24,3 +24,4 @@ mod TakeLemmas
 mod AloneLemmas
 mod WithLemmas
 mod LowestLemmas
+mod EmptyLemmas

@@ -6,6 +6,7 @@ use Rattle.sctp_model.specs.messages.Pieces.{Piece, is_number_below, payload_of}
 use Rattle.sctp_model.specs.receiver.Receiving.{IsWholeNumber, IsLowest, HasNoWhole, IsWholeWith, HasNoWholeWith, without_message}
 use Rattle.sctp_chains.specs.Links.{ChainKept, bytes_of}
 use Rattle.sctp_chains.specs.StandsFor.{StandsFor}
+use Rattle.sctp_chains.specs.Fragments.{fragments_in}
 use Rattle.sctp_chains.specs.declared.chain.Head.{Head}
 use Rattle.sctp_chains.specs.declared.whole.Whole.{Whole}
 use Rattle.sctp_chains.specs.declared.chains.Chains.{Chains}
@@ -15,14 +16,14 @@ pub record IsMadeOf (f : Format) (m : Whole) (x : Piece) (xs : List Piece) : Typ
   pub first : m.first ≡ x.index
   pub number : m.number ≡ x.number
   pub payload : m.payload_id ≡ payload_of f x
-  pub parts : map bytes_of m.parts.items ≡ map (λ (y : Piece). y.bytes) (x ∷ xs)
+  pub parts : map bytes_of (fragments_in m.parts) ≡ map (λ (y : Piece). y.bytes) (x ∷ xs)
 
 -- a chain as a message, its data moved
 pub record IsWholeOf (c : ChainKept) (h : Head) (n : Option ℕ) (m : Whole) : Type 0 where
   pub first : m.first ≡ h.index
   pub number : m.number ≡ n
   pub payload : m.payload_id ≡ h.payload_id
-  pub parts : map bytes_of m.parts.items ≡ c.parts
+  pub parts : map bytes_of (fragments_in m.parts) ≡ c.parts
 
 -- the chunks that stay when those below a number go
 abbrev pub from_number : (number : ℕ) → List Piece → List Piece

@@ -1,6 +1,6 @@
 //! The kept chunks of one lane.
 
-ghost use Rattle.std.specs.Prelude.{◌≡◌, ◌≤◌, ℕ, suc, true, false, not, [], ◌∷◌, filter, map, Some, IfSome, IfOk, OnOk, OnErr, OnSome};
+ghost use Rattle.std.specs.Prelude.{◌≡◌, ◌≤◌, ◌==◌, ℕ, suc, true, false, not, [], ◌∷◌, length, filter, Some, IfSome, IfOk, OnOk, OnErr, OnSome};
 ghost use Rattle.sctp_model.specs.messages.Format.{Lane, Unordered, is_numbered};
 ghost use Rattle.sctp_model.specs.messages.Framing.{lets_go};
 ghost use Rattle.sctp_model.specs.numbers.Lists.{Has};
@@ -10,14 +10,14 @@ ghost use Rattle.sctp_wire.specs.ChunkTree.{piece_meaning};
 ghost use Rattle.sctp_chains.specs.Cells.{Kept, cell_of, counted, IsOf, IsLowestIndex};
 ghost use Rattle.sctp_chains.specs.StandsFor.{StandsFor, IsNew, chain_count, whole_count};
 ghost use Rattle.sctp_chains.specs.WholeOf.{TakesLowest, TakesWith, AreAbove, from_number};
-ghost use Rattle.sctp_chains.specs.Links.{one_of, cells_in, bytes_of};
+ghost use Rattle.sctp_chains.specs.Links.{one_of, cells_in};
 
 use crate::chain::{Head, Part};
 use crate::filed::Filed;
 use crate::filing::place;
 use crate::rank::rank_at;
 use crate::search::whole_with;
-use crate::whole::{Whole, whole_of};
+use crate::whole::{Fragments, Whole, whole_of};
 use sctp_framing::Framing;
 use sctp_values::{Kind, NoMemory, small_len};
 use sctp_wire::Piece;
@@ -59,6 +59,14 @@ impl<F: Framing> Chains<F> {
         ensures { result ≡ whole_count self.now }
     {
         self.filed.whole
+    }
+
+    /// Whether no chunk is kept.
+    #[inline(always)]
+    pub fn is_empty(&self) -> bool
+        ensures { (l : Lane) (kept : Kept) → StandsFor F.format self.now l kept → result ≡ (length kept == 0) }
+    {
+        self.filed.chains.is_empty()
     }
 
     /// The lowest index of the chunks kept, in a lane whose messages have no number: none exactly where none is kept.
@@ -129,7 +137,7 @@ impl<F: Framing> Chains<F> {
             first: index,
             number: Some(number),
             payload_id: F::payload(piece.begin, piece.word),
-            parts: list_of(self.alloc, data)?,
+            parts: Fragments::One([data]),
         }))
     }
 
@@ -228,16 +236,4 @@ fn part_of<F: Framing>(
         end: piece.end,
         data,
     })
-}
-
-/// A list of one part.
-///
-/// # Errors
-/// Memory ran out.
-fn list_of(alloc: Global, part: Vec<u8>) -> Result<Vec<Vec<u8>>, NoMemory>
-    ensures { IfOk result (λ list. map bytes_of list.items ≡ bytes_of part ∷ []) }
-{
-    let mut list = Vec::with_capacity(alloc, 1).map_err(|_| NoMemory)?;
-    list.push(part).map_err(|_| NoMemory)?;
-    Ok(list)
 }

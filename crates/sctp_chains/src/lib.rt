@@ -28,4 +28,4 @@ mod search;
 mod whole;
 
 pub use chains::Chains;
-pub use whole::Whole;
+pub use whole::{Fragments, Whole};

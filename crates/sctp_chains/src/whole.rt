@@ -1,9 +1,34 @@
 //! A message that became whole.
 
+ghost use Rattle.std.specs.Prelude.{◌≡◌};
 ghost use Rattle.sctp_chains.specs.Links.{chain_of};
+ghost use Rattle.sctp_chains.specs.Fragments.{fragments_in};
 ghost use Rattle.sctp_chains.specs.WholeOf.{IsWholeOf};
 
 use crate::chain::{Chain, Head};
+use std::collections::VecDeque;
+
+/// The data of a message's fragments. One alone lies here, without a list.
+#[derive(Debug, PartialEq, Drop)]
+pub enum Fragments {
+    /// The data of one.
+    One([Vec<u8>; 1]),
+    /// Those of more, first to last.
+    Many(Vec<Vec<u8>>),
+}
+
+impl Fragments {
+    /// The data of each, first to last.
+    #[inline(always)]
+    pub fn all(&self) -> &[Vec<u8>]
+        ensures { result.now ≡ fragments_in self.now }
+    {
+        match self {
+            Fragments::One(one) => one,
+            Fragments::Many(more) => more,
+        }
+    }
+}
 
 /// A message taken out, its fragments as they were recorded.
 #[derive(Debug, Drop)]
@@ -15,7 +40,20 @@ pub struct Whole {
     /// The payload protocol identifier.
     pub payload_id: u32,
     /// The data of its fragments, first to last.
-    pub parts: Vec<Vec<u8>>,
+    pub parts: Fragments,
+}
+
+/// The parts of a chain as a message's: a list only where there are more than one.
+#[inline(always)]
+fn fragments_of(mut parts: VecDeque<Vec<u8>>) -> Fragments
+    ensures { fragments_in result ≡ parts.items }
+{
+    if parts.len() == 1 {
+        if let Some(part) = parts.pop_front() {
+            return Fragments::One([part]);
+        }
+    }
+    Fragments::Many(parts.into_vec())
 }
 
 /// A chain as the whole message that it is.
@@ -27,6 +65,6 @@ pub(crate) fn whole_of(chain: Chain, head: Head, number: Option<u64>) -> Whole
         first: head.index,
         number,
         payload_id: head.payload_id,
-        parts: chain.parts.into_vec(),
+        parts: fragments_of(chain.parts),
     }
 }

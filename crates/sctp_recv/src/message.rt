@@ -10,7 +10,7 @@ ghost use Rattle.sctp_model.specs.receiver.Receiving.{message_of};
 ghost use Rattle.sctp_recv.specs.Fields.{lane_at};
 ghost use Rattle.sctp_chains.specs.WholeOf.{IsMadeOf};
 
-use sctp_chains::Whole;
+use sctp_chains::{Fragments, Whole};
 use sctp_values::{Kind, NoMemory};
 
 /// A message that was handed over, whole, with its fragments as they came.
@@ -25,7 +25,7 @@ pub struct Message {
     pub payload_id: u32,
     /// Its number in its stream and kind, from 0; None for an unordered message under DATA.
     pub number: Option<u64>,
-    pub(crate) parts: Vec<Vec<u8>>,
+    pub(crate) parts: Fragments,
 }
 
 impl Message {
@@ -34,8 +34,9 @@ impl Message {
     pub fn len(&self) -> usize
         ensures { result ≡ min (length (message_bytes self.now)) (2 ^ 64 - 1) }
     {
+        let parts = self.parts();
         let mut sum: usize = 0;
-        for part in &self.parts {
+        for part in parts {
             sum = sum.saturating_add(part.len());
         }
         sum
@@ -45,7 +46,7 @@ impl Message {
     pub fn parts(&self) -> &[Vec<u8>]
         ensures { joined (map bytes_of result.now) ≡ message_bytes self.now }
     {
-        &self.parts
+        self.parts.all()
     }
 
     /// Appends its bytes.
@@ -58,8 +59,9 @@ impl Message {
         ensures refused { OnErr result (out.new.items ≡ out.old.items) }
         ensures memory { vec_len out.old + length (message_bytes self.now) ≤ vec_capacity out.old → IsOk result }
     {
+        let parts = self.parts();
         let before = out.len();
-        for part in &self.parts {
+        for part in parts {
             if out.extend_from_slice(part).is_err() {
                 out.truncate(before);
                 return Err(NoMemory);
@@ -82,8 +84,9 @@ impl Message {
         if room.len() < wanted {
             return Err(wanted);
         }
+        let parts = self.parts();
         let mut at: usize = 0;
-        for part in &self.parts {
+        for part in parts {
             put_part(room, at, part);
             at += part.len();
         }

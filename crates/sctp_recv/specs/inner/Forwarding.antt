@@ -44,10 +44,11 @@ most_skipped f l near (x ∷ xs) = max (skipped_by f l near x) (most_skipped f l
 abbrev pub lowest_after : Format → Lane → (near lowest : ℕ) → List SkipMeaning → ℕ
 lowest_after f l near lowest xs = max lowest (most_skipped f l near xs)
 
--- the same of a stream's ordered messages, and of its unordered ones
+-- the same of a stream's ordered messages
 abbrev pub next_after : Format → (s : ℕ) → StreamKept → List SkipMeaning → ℕ
 next_after f s a xs = lowest_after f (ordered_lane s) a.next a.next xs
 
+-- the same of its unordered ones
 abbrev pub skip_after : Format → (s : ℕ) → StreamKept → List SkipMeaning → ℕ
 skip_after f s a xs = lowest_after f (unordered_lane s) (near_of a Unordered) a.skip xs
 

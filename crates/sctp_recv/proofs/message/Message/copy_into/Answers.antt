@@ -5,10 +5,10 @@ use Rattle.sctp_recv.proofs.message.Message.copy_into.Goals as goal
 
 pub put_part-requires : goal.put_part-requires
 put_part-requires c =
-    let parts = c.args.self.now.parts.items in
+    let parts = c.parts-parts.result.now in
     let i = c.loop-part.part-index in
-    let at = rw c.deref-part-items.ensures.value at c.part-item.is in
-    let more = length_more parts i c.part-item.result (omega (arith, c.args.self.now.parts.ok)) at in
+    let at = c.part-item.is in
+    let more = length_more parts i c.part-item.result (omega arith) at in
     let within = text_within parts (i + 1) in
     let part = ap length c.deref.ensures.value in
     let inv = c.loop-part.invariant in
@@ -16,11 +16,11 @@ put_part-requires c =
 
 pub loop-part-preserved : goal.loop-part-preserved
 loop-part-preserved c =
-    let parts = c.args.self.now.parts.items in
+    let parts = c.parts-parts.result.now in
     let i = c.loop-part.part-index in
-    let there = rw c.deref-part-items.ensures.value at c.part-item.is in
-    let text = text_more parts i c.part-item.result (omega (arith, c.args.self.now.parts.ok)) there in
-    let more = length_more parts i c.part-item.result (omega (arith, c.args.self.now.parts.ok)) there in
+    let there = c.part-item.is in
+    let text = text_more parts i c.part-item.result (omega arith) there in
+    let more = length_more parts i c.part-item.result (omega arith) there in
     let part = ap length c.deref.ensures.value in
     let inv = c.loop-part.invariant in
     let next : c.loop-part.at + length c.deref.result.now ≡ c.loop-part.at + c.len-at.result = omega (arith, part, c.len-at.ensures, c.part-item.result.ok) in

@@ -6,8 +6,8 @@ use Rattle.sctp_recv.proofs.message.Message.copy_into.Given as goal
 abbrev pub invariant-loop-part : goal.invariant-loop-part
 invariant-loop-part l = record {
   size : length l.room ≡ length l.fn.room;
-  fits : length (text_of_parts l.self.parts.items) ≤ length l.fn.room;
-  at : l.at ≡ length (text_of_parts (take l.part-index l.self.parts.items));
-  put : take l.at l.room ≡ text_of_parts (take l.part-index l.self.parts.items);
+  fits : length (text_of_parts l.parts) ≤ length l.fn.room;
+  at : l.at ≡ length (text_of_parts (take l.part-index l.parts));
+  put : take l.at l.room ≡ text_of_parts (take l.part-index l.parts);
   behind : drop l.at l.room ≡ drop l.at l.fn.room;
 }

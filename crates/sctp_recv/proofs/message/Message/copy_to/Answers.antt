@@ -12,20 +12,21 @@ no_both (Err e) done failed = absurd (cc)
 
 pub loop-part-preserved : goal.loop-part-preserved
 loop-part-preserved c =
-    let at = rw c.deref-part-items.ensures.value at c.part-item.is in
-    let more = text_more c.args.self.now.parts.items c.loop-part.part-index c.part-item.result (omega (arith, c.args.self.now.parts.ok)) at in
+    let at = c.part-item.is in
+    let more = text_more c.parts-parts.result.now c.loop-part.part-index c.part-item.result (omega arith) at in
     let old = c.loop-part.invariant.items in
     let new = c.extend_from_slice.ensures.items in
     record { before = c.loop-part.invariant.before; capacity = omega (arith, c.extend_from_slice.ensures.capacity); items = grind (arith, common_steps) }
 
 pub returns-then-is_err-clause-memory : goal.returns-then-is_err-clause-memory
 returns-then-is_err-clause-memory c = λ fits.
-    let parts = c.args.self.now.parts.items in
-    let at = rw c.deref-part-items.ensures.value at c.part-item.is in
-    let more = length_more parts c.loop-part.part-index c.part-item.result (omega (arith, c.args.self.now.parts.ok)) at in
+    let parts = c.parts-parts.result.now in
+    let at = c.part-item.is in
+    let more = length_more parts c.loop-part.part-index c.part-item.result (omega arith) at in
     let within = text_within parts (c.loop-part.part-index + 1) in
     let before = ap length c.loop-part.invariant.items ∙ length-append c.args.out.now.items (text_of_parts (take c.loop-part.part-index parts)) in
     let part = ap length c.deref.ensures.value in
-    let done = c.extend_from_slice.ensures.succeeds (omega (arith, fits, more, within, before, part, c.loop-part.invariant.capacity, c.loop-part.out.ok, c.args.out.now.ok)) in
+    let whole = ap length c.parts-parts.ensures in
+    let done = c.extend_from_slice.ensures.succeeds (omega (arith, fits, whole, more, within, before, part, c.loop-part.invariant.capacity, c.loop-part.out.ok, c.args.out.now.ok)) in
     let failed = sym c.is_err.ensures.value ∙ c.if-is_err.true in
     absurd (no_both c.extend_from_slice.result done failed)

@@ -7,5 +7,5 @@ abbrev pub invariant-loop-part : goal.invariant-loop-part
 invariant-loop-part l = record {
   before : l.before ≡ length l.fn.out.items;
   capacity : vec_capacity l.fn.out ≤ vec_capacity l.out;
-  items : l.out.items ≡ l.fn.out.items ++ text_of_parts (take l.part-index l.self.parts.items);
+  items : l.out.items ≡ l.fn.out.items ++ text_of_parts (take l.part-index l.parts);
 }

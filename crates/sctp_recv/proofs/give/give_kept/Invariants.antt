@@ -2,7 +2,7 @@ use Rattle.sctp_chains.specs.Cells.{Kept}
 use Rattle.sctp_chains.specs.StandsFor.{chain_count}
 use Rattle.sctp_recv.specs.inner.Giving.{AreCounted, IsGivenSoFar}
 use Rattle.sctp_recv.specs.declared.inbound.Inbound.{Inbound}
-use Rattle.sctp_recv.proofs.give.give_on.Given as goal
+use Rattle.sctp_recv.proofs.give.give_kept.Given as goal
 
 abbrev pub invariant-loop-whole : goal.invariant-loop-whole
 invariant-loop-whole g l =
