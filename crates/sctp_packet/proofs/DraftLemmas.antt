@@ -11,9 +11,10 @@ use Rattle.sctp_wire.specs.Reading.{chunks_of, each_of}
 use Rattle.sctp_wire.specs.Writes.{written, Writes}
 use Rattle.byteorder.specs.Endian.{little_bytes}
 use Rattle.sctp_packet.specs.Checksum.{crc32c}
-use Rattle.sctp_packet.specs.PacketBytes.{header_bytes, with_sum, packet_bytes, IsHeader, WritesPacket}
+use Rattle.sctp_packet.specs.PacketBytes.{header_bytes, with_sum, packet_bytes, without_sum, IsHeader, WritesPacket}
 use Rattle.sctp_packet.specs.Draft.{with_header, IsDraft}
 use Rattle.sctp_wire.proofs.WriteLemmas.{length-written}
+use Rattle.sctp_packet.proofs.HeaderLemmas.{sum_left_out}
 
 -- ---- sizes
 
@@ -144,6 +145,14 @@ room_more limit capacity header [] after m d put whole two =
     let none = ap length (draft_none limit header [] d (omega arith)) in
     absurd (omega (arith, two, none, ap length put.chunks, length-append (chunks_of (drop HEADER_ROOM [])) (m ∷ [])))
 room_more limit capacity header (b ∷ bytes) after m d put whole two = whole (omega arith)
+
+-- no checksum lies in its field yet
+pub draft_without_sum : (limit : ℕ) (bytes : List ℕ) (p : Packet) → IsDraft limit (header_bytes p.source p.destination p.tag 0) bytes → 0 < length bytes → without_sum bytes ≡ bytes
+draft_without_sum limit bytes p d some =
+    let body = drop HEADER_ROOM bytes in
+    let whole : with_sum p body 0 ≡ bytes =
+    ap (λ (xs : List ℕ). xs ++ body) (sym (d.front some)) ∙ take-append-drop HEADER_ROOM bytes in
+    ap without_sum (sym whole) ∙ (sum_left_out p body 0 ∙ whole)
 
 -- ---- a finished packet
 

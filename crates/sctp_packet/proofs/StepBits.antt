@@ -1,5 +1,5 @@
 -- The register as a number and as bits: where zero bits come in, and where bytes do.
-use Rattle.std.proofs.Common.{◌≡◌, ℕ, zero, suc, ◌+◌, ◌-◌, ◌*◌, ◌/◌, ◌%◌, ◌^◌, ◌<◌, ◌≤◌, Bool, true, false, nat_eq, cond, bit_xor, lit<, List, ◌∷◌, ◌++◌, length, take, drop, get_or, refl, sym, ap, subst, ◌∙◌, arith, append_assoc, length-append, drop-cons}
+use Rattle.std.proofs.Common.{◌≡◌, ℕ, zero, suc, ◌+◌, ◌-◌, ◌*◌, ◌/◌, ◌%◌, ◌^◌, ◌<◌, ◌≤◌, Bool, true, false, nat_eq, cond, bit_xor, lit<, List, ◌∷◌, ◌++◌, length, take, drop, replicate, get_or, refl, sym, ap, subst, ◌∙◌, arith, append_assoc, length-append, drop-cons}
 use Rattle.std.specs.Int.Bits.{xor_assoc, xor_zero_l, xor_zero_r}
 use Rattle.std.proofs.lemmas.Nat.{xor_lt, xor_comm, xor_block}
 use Rattle.std.proofs.lemmas.List.{length-replicate, take_all, get_or-drop}
@@ -11,7 +11,7 @@ use Rattle.sctp_packet.specs.Tables.{taken_away, step, steps, IsEntry}
 use Rattle.sctp_packet.proofs.AddLemmas.{add_zeros}
 use Rattle.sctp_packet.proofs.BitLemmas.{length_bits, bits_above, step_of}
 use Rattle.sctp_packet.proofs.RegisterLemmas.{register_is_remainder, register_after-append}
-use Rattle.sctp_packet.proofs.ChecksumLaws.{tail_is, length_tail, divisor_is, byte_is_eight_steps}
+use Rattle.sctp_packet.proofs.ChecksumLaws.{tail_is, length_tail, divisor_is, byte_is_eight_steps, register_after_joined}
 use Rattle.sctp_packet.proofs.StepLemmas.{steps_sum, steps_then, steps_down, byte_apart}
 
 -- ---- zero bits
@@ -126,6 +126,30 @@ one_at_a_time (suc n) i xs register bytes small within =
 pub eight_bits : (register : ℕ) (xs : List ℕ) → ((k : ℕ) → get_or xs k 0 < 256) → register < 2 ^ 32 → 8 ≤ length xs
     → bits 32 (steps 64 (bit_xor register (little_number 8 xs))) ≡ register_after (drop 1 divisor) (bits 32 register) (message_bits (take 8 xs))
 eight_bits register xs bytes small within = ap (bits 32) (at_once 8 0 xs register bytes) ∙ one_at_a_time 8 0 xs register bytes small within
+
+after_small : (n i : ℕ) (xs : List ℕ) (register : ℕ) → ((k : ℕ) → get_or xs k 0 < 256) → register < 2 ^ 32 → after_from n i xs register < 2 ^ 32
+unfolding after_from
+after_small zero i xs register bytes small = small
+after_small (suc n) i xs register bytes small =
+    let b = get_or xs i 0 in
+    after_small n (suc i) xs (steps 8 (bit_xor register b)) bytes (steps_small 8 (bit_xor register b) (xor_lt 32 register b small (omega (arith, bytes i))))
+
+four_zeros : zeros 32 ≡ message_bits (replicate 4 0)
+unfolding bits
+four_zeros = refl
+
+-- eight bytes, and four zeros behind them
+pub header_bits : (register : ℕ) (xs : List ℕ) → ((k : ℕ) → get_or xs k 0 < 256) → register < 2 ^ 32 → 8 ≤ length xs
+    → bits 32 (steps 96 (bit_xor register (little_number 8 xs))) ≡ register_after (drop 1 divisor) (bits 32 register) (message_bits (take 8 xs ++ replicate 4 0))
+header_bits register xs bytes small within =
+    let tail : List Bool = drop 1 divisor in
+    let first = bit_xor register (little_number 8 xs) in
+    let low : steps 64 first < 2 ^ 32 = subst (λ (n : ℕ). n < 2 ^ 32) (sym (at_once 8 0 xs register bytes)) (after_small 8 0 xs register bytes small) in
+    ap (bits 32) (steps_then 64 32 first)
+    ∙ (steps_bits 32 (steps 64 first) low
+    ∙ (ap (λ (x : List Bool). register_after tail x (zeros 32)) (eight_bits register xs bytes small within)
+    ∙ (ap (register_after tail (register_after tail (bits 32 register) (message_bits (take 8 xs)))) four_zeros
+    ∙ register_after_joined (bits 32 register) (take 8 xs) (replicate 4 0))))
 
 -- the number of bytes further on
 pub number_behind : (n i j : ℕ) (xs : List ℕ) → little_from i n (drop j xs) ≡ little_from (j + i) n xs

@@ -1,9 +1,9 @@
 //! CRC32c, by a register that takes sixteen bytes at a time, where a long run is folded before.
 
-ghost use Rattle.std.specs.Prelude.{◌≡◌, ◌↔◌, ℕ, ◌+◌, ◌*◌, ◌%◌, ◌<◌, ◌≤◌, IsTrue, drop, take, length, bit_xor};
+ghost use Rattle.std.specs.Prelude.{◌≡◌, ◌↔◌, ℕ, ◌+◌, ◌*◌, ◌%◌, ◌<◌, ◌≤◌, ◌++◌, IsTrue, drop, take, length, replicate, bit_xor};
 ghost use Rattle.byteorder.specs.Endian.{little_number};
 ghost use Rattle.sctp_packet.specs.Checksum.{bits, divisor, message_bits, crc32c, IsChecksum};
-ghost use Rattle.sctp_packet.specs.PacketBytes.{IsChecked};
+ghost use Rattle.sctp_packet.specs.PacketBytes.{IsChecked, without_sum};
 ghost use Rattle.sctp_packet.specs.Register.{register_after};
 ghost use Rattle.sctp_packet.specs.Tables.{steps, IsEntry};
 
@@ -32,14 +32,28 @@ pub fn crc32c(bytes: &[u8]) -> u32
     !after_all(u32::MAX, bytes)
 }
 
-/// Whether the checksum's field of a packet holds the checksum: that of all its bytes, where the field is zero.
+/// The checksum of a packet: that of all its bytes, where its own field is zero, whatever lies there (RFC 9260, 6.8).
+pub(crate) fn packet_sum(bytes: &[u8]) -> u32
+    requires { 12 ≤ length bytes.now }
+    ensures { result ≡ crc32c (without_sum bytes.now) }
+{
+    !after_all(after_header(bytes), &bytes[HEADER..])
+}
+
+/// Whether the checksum's field of a packet holds the checksum.
 pub(crate) fn is_checked(bytes: &[u8]) -> bool
     requires { 12 ≤ length bytes.now }
     ensures { IsTrue result ↔ IsChecked bytes.now }
 {
-    let front = after_all(u32::MAX, &bytes[..SUM_AT]);
-    let field = after_all(front, &[0; 4]);
-    LittleEndian::read_u32(&bytes[SUM_AT..]) == !after_all(field, &bytes[HEADER..])
+    LittleEndian::read_u32(&bytes[SUM_AT..]) == packet_sum(bytes)
+}
+
+/// The register after a common header whose checksum's field is zero.
+fn after_header(bytes: &[u8]) -> u32
+    requires { 8 ≤ length bytes.now }
+    ensures { bits 32 result ≡ register_after (drop 1 divisor) (bits 32 4294967295) (message_bits (take 8 bytes.now ++ replicate 4 0)) }
+{
+    left_by_eight(u32::MAX, bytes, HEADER - SUM_AT)
 }
 
 /// The register after the bytes, of which long runs are folded.

@@ -9,7 +9,7 @@ ghost use Rattle.sctp_wire.specs.Writes.{written};
 ghost use Rattle.sctp_packet.specs.PacketBytes.{header_bytes, WritesPacket};
 ghost use Rattle.sctp_packet.specs.Draft.{with_header, packet_of, empty_draft, room_in, has_room, after_try};
 
-use crate::checksum::{HEADER, SUM_AT, crc32c};
+use crate::checksum::{HEADER, SUM_AT, packet_sum};
 use byteorder::{ByteOrder, LittleEndian};
 use sctp_values::NoMemory;
 use sctp_wire::{Chunk, chunks_are_read, write_chunk, written_each_reads};
@@ -134,7 +134,7 @@ impl PacketWriter {
         if bytes.len() <= HEADER {
             return Err(bytes);
         }
-        let sum = crc32c(&bytes);
+        let sum = packet_sum(&bytes);
         put_sum(&mut bytes, sum);
         Ok(bytes)
     }

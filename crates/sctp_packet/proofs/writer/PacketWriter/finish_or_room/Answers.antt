@@ -1,10 +1,10 @@
-use Rattle.std.proofs.Common.{◌≡◌, ◌++◌, ◌∙◌, ap, length, take, drop, refl, arith}
+use Rattle.std.proofs.Common.{◌≡◌, ℕ, List, [], ◌++◌, ◌∙◌, ap, length, take, drop, refl, arith}
 use Rattle.sctp_model.specs.wire.Packet.{Packet, HEADER_ROOM}
 use Rattle.sctp_wire.specs.Reading.{chunks_of}
 use Rattle.sctp_packet.specs.Checksum.{crc32c}
-use Rattle.sctp_packet.specs.PacketBytes.{header_bytes}
+use Rattle.sctp_packet.specs.PacketBytes.{header_bytes, without_sum}
 use Rattle.sctp_packet.specs.Draft.{packet_of}
-use Rattle.sctp_packet.proofs.DraftLemmas.{finished, IsFinished, kept_all, length-finished, draft_packet, draft_none}
+use Rattle.sctp_packet.proofs.DraftLemmas.{draft_without_sum, finished, IsFinished, kept_all, length-finished, draft_packet, draft_none}
 use Rattle.sctp_packet.proofs.writer.PacketWriter.finish_or_room.Goals as goal
 
 pub returns-then-len-le-HEADER-clause-packet : goal.returns-then-len-le-HEADER-clause-packet
@@ -21,7 +21,10 @@ is_finished c =
 written : (c : goal.After-bytes-4-1) → take c.self.inside.bytes.len (c.put_sum.new.packet ++ drop (length c.put_sum.new.packet) c.self.inside.bytes.items) ≡ finished c.self.inside.bytes.items
 written c =
     let s = c.self.inside in
-    let sum : c.crc32c-sum.result ≡ crc32c s.bytes.items = c.crc32c-sum.ensures.exact ∙ ap crc32c c.deref.ensures.value in
+    let p : Packet = record { source = s.source; destination = s.destination; tag = s.tag; chunks = [] } in
+    let none : without_sum s.bytes.items ≡ s.bytes.items = draft_without_sum s.limit s.bytes.items p c.self.invariant.draft (omega arith) in
+    let sum : c.packet_sum-sum.result ≡ crc32c s.bytes.items =
+    c.packet_sum-sum.ensures ∙ (ap (λ (xs : List ℕ). crc32c (without_sum xs)) c.deref.ensures.value ∙ ap crc32c none) in
     let new : c.put_sum.new.packet ≡ finished s.bytes.items = rw (c.put_sum.ensures, c.deref_mut.ensures.value, sum) refl in
     let long : s.bytes.len ≡ length s.bytes.items = omega (arith, c.deref.ensures.len, ap length c.deref.ensures.value) in
     kept_all s.bytes.len s.bytes.items c.put_sum.new.packet long (ap length new ∙ length-finished s.bytes.items (omega arith)) ∙ new
