@@ -1,5 +1,5 @@
 -- What C is told of a packet, of a message, of an answer, and what that leaves.
-use Rattle.std.specs.Prelude.{◌≡◌, ℕ, ◌-◌, ◌^◌, min, not, if◌then◌else◌, List, [], ◌∷◌, length, map, take, Option, Some, None, Result, Ok, Err, IfOk, OnErr}
+use Rattle.std.specs.Prelude.{◌≡◌, ℕ, ◌-◌, ◌^◌, min, not, if◌then◌else◌, List, [], ◌∷◌, ◌++◌, length, map, take, drop, Option, Some, None, Result, Ok, Err, IfOk, OnErr}
 use Rattle.std.specs.declared.vec.Vec.{Vec}
 use Rattle.std.specs.declared.alloc.Global.{Global}
 use Rattle.sctp_model.specs.world.Calls.{Call}
@@ -31,61 +31,66 @@ use Rattle.sctp_c.specs.declared.crossing.SctpVerdict.{SctpVerdict}
 
 -- ---- bytes in a room
 
--- so many bytes are told, and these lie at the beginning of the room
-abbrev pub IsPut : (bytes : List ℕ) → (count : ℕ) → (room : List ℕ) → Type 0
-IsPut bytes n room = (n ≡ length bytes) × (take n room ≡ bytes)
+-- so many bytes are told, and these lie at the beginning of the room; behind them it is as it was
+abbrev pub IsPut : (bytes : List ℕ) → (count : ℕ) → (old new : List ℕ) → Type 0
+IsPut bytes n old new = (n ≡ length bytes) × (new ≡ bytes ++ drop n old)
 
 -- ---- a packet that goes out
 
--- so many tickets are told, and as many as the room has place for lie at its beginning: all of them where there is place for all
-abbrev pub AreTold : List Ticket → (count : ℕ) → (room : List ℕ) → Type 0
-AreTold ts n room = (n ≡ length ts) × (take (min n (length room)) room ≡ take (min n (length room)) (map (λ t. t.0) ts))
+-- so many tickets are told, and as many as the room has place for lie at its beginning: all of them where there is place for all; behind them it
+-- is as it was
+abbrev pub AreTold : List Ticket → (count : ℕ) → (old new : List ℕ) → Type 0
+AreTold ts n old new = (n ≡ length ts) × (new ≡ take (min n (length old)) (map (λ t. t.0) ts) ++ drop (min n (length old)) old)
 
--- what is told of the next packet
-abbrev pub PollTold : Result (Option Sent) NoMemory → (code : ℕ) → SctpSent → (room tickets : List ℕ) → Type 0
-PollTold (Err e) n s room tickets = n ≡ NO_MEMORY
-PollTold (Ok None) n s room tickets = (n ≡ OK) × (s.length ≡ 0) × (s.tickets ≡ 0)
-PollTold (Ok (Some p)) n s room tickets = (n ≡ OK) × IsPut p.packet.items s.length room × AreTold p.tickets.items s.tickets tickets
+-- what is told of the next packet: where there is none, both rooms are as they were
+abbrev pub PollTold : Result (Option Sent) NoMemory → (code : ℕ) → SctpSent → (room_old room tickets_old tickets : List ℕ) → Type 0
+PollTold (Err e) n s r room t tickets = (n ≡ NO_MEMORY) × (s.length ≡ 0) × (s.tickets ≡ 0) × (room ≡ r) × (tickets ≡ t)
+PollTold (Ok None) n s r room t tickets = (n ≡ OK) × (s.length ≡ 0) × (s.tickets ≡ 0) × (room ≡ r) × (tickets ≡ t)
+PollTold (Ok (Some p)) n s r room t tickets = (n ≡ OK) × IsPut p.packet.items s.length r room × AreTold p.tickets.items s.tickets t tickets
 
 -- The end answered this to being asked for its next packet, C is told of it, and it is left so.
-pub record Polled (v : EndView) (now : ℕ) (e : Option Endpoint) (code : ℕ) (s : SctpSent) (room tickets : List ℕ) : Type 0 where
+pub record Polled (v : EndView) (now : ℕ) (e : Option Endpoint) (code : ℕ) (s : SctpSent) (room_old room tickets_old tickets : List ℕ) : Type 0 where
   pub answer : Result (Option Sent) NoMemory
   pub step : IfOk answer (λ sent. TransmitsIn (at_moment v now) sent e)
   pub refused : OnErr answer (Holds e v)
   pub notes : IfOk answer (λ sent. SendsNotes v sent e)
   pub anew : IfOk answer (λ sent. TellsAnew v sent)
-  pub told : PollTold answer code s room tickets
+  pub told : PollTold answer code s room_old room tickets_old tickets
 
 -- ---- a packet that comes
 
--- what is told of it
-abbrev pub HeardTold : Result Verdict NoMemory → (code : ℕ) → SctpVerdict → (room : List ℕ) → Type 0
-HeardTold (Err e) n w room = n ≡ NO_MEMORY
-HeardTold (Ok Taken) n w room = (n ≡ OK) × (w.verdict ≡ 0) × (w.reason ≡ 0) × (w.length ≡ 0)
-HeardTold (Ok (Answer bytes)) n w room = (n ≡ OK) × (w.verdict ≡ 1) × (w.reason ≡ 0) × IsPut bytes.items w.length room
-HeardTold (Ok (Dropped reason)) n w room = (n ≡ OK) × (w.verdict ≡ 2) × (w.reason ≡ reason_code reason) × (w.length ≡ 0)
+-- what is told of it: where there is no answer, the room is as it was
+abbrev pub HeardTold : Result Verdict NoMemory → (code : ℕ) → SctpVerdict → (old new : List ℕ) → Type 0
+HeardTold (Err e) n w old new = (n ≡ NO_MEMORY) × (w.verdict ≡ 0) × (w.reason ≡ 0) × (w.length ≡ 0) × (new ≡ old)
+HeardTold (Ok Taken) n w old new = (n ≡ OK) × (w.verdict ≡ 0) × (w.reason ≡ 0) × (w.length ≡ 0) × (new ≡ old)
+HeardTold (Ok (Answer bytes)) n w old new = (n ≡ OK) × (w.verdict ≡ 1) × (w.reason ≡ 0) × IsPut bytes.items w.length old new
+HeardTold (Ok (Dropped reason)) n w old new = (n ≡ OK) × (w.verdict ≡ 2) × (w.reason ≡ reason_code reason) × (w.length ≡ 0) × (new ≡ old)
 
 -- The end answered this to the packet, C is told of it, and it is left so.
-pub record Heard (v : EndView) (now : ℕ) (d : Draw) (o : Option Packet) (e : Option Endpoint) (code : ℕ) (w : SctpVerdict) (room : List ℕ) : Type 0 where
+pub record Heard (v : EndView) (now : ℕ) (d : Draw) (o : Option Packet) (e : Option Endpoint) (code : ℕ) (w : SctpVerdict) (old new : List ℕ) : Type 0 where
   pub answer : Result Verdict NoMemory
   pub step : HandledIn v now d o answer e
-  pub told : HeardTold answer code w room
+  pub told : HeardTold answer code w old new
 
 -- ---- an ABORT
 
--- what is told of it
-abbrev pub AbortTold : Result (Vec ℕ Global) AbortFault → (code count : ℕ) → (room : List ℕ) → Type 0
-AbortTold (Ok bytes) n k room = (n ≡ OK) × IsPut bytes.items k room
-AbortTold (Err abort.State) n k room = n ≡ BAD_STATE
-AbortTold (Err abort.TooLong) n k room = n ≡ TOO_LONG
-AbortTold (Err abort.NoMemory) n k room = n ≡ NO_MEMORY
+-- the number of a refusal
+abbrev pub abort_code : AbortFault → ℕ
+abort_code abort.State = BAD_STATE
+abort_code abort.TooLong = TOO_LONG
+abort_code abort.NoMemory = NO_MEMORY
+
+-- what is told of it: where it is refused, no bytes, and the room is as it was
+abbrev pub AbortTold : Result (Vec ℕ Global) AbortFault → (code count : ℕ) → (old new : List ℕ) → Type 0
+AbortTold (Ok bytes) n k old new = (n ≡ OK) × IsPut bytes.items k old new
+AbortTold (Err why) n k old new = (n ≡ abort_code why) × (k ≡ 0) × (new ≡ old)
 
 -- The end answered this to abort, C is told of it, and it is left so.
-pub record Aborted (v : EndView) (reason : List ℕ) (e : Option Endpoint) (code count : ℕ) (room : List ℕ) : Type 0 where
+pub record Aborted (v : EndView) (reason : List ℕ) (e : Option Endpoint) (code count : ℕ) (old new : List ℕ) : Type 0 where
   pub answer : Result (Vec ℕ Global) AbortFault
   pub answers : AbortAnswers v reason answer
   pub step : Holds e (aborted_view v reason answer)
-  pub told : AbortTold answer code count room
+  pub told : AbortTold answer code count old new
 
 -- ---- a message that is handed in
 
@@ -112,15 +117,15 @@ pub record IsHead (m : SctpMessage) (h : Handed) : Type 0 where
   pub number : (if m.numbered then Some m.number else None) ≡ h.number
   pub reserved : m.reserved ≡ 0 ∷ 0 ∷ 0 ∷ 0 ∷ []
 
--- the whole message lies at the beginning of the room
-pub record IsTold (m : SctpMessage) (room : List ℕ) (h : Handed) : Type 0 where
+-- the whole message lies at the beginning of the room; behind it that is as it was
+pub record IsTold (m : SctpMessage) (old new : List ℕ) (h : Handed) : Type 0 where
   pub head : IsHead m h
-  pub bytes : take (length h.bytes) room ≡ h.bytes
+  pub bytes : new ≡ h.bytes ++ drop (length h.bytes) old
 
 -- This message was taken, C is told of it, the end is left so, and its user notes it.
-pub record Takes (v : EndView) (stream : ℕ) (h : Handed) (e : Option Endpoint) (m : SctpMessage) (room : List ℕ) : Type 0 where
+pub record Takes (v : EndView) (stream : ℕ) (h : Handed) (e : Option Endpoint) (m : SctpMessage) (old new : List ℕ) : Type 0 where
   pub after : EndView
   pub takes : UserTakes v stream (Some h) after
   pub step : Holds e after
   pub notes : TakesNote v stream h e
-  pub told : IsTold m room h
+  pub told : IsTold m old new h

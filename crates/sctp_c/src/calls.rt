@@ -87,6 +87,7 @@ pub extern "C" fn sctp_endpoint_abandon(
     fate: &mut u32,
 ) -> u32
     ensures misuse { handle.old.slot.endpoint ≡ None → (result ≡ MISUSE) × (handle.new.slot.endpoint ≡ None) }
+    ensures untold { ((result ≡ OK) → ⊥) → fate.new ≡ fate.old }
     ensures answer { (v : EndView) → Holds handle.old.slot.endpoint v → (result ≡ OK) × (fate.new ≡ fate_number (abandons v ticket)) }
     ensures step { (v : EndView) → Holds handle.old.slot.endpoint v → Holds handle.new.slot.endpoint (abandoned_at v ticket) }
     ensures notes { (v : EndView) → Holds handle.old.slot.endpoint v → KeepsNotes v handle.new.slot.endpoint }

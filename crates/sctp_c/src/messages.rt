@@ -1,6 +1,6 @@
 //! Messages that wait, and how C takes them (RFC 9260, 11.1.6).
 
-ghost use Rattle.std.specs.Prelude.{◌≡◌, ◌<◌, ◌≤◌, ◌⊎◌, length, take, None, Some, MatchOption, slice_get};
+ghost use Rattle.std.specs.Prelude.{◌≡◌, ◌<◌, ◌≤◌, ◌⊎◌, ◌++◌, length, drop, None, Some, MatchOption, slice_get};
 ghost use Rattle.sctp_model.specs.receiver.ReceiverView.{Handed};
 ghost use Rattle.sctp_model.specs.end.EndView.{EndView};
 ghost use Rattle.sctp_recv.specs.HandedOf.{handed_of, message_bytes};
@@ -43,7 +43,7 @@ fn next_head(end: &Endpoint, stream: u16) -> Option<SctpMessage>
 
 /// A message's bytes go to the beginning of a room that has place for them.
 fn put_message(message: &Message, room: &mut [u8])
-    ensures { length (message_bytes message.now) ≤ length room.old → take (length (message_bytes message.now)) room.new ≡ message_bytes message.now }
+    ensures { length (message_bytes message.now) ≤ length room.old → room.new ≡ message_bytes message.now ++ drop (length (message_bytes message.now)) room.old }
 {
     let _ = message.copy_into(room);
 }
@@ -58,6 +58,7 @@ pub extern "C" fn sctp_endpoint_readable(
     stream: &mut u16,
 ) -> u32
     ensures misuse { handle.old.slot.endpoint ≡ None → result ≡ MISUSE }
+    ensures untold { ((result ≡ OK) → ⊥) → stream.new ≡ stream.old }
     ensures answer { (v : EndView) → Holds handle.old.slot.endpoint v → (result ≡ OK) ⊎ (result ≡ NOTHING) }
     ensures some { (v : EndView) → Holds handle.old.slot.endpoint v → result ≡ OK → ReadableAnswer v.receiver.waiting from (Some stream.new) }
     ensures none { (v : EndView) → Holds handle.old.slot.endpoint v → result ≡ NOTHING → ReadableAnswer v.receiver.waiting from None }
@@ -86,6 +87,7 @@ pub extern "C" fn sctp_endpoint_peek(
     message: &mut SctpMessage,
 ) -> u32
     ensures misuse { handle.old.slot.endpoint ≡ None → result ≡ MISUSE }
+    ensures untold { ((result ≡ OK) → ⊥) → message.new ≡ message.old }
     ensures none { (v : EndView) → Holds handle.old.slot.endpoint v → slice_get (v.receiver.waiting stream) 0 ≡ None → result ≡ NOTHING }
     ensures some { (v : EndView) (h : Handed) → Holds handle.old.slot.endpoint v → slice_get (v.receiver.waiting stream) 0 ≡ Some h
         → (result ≡ OK) × IsHead message.new h }
@@ -115,12 +117,14 @@ pub extern "C" fn sctp_endpoint_take(
     room: &mut [u8],
 ) -> u32
     ensures misuse { handle.old.slot.endpoint ≡ None → (result ≡ MISUSE) × (handle.new.slot.endpoint ≡ None) }
+    ensures untold { ((result ≡ OK) → ⊥) → room.new ≡ room.old }
+    ensures unheaded { ((result ≡ OK) → ⊥) → ((result ≡ NEEDS_ROOM) → ⊥) → message.new ≡ message.old }
     ensures none { (v : EndView) → Holds handle.old.slot.endpoint v → slice_get (v.receiver.waiting stream) 0 ≡ None
         → (result ≡ NOTHING) × Holds handle.new.slot.endpoint v }
     ensures narrow { (v : EndView) (h : Handed) → Holds handle.old.slot.endpoint v → slice_get (v.receiver.waiting stream) 0 ≡ Some h
         → length room.old < length h.bytes → (result ≡ NEEDS_ROOM) × IsHead message.new h × Holds handle.new.slot.endpoint v }
     ensures taken { (v : EndView) (h : Handed) → Holds handle.old.slot.endpoint v → slice_get (v.receiver.waiting stream) 0 ≡ Some h
-        → length h.bytes ≤ length room.old → (result ≡ OK) × Takes v stream h handle.new.slot.endpoint message.new room.new }
+        → length h.bytes ≤ length room.old → (result ≡ OK) × Takes v stream h handle.new.slot.endpoint message.new room.old room.new }
 {
     let Some(mut end) = handle.take(alloc) else {
         return MISUSE;
@@ -129,15 +133,16 @@ pub extern "C" fn sctp_endpoint_take(
         handle.put(end);
         return NOTHING;
     };
-    *message = head;
     if room.len() < head.length {
         handle.put(end);
+        *message = head;
         return NEEDS_ROOM;
     }
     let taken = end.take(stream);
     handle.put(end);
     match taken {
         Some(whole) => {
+            *message = head;
             put_message(&whole, room);
             OK
         }

@@ -24,7 +24,7 @@ fn limit_of(end: &Endpoint) -> usize
 
 /// Bytes go to the beginning of a room, as far as it goes.
 fn put_bytes(bytes: &[u8], room: &mut [u8]) -> usize
-    ensures { length bytes.now ≤ length room.old → IsPut bytes.now result room.new }
+    ensures { length bytes.now ≤ length room.old → IsPut bytes.now result room.old room.new }
 {
     let count = bytes.len().min(room.len());
     room[..count].copy_from_slice(&bytes[..count]);
@@ -33,7 +33,7 @@ fn put_bytes(bytes: &[u8], room: &mut [u8]) -> usize
 
 /// Tickets go to the beginning of a room, as far as it goes.
 fn put_tickets(tickets: &[Ticket], room: &mut [u64]) -> u64
-    ensures { AreTold tickets.now result room.new }
+    ensures { AreTold tickets.now result room.old room.new }
 {
     let count = tickets.len().min(room.len());
     for place in 0..count {
@@ -49,7 +49,8 @@ fn tell_poll(
     tickets: &mut [u64],
     sent: &mut SctpSent,
 ) -> u32
-    ensures { IfOk answer (λ o. IfSome o (λ s. length s.packet.items ≤ length room.old)) → PollTold answer result sent.new room.new tickets.new }
+    ensures told { IfOk answer (λ o. IfSome o (λ s. length s.packet.items ≤ length room.old)) → PollTold answer result sent.new room.old room.new tickets.old tickets.new }
+    ensures untold { ((result ≡ OK) → ⊥) → (room.new ≡ room.old) × (tickets.new ≡ tickets.old) }
 {
     *sent = SctpSent {
         length: 0,
@@ -77,11 +78,12 @@ pub extern "C" fn sctp_endpoint_poll_transmit(
     tickets: &mut [u64],
     sent: &mut SctpSent,
 ) -> u32
-    ensures misuse { handle.old.slot.endpoint ≡ None → (result ≡ MISUSE) × (handle.new.slot.endpoint ≡ None) }
+    ensures misuse { handle.old.slot.endpoint ≡ None → (result ≡ MISUSE) × (handle.new.slot.endpoint ≡ None) × (sent.new ≡ sent.old) }
     ensures narrow { (v : EndView) → Holds handle.old.slot.endpoint v → length room.old < v.configuration.limit
         → (result ≡ NEEDS_ROOM) × (sent.new.length ≡ v.configuration.limit) × Holds handle.new.slot.endpoint v }
+    ensures untold { ((result ≡ OK) → ⊥) → (room.new ≡ room.old) × (tickets.new ≡ tickets.old) }
     ensures did { (v : EndView) → Holds handle.old.slot.endpoint v → v.configuration.limit ≤ length room.old
-        → Polled v now handle.new.slot.endpoint result sent.new room.new tickets.new }
+        → Polled v now handle.new.slot.endpoint result sent.new room.old room.new tickets.old tickets.new }
 {
     let Some(mut end) = handle.take(alloc) else {
         return MISUSE;
@@ -102,7 +104,8 @@ pub extern "C" fn sctp_endpoint_poll_transmit(
 
 /// What C is told of a packet that came.
 fn tell_heard(answer: Result<Verdict, NoMemory>, room: &mut [u8], told: &mut SctpVerdict) -> u32
-    ensures { IfOk answer (λ verdict. IsAnsweredWithin (length room.old) verdict) → HeardTold answer result told.new room.new }
+    ensures told { IfOk answer (λ verdict. IsAnsweredWithin (length room.old) verdict) → HeardTold answer result told.new room.old room.new }
+    ensures untold { ((result ≡ OK) → ⊥) → room.new ≡ room.old }
 {
     *told = SctpVerdict {
         length: 0,
@@ -137,12 +140,13 @@ pub extern "C" fn sctp_endpoint_handle_packet(
     room: &mut [u8],
     told: &mut SctpVerdict,
 ) -> u32
-    ensures undrawn { draw.now.tag ≡ 0 → (result ≡ BAD_DRAW) × (handle.new ≡ handle.old) }
-    ensures misuse { 0 < draw.now.tag → handle.old.slot.endpoint ≡ None → (result ≡ MISUSE) × (handle.new.slot.endpoint ≡ None) }
+    ensures undrawn { draw.now.tag ≡ 0 → (result ≡ BAD_DRAW) × (handle.new ≡ handle.old) × (told.new ≡ told.old) }
+    ensures misuse { 0 < draw.now.tag → handle.old.slot.endpoint ≡ None → (result ≡ MISUSE) × (handle.new.slot.endpoint ≡ None) × (told.new ≡ told.old) }
+    ensures untold { ((result ≡ OK) → ⊥) → room.new ≡ room.old }
     ensures narrow { (v : EndView) → Holds handle.old.slot.endpoint v → 0 < draw.now.tag → length room.old < v.configuration.limit
         → (result ≡ NEEDS_ROOM) × (told.new.length ≡ v.configuration.limit) × Holds handle.new.slot.endpoint v }
     ensures did { (v : EndView) (o : Option meaning.Packet) → Holds handle.old.slot.endpoint v → 0 < draw.now.tag → v.configuration.limit ≤ length room.old
-        → IsRead packet.now o → Heard v now (drawn draw.now) o handle.new.slot.endpoint result told.new room.new }
+        → IsRead packet.now o → Heard v now (drawn draw.now) o handle.new.slot.endpoint result told.new room.old room.new }
     ensures notes { (v : EndView) → Holds handle.old.slot.endpoint v → 0 < draw.now.tag → v.configuration.limit ≤ length room.old
         → KeepsNotes v handle.new.slot.endpoint }
 {
@@ -169,7 +173,8 @@ pub extern "C" fn sctp_endpoint_handle_packet(
 
 /// What C is told of abort.
 fn tell_abort(answer: Result<Vec<u8>, AbortFault>, room: &mut [u8], count: &mut usize) -> u32
-    ensures { IfOk answer (λ bytes. length bytes.items ≤ length room.old) → AbortTold answer result count.new room.new }
+    ensures told { IfOk answer (λ bytes. length bytes.items ≤ length room.old) → AbortTold answer result count.new room.old room.new }
+    ensures untold { ((result ≡ OK) → ⊥) → room.new ≡ room.old }
 {
     *count = 0;
     match answer {
@@ -193,11 +198,12 @@ pub extern "C" fn sctp_endpoint_abort(
     room: &mut [u8],
     count: &mut usize,
 ) -> u32
-    ensures misuse { handle.old.slot.endpoint ≡ None → (result ≡ MISUSE) × (handle.new.slot.endpoint ≡ None) }
+    ensures misuse { handle.old.slot.endpoint ≡ None → (result ≡ MISUSE) × (handle.new.slot.endpoint ≡ None) × (count.new ≡ count.old) }
+    ensures untold { ((result ≡ OK) → ⊥) → room.new ≡ room.old }
     ensures narrow { (v : EndView) → Holds handle.old.slot.endpoint v → length room.old < v.configuration.limit
         → (result ≡ NEEDS_ROOM) × (count.new ≡ v.configuration.limit) × Holds handle.new.slot.endpoint v }
     ensures did { (v : EndView) → Holds handle.old.slot.endpoint v → v.configuration.limit ≤ length room.old
-        → Aborted v reason.now handle.new.slot.endpoint result count.new room.new }
+        → Aborted v reason.now handle.new.slot.endpoint result count.new room.old room.new }
     ensures notes { (v : EndView) → Holds handle.old.slot.endpoint v → v.configuration.limit ≤ length room.old → KeepsNotes v handle.new.slot.endpoint }
 {
     let Some(mut end) = handle.take(alloc) else {

@@ -46,7 +46,8 @@ fn send_code(why: Refused) -> u32
 
 /// What C is told of a message that it handed in.
 fn tell_send(answer: Result<Ticket, Refused>, ticket: &mut u64) -> u32
-    ensures { SendTold answer result ticket.new }
+    ensures told { SendTold answer result ticket.new }
+    ensures untold { ((result ≡ OK) → ⊥) → ticket.new ≡ ticket.old }
 {
     match answer {
         Ok(given) => {
@@ -71,6 +72,7 @@ pub extern "C" fn sctp_endpoint_send(
     ticket: &mut u64,
 ) -> u32
     ensures misuse { handle.old.slot.endpoint ≡ None → (result ≡ MISUSE) × (handle.new.slot.endpoint ≡ None) }
+    ensures untold { ((result ≡ OK) → ⊥) → ticket.new ≡ ticket.old }
     ensures did { (v : EndView) → Holds handle.old.slot.endpoint v
         → Sends v (call_of (lane_for stream ordered) payload_id (take 65537 bytes.now) (moment_of until)) handle.new.slot.endpoint result ticket.new
         ⊎ (result ≡ NO_MEMORY) × (handle.new.slot.endpoint ≡ handle.old.slot.endpoint) }

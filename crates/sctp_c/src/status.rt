@@ -119,6 +119,7 @@ pub extern "C" fn sctp_endpoint_status(
     status: &mut SctpStatus,
 ) -> u32
     ensures misuse { handle.old.slot.endpoint ≡ None → result ≡ MISUSE }
+    ensures untold { ((result ≡ OK) → ⊥) → status.new ≡ status.old }
     ensures answer { (v : EndView) → Holds handle.old.slot.endpoint v → (result ≡ OK) × IsStatus status.new v }
     ensures kept { handle.new.slot.endpoint ≡ handle.old.slot.endpoint }
 {
@@ -139,6 +140,7 @@ pub extern "C" fn sctp_endpoint_acknowledged(
     is: &mut bool,
 ) -> u32
     ensures misuse { handle.old.slot.endpoint ≡ None → result ≡ MISUSE }
+    ensures untold { ((result ≡ OK) → ⊥) → is.new ≡ is.old }
     ensures answer { (v : EndView) → Holds handle.old.slot.endpoint v → (result ≡ OK) × (is.new ≡ sender.acknowledged v.sender ticket) }
     ensures kept { handle.new.slot.endpoint ≡ handle.old.slot.endpoint }
 {
@@ -159,6 +161,7 @@ pub extern "C" fn sctp_endpoint_abandoned(
     is: &mut bool,
 ) -> u32
     ensures misuse { handle.old.slot.endpoint ≡ None → result ≡ MISUSE }
+    ensures untold { ((result ≡ OK) → ⊥) → is.new ≡ is.old }
     ensures answer { (v : EndView) → Holds handle.old.slot.endpoint v → (result ≡ OK) × (is.new ≡ sender.abandoned v.sender ticket) }
     ensures kept { handle.new.slot.endpoint ≡ handle.old.slot.endpoint }
 {

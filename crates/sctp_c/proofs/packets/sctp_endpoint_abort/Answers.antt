@@ -10,5 +10,5 @@ returns-clause-did c = λ v holds large.
       answer = c.abort-answer.result;
       answers = said.answer v stands;
       step = rw c.put-2.ensures (said.step v stands);
-      told = c.tell_abort.ensures (abort_fits v.configuration.limit c.abort-answer.result _ (said.within v stands) large);
+      told = c.tell_abort.ensures.told (abort_fits v.configuration.limit c.abort-answer.result _ (said.within v stands) large);
     }

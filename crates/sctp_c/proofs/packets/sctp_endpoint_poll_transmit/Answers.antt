@@ -12,5 +12,5 @@ returns-clause-did c = λ v holds large.
       refused = rw c.put-2.ensures (said.refused v stands);
       notes = rw c.put-2.ensures (said.logs v stands);
       anew = said.anew v stands;
-      told = c.tell_poll.ensures (next_fits v c.args.now c.poll_transmit-answer.result _ _ (said.step v stands) large);
+      told = c.tell_poll.ensures.told (next_fits v c.args.now c.poll_transmit-answer.result _ _ (said.step v stands) large);
     }

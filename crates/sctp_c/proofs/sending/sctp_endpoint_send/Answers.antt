@@ -12,4 +12,4 @@ returns-clause-did c = λ v holds.
     c.in-Ok.ensures.items ∙ (ap (λ (n : ℕ). take n c.args.bytes.now) c.min-count.ensures ∙ take_min 65537 c.args.bytes.now) in
     let said = c.send-answer.ensures in
     inl (sends_same v (lane_for c.args.stream c.args.ordered) c.args.payload_id _ _ _ _ c.send-answer.result _ _ _ bytes c.until_of.ensures
-    (said.answer v stands) (rw c.put-2.ensures (said.step v stands)) (rw c.put-2.ensures (said.logs v stands)) c.tell_send.ensures)
+    (said.answer v stands) (rw c.put-2.ensures (said.step v stands)) (rw c.put-2.ensures (said.logs v stands)) c.tell_send.ensures.told)
