@@ -24,15 +24,15 @@ use sctp_values::{NoMemory, WINDOW};
 /// A message that takes its number: it stands at this place of the queue, so many of its fragments take their indexes, and this stream's turn
 /// is next then.
 #[derive(Clone, Copy)]
-pub struct Beginning {
-    pub place: usize,
-    pub count: usize,
-    pub turn: u16,
+pub(crate) struct Beginning {
+    pub(crate) place: usize,
+    pub(crate) count: usize,
+    pub(crate) turn: u16,
 }
 
 /// What takes the next index.
 #[derive(Clone, Copy)]
-pub enum Next {
+pub(crate) enum Next {
     /// A message that has no number yet.
     Begins(Beginning),
     /// The next fragment of the message in part of this stream.
@@ -40,7 +40,7 @@ pub enum Next {
 }
 
 /// What takes the next index: under DATA the message that has waited longest, whole; under I-DATA the streams take turns.
-pub fn next_new<F: Framing>(draft: &Draft, streams: u16, size: u16) -> Option<Next>
+pub(crate) fn next_new<F: Framing>(draft: &Draft, streams: u16, size: u16) -> Option<Next>
     requires { 0 < size }
     ensures next { (s : Kept) (v : SenderView) → s.streams ≡ streams → s.fragment ≡ size → Keeps F.format (drafted s draft.now) v → NewAnswer F.format v result }
     ensures within { IsNextWithin draft.now streams result }
@@ -118,7 +118,7 @@ fn part_between(draft: &Draft, from: u16, below: u16, streams: u16) -> Option<Ne
 }
 
 /// The stream behind this one, upward and cyclic.
-pub fn stream_after(stream: u16, streams: u16) -> u16
+pub(crate) fn stream_after(stream: u16, streams: u16) -> u16
     requires { stream < streams }
     ensures { result ≡ suc stream % streams }
 {
@@ -126,7 +126,7 @@ pub fn stream_after(stream: u16, streams: u16) -> u16
 }
 
 /// What is left of the message in part of a stream.
-pub fn rest_of(tracks: &[Track], stream: u16) -> Option<&Rest>
+pub(crate) fn rest_of(tracks: &[Track], stream: u16) -> Option<&Rest>
     ensures there { IfSome result (λ _. stream < length tracks.now) }
     ensures rest { (size : ℕ) → MatchOption result (None ≡ rest_at (map (track_meaning size) tracks.now) stream) (λ rest. Some (rest_meaning size (track_of (map (track_meaning size) tracks.now) stream) rest.now) ≡ rest_at (map (track_meaning size) tracks.now) stream) }
 {
@@ -137,7 +137,7 @@ pub fn rest_of(tracks: &[Track], stream: u16) -> Option<&Rest>
 }
 
 /// A copy of what is left of a message in part.
-pub fn copied(rest: &Rest) -> Result<Rest, NoMemory>
+pub(crate) fn copied(rest: &Rest) -> Result<Rest, NoMemory>
     ensures fragment { IfOk result (λ copy. copy.fragment ≡ rest.now.fragment) }
     ensures same { (size : ℕ) (t : KeptTrack) → IfOk result (λ copy. rest_meaning size t copy ≡ rest_meaning size t rest.now) }
 {
@@ -148,7 +148,7 @@ pub fn copied(rest: &Rest) -> Result<Rest, NoMemory>
 }
 
 /// So many indexes more keep within the window, where the stream then has a message in part or not.
-pub fn has_window(
+pub(crate) fn has_window(
     entries: &Outstanding,
     tracks: &Streams,
     stream: u16,

@@ -7,11 +7,11 @@ ghost use Rattle.sctp_send.specs.inner.FateBlocks.{any_queued, fates_of, AreWith
 use crate::message::Fate;
 
 /// How many tickets in a row are a block.
-pub const BLOCK: usize = 4_096;
+pub(crate) const BLOCK: usize = 4_096;
 
 /// Fates of a block of tickets that are over.
 #[derive(Clone, Copy)]
-pub enum Block {
+pub(crate) enum Block {
     /// All ended so.
     Alike(Fate),
     /// They ended one so, another so: the fates stand from this place on.
@@ -19,7 +19,7 @@ pub enum Block {
 }
 
 /// The fate of a ticket, counted from 0, of one of these blocks.
-pub fn fate_in(blocks: &[Block], mixed: &[Fate], at: usize) -> Fate
+pub(crate) fn fate_in(blocks: &[Block], mixed: &[Fate], at: usize) -> Fate
     requires there { at < 4096 * length blocks.now }
     requires within { AreWithin (length mixed.now) blocks.now }
     ensures { result ≡ slice_index_or (fates_of mixed.now blocks.now) at result }
@@ -31,7 +31,7 @@ pub fn fate_in(blocks: &[Block], mixed: &[Fate], at: usize) -> Fate
 }
 
 /// The first of so many tickets are a block from now on, if none of them waits and there is memory for it.
-pub fn end_first(blocks: &mut Vec<Block>, mixed: &mut Vec<Fate>, recent: &mut Vec<Fate>) -> bool
+pub(crate) fn end_first(blocks: &mut Vec<Block>, mixed: &mut Vec<Fate>, recent: &mut Vec<Fate>) -> bool
     requires many { 4096 ≤ length recent.old.items }
     ensures ended { result ≡ true → IsEnded blocks.old.items blocks.new.items mixed.old.items mixed.new.items recent.old.items recent.new.items }
     ensures blocks { result ≡ false → blocks.new.items ≡ blocks.old.items }

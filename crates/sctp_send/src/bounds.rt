@@ -7,7 +7,7 @@ ghost use Rattle.sctp_send.specs.inner.Bounding.{bound_at, bound_of};
 const TICKETS: u64 = 64;
 
 /// How many groups in a row have a bound each; one that lies so many further on shares it.
-pub const GROUPS: usize = 512;
+pub(crate) const GROUPS: usize = 512;
 
 /// Among fewer messages all are looked at: that costs less than the bounds do.
 const FEW: usize = 256;
@@ -35,7 +35,7 @@ fn first_low(bounds: &[u64], from: u64, end: u64, now: u64) -> u64
 
 /// The last of the tickets in a row, from this one on, of groups whose moments haven't come, if this one's hasn't. Groups behind that of
 /// `upto` are not asked for.
-pub fn passed(bounds: &[u64], ticket: u64, upto: u64, now: u64) -> Option<u64>
+pub(crate) fn passed(bounds: &[u64], ticket: u64, upto: u64, now: u64) -> Option<u64>
     ensures last { IfSome result (λ last. ticket ≤ last) }
     ensures within { IfSome result (λ last. last ≤ upto / 64 * 64 + 63) }
     ensures above { IfSome result (λ last. (t : ℕ) → ticket ≤ t → t ≤ last → now < bound_of bounds.now t) }
@@ -49,7 +49,7 @@ pub fn passed(bounds: &[u64], ticket: u64, upto: u64, now: u64) -> Option<u64>
 }
 
 /// A message with this ticket is worthless from this moment on.
-pub fn lower(bounds: &mut [u64], ticket: u64, moment: u64)
+pub(crate) fn lower(bounds: &mut [u64], ticket: u64, moment: u64)
     ensures each { (t : ℕ) → bound_of bounds.new t ≤ bound_of bounds.old t }
     ensures here { bound_of bounds.new ticket ≤ moment }
 {
@@ -61,7 +61,7 @@ pub fn lower(bounds: &mut [u64], ticket: u64, moment: u64)
 
 /// Bounds are kept from the first message on that has a moment and comes to so many others, if there is memory for them. None is worthless
 /// before the earliest one.
-pub fn keep(bounds: &mut Vec<u64>, earliest: u64, moment: u64, others: usize)
+pub(crate) fn keep(bounds: &mut Vec<u64>, earliest: u64, moment: u64, others: usize)
     ensures { (t m : ℕ) → earliest ≤ m → bound_of bounds.old.items t ≤ m → bound_of bounds.new.items t ≤ m }
 {
     if moment == u64::MAX || others < FEW {
@@ -71,7 +71,7 @@ pub fn keep(bounds: &mut Vec<u64>, earliest: u64, moment: u64, others: usize)
 }
 
 /// So many bounds are kept from now on, if none are and there is memory for them. None is worthless before the earliest one.
-pub fn begin(bounds: &mut Vec<u64>, groups: usize, earliest: u64)
+pub(crate) fn begin(bounds: &mut Vec<u64>, groups: usize, earliest: u64)
     ensures { (t m : ℕ) → earliest ≤ m → bound_of bounds.old.items t ≤ m → bound_of bounds.new.items t ≤ m }
 {
     if bounds.is_empty() {
@@ -80,7 +80,7 @@ pub fn begin(bounds: &mut Vec<u64>, groups: usize, earliest: u64)
 }
 
 /// The bounds of groups whose moments haven't come are these too.
-pub fn keep_above(bounds: &[u64], now: u64, fresh: &mut [u64])
+pub(crate) fn keep_above(bounds: &[u64], now: u64, fresh: &mut [u64])
     ensures { (t : ℕ) → now < bound_of bounds.now t → bound_of fresh.new t ≤ bound_of bounds.now t }
 {
     for at in 0..bounds.len().min(fresh.len()) {
@@ -92,7 +92,7 @@ pub fn keep_above(bounds: &[u64], now: u64, fresh: &mut [u64])
 }
 
 /// These are the bounds from now on, where any are kept.
-pub fn replace(bounds: &mut Vec<u64>, fresh: &[u64])
+pub(crate) fn replace(bounds: &mut Vec<u64>, fresh: &[u64])
     ensures { (t : ℕ) → bound_of bounds.new.items t ≤ bound_of fresh.now t }
 {
     if bounds.is_empty() {
@@ -103,7 +103,7 @@ pub fn replace(bounds: &mut Vec<u64>, fresh: &[u64])
 }
 
 /// The lowest of the bounds: of all tickets' that have one.
-pub fn least(bounds: &[u64]) -> u64
+pub(crate) fn least(bounds: &[u64]) -> u64
     ensures { (t : ℕ) → t / 64 % 512 < length bounds.now → result ≤ bound_of bounds.now t }
 {
     let mut least = u64::MAX;

@@ -15,7 +15,7 @@ use std::collections::VecDeque;
 
 impl Outstanding {
     /// Some entry of the message with this ticket is not covered.
-    pub fn some_uncovered(&self, ticket: u64) -> bool
+    pub(crate) fn some_uncovered(&self, ticket: u64) -> bool
         ensures { (size : ℕ) → result ≡ any_uncovered ticket (map (item_meaning size) self.now.items) }
     {
         let start = self.by_ticket.place(ticket, 0);
@@ -30,14 +30,14 @@ impl Outstanding {
     }
 
     /// All entries are of messages with tickets behind this one.
-    pub fn is_past(&self, last: u64) -> bool
+    pub(crate) fn is_past(&self, last: u64) -> bool
         ensures { (size t : ℕ) → result ≡ true → t ≤ last → any_item t (map (item_meaning size) self.now.items) ≡ false }
     {
         self.by_ticket.place(last, usize::MAX) == 0
     }
 
     /// Each entry of the message with this ticket is abandoned.
-    pub fn abandon(&mut self, ticket: u64)
+    pub(crate) fn abandon(&mut self, ticket: u64)
         ensures items { self.new.items ≡ all_given ticket self.old.items }
         ensures kept { IsSameRoom self.old self.new }
     {

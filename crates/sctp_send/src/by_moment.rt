@@ -22,7 +22,7 @@ use std::collections::VecDeque;
 
 impl Queue {
     /// The lowest ticket above the last one of messages that are past their time, or one found before.
-    pub fn late(&self, last: u64, now: u64, found: Option<u64>) -> Option<u64>
+    pub(crate) fn late(&self, last: u64, now: u64, found: Option<u64>) -> Option<u64>
         ensures { result ≡ soonest now last found (queue_messages (map (queued_by self.now.size) self.now.items)) }
     {
         if now < self.earliest {
@@ -47,7 +47,7 @@ impl Queue {
     }
 
     /// Looks anew from which moment on a message may be past its time, if that may be this moment.
-    pub fn look_again(&mut self, now: u64)
+    pub(crate) fn look_again(&mut self, now: u64)
         ensures { self.new ≡ self.old }
     {
         if now < self.earliest {
@@ -76,7 +76,7 @@ impl Queue {
 impl Outstanding {
     /// The lowest ticket above the last one of messages that are past their time, of entries that are neither covered nor abandoned; or one
     /// found before.
-    pub fn late(&self, last: u64, now: u64, found: Option<u64>) -> Option<u64>
+    pub(crate) fn late(&self, last: u64, now: u64, found: Option<u64>) -> Option<u64>
         ensures { result ≡ soonest now last found (item_messages (map (item_meaning self.now.size) self.now.items)) }
     {
         if now < self.counts.earliest {
@@ -98,7 +98,7 @@ impl Outstanding {
     }
 
     /// Looks anew from which moment on a message may be past its time, if that may be this moment.
-    pub fn look_again(&mut self, now: u64)
+    pub(crate) fn look_again(&mut self, now: u64)
         ensures { self.new ≡ self.old }
     {
         if now < self.counts.earliest {

@@ -11,20 +11,20 @@ use std::alloc::Global;
 use std::collections::VecDeque;
 
 /// The most entries of an order, since their indexes are kept modulo 2^32.
-pub const MOST: usize = 0xffff_ffff;
+pub(crate) const MOST: usize = 0xffff_ffff;
 
 /// An entry: its message's ticket, and its index, modulo 2^32.
 #[derive(Clone, Copy)]
-pub struct Spot {
-    pub ticket: u64,
-    pub index: u32,
+pub(crate) struct Spot {
+    pub(crate) ticket: u64,
+    pub(crate) index: u32,
 }
 
 /// A spot for each entry, by rising ticket; those of one ticket by rising index.
 ///
 /// Where tickets rise with the indexes, as under DATA, entries come and go at its ends.
 #[derive(Drop)]
-pub struct ByTicket {
+pub(crate) struct ByTicket {
     spots: VecDeque<Spot>,
     // the index of the first entry, modulo 2^32; offsets are counted from there
     first: u32,
@@ -34,7 +34,7 @@ pub struct ByTicket {
 
 impl ByTicket {
     /// That of no entry.
-    pub fn new(alloc: Global) -> ByTicket
+    pub(crate) fn new(alloc: Global) -> ByTicket
         ensures order { IsOrderOf [] result.first result.spots.items }
         ensures below { AreUpTo result.highest result.spots.items }
     {
@@ -46,14 +46,14 @@ impl ByTicket {
     }
 
     /// How many entries there are.
-    pub fn len(&self) -> usize
+    pub(crate) fn len(&self) -> usize
         ensures { result ≡ length self.now.spots.items }
     {
         self.spots.len()
     }
 
     /// How many entries there is room for.
-    pub fn capacity(&self) -> usize
+    pub(crate) fn capacity(&self) -> usize
         ensures { result ≡ deque_capacity self.now.spots }
     {
         self.spots.capacity()
@@ -63,7 +63,7 @@ impl ByTicket {
     ///
     /// # Errors
     /// `NoMemory`.
-    pub fn reserve(&mut self, more: usize) -> Result<(), NoMemory>
+    pub(crate) fn reserve(&mut self, more: usize) -> Result<(), NoMemory>
         ensures same { self.new.spots.items ≡ self.old.spots.items }
         ensures first { self.new.first ≡ self.old.first }
         ensures highest { self.new.highest ≡ self.old.highest }
@@ -74,7 +74,7 @@ impl ByTicket {
     }
 
     /// An entry of this ticket comes behind the others.
-    pub fn push(&mut self, ticket: u64)
+    pub(crate) fn push(&mut self, ticket: u64)
         requires room { length self.old.spots.items < deque_capacity self.old.spots }
         requires few { length self.old.spots.items < 0xffff_ffff }
         requires below { AreUpTo self.old.highest self.old.spots.items }
@@ -98,7 +98,7 @@ impl ByTicket {
     }
 
     /// The first entry goes, which is of this ticket.
-    pub fn pop_front(&mut self, ticket: u64)
+    pub(crate) fn pop_front(&mut self, ticket: u64)
         ensures order { (tickets : List ℕ) → IsOrderOf (ticket ∷ tickets) self.old.first self.old.spots.items
             → IsOrderOf tickets self.new.first self.new.spots.items }
         ensures below { AreUpTo self.old.highest self.old.spots.items → AreUpTo self.new.highest self.new.spots.items }
@@ -113,7 +113,7 @@ impl ByTicket {
     }
 
     /// The last entry goes, which is of this ticket.
-    pub fn pop_back(&mut self, ticket: u64)
+    pub(crate) fn pop_back(&mut self, ticket: u64)
         ensures order { (tickets : List ℕ) → IsOrderOf (tickets ++ ticket ∷ []) self.old.first self.old.spots.items
             → IsOrderOf tickets self.new.first self.new.spots.items }
         ensures below { AreUpTo self.old.highest self.old.spots.items → AreUpTo self.new.highest self.new.spots.items }
@@ -124,7 +124,7 @@ impl ByTicket {
     }
 
     /// How many spots lie before an entry of this ticket at this offset, or before the place where it would lie.
-    pub fn place(&self, ticket: u64, offset: usize) -> usize
+    pub(crate) fn place(&self, ticket: u64, offset: usize) -> usize
         ensures bound { result ≤ length self.now.spots.items }
         ensures place { (tickets : List ℕ) → IsOrderOf tickets self.now.first self.now.spots.items → IsPlaceOf self.now.first ticket offset self.now.spots.items result }
     {
@@ -137,7 +137,7 @@ impl ByTicket {
     }
 
     /// A place behind spots, from one on, whose tickets' bounds lie above this moment.
-    pub fn place_behind(&self, bounds: &[u64], place: usize, now: u64) -> usize
+    pub(crate) fn place_behind(&self, bounds: &[u64], place: usize, now: u64) -> usize
         ensures order { place ≤ result }
         ensures passed { (tickets : List ℕ) → IsOrderOf tickets self.now.first self.now.spots.items → ArePassed now bounds.now place result self.now.spots.items }
     {
@@ -151,7 +151,7 @@ impl ByTicket {
     }
 
     /// The offset of the entry whose spot has this place.
-    pub fn offset(&self, place: usize) -> usize
+    pub(crate) fn offset(&self, place: usize) -> usize
         requires { place < length self.now.spots.items }
         ensures { (spot : Spot) → result ≡ offset_of self.now.first (slice_index_or self.now.spots.items place spot) }
     {

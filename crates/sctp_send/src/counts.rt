@@ -19,24 +19,24 @@ use std::collections::VecDeque;
 
 /// Counts of entries, by their offsets above CUM. Sums are modulo 2^64.
 #[derive(Clone, Copy)]
-pub struct Counts {
+pub(crate) struct Counts {
     /// Before this offset nothing waits to be repeated.
-    pub marked: usize,
+    pub(crate) marked: usize,
     /// Before this offset nothing is to go out for the first time.
-    pub unsent: usize,
+    pub(crate) unsent: usize,
     /// The bytes in flight.
-    pub flight: u64,
+    pub(crate) flight: u64,
     /// How many entries went out, and are neither covered nor abandoned.
-    pub unsettled: u64,
+    pub(crate) unsettled: u64,
     /// Before this moment no message is past its time, of entries that are neither covered nor abandoned.
-    pub earliest: u64,
+    pub(crate) earliest: u64,
     /// So many entries in front are abandoned.
-    pub front: usize,
+    pub(crate) front: usize,
 }
 
 impl Counts {
     /// Those of no entry.
-    pub fn none() -> Counts
+    pub(crate) fn none() -> Counts
         ensures { result ≡ record { marked = 0; unsent = 0; flight = 0; unsettled = 0; earliest = 0xffff_ffff_ffff_ffff; front = 0 } }
     {
         Counts {
@@ -50,7 +50,7 @@ impl Counts {
     }
 
     /// One entry more counts.
-    pub fn enter(&mut self, entry: &Entry, size: u16)
+    pub(crate) fn enter(&mut self, entry: &Entry, size: u16)
         requires { 0 < size }
         ensures { self.new ≡ entered (item_meaning size entry.now) self.old }
     {
@@ -60,7 +60,7 @@ impl Counts {
     }
 
     /// An entry counts no more.
-    pub fn leave(&mut self, entry: &Entry, size: u16)
+    pub(crate) fn leave(&mut self, entry: &Entry, size: u16)
         requires { 0 < size }
         ensures { self.new ≡ left (item_meaning size entry.now) self.old }
     {
@@ -70,7 +70,7 @@ impl Counts {
 
     /// What comes at an offset, behind all others, may have to go out; where it hasn't, a cursor there passes it, and where it is abandoned,
     /// the count in front does.
-    pub fn reach(&mut self, at: usize, entry: &Entry)
+    pub(crate) fn reach(&mut self, at: usize, entry: &Entry)
         requires { at < 0xffff_ffff_ffff_ffff }
         ensures { (size : ℕ) → self.new ≡ reached at (item_meaning size entry.now) self.old }
     {
@@ -80,7 +80,7 @@ impl Counts {
     }
 
     /// What stands at an offset may have to go out.
-    pub fn lower(&mut self, at: usize, entry: &Entry)
+    pub(crate) fn lower(&mut self, at: usize, entry: &Entry)
         ensures { (size : ℕ) → self.new ≡ lowered at (item_meaning size entry.now) self.old }
     {
         self.marked = lowest(self.marked, at, is_repeat(entry));
@@ -115,7 +115,7 @@ fn one_if(counts: bool) -> u64
 }
 
 /// The moment from which the message of an entry is worthless, if it has one and the entry is neither covered nor abandoned; else the last moment.
-pub fn moment(entry: &Entry) -> u64
+pub(crate) fn moment(entry: &Entry) -> u64
     ensures { (size : ℕ) → result ≡ moment (item_meaning size entry.now) }
 {
     if is_done(entry) {
@@ -126,7 +126,7 @@ pub fn moment(entry: &Entry) -> u64
 }
 
 /// An entry comes to so many others, none of which is worthless before the earliest moment.
-pub fn bound_new(bounds: &mut Vec<u64>, earliest: u64, entry: &Entry, others: usize)
+pub(crate) fn bound_new(bounds: &mut Vec<u64>, earliest: u64, entry: &Entry, others: usize)
     ensures others { (t m : ℕ) → earliest ≤ m → bound_of bounds.old.items t ≤ m → bound_of bounds.new.items t ≤ m }
     ensures here { IsBounded bounds.new.items entry.now }
 {
@@ -136,7 +136,7 @@ pub fn bound_new(bounds: &mut Vec<u64>, earliest: u64, entry: &Entry, others: us
 }
 
 /// An entry changed.
-pub fn bound_again(bounds: &mut Vec<u64>, entry: &Entry)
+pub(crate) fn bound_again(bounds: &mut Vec<u64>, entry: &Entry)
     ensures others { (t : ℕ) → bound_of bounds.new.items t ≤ bound_of bounds.old.items t }
     ensures here { IsBounded bounds.new.items entry.now }
 {
@@ -147,7 +147,7 @@ pub fn bound_again(bounds: &mut Vec<u64>, entry: &Entry)
 }
 
 /// What became of the entry at an offset; its ticket stays.
-pub fn stand_one(
+pub(crate) fn stand_one(
     entries: &mut VecDeque<Entry>,
     counts: &mut Counts,
     size: u16,
@@ -173,7 +173,7 @@ pub fn stand_one(
 }
 
 /// The entry at an offset is told covered, where there is nothing to repeat: it counts no more.
-pub fn cover_one(entries: &mut VecDeque<Entry>, counts: &mut Counts, size: u16, at: usize)
+pub(crate) fn cover_one(entries: &mut VecDeque<Entry>, counts: &mut Counts, size: u16, at: usize)
     requires within { at < length entries.old.items }
     requires counted { IsCounted size entries.old.items counts.old }
     ensures items { entries.new.items ≡ at_place as_covered at entries.old.items }
@@ -189,7 +189,7 @@ pub fn cover_one(entries: &mut VecDeque<Entry>, counts: &mut Counts, size: u16, 
 }
 
 /// The entry at an offset is told uncovered: where it was covered, it counts again.
-pub fn uncover_one(
+pub(crate) fn uncover_one(
     entries: &mut VecDeque<Entry>,
     counts: &mut Counts,
     bounds: &mut Vec<u64>,
@@ -229,7 +229,7 @@ fn front_after(front: usize, at: usize, abandoned: bool, entries: &VecDeque<Entr
 }
 
 /// How many of the first entries are abandoned, where so many were before the first of all went.
-pub fn front_behind(front: usize, entries: &VecDeque<Entry>) -> usize
+pub(crate) fn front_behind(front: usize, entries: &VecDeque<Entry>) -> usize
     ensures { (size : ℕ) (x : Item) → front ≡ abandoned_items (x ∷ map (item_meaning size) entries.now.items)
         → result ≡ abandoned_items (map (item_meaning size) entries.now.items) }
 {

@@ -16,7 +16,7 @@ use std::mem;
 /// What lies in a block is covered, and nothing else; the runs are those of the blocks then. False where there are too many to keep.
 ///
 /// It costs the blocks, the runs, each once, and the entries that change; where the runs weren't known, all entries.
-pub fn cover_blocks(
+pub(crate) fn cover_blocks(
     outstanding: &mut Outstanding,
     covered: &mut Vec<CoveredRun>,
     spare: &mut Vec<CoveredRun>,

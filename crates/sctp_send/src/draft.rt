@@ -18,18 +18,18 @@ use std::sync::Arc;
 /// What filling changes: entries, the queue, streams and the turn as in a sender; the messages that took their numbers, in order; and what was
 /// changed, the last change last.
 #[derive(Drop)]
-pub struct Draft {
-    pub outstanding: Outstanding,
-    pub queue: Queue,
-    pub tracks: Streams,
-    pub turn: u16,
-    pub tickets: Vec<Ticket>,
-    pub log: Vec<Change>,
+pub(crate) struct Draft {
+    pub(crate) outstanding: Outstanding,
+    pub(crate) queue: Queue,
+    pub(crate) tracks: Streams,
+    pub(crate) turn: u16,
+    pub(crate) tickets: Vec<Ticket>,
+    pub(crate) log: Vec<Change>,
 }
 
 /// One change, with what was before it.
 #[derive(Drop)]
-pub enum Change {
+pub(crate) enum Change {
     /// The entry at an offset went out; it stood so.
     Out {
         at: usize,
@@ -56,7 +56,7 @@ pub enum Change {
 }
 
 /// Nothing is noted yet, and nothing is told.
-pub fn begin_anew(draft: &mut Draft)
+pub(crate) fn begin_anew(draft: &mut Draft)
     ensures same { draft.new ≡ record draft.old { tickets = draft.new.tickets; log = draft.new.log } }
     ensures tickets { draft.new.tickets.items ≡ [] }
     ensures log { draft.new.log.items ≡ [] }
@@ -77,7 +77,7 @@ pub(crate) fn forget_changes(log: &mut Vec<Change>)
 }
 
 /// A change is noted, where there is room for that.
-pub fn note(log: &mut Vec<Change>, change: Change)
+pub(crate) fn note(log: &mut Vec<Change>, change: Change)
     requires { vec_len log.old < vec_capacity log.old }
     ensures items { log.new.items ≡ log.old.items ++ change ∷ [] }
     ensures long { vec_len log.new ≡ vec_len log.old + 1 }
@@ -87,7 +87,7 @@ pub fn note(log: &mut Vec<Change>, change: Change)
 }
 
 /// All changes are taken back, the last one first.
-pub fn undo_all(draft: &mut Draft)
+pub(crate) fn undo_all(draft: &mut Draft)
     requires { length (origin draft.old).queue ≤ draft.old.queue.capacity }
     ensures parts { parts_of draft.new ≡ origin draft.old }
     ensures tickets { draft.new.tickets.items ≡ [] }

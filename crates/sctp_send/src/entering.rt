@@ -162,7 +162,7 @@ fn rest_from(message: &Arc<Message>, next: u32, size: u16) -> Result<Option<Rest
 }
 
 /// The number that the next message of this kind takes on a stream.
-pub fn number_next(track: &Track, kind: Kind) -> u64
+pub(crate) fn number_next(track: &Track, kind: Kind) -> u64
     ensures { (size : ℕ) → result ≡ number_in (kind_meaning kind) (track_meaning size track.now) }
 {
     match kind {
@@ -172,7 +172,7 @@ pub fn number_next(track: &Track, kind: Kind) -> u64
 }
 
 /// The number that the latest message of this kind took on a stream.
-pub fn number_latest(track: &Track, kind: Kind) -> u64
+pub(crate) fn number_latest(track: &Track, kind: Kind) -> u64
     ensures { (size : ℕ) → result ≡ latest_in (kind_meaning kind) (track_meaning size track.now) }
 {
     match kind {

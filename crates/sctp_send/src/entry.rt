@@ -8,7 +8,7 @@ use std::sync::Arc;
 
 /// Whether an entry went out, and whether it is to go out again.
 #[derive(Clone, Copy, PartialEq, Eq)]
-pub enum Standing {
+pub(crate) enum Standing {
     /// It never went out.
     Unsent,
     /// It went out.
@@ -18,7 +18,7 @@ pub enum Standing {
 }
 
 /// The same standing without its mark.
-pub fn unmarked(standing: Standing) -> Standing
+pub(crate) fn unmarked(standing: Standing) -> Standing
     ensures { result ≡ unmarked standing }
 {
     match standing {
@@ -29,7 +29,7 @@ pub fn unmarked(standing: Standing) -> Standing
 
 /// What stands at an index.
 #[derive(Clone, Copy)]
-pub enum Place {
+pub(crate) enum Place {
     /// A fragment of a message.
     Fragment(u32),
     /// The end mark of a message that was abandoned in part.
@@ -38,23 +38,23 @@ pub enum Place {
 
 /// One index above CUM: the fragment or end mark that has it, and what became of it.
 #[derive(Drop)]
-pub struct Entry {
-    pub message: Arc<Message>,
+pub(crate) struct Entry {
+    pub(crate) message: Arc<Message>,
     /// Its message's place in the lane (SSN or MID, as a count).
-    pub number: u64,
-    pub place: Place,
-    pub standing: Standing,
-    pub covered: bool,
-    pub abandoned: bool,
+    pub(crate) number: u64,
+    pub(crate) place: Place,
+    pub(crate) standing: Standing,
+    pub(crate) covered: bool,
+    pub(crate) abandoned: bool,
 }
 
 /// A run of entries that the peer has, by their offsets above CUM: those behind `from`, up to `to`.
 #[derive(Clone, Copy)]
-pub struct CoveredRun {
-    pub from: u16,
-    pub to: u16,
+pub(crate) struct CoveredRun {
+    pub(crate) from: u16,
+    pub(crate) to: u16,
 }
 
 /// The most runs that are kept: as many blocks as a SACK has in a packet of 1,500 bytes (RFC 9260, 3.3.4), behind the packet's header and
 /// its own first 16 bytes.
-pub const RUNS: usize = 368;
+pub(crate) const RUNS: usize = 368;

@@ -14,7 +14,7 @@ const AGAIN: usize = 256;
 
 /// Fates by ticket, from 1 on.
 #[derive(Drop)]
-pub struct Fates {
+pub(crate) struct Fates {
     // those of the first tickets, of which nothing else is kept
     blocks: Vec<Block>,
     // how many tickets these are
@@ -41,7 +41,7 @@ impl Model for Fates {
 
 impl Fates {
     /// Those of no ticket.
-    pub fn new(alloc: Global) -> Fates
+    pub(crate) fn new(alloc: Global) -> Fates
         ensures items { result.items ≡ [] }
         ensures ended { result.ended ≡ 0 }
     {
@@ -54,7 +54,7 @@ impl Fates {
     }
 
     /// How many tickets there are.
-    pub fn len(&self) -> usize
+    pub(crate) fn len(&self) -> usize
         ensures len { result ≡ length self.now.items }
         ensures ended { self.now.ended ≤ length self.now.items }
     {
@@ -62,7 +62,7 @@ impl Fates {
     }
 
     /// The fate of a ticket, counted from 0.
-    pub fn get(&self, at: usize) -> Fate
+    pub(crate) fn get(&self, at: usize) -> Fate
         requires { at < length self.now.items }
         ensures { result ≡ slice_index_or self.now.items at result }
     {
@@ -77,7 +77,7 @@ impl Fates {
     ///
     /// # Errors
     /// `NoMemory`.
-    pub fn reserve(&mut self) -> Result<(), NoMemory>
+    pub(crate) fn reserve(&mut self) -> Result<(), NoMemory>
         ensures items { self.new.items ≡ self.old.items }
         ensures ended { self.new.ended ≡ self.old.ended }
         ensures room { OnOk result (length self.new.items < self.new.capacity) }
@@ -89,7 +89,7 @@ impl Fates {
     }
 
     /// A ticket comes behind the others.
-    pub fn push(&mut self, fate: Fate)
+    pub(crate) fn push(&mut self, fate: Fate)
         requires room { length self.old.items < self.old.capacity }
         requires few { length self.old.items + 1 < 2 ^ 64 }
         ensures items { self.new.items ≡ self.old.items ++ fate ∷ [] }
@@ -99,7 +99,7 @@ impl Fates {
     }
 
     /// The fate of a ticket, counted from 0, is this from now on: that of one that is over stands.
-    pub fn set(&mut self, at: usize, fate: Fate)
+    pub(crate) fn set(&mut self, at: usize, fate: Fate)
         ensures items { self.old.ended ≤ at → self.new.items ≡ set self.old.items at fate }
         ensures ended { self.new.ended ≡ self.old.ended }
     {
@@ -109,7 +109,7 @@ impl Fates {
     }
 
     /// The last ticket of the next block that may be over, where it is time to look.
-    pub fn next_end(&self) -> Option<u64>
+    pub(crate) fn next_end(&self) -> Option<u64>
         ensures { IfSome result (λ last. last ≡ self.now.ended + 4096) }
     {
         let many = self.recent.len();
@@ -120,7 +120,7 @@ impl Fates {
     }
 
     /// The next block of tickets is over, if there is one of which none waits, and memory for it.
-    pub fn end_block(&mut self)
+    pub(crate) fn end_block(&mut self)
         ensures items { self.new.items ≡ self.old.items }
         ensures within { self.new.ended ≤ self.old.ended + 4096 }
         ensures given { self.new.ended ≤ length self.new.items }

@@ -8,23 +8,23 @@ use std::sync::Arc;
 
 /// All of a sender but the parts that filling a packet changes.
 #[derive(Drop)]
-pub struct Head {
-    pub alloc: Global,
-    pub initial: u32,
-    pub streams: u16,
-    pub fragment: u16,
-    pub partial: bool,
+pub(crate) struct Head {
+    pub(crate) alloc: Global,
+    pub(crate) initial: u32,
+    pub(crate) streams: u16,
+    pub(crate) fragment: u16,
+    pub(crate) partial: bool,
     // CUM: all indexes up to it are acknowledged
-    pub cum: u64,
+    pub(crate) cum: u64,
     // the peer's last advertised window, in bytes
-    pub rwnd: u32,
+    pub(crate) rwnd: u32,
     // by ticket, from 1 on
-    pub fates: Fates,
+    pub(crate) fates: Fates,
     // what the last SACK covers above CUM, unless it had too many blocks; it has no room until a SACK comes behind the first entry
-    pub covered: Vec<CoveredRun>,
-    pub is_known: bool,
+    pub(crate) covered: Vec<CoveredRun>,
+    pub(crate) is_known: bool,
     // the place of the next SACK's runs
-    pub spare: Vec<CoveredRun>,
+    pub(crate) spare: Vec<CoveredRun>,
     // the places of messages that are gone, for messages to come
-    pub spent: Vec<Arc<Message>>,
+    pub(crate) spent: Vec<Arc<Message>>,
 }

@@ -23,7 +23,7 @@ const APART: u64 = 1_024;
 const EACH: u64 = 4;
 
 /// How many groups have a bound each.
-pub const WAITING_GROUPS: usize = 64;
+pub(crate) const WAITING_GROUPS: usize = 64;
 
 /// The last number that has a bound.
 const LAST: u64 = 4_095;
@@ -41,7 +41,7 @@ fn spot_of(ticket: u64) -> u64
 
 /// A message comes to so many others, none of which is worthless before a moment. What has no time of its own changes nothing.
 #[inline(always)]
-pub fn bound(bounds: &mut Vec<u64>, earliest: u64, message: &Message, others: usize)
+pub(crate) fn bound(bounds: &mut Vec<u64>, earliest: u64, message: &Message, others: usize)
     ensures here { IsMessageBounded bounds.new.items message.now }
     ensures others { (t m : ℕ) → earliest ≤ m → bound_of bounds.old.items t ≤ m → bound_of bounds.new.items t ≤ m }
 {
@@ -71,7 +71,7 @@ fn begin_among(bounds: &mut Vec<u64>, earliest: u64, others: usize)
 }
 
 /// A place behind messages, from one on, whose tickets' bounds lie above this moment.
-pub fn behind(
+pub(crate) fn behind(
     messages: &VecDeque<Arc<Message>>,
     rises: bool,
     bounds: &[u64],
@@ -96,7 +96,7 @@ pub fn behind(
 }
 
 /// Bounds anew: those of groups whose moments haven't come are there, and the messages of the others are looked at.
-pub fn look_queued(
+pub(crate) fn look_queued(
     messages: &VecDeque<Arc<Message>>,
     rises: bool,
     bounds: &[u64],
@@ -121,7 +121,7 @@ pub fn look_queued(
 }
 
 /// The first moment from which one of the messages is worthless.
-pub fn earliest_of(messages: &VecDeque<Arc<Message>>) -> u64
+pub(crate) fn earliest_of(messages: &VecDeque<Arc<Message>>) -> u64
     ensures { (size : ℕ) → AreWorth result (queue_messages (map (queued_by size) messages.now.items)) }
 {
     let mut earliest = u64::MAX;

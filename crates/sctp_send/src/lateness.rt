@@ -9,7 +9,7 @@ use crate::message::Message;
 use crate::track::Track;
 
 /// The lower of a ticket, if there is one, and that of a message, if it lies above the last one and the message is past its time.
-pub fn sooner(found: Option<u64>, message: &Message, last: u64, now: u64) -> Option<u64>
+pub(crate) fn sooner(found: Option<u64>, message: &Message, last: u64, now: u64) -> Option<u64>
     ensures { (size : ℕ) → result ≡ sooner found (late_after now last (Some (message_meaning size message.now))) }
 {
     let late = match message.until {
@@ -26,7 +26,7 @@ pub fn sooner(found: Option<u64>, message: &Message, last: u64, now: u64) -> Opt
 }
 
 /// The same of the message in part of one stream.
-pub fn sooner_rest(found: Option<u64>, track: &Track, last: u64, now: u64) -> Option<u64>
+pub(crate) fn sooner_rest(found: Option<u64>, track: &Track, last: u64, now: u64) -> Option<u64>
     ensures { (size : ℕ) → result ≡ sooner found (late_after now last (rest_message (track_meaning size track.now))) }
 {
     match &track.rest {

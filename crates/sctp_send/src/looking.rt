@@ -18,7 +18,7 @@ use crate::track::Track;
 // ---- one stream
 
 /// The ticket of the message in part of a stream.
-pub fn ticket_of_track(track: &Track) -> Option<u64>
+pub(crate) fn ticket_of_track(track: &Track) -> Option<u64>
     ensures { result ≡ ticket_left track.now.rest }
 {
     match &track.rest {
@@ -28,7 +28,7 @@ pub fn ticket_of_track(track: &Track) -> Option<u64>
 }
 
 /// The moment from which the message in part of a stream is worthless; the last moment, where there is none.
-pub fn moment_of_track(track: &Track) -> u64
+pub(crate) fn moment_of_track(track: &Track) -> u64
     ensures { (size : ℕ) → result ≡ moment_from (rest_message (track_meaning size track.now)) }
 {
     match &track.rest {
@@ -38,7 +38,7 @@ pub fn moment_of_track(track: &Track) -> u64
 }
 
 /// A stream goes on with the message with this ticket.
-pub fn goes_on(track: &Track, ticket: u64) -> bool
+pub(crate) fn goes_on(track: &Track, ticket: u64) -> bool
     ensures { (size : ℕ) → result ≡ rest_has ticket (track_meaning size track.now).rest }
 {
     match &track.rest {
@@ -48,7 +48,7 @@ pub fn goes_on(track: &Track, ticket: u64) -> bool
 }
 
 /// A stream has a message in part.
-pub fn goes_on_at(tracks: &[Track], stream: u16) -> bool
+pub(crate) fn goes_on_at(tracks: &[Track], stream: u16) -> bool
     ensures { (size : ℕ) → result ≡ has_rest (rest_at (map (track_meaning size) tracks.now) stream) }
 {
     match tracks.get(usize::from(stream)) {
@@ -68,7 +68,7 @@ fn is_past(track: &Track, last: u64) -> bool
 }
 
 /// All messages in part have tickets behind this one.
-pub fn are_past(tracks: &[Track], last: u64) -> bool
+pub(crate) fn are_past(tracks: &[Track], last: u64) -> bool
     ensures { (size t : ℕ) → result ≡ true → t ≤ last → any_rest t (map (track_meaning size) tracks.now) ≡ false }
 {
     for at in 0..tracks.len() {
@@ -83,7 +83,7 @@ pub fn are_past(tracks: &[Track], last: u64) -> bool
 
 /// The lowest ticket above the last one of messages in part that are past their time, or one found before: the first such in the list.
 /// Tickets whose bounds lie above the moment are passed.
-pub fn late_listed(
+pub(crate) fn late_listed(
     tracks: &[Track],
     lists: &PartLists,
     bounds: &[u64],
@@ -115,7 +115,7 @@ pub fn late_listed(
 }
 
 /// Bounds anew: those of tickets whose moments haven't come are there, and the streams of the others are looked at.
-pub fn bound_listed(
+pub(crate) fn bound_listed(
     tracks: &[Track],
     lists: &PartLists,
     bounds: &[u64],
@@ -154,7 +154,7 @@ fn lower_left(bounds: &mut [u64], track: &Track)
 }
 
 /// A stream goes on with a message beside so many others, none of which is worthless before the earliest moment.
-pub fn bound_left(bounds: &mut Vec<u64>, earliest: u64, track: &Track, others: u32)
+pub(crate) fn bound_left(bounds: &mut Vec<u64>, earliest: u64, track: &Track, others: u32)
     ensures others { (t m : ℕ) → earliest ≤ m → bound_of bounds.old.items t ≤ m → bound_of bounds.new.items t ≤ m }
     ensures here { IsLeftBounded bounds.new.items track.now.rest }
 {
@@ -165,7 +165,7 @@ pub fn bound_left(bounds: &mut Vec<u64>, earliest: u64, track: &Track, others: u
 // ---- all streams, one after the other
 
 /// The first stream from one on, below another, with a message in part, or that other.
-pub fn next_part_by_looking(tracks: &[Track], from: u16, below: u16) -> u16
+pub(crate) fn next_part_by_looking(tracks: &[Track], from: u16, below: u16) -> u16
     ensures { (size : ℕ) → IsNextPart from below (map (track_meaning size) tracks.now) result }
 {
     for stream in from..below {
@@ -177,7 +177,7 @@ pub fn next_part_by_looking(tracks: &[Track], from: u16, below: u16) -> u16
 }
 
 /// The stream that goes on with the message with this ticket.
-pub fn stream_by_looking(tracks: &[Track], ticket: u64) -> Option<usize>
+pub(crate) fn stream_by_looking(tracks: &[Track], ticket: u64) -> Option<usize>
     ensures within { IfSome result (λ at. at < length tracks.now) }
     ensures none { (size : ℕ) → IfNone result (any_rest ticket (map (track_meaning size) tracks.now) ≡ false) }
     ensures some { (size : ℕ) → IfSome result (λ at. GoesOnAt ticket at (map (track_meaning size) tracks.now)) }
@@ -191,7 +191,7 @@ pub fn stream_by_looking(tracks: &[Track], ticket: u64) -> Option<usize>
 }
 
 /// The lowest ticket above the last one of messages in part that are past their time, or one found before.
-pub fn late_by_looking(tracks: &[Track], last: u64, now: u64, found: Option<u64>) -> Option<u64>
+pub(crate) fn late_by_looking(tracks: &[Track], last: u64, now: u64, found: Option<u64>) -> Option<u64>
     ensures { (size : ℕ) → result ≡ soonest now last found (rest_messages (map (track_meaning size) tracks.now)) }
 {
     let mut found = found;
@@ -203,7 +203,7 @@ pub fn late_by_looking(tracks: &[Track], last: u64, now: u64, found: Option<u64>
 }
 
 /// A moment before which no message in part is past its time.
-pub fn earliest_by_looking(tracks: &[Track]) -> u64
+pub(crate) fn earliest_by_looking(tracks: &[Track]) -> u64
     ensures { (size : ℕ) → AreWorth result (rest_messages (map (track_meaning size) tracks.now)) }
 {
     let mut earliest = u64::MAX;

@@ -11,18 +11,18 @@ use std::sync::Arc;
 
 /// What `queue` was given for a message. Its bytes are kept once: fragments are ranges of them.
 #[derive(Drop)]
-pub struct Message {
-    pub ticket: u64,
-    pub stream: u16,
-    pub kind: Kind,
-    pub payload_id: u32,
+pub(crate) struct Message {
+    pub(crate) ticket: u64,
+    pub(crate) stream: u16,
+    pub(crate) kind: Kind,
+    pub(crate) payload_id: u32,
     /// The moment from which it is worthless, in milliseconds.
-    pub until: Option<u64>,
-    pub bytes: Vec<u8>,
+    pub(crate) until: Option<u64>,
+    pub(crate) bytes: Vec<u8>,
 }
 
 /// The moment from which a message is worthless; the last moment, where it has none.
-pub fn moment_of(message: &Message) -> u64
+pub(crate) fn moment_of(message: &Message) -> u64
     ensures { (size : ℕ) → result ≡ moment_from (Some (message_meaning size message.now)) }
 {
     match message.until {
@@ -32,11 +32,11 @@ pub fn moment_of(message: &Message) -> u64
 }
 
 /// The most places of messages that are kept for messages to come.
-pub const SPENT: usize = 64;
+pub(crate) const SPENT: usize = 64;
 
 /// Keeps the place of a message, without its bytes, where nothing else has it and there is room. What is kept shows in no answer, so that
 /// its contract says nothing.
-pub fn lay_by(spent: &mut Vec<Arc<Message>>, alloc: Global, message: Arc<Message>) {
+pub(crate) fn lay_by(spent: &mut Vec<Arc<Message>>, alloc: Global, message: Arc<Message>) {
     if spent.len() >= spent.capacity() {
         return;
     }
@@ -52,7 +52,7 @@ pub fn lay_by(spent: &mut Vec<Arc<Message>>, alloc: Global, message: Arc<Message
 ///
 /// # Errors
 /// `NoMemory`.
-pub fn placed(
+pub(crate) fn placed(
     spent: &mut Vec<Arc<Message>>,
     alloc: Global,
     message: Message,
@@ -70,7 +70,7 @@ pub fn placed(
 
 /// What became of an accepted message.
 #[derive(Clone, Copy)]
-pub enum Fate {
+pub(crate) enum Fate {
     /// It waits for its number.
     Queued,
     /// It has a number.
@@ -82,14 +82,14 @@ pub enum Fate {
 }
 
 /// The same message, owned once more.
-pub fn shared(message: &Arc<Message>) -> Result<Arc<Message>, NoMemory>
+pub(crate) fn shared(message: &Arc<Message>) -> Result<Arc<Message>, NoMemory>
     ensures { IfOk result (λ copy. copy.value ≡ message.now.value) }
 {
     Arc::try_clone(message).map_err(|_| NoMemory)
 }
 
 /// How many fragments of this size so many bytes make.
-pub fn fragments_of(size: u16, bytes: &[u8]) -> usize
+pub(crate) fn fragments_of(size: u16, bytes: &[u8]) -> usize
     requires { 0 < size }
     ensures { result ≡ length (cut size bytes.now) }
 {
@@ -97,7 +97,7 @@ pub fn fragments_of(size: u16, bytes: &[u8]) -> usize
 }
 
 /// What a message owes with so many unassigned fragments: their TSNs, and one for an end mark.
-pub fn owed(count: usize) -> u64
+pub(crate) fn owed(count: usize) -> u64
     ensures { result ≡ owed_for count % 2 ^ 64 }
 {
     if count == 0 {
@@ -108,14 +108,14 @@ pub fn owed(count: usize) -> u64
 }
 
 /// How many bytes a message has.
-pub fn bytes_of(message: &Message) -> u64
+pub(crate) fn bytes_of(message: &Message) -> u64
     ensures { result ≡ length message.now.bytes.items }
 {
     message.bytes.len() as u64
 }
 
 /// What a message that waits owes.
-pub fn owed_by_message(message: &Message, size: u16) -> u64
+pub(crate) fn owed_by_message(message: &Message, size: u16) -> u64
     requires { 0 < size }
     ensures { result ≡ owed_for (length (message_meaning size message.now).fragments) % 2 ^ 64 }
 {

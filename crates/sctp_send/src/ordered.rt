@@ -10,14 +10,14 @@ use std::marker::Model;
 
 /// Two numbers. Pairs stand by rising first number, and where it is the same by rising second one.
 #[derive(Clone, Copy)]
-pub struct Pair {
-    pub first: u64,
-    pub second: u64,
+pub(crate) struct Pair {
+    pub(crate) first: u64,
+    pub(crate) second: u64,
 }
 
 /// Pairs in rising order.
 #[derive(Drop)]
-pub struct Ordered {
+pub(crate) struct Ordered {
     pairs: VecDeque<Pair>,
 }
 
@@ -36,7 +36,7 @@ impl Model for Ordered {
 
 impl Ordered {
     /// No pair.
-    pub fn new(alloc: Global) -> Ordered
+    pub(crate) fn new(alloc: Global) -> Ordered
         ensures { result.items ≡ [] }
     {
         Ordered {
@@ -48,7 +48,7 @@ impl Ordered {
     ///
     /// # Errors
     /// `NoMemory`.
-    pub fn reserve(&mut self, more: usize) -> Result<(), NoMemory>
+    pub(crate) fn reserve(&mut self, more: usize) -> Result<(), NoMemory>
         ensures items { self.new.items ≡ self.old.items }
         ensures capacity { self.old.capacity ≤ self.new.capacity }
         ensures room { OnOk result (length self.new.items + more ≤ self.new.capacity) }
@@ -60,7 +60,7 @@ impl Ordered {
     }
 
     /// How many pairs there are.
-    pub fn len(&self) -> usize
+    pub(crate) fn len(&self) -> usize
         ensures len { result ≡ length self.now.items }
         ensures order { AreOrdered self.now.items }
         ensures within { length self.now.items ≤ self.now.capacity }
@@ -69,7 +69,7 @@ impl Ordered {
     }
 
     /// The pair at a place.
-    pub fn get(&self, at: usize) -> Pair
+    pub(crate) fn get(&self, at: usize) -> Pair
         requires { at < length self.now.items }
         ensures { result ≡ slice_index_or self.now.items at result }
     {
@@ -77,7 +77,7 @@ impl Ordered {
     }
 
     /// How many pairs come before one.
-    pub fn place_of(&self, pair: Pair) -> usize
+    pub(crate) fn place_of(&self, pair: Pair) -> usize
         ensures place { result ≡ before key (key pair) self.now.items }
         ensures within { result ≤ length self.now.items }
         ensures order { AreOrdered self.now.items }
@@ -116,7 +116,7 @@ impl Ordered {
     }
 
     /// A pair comes at its place. There is room for it.
-    pub fn insert(&mut self, pair: Pair)
+    pub(crate) fn insert(&mut self, pair: Pair)
         requires { length self.old.items < self.old.capacity }
         ensures items { self.new.items ≡ insert self.old.items (before key (key pair) self.old.items) pair }
         ensures capacity { self.old.capacity ≤ self.new.capacity }
@@ -126,7 +126,7 @@ impl Ordered {
     }
 
     /// The pair at the place of one goes, where there is one at it or behind.
-    pub fn remove(&mut self, pair: Pair)
+    pub(crate) fn remove(&mut self, pair: Pair)
         ensures order { AreOrdered self.old.items }
         ensures items { before key (key pair) self.old.items < length self.old.items → self.new.items ≡ remove self.old.items (before key (key pair) self.old.items) }
         ensures capacity { self.new.capacity ≡ self.old.capacity }

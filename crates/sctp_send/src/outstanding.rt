@@ -22,7 +22,7 @@ use std::sync::Arc;
 
 /// An entry for each index above CUM, that of CUM + 1 in front, with counts of them, and their order by ticket.
 #[derive(Drop)]
-pub struct Outstanding {
+pub(crate) struct Outstanding {
     // the most bytes of a fragment
     pub(crate) size: u16,
     pub(crate) entries: VecDeque<Entry>,
@@ -52,7 +52,7 @@ impl Model for Outstanding {
 
 impl Outstanding {
     /// No entry, of fragments with at most so many bytes.
-    pub fn new(alloc: Global, size: u16) -> Outstanding
+    pub(crate) fn new(alloc: Global, size: u16) -> Outstanding
         requires { 0 < size }
         ensures size { result.size ≡ size }
         ensures items { result.items ≡ [] }
@@ -70,14 +70,14 @@ impl Outstanding {
     }
 
     /// How many entries there are.
-    pub fn len(&self) -> usize
+    pub(crate) fn len(&self) -> usize
         ensures { result ≡ length self.now.items }
     {
         self.entries.len()
     }
 
     /// The entry at an offset.
-    pub fn get(&self, at: usize) -> &Entry
+    pub(crate) fn get(&self, at: usize) -> &Entry
         requires { at < length self.now.items }
         ensures { result.now ≡ slice_index_or self.now.items at result.now }
     {
@@ -85,7 +85,7 @@ impl Outstanding {
     }
 
     /// The first entry that waits to be repeated.
-    pub fn first_marked(&mut self) -> Option<usize>
+    pub(crate) fn first_marked(&mut self) -> Option<usize>
         ensures same { self.new ≡ self.old }
         ensures first { result ≡ first_place is_item_marked (map (item_meaning self.old.size) self.old.items) }
         ensures within { IfSome result (λ at. at < length self.old.items) }
@@ -101,7 +101,7 @@ impl Outstanding {
     }
 
     /// The first entry that never went out, and that the peer may need.
-    pub fn first_unsent(&mut self) -> Option<usize>
+    pub(crate) fn first_unsent(&mut self) -> Option<usize>
         ensures same { self.new ≡ self.old }
         ensures first { result ≡ first_place is_item_unsent (map (item_meaning self.old.size) self.old.items) }
         ensures within { IfSome result (λ at. at < length self.old.items) }
@@ -117,7 +117,7 @@ impl Outstanding {
     }
 
     /// How many bytes are in flight, modulo 2^64.
-    pub fn flight(&self) -> u64
+    pub(crate) fn flight(&self) -> u64
         ensures flight { result ≡ item_flight (map (item_meaning self.now.size) self.now.items) % 2 ^ 64 }
         ensures bound { item_flight (map (item_meaning self.now.size) self.now.items) ≤ length self.now.items * 65535 }
     {
@@ -125,14 +125,14 @@ impl Outstanding {
     }
 
     /// Some entry went out, and is neither covered nor abandoned.
-    pub fn is_unsettled(&self) -> bool
+    pub(crate) fn is_unsettled(&self) -> bool
         ensures { result ≡ any_unsettled (map (item_meaning self.now.size) self.now.items) }
     {
         self.counts.unsettled > 0
     }
 
     /// How many of the first entries are abandoned.
-    pub fn front(&self) -> usize
+    pub(crate) fn front(&self) -> usize
         ensures { (size : ℕ) → result ≡ abandoned_items (map (item_meaning size) self.now.items) }
     {
         self.counts.front
@@ -142,7 +142,7 @@ impl Outstanding {
     ///
     /// # Errors
     /// `NoMemory`. It comes only where there is no such room.
-    pub fn reserve(&mut self, more: usize) -> Result<(), NoMemory>
+    pub(crate) fn reserve(&mut self, more: usize) -> Result<(), NoMemory>
         ensures size { self.new.size ≡ self.old.size }
         ensures items { self.new.items ≡ self.old.items }
         ensures capacity { self.old.capacity ≤ self.new.capacity }
@@ -172,7 +172,7 @@ impl Outstanding {
     ///
     /// # Errors
     /// `NoMemory`: there is no entry more. It comes only where there is no room.
-    pub fn push(&mut self, entry: Entry) -> Result<(), NoMemory>
+    pub(crate) fn push(&mut self, entry: Entry) -> Result<(), NoMemory>
         ensures size { self.new.size ≡ self.old.size }
         ensures items { OnOk result (self.new.items ≡ self.old.items ++ entry ∷ []) }
         ensures unchanged { OnErr result (self.new.items ≡ self.old.items) }
@@ -199,7 +199,7 @@ impl Outstanding {
     }
 
     /// The first entry goes, where there is one. It answers the message of that.
-    pub fn pop_front(&mut self) -> Option<Arc<Message>>
+    pub(crate) fn pop_front(&mut self) -> Option<Arc<Message>>
         ensures { self.new ≡ record self.old { items = drop 1 self.old.items } }
     {
         if let Some(entry) = self.entries.pop_front() {
@@ -232,7 +232,7 @@ impl Outstanding {
     }
 
     /// The entries behind the first so many go.
-    pub fn truncate(&mut self, many: usize)
+    pub(crate) fn truncate(&mut self, many: usize)
         ensures { self.new ≡ record self.old { items = take many self.old.items } }
     {
         for _ in many..self.len() {
@@ -241,7 +241,7 @@ impl Outstanding {
     }
 
     /// What became of the entry at an offset.
-    pub fn stand(&mut self, at: usize, standing: Standing, covered: bool, abandoned: bool)
+    pub(crate) fn stand(&mut self, at: usize, standing: Standing, covered: bool, abandoned: bool)
         requires { at < length self.old.items }
         ensures { self.new ≡ changed (stood standing covered abandoned) at self.old }
     {
@@ -258,7 +258,7 @@ impl Outstanding {
     }
 
     /// The entry at an offset is told covered, where there is nothing to repeat, or not.
-    pub fn tell(&mut self, at: usize, covered: bool)
+    pub(crate) fn tell(&mut self, at: usize, covered: bool)
         requires { at < length self.old.items }
         ensures { self.new ≡ changed (told covered) at self.old }
     {

@@ -14,7 +14,7 @@ use std::alloc::Global;
 
 /// The messages in part.
 #[derive(Drop)]
-pub struct PartLists {
+pub(crate) struct PartLists {
     // each by its stream and its ticket
     by_stream: Ordered,
     // each by its ticket and its stream
@@ -28,7 +28,7 @@ impl PartLists {
     ///
     /// # Errors
     /// `NoMemory`.
-    pub fn new(alloc: Global, streams: u16, takes_turns: bool) -> Result<PartLists, NoMemory>
+    pub(crate) fn new(alloc: Global, streams: u16, takes_turns: bool) -> Result<PartLists, NoMemory>
         ensures { (n : ℕ) → IfOk result (λ lists. IsListed (replicate n None) lists) }
     {
         let mut by_stream = Ordered::new(alloc);
@@ -44,21 +44,21 @@ impl PartLists {
     }
 
     /// Whether all messages in part are listed.
-    pub fn is_listed(&self) -> bool
+    pub(crate) fn is_listed(&self) -> bool
         ensures { result ≡ self.now.is_listed }
     {
         self.is_listed
     }
 
     /// How many there are.
-    pub fn len(&self) -> usize
+    pub(crate) fn len(&self) -> usize
         ensures { result ≡ length self.now.by_ticket.items }
     {
         self.by_ticket.len()
     }
 
     /// The one at a place by rising ticket: the ticket, and the stream.
-    pub fn by_ticket(&self, at: usize) -> Pair
+    pub(crate) fn by_ticket(&self, at: usize) -> Pair
         requires { at < length self.now.by_ticket.items }
         ensures { result ≡ slice_index_or self.now.by_ticket.items at result }
     {
@@ -66,7 +66,7 @@ impl PartLists {
     }
 
     /// How many have lower tickets.
-    pub fn below(&self, ticket: u64) -> usize
+    pub(crate) fn below(&self, ticket: u64) -> usize
         ensures place { result ≡ before key (key (record { first = ticket; second = 0 })) self.now.by_ticket.items }
         ensures within { result ≤ length self.now.by_ticket.items }
         ensures order { AreOrdered self.now.by_ticket.items }
@@ -78,7 +78,7 @@ impl PartLists {
     }
 
     /// A place behind those from one on, by rising ticket, whose tickets' bounds lie above this moment.
-    pub fn behind(&self, bounds: &[u64], place: usize, now: u64) -> usize
+    pub(crate) fn behind(&self, bounds: &[u64], place: usize, now: u64) -> usize
         ensures order { place ≤ result }
         ensures passed { (k : ℕ) (d : Pair) → place ≤ k → k < result → k < length self.now.by_ticket.items → now < bound_of bounds.now (slice_index_or self.now.by_ticket.items k d).first }
     {
@@ -101,7 +101,7 @@ impl PartLists {
     }
 
     /// The first one on a stream from this one on: the stream, and the ticket.
-    pub fn first_from(&self, stream: u16) -> Option<Pair>
+    pub(crate) fn first_from(&self, stream: u16) -> Option<Pair>
         requires { self.now.is_listed ≡ true }
         ensures { (tickets : List (Option ℕ)) → IsListed tickets self.now → FirstLeftAnswer stream tickets result }
     {
@@ -116,7 +116,7 @@ impl PartLists {
     }
 
     /// The stream of the message in part with this ticket.
-    pub fn stream_with(&self, ticket: u64) -> Option<u64>
+    pub(crate) fn stream_with(&self, ticket: u64) -> Option<u64>
         requires { self.now.is_listed ≡ true }
         ensures { (tickets : List (Option ℕ)) → IsListed tickets self.now → StreamWithAnswer ticket tickets result }
     {
@@ -133,7 +133,7 @@ impl PartLists {
     }
 
     /// A stream has another message in part than before, or none.
-    pub fn change(&mut self, stream: u64, before: Option<u64>, now: Option<u64>)
+    pub(crate) fn change(&mut self, stream: u64, before: Option<u64>, now: Option<u64>)
         ensures { (tickets : List (Option ℕ)) → stream < length tickets → left_on stream tickets ≡ before → IsListed tickets self.old → IsListed (set tickets stream now) self.new }
     {
         if is_same(before, now) {

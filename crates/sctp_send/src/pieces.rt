@@ -18,7 +18,7 @@ use sctp_values::NoMemory;
 use sctp_wire::Piece;
 
 /// The bytes of a fragment: a range of its message's. An end mark has none.
-pub fn bytes_of(message: &Message, place: Place, size: u16) -> &[u8]
+pub(crate) fn bytes_of(message: &Message, place: Place, size: u16) -> &[u8]
     requires { 0 < size }
     ensures { (l : Lane) (n : ℕ) → result.now ≡ bytes_in (entry_meaning l n place) (Some (message_meaning size message.now)) }
 {
@@ -58,7 +58,7 @@ fn payload_of(message: &Message) -> u32
 }
 
 /// A chunk with so many bytes of data fits into what is left of a packet.
-pub fn fits<F: Framing>(bytes: usize, packet: &PacketWriter) -> bool
+pub(crate) fn fits<F: Framing>(bytes: usize, packet: &PacketWriter) -> bool
     requires { bytes < 2 ^ 63 }
     ensures { (initial i : ℕ) (e : Entry) (m : Option Said) → bytes ≡ length (bytes_in e m) → result ≡ has_room packet.now (said_chunk F.format initial i e m) }
 {
@@ -69,7 +69,7 @@ pub fn fits<F: Framing>(bytes: usize, packet: &PacketWriter) -> bool
 ///
 /// # Errors
 /// `NoMemory`; the packet is then as before.
-pub fn put_fragment<F: Framing>(
+pub(crate) fn put_fragment<F: Framing>(
     message: &Message,
     number: u64,
     place: Place,

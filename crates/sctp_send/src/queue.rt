@@ -21,7 +21,7 @@ use std::sync::Arc;
 
 /// The messages without a number, with counts of them.
 #[derive(Drop)]
-pub struct Queue {
+pub(crate) struct Queue {
     // the most bytes of a fragment
     pub(crate) size: u16,
     pub(crate) messages: VecDeque<Arc<Message>>,
@@ -55,7 +55,7 @@ impl Model for Queue {
 
 impl Queue {
     /// No message, of fragments with at most so many bytes; streams take turns, or don't.
-    pub fn new(alloc: Global, size: u16, takes_turns: bool) -> Queue
+    pub(crate) fn new(alloc: Global, size: u16, takes_turns: bool) -> Queue
         requires { 0 < size }
         ensures size { result.size ≡ size }
         ensures items { result.items ≡ [] }
@@ -76,7 +76,7 @@ impl Queue {
     }
 
     /// How many messages wait.
-    pub fn len(&self) -> usize
+    pub(crate) fn len(&self) -> usize
         ensures len { result ≡ length self.now.items }
         ensures within { length self.now.items ≤ self.now.capacity }
     {
@@ -84,7 +84,7 @@ impl Queue {
     }
 
     /// The message at a place.
-    pub fn get(&self, at: usize) -> &Arc<Message>
+    pub(crate) fn get(&self, at: usize) -> &Arc<Message>
         requires { at < length self.now.items }
         ensures { result.now ≡ slice_index_or self.now.items at result.now }
     {
@@ -92,14 +92,14 @@ impl Queue {
     }
 
     /// The TSNs that the messages may take, modulo 2^64.
-    pub fn owed(&self) -> u64
+    pub(crate) fn owed(&self) -> u64
         ensures { result ≡ owed_by_queue (map (queued_by self.now.size) self.now.items) % 2 ^ 64 }
     {
         self.owed
     }
 
     /// The bytes of the messages, modulo 2^64.
-    pub fn bytes(&self) -> u64
+    pub(crate) fn bytes(&self) -> u64
         ensures { result ≡ waiting_bytes (map (queued_by self.now.size) self.now.items) % 2 ^ 64 }
     {
         self.bytes
@@ -109,7 +109,7 @@ impl Queue {
     ///
     /// # Errors
     /// `NoMemory`: it doesn't wait.
-    pub fn push(&mut self, message: Arc<Message>) -> Result<(), NoMemory>
+    pub(crate) fn push(&mut self, message: Arc<Message>) -> Result<(), NoMemory>
         ensures size { self.new.size ≡ self.old.size }
         ensures items { OnOk result (self.new.items ≡ self.old.items ++ message ∷ []) }
         ensures unchanged { OnErr result (self.new.items ≡ self.old.items) }
@@ -135,7 +135,7 @@ impl Queue {
     }
 
     /// The message at a place waits no more, where there is one.
-    pub fn remove(&mut self, place: usize) -> Option<Arc<Message>>
+    pub(crate) fn remove(&mut self, place: usize) -> Option<Arc<Message>>
         ensures some { place < length self.old.items → self.new ≡ record self.old { items = remove self.old.items place } }
         ensures message { IfSome result (λ message. (place < length self.old.items) × (message ≡ slice_index_or self.old.items place message)) }
         ensures none { IfNone result ((length self.old.items ≤ place) × (self.new ≡ self.old)) }
@@ -150,7 +150,7 @@ impl Queue {
     }
 
     /// A message waits again at its place, where there is room since it went.
-    pub fn put_back(&mut self, place: usize, message: Arc<Message>)
+    pub(crate) fn put_back(&mut self, place: usize, message: Arc<Message>)
         requires place { place ≤ length self.old.items }
         requires room { length self.old.items < self.old.capacity }
         ensures size { self.new.size ≡ self.old.size }
@@ -175,7 +175,7 @@ impl Queue {
     }
 
     /// How many of the first messages have lower tickets, where tickets rise; else none.
-    pub fn first_from(&self, ticket: u64) -> usize
+    pub(crate) fn first_from(&self, ticket: u64) -> usize
         ensures lower { AreLower ticket result self.now.items }
         ensures within { result ≤ length self.now.items }
     {
@@ -183,7 +183,7 @@ impl Queue {
     }
 
     /// The first stream from one on, below another, on which a message waits, and the place of the message that has waited longest on it.
-    pub fn next_on(&self, from: u16, below: u16) -> Option<Found>
+    pub(crate) fn next_on(&self, from: u16, below: u16) -> Option<Found>
         ensures next { (size : ℕ) → NextOnAnswer from below (map (queued_by size) self.now.items) result }
         ensures within { IfSome result (λ found. found.place < length self.now.items) }
     {

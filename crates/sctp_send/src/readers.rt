@@ -153,7 +153,7 @@ fn is_numbered(fate: Fate) -> bool
 }
 
 /// All of the message with this ticket is assigned and covered.
-pub fn is_all_covered(tracks: &Streams, outstanding: &Outstanding, ticket: u64) -> bool
+pub(crate) fn is_all_covered(tracks: &Streams, outstanding: &Outstanding, ticket: u64) -> bool
     ensures { (size : ℕ) → result
         ≡ (not (any_rest ticket (map (track_meaning size) tracks.now.items)) && not (any_uncovered ticket (map (item_meaning size) outstanding.now.items))) }
 {
@@ -178,7 +178,7 @@ fn count_of(outstanding: &Outstanding) -> u32
 }
 
 /// How many of the first entries are of abandoned messages.
-pub fn abandoned_run(outstanding: &Outstanding) -> u32
+pub(crate) fn abandoned_run(outstanding: &Outstanding) -> u32
     ensures { (size : ℕ) → result ≡ abandoned_items (map (item_meaning size) outstanding.now.items) % 2 ^ 32 }
 {
     (outstanding.front() % 0x1_0000_0000) as u32

@@ -16,13 +16,13 @@ use std::sync::Arc;
 
 /// A stream on which a message waits, and the place of the message that has waited longest on it.
 #[derive(Clone, Copy)]
-pub struct Found {
-    pub stream: u16,
-    pub place: usize,
+pub(crate) struct Found {
+    pub(crate) stream: u16,
+    pub(crate) place: usize,
 }
 
 /// A message by its stream and its ticket.
-pub fn seat_of(message: &Message) -> Pair
+pub(crate) fn seat_of(message: &Message) -> Pair
     ensures first { result.first ≡ message.now.stream }
     ensures second { result.second ≡ message.now.ticket }
 {
@@ -33,7 +33,7 @@ pub fn seat_of(message: &Message) -> Pair
 }
 
 /// Tickets rise, and go on rising with one at a place: it lies between those of its neighbours there.
-pub fn fits_at(messages: &VecDeque<Arc<Message>>, rises: bool, place: usize, ticket: u64) -> bool
+pub(crate) fn fits_at(messages: &VecDeque<Arc<Message>>, rises: bool, place: usize, ticket: u64) -> bool
     requires { place ≤ length messages.now.items }
     ensures rises { result ≡ true → rises ≡ true }
     ensures between { result ≡ true → IsBetween place ticket messages.now.items }
@@ -44,7 +44,7 @@ pub fn fits_at(messages: &VecDeque<Arc<Message>>, rises: bool, place: usize, tic
 }
 
 /// How many of the first messages have lower tickets, by halves, where tickets rise; else none.
-pub fn first_from(messages: &VecDeque<Arc<Message>>, rises: bool, ticket: u64) -> usize
+pub(crate) fn first_from(messages: &VecDeque<Arc<Message>>, rises: bool, ticket: u64) -> usize
     requires { rises ≡ true → DoTicketsRise 0 messages.now.items }
     ensures place { result ≡ (if rises then before ticket_in ticket messages.now.items else 0) }
     ensures within { result ≤ length messages.now.items }
@@ -73,14 +73,14 @@ pub fn first_from(messages: &VecDeque<Arc<Message>>, rises: bool, ticket: u64) -
 ///
 /// # Errors
 /// `NoMemory`.
-pub fn make_room(seats: &mut Ordered, is_seated: bool) -> Result<(), NoMemory>
+pub(crate) fn make_room(seats: &mut Ordered, is_seated: bool) -> Result<(), NoMemory>
     ensures { seats.new.items ≡ seats.old.items }
 {
     if is_seated { seats.reserve(1) } else { Ok(()) }
 }
 
 /// A seat is taken, where the seats are kept and there is memory for it: whether they still are those of all messages.
-pub fn add_seat(seats: &mut Ordered, is_seated: bool, seat: Pair) -> bool
+pub(crate) fn add_seat(seats: &mut Ordered, is_seated: bool, seat: Pair) -> bool
     ensures kept { result ≡ true → is_seated ≡ true }
     ensures seats { result ≡ true → seats.new.items ≡ insert seats.old.items (before key (key seat) seats.old.items) seat }
 {
@@ -106,7 +106,7 @@ fn first_on(messages: &VecDeque<Arc<Message>>, stream: u16) -> Option<usize>
 }
 
 /// The message in front of all is of a stream, which is below another.
-pub fn is_in_front(messages: &VecDeque<Arc<Message>>, stream: u16, below: u16) -> bool
+pub(crate) fn is_in_front(messages: &VecDeque<Arc<Message>>, stream: u16, below: u16) -> bool
     ensures first { (size : ℕ) → result ≡ true → IsFirstOn stream 0 (map (queued_by size) messages.now.items) }
     ensures low { result ≡ true → stream < below }
     ensures within { result ≡ true → 0 < length messages.now.items }
@@ -122,7 +122,7 @@ pub fn is_in_front(messages: &VecDeque<Arc<Message>>, stream: u16, below: u16) -
 }
 
 /// The first stream from one on, below another, on which a message waits, and where, by looking through all messages for each.
-pub fn next_by_looking(messages: &VecDeque<Arc<Message>>, from: u16, below: u16) -> Option<Found>
+pub(crate) fn next_by_looking(messages: &VecDeque<Arc<Message>>, from: u16, below: u16) -> Option<Found>
     ensures next { (size : ℕ) → NextOnAnswer from below (map (queued_by size) messages.now.items) result }
     ensures within { IfSome result (λ found. found.place < length messages.now.items) }
 {
@@ -135,7 +135,7 @@ pub fn next_by_looking(messages: &VecDeque<Arc<Message>>, from: u16, below: u16)
 }
 
 /// Where tickets rise, a message that is past its time, with a ticket above the last one: none behind it has a lower ticket.
-pub fn is_first_late(message: &Message, rises: bool, last: u64, now: u64) -> bool
+pub(crate) fn is_first_late(message: &Message, rises: bool, last: u64, now: u64) -> bool
     ensures rises { result ≡ true → rises ≡ true }
     ensures late { (size : ℕ) → result ≡ true → late_after now last (Some (message_meaning size message.now)) ≡ Some message.now.ticket }
 {

@@ -41,7 +41,7 @@ fn uncover(outstanding: &mut Outstanding)
 }
 
 /// What lies in a block is covered, and nothing else: what an earlier SACK covered counts no more.
-pub fn cover(outstanding: &mut Outstanding, blocks: &Blocks<'_>)
+pub(crate) fn cover(outstanding: &mut Outstanding, blocks: &Blocks<'_>)
     requires { block_fault (length outstanding.old.items) blocks.now ≡ None }
     ensures covered { outstanding.new.items ≡ all_told (in_blocks 0 blocks.now) 1 outstanding.old.items }
     ensures kept { IsSameRoom outstanding.old outstanding.new }
@@ -57,7 +57,7 @@ pub fn cover(outstanding: &mut Outstanding, blocks: &Blocks<'_>)
 }
 
 /// The first entries go: so many are acknowledged cumulatively. What they leave is laid by for messages to come.
-pub fn forget(
+pub(crate) fn forget(
     outstanding: &mut Outstanding,
     spent: &mut Vec<Arc<Message>>,
     alloc: Global,
@@ -75,7 +75,7 @@ pub fn forget(
 }
 
 /// The runs as seen from so many entries further on.
-pub fn move_on(runs: &mut Vec<CoveredRun>, passed: usize)
+pub(crate) fn move_on(runs: &mut Vec<CoveredRun>, passed: usize)
     ensures { runs.new.items ≡ runs_behind passed runs.old.items }
 {
     for at in 0..runs.len() {
@@ -105,7 +105,7 @@ fn less(offset: u16, passed: usize) -> u16
 }
 
 /// Keeps what blocks cover, in place of what was kept; false where they are too many.
-pub fn remember(runs: &mut Vec<CoveredRun>, blocks: &Blocks<'_>) -> bool
+pub(crate) fn remember(runs: &mut Vec<CoveredRun>, blocks: &Blocks<'_>) -> bool
     requires { some_is_bad 0 blocks.now ≡ false }
     ensures { result ≡ true → HoldsBlocks runs.new.items blocks.now }
 {
@@ -135,7 +135,7 @@ fn time_one(outstanding: &mut Outstanding, at: usize)
 }
 
 /// Each entry that the peer may still need is marked.
-pub fn mark_unsettled(outstanding: &mut Outstanding)
+pub(crate) fn mark_unsettled(outstanding: &mut Outstanding)
     ensures items { outstanding.new.items ≡ all_timed outstanding.old.items }
     ensures kept { IsSameRoom outstanding.old outstanding.new }
 {

@@ -22,7 +22,7 @@ use std::mem;
 
 /// The streams of a sender, with counts of them.
 #[derive(Drop)]
-pub struct Streams {
+pub(crate) struct Streams {
     // the most bytes of a fragment
     size: u16,
     tracks: Vec<Track>,
@@ -55,7 +55,7 @@ impl Streams {
     ///
     /// # Errors
     /// `NoMemory`.
-    pub fn new(
+    pub(crate) fn new(
         alloc: Global,
         streams: u16,
         size: u16,
@@ -79,21 +79,21 @@ impl Streams {
     }
 
     /// All streams, by number.
-    pub fn tracks(&self) -> &[Track]
+    pub(crate) fn tracks(&self) -> &[Track]
         ensures { result.now ≡ self.now.items }
     {
         &self.tracks
     }
 
     /// How many messages are in part, modulo 2^32.
-    pub fn in_part(&self) -> u32
+    pub(crate) fn in_part(&self) -> u32
         ensures { result ≡ total (λ t. one_if_rest t.rest) (map (track_meaning self.now.size) self.now.items) % 2 ^ 32 }
     {
         self.parts
     }
 
     /// The TSNs that the messages in part may take, modulo 2^64.
-    pub fn owed(&self) -> u64
+    pub(crate) fn owed(&self) -> u64
         ensures { result ≡ total (λ t. rest_owes t.rest) (map (track_meaning self.now.size) self.now.items) % 2 ^ 64 }
     {
         self.owed
@@ -109,7 +109,7 @@ impl Streams {
     }
 
     /// A stream goes on with this, in place of what it answers.
-    pub fn replace(&mut self, at: usize, track: Track) -> Track
+    pub(crate) fn replace(&mut self, at: usize, track: Track) -> Track
         requires { at < length self.old.items }
         ensures before { result ≡ slice_index_or self.old.items at result }
         ensures after { self.new ≡ record self.old { items = set self.old.items at track } }
@@ -128,7 +128,7 @@ impl Streams {
     }
 
     /// The first stream from one on, below another, with a message in part, or that other.
-    pub fn next_part(&self, from: u16, below: u16) -> u16
+    pub(crate) fn next_part(&self, from: u16, below: u16) -> u16
         ensures { (size : ℕ) → IsNextPart from below (map (track_meaning size) self.now.items) result }
     {
         if self.parts == 0 {
@@ -144,7 +144,7 @@ impl Streams {
     }
 
     /// The stream that goes on with the message with this ticket.
-    pub fn stream_of(&self, ticket: u64) -> Option<usize>
+    pub(crate) fn stream_of(&self, ticket: u64) -> Option<usize>
         ensures within { IfSome result (λ at. at < length self.now.items) }
         ensures none { (size : ℕ) → IfNone result (any_rest ticket (map (track_meaning size) self.now.items) ≡ false) }
         ensures some { (size : ℕ) → IfSome result (λ at. GoesOnAt ticket at (map (track_meaning size) self.now.items)) }
@@ -162,7 +162,7 @@ impl Streams {
     }
 
     /// The lowest ticket above the last one of messages in part that are past their time, or one found before.
-    pub fn late(&self, last: u64, now: u64, found: Option<u64>) -> Option<u64>
+    pub(crate) fn late(&self, last: u64, now: u64, found: Option<u64>) -> Option<u64>
         ensures { result ≡ soonest now last found (rest_messages (map (track_meaning self.now.size) self.now.items)) }
     {
         if now < self.earliest {
@@ -179,7 +179,7 @@ impl Streams {
     }
 
     /// Looks anew from which moment on a message in part may be past its time, if that may be this moment.
-    pub fn look_again(&mut self, now: u64)
+    pub(crate) fn look_again(&mut self, now: u64)
         ensures { self.new ≡ self.old }
     {
         if now < self.earliest {

@@ -10,28 +10,28 @@ use std::sync::Arc;
 
 /// What is left of a message in part: the fragment that it takes next. Its number is the latest that its kind took on its stream.
 #[derive(Drop)]
-pub struct Rest {
-    pub message: Arc<Message>,
-    pub fragment: u32,
+pub(crate) struct Rest {
+    pub(crate) message: Arc<Message>,
+    pub(crate) fragment: u32,
 }
 
 /// What is kept of a stream: how many messages of each kind have a number, and its message in part.
 #[derive(Drop)]
-pub struct Track {
-    pub ordered: u64,
-    pub unordered: u64,
-    pub rest: Option<Rest>,
+pub(crate) struct Track {
+    pub(crate) ordered: u64,
+    pub(crate) unordered: u64,
+    pub(crate) rest: Option<Rest>,
 }
 
 /// A message in part that ends: what was left of it, and its number.
 #[derive(Drop)]
-pub struct Ending {
-    pub rest: Rest,
-    pub number: u64,
+pub(crate) struct Ending {
+    pub(crate) rest: Rest,
+    pub(crate) number: u64,
 }
 
 /// The message in part of a stream, as it ends.
-pub fn ending_of(track: Track) -> Option<Ending>
+pub(crate) fn ending_of(track: Track) -> Option<Ending>
     ensures { (size : ℕ) → endings_meaning size result ≡ (track_meaning size track).rest }
 {
     let (ordered, unordered) = (track.ordered, track.unordered);
@@ -47,7 +47,7 @@ pub fn ending_of(track: Track) -> Option<Ending>
 }
 
 /// What the message in part of a stream owes.
-pub fn owed_by_track(track: &Track, size: u16) -> u64
+pub(crate) fn owed_by_track(track: &Track, size: u16) -> u64
     requires { 0 < size }
     ensures { result ≡ rest_owes (track_meaning size track.now).rest % 2 ^ 64 }
 {
