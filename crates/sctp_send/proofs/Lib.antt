@@ -70,3 +70,6 @@ pub mod QueueBounds
 pub mod FateLemmas
 pub mod OverKept
 pub mod PastLemmas
+pub mod StretchLemmas
+pub mod TurnedLemmas
+pub mod KnownLemmas

@@ -94,3 +94,25 @@ run_step b from at es now le lt is =
     let long : at < length es = rw (is, length-told_where b (is_between from at) 1 es) at lt in
     let grown = where_next b (is_between from at) (is_between from (at + 1)) es 1 at long (between_high from at (1 + at) (omega arith)) (between_on from (at + 1) (1 + at) (omega arith) (omega arith)) (λ j lo ne. between_other from at j ne) in
     ap (at_place (told b) at) is ∙ grown
+
+between_joined : (from at to j : ℕ) → from ≤ at → at ≤ to → (is_between from at j || is_between at to j) ≡ is_between from to j
+between_joined from at to j low high = by_tests (nat_lt at j) (nat_le j from) refl refl
+  where
+    by_tests : (x y : Bool) → nat_lt at j ≡ x → nat_le j from ≡ y → (is_between from at j || is_between at to j) ≡ is_between from to j
+    by_tests true y past none =
+        let over : at < j = grind (arith, nat_tests) in
+        let one = between_high from at j over in
+        let two : nat_lt from j ≡ true = grind (arith, nat_tests) in
+        rw (one, past, two) refl
+    by_tests false true under none =
+        let low_of : j ≤ from = grind (arith, nat_tests) in
+        rw (between_low from at j low_of, between_low at to j (omega (arith, low_of, low)), between_low from to j low_of) refl
+    by_tests false false under some =
+        let here : j ≤ at = grind (arith, nat_tests) in
+        let over : from < j = grind (arith, nat_tests) in
+        rw (between_on from at j over here, between_on from to j over (omega (arith, here, high))) refl
+
+-- a run, and the one that begins where it ends
+pub run_joined : (b : Bool) (from at to : ℕ) (es : List EntryFields) → from ≤ at → at ≤ to → told_where b (is_between at to) 1 (told_where b (is_between from at) 1 es) ≡ told_where b (is_between from to) 1 es
+run_joined b from at to es low high =
+    where_joined b (is_between from at) (is_between at to) 1 es ∙ where_same b (λ j. is_between from at j || is_between at to j) (is_between from to) 1 es (λ j lo hi. between_joined from at to j low high)

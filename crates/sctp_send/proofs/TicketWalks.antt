@@ -16,6 +16,7 @@ use Rattle.sctp_send.specs.declared.by_ticket.Spot.{Spot}
 use Rattle.sctp_send.specs.declared.by_ticket.ByTicket.{ByTicket}
 use Rattle.sctp_send.specs.declared.counts.Counts.{Counts}
 use Rattle.sctp_send.specs.declared.entry.Standing.{Standing}
+use Rattle.sctp_send.specs.declared.stretches.Stretch.{Stretch}
 use Rattle.sctp_send.specs.declared.entry.Standing.TheVariants.{Unsent, Sent, Marked}
 use Rattle.sctp_send.specs.declared.entry.Entry.{Entry as EntryFields}
 use Rattle.sctp_send.proofs.ListParts.{has_at, at_same, here_first, taken_has, dropped_has, front_or_back, taken_one, order_back, halves}
@@ -325,5 +326,5 @@ late_ticket_is now last size u e is = by_done (e.covered || e.abandoned) refl
 -- ---- what is outstanding
 
 -- other counts of the same entries
-pub recounted : (size : ℕ) (es : List EntryFields) (capacity : ℕ) (c d : Counts) (o : ByTicket) (room : ℕ) (bs : List ℕ) → IsCounted size es d → IsInOrder size es capacity c o room bs → IsInOrder size es capacity d o room bs
-recounted size es capacity c d o room bs counted h = record { counted = counted; order = h.order; below = h.below; few = h.few; within = h.within; here = h.here; there = h.there; bounded = h.bounded }
+pub recounted : (size : ℕ) (es : List EntryFields) (capacity : ℕ) (c d : Counts) (o : ByTicket) (room : ℕ) (bs : List ℕ) (ss : List Stretch) → IsCounted size es d → IsInOrder size es capacity c o room bs ss → IsInOrder size es capacity d o room bs ss
+recounted size es capacity c d o room bs ss counted h = record { counted = counted; order = h.order; below = h.below; few = h.few; within = h.within; here = h.here; there = h.there; bounded = h.bounded; known = h.known }

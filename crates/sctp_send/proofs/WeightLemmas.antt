@@ -20,7 +20,7 @@ use Rattle.sctp_send.proofs.ChunkLemmas.{fragment_is}
 -- ---- bytes in flight
 
 -- a fragment is no longer than fragments may be
-bytes_short : (size : ℕ) (e : EntryFields) → 0 < size → length (item_bytes (item_meaning size e)) ≤ size
+pub bytes_short : (size : ℕ) (e : EntryFields) → 0 < size → length (item_bytes (item_meaning size e)) ≤ size
 bytes_short size e some = by_place e.place
   where
     by_place : (p : Place) → length (bytes_in (entry_meaning (lane_meaning e.message.value) e.number p) (Some (message_meaning size e.message.value))) ≤ size

@@ -14,3 +14,4 @@ pub mod Bounding
 pub mod TicketOrder
 pub mod PartPairs
 pub mod FateBlocks
+pub mod Stretching

@@ -11,6 +11,7 @@ ghost use Rattle.sctp_send.specs.inner.Walks.{any_item, any_uncovered, is_item_u
 use crate::counts::{Counts, stand_one};
 use crate::entry::{Entry, unmarked};
 use crate::outstanding::Outstanding;
+use crate::stretches::forget_stretch;
 use std::collections::VecDeque;
 
 impl Outstanding {
@@ -45,6 +46,7 @@ impl Outstanding {
         let end = self.by_ticket.place(ticket, usize::MAX);
         for place in start..end {
             let at = self.by_ticket.offset(place);
+            forget_stretch(&mut self.stretches, self.by_ticket.index(at));
             give_one(&mut self.entries, &mut self.counts, self.size, at, ticket);
         }
     }

@@ -1,8 +1,9 @@
 //! The order of the outstanding entries by their tickets: those of one message stand side by side in it, and are found by halves.
 
-ghost use Rattle.std.specs.Prelude.{◌≡◌, ℕ, ◌+◌, ◌<◌, ◌≤◌, ◌^◌, ◌++◌, ◌∷◌, [], true, List, length, slice_get, slice_index_or, Some, OnOk};
+ghost use Rattle.std.specs.Prelude.{◌≡◌, ℕ, ◌+◌, ◌<◌, ◌≤◌, ◌%◌, ◌^◌, ◌++◌, ◌∷◌, [], true, List, length, slice_get, slice_index_or, Some, OnOk};
 ghost use Rattle.std.specs.VecDeque.{deque_len, deque_capacity};
 ghost use Rattle.sctp_send.specs.inner.TicketOrder.{offset_of, comes_before, IsOrderOf, IsPlaceOf, IsGone, AreUpTo, ArePassed};
+ghost use Rattle.sctp_send.specs.inner.Stretching.{index_at};
 ghost use Rattle.sctp_send.specs.declared.by_ticket.Spot.{Spot};
 
 use crate::bounds::passed;
@@ -52,6 +53,13 @@ impl ByTicket {
         self.spots.len()
     }
 
+    /// The index of the entry at an offset, modulo 2^32.
+    pub(crate) fn index(&self, offset: usize) -> u32
+        ensures { result ≡ index_at self.now.first offset }
+    {
+        self.first.wrapping_add((offset % 0x1_0000_0000) as u32)
+    }
+
     /// How many entries there is room for.
     pub(crate) fn capacity(&self) -> usize
         ensures { result ≡ deque_capacity self.now.spots }
@@ -82,6 +90,7 @@ impl ByTicket {
             → IsOrderOf (tickets ++ ticket ∷ []) self.new.first self.new.spots.items }
         ensures below { AreUpTo self.new.highest self.new.spots.items }
         ensures capacity { deque_capacity self.old.spots ≤ deque_capacity self.new.spots }
+        ensures first { self.new.first ≡ self.old.first }
     {
         let offset = self.spots.len();
         let spot = Spot {
@@ -103,6 +112,7 @@ impl ByTicket {
             → IsOrderOf tickets self.new.first self.new.spots.items }
         ensures below { AreUpTo self.old.highest self.old.spots.items → AreUpTo self.new.highest self.new.spots.items }
         ensures capacity { deque_capacity self.new.spots ≡ deque_capacity self.old.spots }
+        ensures first { self.new.first ≡ (self.old.first + 1) % 2 ^ 32 }
     {
         if self.is_front_first() {
             let _front = self.spots.pop_front();
@@ -118,6 +128,7 @@ impl ByTicket {
             → IsOrderOf tickets self.new.first self.new.spots.items }
         ensures below { AreUpTo self.old.highest self.old.spots.items → AreUpTo self.new.highest self.new.spots.items }
         ensures capacity { deque_capacity self.new.spots ≡ deque_capacity self.old.spots }
+        ensures first { self.new.first ≡ self.old.first }
     {
         let offset = self.spots.len().saturating_sub(1);
         self.remove(ticket, offset);

@@ -5,14 +5,14 @@ ghost use Rattle.sctp_send.specs.SenderKept.{Item};
 ghost use Rattle.sctp_send.specs.OutstandingFields.{item_meaning};
 ghost use Rattle.std.specs.VecDeque.{deque_capacity};
 ghost use Rattle.sctp_send.specs.PartsKept.{at_place};
-ghost use Rattle.sctp_send.specs.inner.Bounding.{bound_of, IsBounded, AreBounded};
-ghost use Rattle.sctp_send.specs.inner.Changes.{stood, as_covered, as_uncovered};
+ghost use Rattle.sctp_send.specs.inner.Bounding.{bound_of, IsBounded};
+ghost use Rattle.sctp_send.specs.inner.Changes.{stood};
 ghost use Rattle.sctp_send.specs.inner.Counting.{entered, left, lowered, furthest, reached, moment, IsCounted};
 ghost use Rattle.sctp_send.specs.inner.Walks.{abandoned_items};
 ghost use Rattle.sctp_send.specs.inner.Newcomers.{one_if};
 
 use crate::bounds::{keep, lower};
-use crate::entry::{Entry, Standing, unmarked};
+use crate::entry::{Entry, Standing};
 use crate::message::moment_of;
 use crate::wishes::{is_done, is_first_sending, is_repeat, is_unsettled, weight};
 use std::collections::VecDeque;
@@ -170,47 +170,6 @@ pub(crate) fn stand_one(
     counts.enter(entry, size);
     counts.lower(at, entry);
     counts.front = front_after(counts.front, at, abandoned, entries);
-}
-
-/// The entry at an offset is told covered, where there is nothing to repeat: it counts no more.
-pub(crate) fn cover_one(entries: &mut VecDeque<Entry>, counts: &mut Counts, size: u16, at: usize)
-    requires within { at < length entries.old.items }
-    requires counted { IsCounted size entries.old.items counts.old }
-    ensures items { entries.new.items ≡ at_place as_covered at entries.old.items }
-    ensures counted { IsCounted size entries.new.items counts.new }
-    ensures capacity { deque_capacity entries.new ≡ deque_capacity entries.old }
-{
-    let entry = &mut entries[at];
-    // It is read for the proof alone: no moment is later than the last one.
-    let _earliest = counts.earliest;
-    counts.leave(entry, size);
-    entry.standing = unmarked(entry.standing);
-    entry.covered = true;
-}
-
-/// The entry at an offset is told uncovered: where it was covered, it counts again.
-pub(crate) fn uncover_one(
-    entries: &mut VecDeque<Entry>,
-    counts: &mut Counts,
-    bounds: &mut Vec<u64>,
-    size: u16,
-    at: usize,
-)
-    requires within { at < length entries.old.items }
-    requires counted { IsCounted size entries.old.items counts.old }
-    ensures items { entries.new.items ≡ at_place as_uncovered at entries.old.items }
-    ensures counted { IsCounted size entries.new.items counts.new }
-    ensures capacity { deque_capacity entries.new ≡ deque_capacity entries.old }
-    ensures bounded { AreBounded bounds.old.items entries.old.items → AreBounded bounds.new.items entries.new.items }
-{
-    let entry = &mut entries[at];
-    if !entry.covered {
-        return;
-    }
-    entry.covered = false;
-    counts.enter(entry, size);
-    counts.lower(at, entry);
-    bound_again(bounds, entry);
 }
 
 /// How many of the first entries are abandoned, where so many were before the one at an offset changed to one that is, or isn't.

@@ -5,7 +5,7 @@ ghost use Rattle.sctp_send.specs.PartsKept.{IsSameRoom};
 ghost use Rattle.sctp_model.specs.messages.Acknowledgement.{in_blocks};
 ghost use Rattle.sctp_send.specs.CoveredRuns.{in_runs, AreInOrder, HasPassed, HoldsBlocks};
 ghost use Rattle.sctp_send.specs.inner.Acknowledging.{block_fault};
-ghost use Rattle.sctp_send.specs.inner.Changes.{all_told, told_where, is_between, in_gaps, in_alone, IsExact};
+ghost use Rattle.sctp_send.specs.inner.Changes.{all_told, told_where, in_gaps, in_alone, IsExact};
 
 use crate::entry::CoveredRun;
 use crate::outstanding::Outstanding;
@@ -109,24 +109,12 @@ fn tell_gaps(
         let run = runs[next];
         let end = usize::from(run.to);
         let gap = usize::from(run.from).min(to);
-        tell_run(outstanding, covered, at.min(gap), gap);
+        outstanding.tell_run(covered, at.min(gap), gap);
         at = at.max(end);
         if to < end {
             return next;
         }
     }
-    tell_run(outstanding, covered, at.min(to), to);
+    outstanding.tell_run(covered, at.min(to), to);
     runs.len()
-}
-
-/// Entries behind `from`, up to `to`, are told covered, or not.
-fn tell_run(outstanding: &mut Outstanding, covered: bool, from: usize, to: usize)
-    requires order { from ≤ to }
-    requires within { to ≤ length outstanding.old.items }
-    ensures items { outstanding.new.items ≡ told_where covered (is_between from to) 1 outstanding.old.items }
-    ensures kept { IsSameRoom outstanding.old outstanding.new }
-{
-    for at in from..to {
-        outstanding.tell(at, covered);
-    }
 }

@@ -37,10 +37,13 @@ mod queueing;
 mod readers;
 mod run_room;
 mod sack;
+mod searching;
 mod seats;
 mod sender;
 mod settling;
 mod streams;
+mod stretches;
+mod telling;
 mod track;
 mod wishes;
 

@@ -3,17 +3,15 @@
 ghost use Rattle.std.specs.Prelude.{◌≡◌, ℕ, ◌+◌, ◌*◌, ◌-◌, ◌<◌, ◌≤◌, ◌%◌, ◌^◌, ◌++◌, ◌∷◌, [], take, drop, map, length, slice_index_or, OnOk, OnErr, IfSome, IfNone};
 ghost use Rattle.sctp_send.specs.OutstandingFields.{item_meaning};
 ghost use Rattle.sctp_send.specs.PartsKept.{changed};
-ghost use Rattle.sctp_send.specs.inner.Changes.{stood, told};
+ghost use Rattle.sctp_send.specs.inner.Changes.{stood};
 ghost use Rattle.sctp_send.specs.inner.Walks.{abandoned_items, any_unsettled};
-ghost use Rattle.sctp_send.specs.inner.Wishing.{first_place, is_item_marked, is_item_unsent, item_flight};
+ghost use Rattle.sctp_send.specs.inner.Wishing.{item_flight};
 
 use crate::by_ticket::{ByTicket, MOST};
-use crate::counts::{
-    Counts, bound_again, bound_new, cover_one, front_behind, stand_one, uncover_one,
-};
+use crate::counts::{Counts, bound_again, bound_new, front_behind, stand_one};
 use crate::entry::{CoveredRun, Entry, Standing};
 use crate::message::Message;
-use crate::wishes::{is_first_sending, is_repeat};
+use crate::stretches::{Stretch, forget_stretch, keep_stretches};
 use sctp_values::NoMemory;
 use std::alloc::Global;
 use std::collections::VecDeque;
@@ -32,6 +30,8 @@ pub(crate) struct Outstanding {
     pub(crate) room: usize,
     // by groups of tickets, before which moment no message is past its time; none until a message has a time
     pub(crate) bounds: Vec<u64>,
+    // what is known of 64 entries in a row; nothing until there are many
+    pub(crate) stretches: Vec<Stretch>,
     // empty: the places of a SACK's runs and of the next one's, from the first entry on until a SACK is taken
     pub(crate) covered: Vec<CoveredRun>,
     pub(crate) spare: Vec<CoveredRun>,
@@ -47,7 +47,7 @@ impl Model for Outstanding {
 
     ghost view = { λ w. record { size = w.size; items = w.entries.items; capacity = w.room } };
 
-    ghost invariant = { λ w. IsInOrder w.size w.entries.items (deque_capacity w.entries) w.counts w.by_ticket w.room w.bounds.items };
+    ghost invariant = { λ w. IsInOrder w.size w.entries.items (deque_capacity w.entries) w.counts w.by_ticket w.room w.bounds.items w.stretches.items };
 }
 
 impl Outstanding {
@@ -64,6 +64,7 @@ impl Outstanding {
             by_ticket: ByTicket::new(alloc),
             room: 0,
             bounds: Vec::new(alloc),
+            stretches: Vec::new(alloc),
             covered: Vec::new(alloc),
             spare: Vec::new(alloc),
         }
@@ -82,38 +83,6 @@ impl Outstanding {
         ensures { result.now ≡ slice_index_or self.now.items at result.now }
     {
         &self.entries[at]
-    }
-
-    /// The first entry that waits to be repeated.
-    pub(crate) fn first_marked(&mut self) -> Option<usize>
-        ensures same { self.new ≡ self.old }
-        ensures first { result ≡ first_place is_item_marked (map (item_meaning self.old.size) self.old.items) }
-        ensures within { IfSome result (λ at. at < length self.old.items) }
-    {
-        for at in self.counts.marked..self.entries.len() {
-            if is_repeat(&self.entries[at]) {
-                self.counts.marked = at;
-                return Some(at);
-            }
-        }
-        self.counts.marked = self.entries.len();
-        None
-    }
-
-    /// The first entry that never went out, and that the peer may need.
-    pub(crate) fn first_unsent(&mut self) -> Option<usize>
-        ensures same { self.new ≡ self.old }
-        ensures first { result ≡ first_place is_item_unsent (map (item_meaning self.old.size) self.old.items) }
-        ensures within { IfSome result (λ at. at < length self.old.items) }
-    {
-        for at in self.counts.unsent..self.entries.len() {
-            if is_first_sending(&self.entries[at]) {
-                self.counts.unsent = at;
-                return Some(at);
-            }
-        }
-        self.counts.unsent = self.entries.len();
-        None
     }
 
     /// How many bytes are in flight, modulo 2^64.
@@ -194,6 +163,8 @@ impl Outstanding {
         bound_new(&mut self.bounds, self.counts.earliest, &entry, others);
         self.counts.enter(&entry, self.size);
         self.counts.reach(others, &entry);
+        keep_stretches(&mut self.stretches, others);
+        forget_stretch(&mut self.stretches, self.by_ticket.index(others));
         self.by_ticket.push(entry.message.ticket);
         self.entries.push_back_reserved(entry);
     }
@@ -245,6 +216,7 @@ impl Outstanding {
         requires { at < length self.old.items }
         ensures { self.new ≡ changed (stood standing covered abandoned) at self.old }
     {
+        forget_stretch(&mut self.stretches, self.by_ticket.index(at));
         stand_one(
             &mut self.entries,
             &mut self.counts,
@@ -255,23 +227,5 @@ impl Outstanding {
             abandoned,
         );
         bound_again(&mut self.bounds, &self.entries[at]);
-    }
-
-    /// The entry at an offset is told covered, where there is nothing to repeat, or not.
-    pub(crate) fn tell(&mut self, at: usize, covered: bool)
-        requires { at < length self.old.items }
-        ensures { self.new ≡ changed (told covered) at self.old }
-    {
-        if covered {
-            cover_one(&mut self.entries, &mut self.counts, self.size, at);
-            return;
-        }
-        uncover_one(
-            &mut self.entries,
-            &mut self.counts,
-            &mut self.bounds,
-            self.size,
-            at,
-        );
     }
 }

@@ -8,6 +8,8 @@ use Rattle.sctp_send.specs.declared.counts.Counts.{Counts}
 use Rattle.sctp_send.specs.declared.entry.Entry.{Entry as EntryFields}
 use Rattle.sctp_send.specs.inner.Bounding.{bound_of, AreBounded}
 use Rattle.sctp_send.specs.inner.Counting.{IsCounted}
+use Rattle.sctp_send.specs.inner.Stretching.{AreKnown}
+use Rattle.sctp_send.specs.declared.stretches.Stretch.{Stretch}
 
 -- the offset of a spot's entry, where the first entry has this index
 abbrev pub offset_of : (first : ℕ) → Spot → ℕ
@@ -60,8 +62,9 @@ ticket_of e = e.message.value.ticket
 abbrev pub tickets_of : List EntryFields → List ℕ
 tickets_of es = map ticket_of es
 
--- What is kept of the outstanding: the entries counted, and in the order of their tickets, with room for so many in both lists; and bounds of their moments.
-pub record IsInOrder (size : ℕ) (es : List EntryFields) (capacity : ℕ) (c : Counts) (o : ByTicket) (room : ℕ) (bs : List ℕ) : Type 0 where
+-- What is kept of the outstanding: the entries counted, and in the order of their tickets, with room for so many in both lists; bounds of
+-- their moments; and what is known of stretches.
+pub record IsInOrder (size : ℕ) (es : List EntryFields) (capacity : ℕ) (c : Counts) (o : ByTicket) (room : ℕ) (bs : List ℕ) (ss : List Stretch) : Type 0 where
   pub counted : IsCounted size es c
   pub order : IsOrderOf (tickets_of es) o.first o.spots.items
   pub below : AreUpTo o.highest o.spots.items
@@ -70,3 +73,4 @@ pub record IsInOrder (size : ℕ) (es : List EntryFields) (capacity : ℕ) (c : 
   pub here : room ≤ capacity
   pub there : room ≤ deque_capacity o.spots
   pub bounded : AreBounded bs es
+  pub known : AreKnown size o.first ss es

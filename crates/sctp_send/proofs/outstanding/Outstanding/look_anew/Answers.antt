@@ -16,4 +16,5 @@ invariant_of-self c =
       here = h.here;
       there = h.there;
       bounded = bounded_lower c.look_at.new.fresh c.replace.new.bounds.items es c.replace.ensures c.look_at.ensures;
+      known = h.known;
     }

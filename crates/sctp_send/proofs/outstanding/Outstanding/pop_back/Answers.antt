@@ -7,6 +7,8 @@ use Rattle.sctp_send.specs.inner.Bounding.{AreBounded}
 use Rattle.sctp_send.specs.inner.TicketOrder.{IsOrderOf, ticket_of, tickets_of}
 use Rattle.sctp_send.proofs.CountLemmas.{counts_cut}
 use Rattle.sctp_send.proofs.ListParts.{in_front}
+use Rattle.sctp_send.specs.inner.Stretching.{AreKnown}
+use Rattle.sctp_send.proofs.KnownLemmas.{known_cut}
 use Rattle.sctp_send.proofs.outstanding.Outstanding.pop_back.Goals as goal
 
 pub invariant_of-self : goal.invariant_of-self
@@ -36,5 +38,8 @@ invariant_of-self c =
           omega (arith, long, more, le);
       here = let le = h.here in omega (arith, c.pop_back.ensures.capacity, le);
       there = let le = h.there in omega (arith, c.pop_back-in-Some.ensures.capacity, le);
+      known =
+          subst (λ (n : ℕ). AreKnown s.size n s.stretches.items rest) (sym c.pop_back-in-Some.ensures.first)
+          (known_cut s.size o.first s.stretches.items rest c.in-Some.entry (subst (λ (es : List EntryFields). AreKnown s.size o.first s.stretches.items es) items h.known));
       bounded = λ d there. subst (λ (es : List EntryFields). AreBounded s.bounds.items es) items h.bounded d (in_front rest (c.in-Some.entry ∷ []) d there);
     }

@@ -7,6 +7,8 @@ use Rattle.sctp_send.specs.inner.Counting.{IsCounted}
 use Rattle.sctp_send.specs.inner.Bounding.{AreBounded}
 use Rattle.sctp_send.specs.inner.TicketOrder.{IsOrderOf, tickets_of}
 use Rattle.sctp_send.proofs.CountLemmas.{counts_behind}
+use Rattle.sctp_send.specs.inner.Stretching.{AreKnown}
+use Rattle.sctp_send.proofs.KnownLemmas.{known_behind}
 use Rattle.sctp_send.proofs.outstanding.Outstanding.pop_front.Goals as goal
 
 pub invariant_of-self : goal.invariant_of-self
@@ -33,5 +35,6 @@ invariant_of-self c =
           omega (arith, long, le);
       here = let le = h.here in omega (arith, c.pop_front.ensures.capacity, le);
       there = let le = h.there in omega (arith, c.pop_front-in-Some.ensures.capacity, le);
+      known = known_behind s.size o.first c.pop_front-in-Some.new.self.first s.stretches.items c.in-Some.entry rest c.pop_front-in-Some.ensures.first (subst (λ (es : List EntryFields). AreKnown s.size o.first s.stretches.items es) items h.known);
       bounded = λ d there. subst (λ (es : List EntryFields). AreBounded s.bounds.items es) items h.bounded d (inr there);
     }

@@ -8,6 +8,8 @@ use Rattle.sctp_send.specs.declared.entry.Entry.{Entry as EntryFields}
 use Rattle.sctp_send.proofs.CountLemmas.{counts_pushed}
 use Rattle.sctp_send.proofs.TicketWalks.{long_tickets}
 use Rattle.sctp_send.proofs.MomentWalks.{bounded_pushed}
+use Rattle.sctp_send.specs.inner.Stretching.{index_at, AreKnown}
+use Rattle.sctp_send.proofs.KnownLemmas.{SayTheSame, SayNothing, known_less, known_pushed}
 use Rattle.sctp_send.proofs.outstanding.Outstanding.put.Goals as goal
 
 pub push-requires : goal.push-requires
@@ -48,5 +50,13 @@ invariant_of-self c =
       within = let n = ap (λ (xs : List EntryFields). length xs) items in let m = length-append es (e ∷ []) in omega (arith, n, m, lt);
       here = let le = h.here in omega (arith, le, c.push_back_reserved.ensures.capacity);
       there = let le = h.there in omega (arith, le, c.push.ensures.capacity);
+      known =
+          let here = c.index.ensures ∙ ap (index_at s.by_ticket.first) long in
+          subst (λ (xs : List EntryFields). AreKnown s.size c.push.new.self.first c.forget_stretch.new.stretches.items xs) (sym items)
+          (subst (λ (n : ℕ). AreKnown s.size n c.forget_stretch.new.stretches.items (es ++ e ∷ [])) (sym c.push.ensures.first)
+          (known_pushed s.size s.by_ticket.first c.keep_stretches.new.stretches.items c.forget_stretch.new.stretches.items es e
+          (subst (λ (i : ℕ). SayTheSame i c.forget_stretch.new.stretches.items c.keep_stretches.new.stretches.items) here c.forget_stretch.ensures.others)
+          (subst (λ (i : ℕ). SayNothing i c.forget_stretch.new.stretches.items) here c.forget_stretch.ensures.here)
+          (known_less s.size s.by_ticket.first s.stretches.items c.keep_stretches.new.stretches.items es c.keep_stretches.ensures h.known)));
       bounded = subst (λ (xs : List EntryFields). AreBounded c.bound_new.new.bounds.items xs) (sym items) (bounded_pushed s.size s.counts.earliest s.bounds.items c.bound_new.new.bounds.items es e h.counted.earliest h.bounded c.bound_new.ensures.others c.bound_new.ensures.here);
     }

@@ -8,6 +8,8 @@ use Rattle.sctp_send.specs.declared.entry.Entry.{Entry as EntryFields}
 use Rattle.sctp_send.proofs.PlacedLemmas.{count_placed}
 use Rattle.sctp_send.proofs.TicketWalks.{get_read, placed_tickets}
 use Rattle.sctp_send.proofs.MomentWalks.{bounded_placed}
+use Rattle.sctp_send.specs.inner.Stretching.{AreKnown}
+use Rattle.sctp_send.proofs.KnownLemmas.{SayTheSame, SayNothing, known_placed}
 use Rattle.sctp_send.proofs.outstanding.Outstanding.stand.Goals as goal
 
 pub stand_one-requires : goal.stand_one-requires
@@ -16,8 +18,8 @@ stand_one-requires c = record {
   counted = c.self.invariant.counted;
 }
 
-pub index-requires : goal.index-requires
-index-requires c =
+pub index-requires-2 : goal.index-requires-2
+index-requires-2 c =
     let es = c.self.inside.entries.items in
     let lt : c.args.at < length es = subst (λ (w : OutstandingKept). c.args.at < length w.items) (sym c.self.view_is) c.requires in
     let long : length c.stand_one.new.entries.items ≡ length es = ap (λ (xs : List EntryFields). length xs) c.stand_one.ensures.items ∙ count_placed (stood c.args.standing c.args.covered c.args.abandoned) c.args.at es in
@@ -40,10 +42,15 @@ invariant_of-self c =
       within = let le = h.within in omega (arith, long, le);
       here = let le = h.here in omega (arith, c.stand_one.ensures.capacity, le);
       there = h.there;
+      known =
+          subst (λ (xs : List EntryFields). AreKnown s.size s.by_ticket.first c.forget_stretch.new.stretches.items xs) (sym items)
+          (known_placed s.size s.by_ticket.first c.args.at new s.stretches.items c.forget_stretch.new.stretches.items es
+          (subst (λ (i : ℕ). SayTheSame i c.forget_stretch.new.stretches.items s.stretches.items) c.index.ensures c.forget_stretch.ensures.others)
+          (subst (λ (i : ℕ). SayNothing i c.forget_stretch.new.stretches.items) c.index.ensures c.forget_stretch.ensures.here) h.known);
       bounded =
-          let x = c.index.result.now in
+          let x = c.index-2.result.now in
           let at : c.args.at < length c.stand_one.new.entries.items = omega (arith, long, lt) in
-          let read = subst (λ (xs : List EntryFields). slice_get xs c.args.at ≡ Some x) items (get_read c.stand_one.new.entries.items c.args.at x at c.index.ensures) in
+          let read = subst (λ (xs : List EntryFields). slice_get xs c.args.at ≡ Some x) items (get_read c.stand_one.new.entries.items c.args.at x at c.index-2.ensures) in
           subst (λ (xs : List EntryFields). AreBounded c.bound_again.new.bounds.items xs) (sym items)
           (bounded_placed new c.args.at s.bounds.items c.bound_again.new.bounds.items es x h.bounded c.bound_again.ensures.others read c.bound_again.ensures.here);
     }

@@ -7,6 +7,8 @@ use Rattle.sctp_send.specs.declared.entry.Entry.{Entry as EntryFields}
 use Rattle.sctp_send.proofs.PlacedLemmas.{count_placed}
 use Rattle.sctp_send.proofs.TicketWalks.{placed_tickets}
 use Rattle.sctp_send.proofs.MomentWalks.{bounded_covered}
+use Rattle.sctp_send.specs.inner.Stretching.{AreKnown}
+use Rattle.sctp_send.proofs.KnownLemmas.{SayTheSame, SayNothing, known_placed}
 use Rattle.sctp_send.proofs.outstanding.Outstanding.tell.Goals as goal
 
 pub cover_one-requires : goal.cover_one-requires
@@ -36,6 +38,11 @@ invariant_of-self c =
       within = let le = h.within in omega (arith, long, le);
       here = let le = h.here in omega (arith, c.cover_one.ensures.capacity, le);
       there = h.there;
+      known =
+          subst (λ (xs : List EntryFields). AreKnown s.size s.by_ticket.first c.forget_stretch.new.stretches.items xs) (sym items)
+          (known_placed s.size s.by_ticket.first c.args.at as_covered s.stretches.items c.forget_stretch.new.stretches.items es
+          (subst (λ (i : ℕ). SayTheSame i c.forget_stretch.new.stretches.items s.stretches.items) c.index.ensures c.forget_stretch.ensures.others)
+          (subst (λ (i : ℕ). SayNothing i c.forget_stretch.new.stretches.items) c.index.ensures c.forget_stretch.ensures.here) h.known);
       bounded = subst (λ (xs : List EntryFields). AreBounded s.bounds.items xs) (sym items) (bounded_covered c.args.at s.bounds.items es h.bounded);
     }
 
@@ -54,6 +61,11 @@ invariant_of-self-2 c =
       within = let le = h.within in omega (arith, long, le);
       here = let le = h.here in omega (arith, c.uncover_one.ensures.capacity, le);
       there = h.there;
+      known =
+          subst (λ (xs : List EntryFields). AreKnown s.size s.by_ticket.first c.forget_stretch.new.stretches.items xs) (sym items)
+          (known_placed s.size s.by_ticket.first c.args.at as_uncovered s.stretches.items c.forget_stretch.new.stretches.items es
+          (subst (λ (i : ℕ). SayTheSame i c.forget_stretch.new.stretches.items s.stretches.items) c.index.ensures c.forget_stretch.ensures.others)
+          (subst (λ (i : ℕ). SayNothing i c.forget_stretch.new.stretches.items) c.index.ensures c.forget_stretch.ensures.here) h.known);
       bounded = c.uncover_one.ensures.bounded h.bounded;
     }
 

@@ -3,7 +3,7 @@ use Rattle.sctp_model.specs.numbers.Limits.{LAST_MOMENT}
 use Rattle.sctp_send.specs.inner.Changes.{as_covered}
 use Rattle.sctp_send.proofs.CountLemmas.{counts_covered}
 use Rattle.sctp_send.proofs.PlacedLemmas.{placed_set}
-use Rattle.sctp_send.proofs.counts.cover_one.Goals as goal
+use Rattle.sctp_send.proofs.telling.cover_one.Goals as goal
 
 pub returns-clause-counted : goal.returns-clause-counted
 returns-clause-counted c =

@@ -9,7 +9,7 @@ use Rattle.sctp_send.proofs.CountLemmas.{counts_uncovered}
 use Rattle.sctp_send.proofs.PlacedLemmas.{placed_set}
 use Rattle.sctp_send.proofs.TicketWalks.{get_read}
 use Rattle.sctp_send.proofs.MomentWalks.{bounded_placed}
-use Rattle.sctp_send.proofs.counts.uncover_one.Goals as goal
+use Rattle.sctp_send.proofs.telling.uncover_one.Goals as goal
 
 pub returns-clause-items : goal.returns-clause-items
 returns-clause-items c =
