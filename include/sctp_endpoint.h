@@ -13,7 +13,8 @@
  *
  * Each call but two answers a number of enum sctp_endpoint_result. An answer that isn't SCTP_EP_OK leaves the endpoint as it
  * was, but for one: sctp_endpoint_handle_packet says what SCTP_EP_NO_MEMORY leaves. A call writes what it is given to write
- * where its answer is SCTP_EP_OK; with another answer it may have made the lengths and numbers zero, and what is said beside it.
+ * where its answer is SCTP_EP_OK, and nothing behind it in a room; with another answer all is as it was, but for the lengths
+ * and the verdict of a packet, which may be zero, and what is said beside SCTP_EP_NEEDS_ROOM.
  *
  * Moments are milliseconds since any beginning, the same for all calls of an endpoint. One before the latest counts as that.
  *
