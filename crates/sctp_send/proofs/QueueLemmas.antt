@@ -1,6 +1,6 @@
 -- Fragments counted, sums over the streams, what is promised, and a message more in the queue.
 use Rattle.std.proofs.Common.{◌≡◌, ℕ, zero, suc, ◌+◌, ◌*◌, ◌/◌, ◌%◌, ◌^◌, ◌<◌, ◌≤◌, List, [], ◌∷◌, ◌++◌, length, Bool, true, false, Option, Some, None, refl, sym, ap, ◌∙◌, subst, arith}
-use Rattle.std.specs.Prelude.{nat_lt, nat_le, if◌then◌else◌, ◌==◌, ◌||◌, Result, Ok, Err, IsErrAnd}
+use Rattle.std.specs.Prelude.{min, nat_lt, nat_le, if◌then◌else◌, ◌==◌, ◌||◌, Result, Ok, Err, IsErrAnd}
 use Rattle.std.specs.Int.{div_ceil}
 use Rattle.std.proofs.lemmas.Bool.Decides.{nat_tests}
 use Rattle.sctp_model.specs.numbers.Limits.{LONGEST_MESSAGE, QUEUE_LIMIT, TICKET_LIMIT, TSN_LIMIT}
@@ -14,7 +14,7 @@ use Rattle.sctp_model.specs.sender.Abandoning.{waits, name_of}
 use Rattle.sctp_model.specs.sender.Reached.{Queues}
 use Rattle.sctp_model.proofs.sender.PlanLaws.{continued_is}
 use Rattle.sctp_model.proofs.sender.CountLaws.{is_named}
-use Rattle.std.proofs.Math.Nat.{mul-le-mul_right}
+use Rattle.std.proofs.Math.Nat.{mul-suc, mul-le-mul_right}
 use Rattle.sctp_model.proofs.sender.CutLaws.{length-cut}
 use Rattle.sctp_model.proofs.sender.SetLaws.{is_set}
 use Rattle.sctp_model.proofs.sender.OwedLaws.{is_promised}
@@ -36,6 +36,18 @@ use Rattle.sctp_send.proofs.KeepLemmas.{kept_length}
 
 pub count_is : (size : ℕ) (bytes : List ℕ) → 0 < size → div_ceil (length bytes) size ≡ length (cut size bytes)
 count_is size bytes p = sym (length-cut size bytes)
+
+ceil_few : (n size : ℕ) → 0 < size → n ≤ size → min n 1 ≡ div_ceil n size
+ceil_few n size some le = let whole : size * (n / size) + n % size ≡ n = omega arith in by_count (n / size) (n % size) whole
+  where
+    by_count : (x y : ℕ) → size * x + y ≡ n → min n 1 ≡ x + min 1 y
+    by_count zero y is = let none : size * 0 ≡ 0 = omega arith in omega arith
+    by_count (suc zero) y is = let one : size * 1 ≡ size = omega arith in omega arith
+    by_count (suc (suc x)) y is = let one = mul-suc size (suc x) in let two = mul-suc size x in absurd (omega (arith, one, two, is, some, le))
+
+-- bytes that fit into one fragment make one, where there are any
+pub few_are : (size : ℕ) (bytes : List ℕ) → 0 < size → length bytes ≤ size → min (length bytes) 1 ≡ length (cut size bytes)
+few_are size bytes some le = ceil_few (length bytes) size some le ∙ sym (length-cut size bytes)
 
 -- ---- sums
 

@@ -67,12 +67,13 @@ seated_inserted was rises had seated n x ms next ps qs p h is le up between kept
 }
 
 -- one less
-pub seated_removed : (rises seated : Bool) (n : ℕ) (x : Arc MessageFields Global) (ms next : List (Arc MessageFields Global)) (ps qs : List Pair) (p : Pair) → IsSeatedOf rises seated ms ps → AreOrdered ps → n < length ms → x ≡ get_or ms n x → next ≡ remove ms n
-    → p ≡ seat_of x → (before key (key p) ps < length ps → qs ≡ remove ps (before key (key p) ps)) → IsSeatedOf rises seated next qs
+pub seated_removed : (rises seated : Bool) (n : ℕ) (x : Arc MessageFields Global) (ms next : List (Arc MessageFields Global)) (ps qs : List Pair) (p : Pair) → IsSeatedOf rises seated ms ps → (seated ≡ true → AreOrdered ps) → n < length ms → x ≡ get_or ms n x → next ≡ remove ms n
+    → p ≡ seat_of x → (seated ≡ true → before key (key p) ps < length ps → qs ≡ remove ps (before key (key p) ps)) → IsSeatedOf rises seated next qs
 seated_removed rises seated n x ms next ps qs p h o lt read is own taken = record {
   order = λ on. subst (DoTicketsRise 0) (sym is) (rise_removed 0 n ms (h.order on));
   seats = λ on f.
       let all : AreSeats ms ps = h.seats on in
+      let order = o on in
       let long = length-map ms seat_of in
       let there : get_or (map seat_of ms) n p ≡ p = get_or-map seat_of ms n x p lt ∙ ap seat_of (sym read) ∙ sym own in
       let found = among p ps (map seat_of ms) n p all (omega (arith, long, lt)) there in
@@ -80,14 +81,14 @@ seated_removed rises seated n x ms next ps qs p h o lt read is own taken = recor
       let at = before key (key p) ps in
       let low : at ≤ found.0 = before_below key (key p) found.0 ps p found.1 (omega (arith, found_key)) in
       let within : at < length ps = omega (arith, low, found.1) in
-      let more = comes_behind key (key p) 0 at ps p o.order (omega arith) within in
-      let less = in_order key 0 at found.0 ps p o.order low found.1 in
-      let here : get_or ps at p ≡ p = same_numbers (get_or ps at p) p (omega (arith, more, less, found_key)) (is_small at ps p o.small within) (subst (λ (q : Pair). q.second < 2 ^ 64) found.2 (is_small found.0 ps p o.small found.1)) in
+      let more = comes_behind key (key p) 0 at ps p order.order (omega arith) within in
+      let less = in_order key 0 at found.0 ps p order.order low found.1 in
+      let here : get_or ps at p ≡ p = same_numbers (get_or ps at p) p (omega (arith, more, less, found_key)) (is_small at ps p order.small within) (subst (λ (q : Pair). q.second < 2 ^ 64) found.2 (is_small found.0 ps p order.small found.1)) in
       let one = sum_by-remove f ps at p within in
       let other = sum_by-remove f (map seat_of ms) n p (omega (arith, long, lt)) in
       let before_it = all f in
       let same : f (get_or ps at p) ≡ f (get_or (map seat_of ms) n p) = ap f (here ∙ sym there) in
-      let left : sum_by f qs ≡ sum_by f (remove ps at) = ap (sum_by f) (taken within) in
+      let left : sum_by f qs ≡ sum_by f (remove ps at) = ap (sum_by f) (taken on within) in
       let right : sum_by f (map seat_of next) ≡ sum_by f (remove (map seat_of ms) n) = ap (λ (ys : List (Arc MessageFields Global)). sum_by f (map seat_of ys)) is ∙ ap (sum_by f) (mapped_removed seat_of ms n) in
       omega (arith, left, right, one, other, before_it, same);
 }

@@ -31,7 +31,11 @@ pub(crate) fn fate_in(blocks: &[Block], mixed: &[Fate], at: usize) -> Fate
 }
 
 /// The first of so many tickets are a block from now on, if none of them waits and there is memory for it.
-pub(crate) fn end_first(blocks: &mut Vec<Block>, mixed: &mut Vec<Fate>, recent: &mut Vec<Fate>) -> bool
+pub(crate) fn end_first(
+    blocks: &mut Vec<Block>,
+    mixed: &mut Vec<Fate>,
+    recent: &mut Vec<Fate>,
+) -> bool
     requires many { 4096 ≤ length recent.old.items }
     ensures ended { result ≡ true → IsEnded blocks.old.items blocks.new.items mixed.old.items mixed.new.items recent.old.items recent.new.items }
     ensures blocks { result ≡ false → blocks.new.items ≡ blocks.old.items }

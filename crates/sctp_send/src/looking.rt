@@ -191,7 +191,12 @@ pub(crate) fn stream_by_looking(tracks: &[Track], ticket: u64) -> Option<usize>
 }
 
 /// The lowest ticket above the last one of messages in part that are past their time, or one found before.
-pub(crate) fn late_by_looking(tracks: &[Track], last: u64, now: u64, found: Option<u64>) -> Option<u64>
+pub(crate) fn late_by_looking(
+    tracks: &[Track],
+    last: u64,
+    now: u64,
+    found: Option<u64>,
+) -> Option<u64>
     ensures { (size : ℕ) → result ≡ soonest now last found (rest_messages (map (track_meaning size) tracks.now)) }
 {
     let mut found = found;

@@ -88,12 +88,17 @@ pub(crate) fn shared(message: &Arc<Message>) -> Result<Arc<Message>, NoMemory>
     Arc::try_clone(message).map_err(|_| NoMemory)
 }
 
-/// How many fragments of this size so many bytes make.
+/// How many fragments of this size so many bytes make. Where they fit into one, nothing is divided for that.
+#[inline(always)]
 pub(crate) fn fragments_of(size: u16, bytes: &[u8]) -> usize
     requires { 0 < size }
     ensures { result ≡ length (cut size bytes.now) }
 {
-    bytes.len().div_ceil(usize::from(size))
+    let most = usize::from(size);
+    if bytes.len() <= most {
+        return bytes.len().min(1);
+    }
+    bytes.len().div_ceil(most)
 }
 
 /// What a message owes with so many unassigned fragments: their TSNs, and one for an end mark.

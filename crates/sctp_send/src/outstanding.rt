@@ -111,6 +111,7 @@ impl Outstanding {
     ///
     /// # Errors
     /// `NoMemory`. It comes only where there is no such room.
+    #[inline(always)]
     pub(crate) fn reserve(&mut self, more: usize) -> Result<(), NoMemory>
         ensures size { self.new.size ≡ self.old.size }
         ensures items { self.new.items ≡ self.old.items }
@@ -122,6 +123,18 @@ impl Outstanding {
         if more <= self.room - self.entries.len() {
             return Ok(());
         }
+        self.reserve_anew(more)
+    }
+
+    /// The same, where there is no such room yet. It stands apart, so that what is asked each time stays small.
+    #[inline(never)]
+    fn reserve_anew(&mut self, more: usize) -> Result<(), NoMemory>
+        requires { self.old.capacity < length self.old.items + more }
+        ensures size { self.new.size ≡ self.old.size }
+        ensures items { self.new.items ≡ self.old.items }
+        ensures capacity { self.old.capacity ≤ self.new.capacity }
+        ensures room { OnOk result (length self.new.items + more ≤ self.new.capacity) }
+    {
         self.entries.reserve(more).map_err(|_| NoMemory)?;
         self.by_ticket.reserve(more)?;
         self.reserve_runs()?;

@@ -11,7 +11,8 @@ use crate::late_queued::bound;
 use crate::message::{Message, bytes_of, moment_of, owed_by_message};
 use crate::ordered::{Ordered, Pair};
 use crate::seats::{
-    Found, add_seat, first_from, fits_at, is_in_front, make_room, next_by_looking, seat_of,
+    Found, add_seat, first_from, fits_at, free_seat, is_in_front, make_room, next_by_looking,
+    seat_of,
 };
 use sctp_values::NoMemory;
 use std::alloc::Global;
@@ -145,7 +146,7 @@ impl Queue {
         self.owed = self.owed.wrapping_sub(owed);
         self.bytes = self.bytes.wrapping_sub(bytes_of(&message));
         let seat = seat_of(&message);
-        self.seats.remove(seat);
+        free_seat(&mut self.seats, self.is_seated, seat);
         Some(message)
     }
 

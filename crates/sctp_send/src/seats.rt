@@ -1,11 +1,11 @@
 //! Where a message that waits stands: by its ticket among the others, and by its stream.
 
-ghost use Rattle.std.specs.Prelude.{◌≡◌, ℕ, ◌+◌, ◌-◌, ◌<◌, ◌≤◌, Some, true, map, length, insert, slice_index_or, if◌then◌else◌, IfSome};
+ghost use Rattle.std.specs.Prelude.{◌≡◌, ℕ, ◌+◌, ◌-◌, ◌<◌, ◌≤◌, Some, true, map, length, insert, remove, slice_index_or, if◌then◌else◌, IfSome};
 ghost use Rattle.sctp_send.specs.SenderFields.{queued_by};
 ghost use Rattle.sctp_send.specs.OutstandingFields.{message_meaning};
 ghost use Rattle.sctp_send.specs.inner.Expiring.{late_after};
 ghost use Rattle.sctp_send.specs.inner.Newcomers.{FirstOnAnswer, IsFirstOn};
-ghost use Rattle.sctp_send.specs.inner.Ordering.{key, before};
+ghost use Rattle.sctp_send.specs.inner.Ordering.{key, before, AreOrdered};
 ghost use Rattle.sctp_send.specs.inner.Seating.{ticket_in, DoTicketsRise, IsBetween, NextOnAnswer};
 
 use crate::message::Message;
@@ -33,7 +33,12 @@ pub(crate) fn seat_of(message: &Message) -> Pair
 }
 
 /// Tickets rise, and go on rising with one at a place: it lies between those of its neighbours there.
-pub(crate) fn fits_at(messages: &VecDeque<Arc<Message>>, rises: bool, place: usize, ticket: u64) -> bool
+pub(crate) fn fits_at(
+    messages: &VecDeque<Arc<Message>>,
+    rises: bool,
+    place: usize,
+    ticket: u64,
+) -> bool
     requires { place ≤ length messages.now.items }
     ensures rises { result ≡ true → rises ≡ true }
     ensures between { result ≡ true → IsBetween place ticket messages.now.items }
@@ -91,6 +96,18 @@ pub(crate) fn add_seat(seats: &mut Ordered, is_seated: bool, seat: Pair) -> bool
     true
 }
 
+/// A seat is free again, where the seats are kept.
+#[inline(always)]
+pub(crate) fn free_seat(seats: &mut Ordered, is_seated: bool, seat: Pair)
+    ensures order { is_seated ≡ true → AreOrdered seats.old.items }
+    ensures seats { is_seated ≡ true → before key (key seat) seats.old.items < length seats.old.items
+        → seats.new.items ≡ remove seats.old.items (before key (key seat) seats.old.items) }
+{
+    if is_seated {
+        seats.remove(seat);
+    }
+}
+
 /// The place of the message that has waited longest on a stream.
 fn first_on(messages: &VecDeque<Arc<Message>>, stream: u16) -> Option<usize>
     ensures first { (size : ℕ) → FirstOnAnswer stream (map (queued_by size) messages.now.items) result }
@@ -122,7 +139,11 @@ pub(crate) fn is_in_front(messages: &VecDeque<Arc<Message>>, stream: u16, below:
 }
 
 /// The first stream from one on, below another, on which a message waits, and where, by looking through all messages for each.
-pub(crate) fn next_by_looking(messages: &VecDeque<Arc<Message>>, from: u16, below: u16) -> Option<Found>
+pub(crate) fn next_by_looking(
+    messages: &VecDeque<Arc<Message>>,
+    from: u16,
+    below: u16,
+) -> Option<Found>
     ensures next { (size : ℕ) → NextOnAnswer from below (map (queued_by size) messages.now.items) result }
     ensures within { IfSome result (λ found. found.place < length messages.now.items) }
 {

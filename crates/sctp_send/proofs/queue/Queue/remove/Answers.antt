@@ -24,5 +24,5 @@ invariant_of-self-2 c =
       owed = owed_removed w.size w.owed w.earliest c.owed_by_message-owed.result c.args.place ms c.remove_at.new.messages.items x c.self.invariant.owed within c.in_ok-message.ensures.value c.in_ok-message.ensures.items owed;
       bytes = bytes_removed w.bytes c.args.place c.bytes_of.result ms c.remove_at.new.messages.items x c.self.invariant.bytes within c.in_ok-message.ensures.value c.in_ok-message.ensures.items (c.bytes_of.ensures ∙ ap (λ (m : MessageFields). length m.bytes.items) c.deref-2.ensures) (omega (arith, c.bytes_of.type_inv));
       bounded = waits_removed w.bounds.items c.args.place ms c.remove_at.new.messages.items c.in_ok-message.ensures.items c.self.invariant.bounded;
-      seats = seated_removed w.rises w.is_seated c.args.place x ms c.remove_at.new.messages.items w.seats.items c.remove.new.self.items p c.self.invariant.seats c.remove.ensures.order within c.in_ok-message.ensures.value c.in_ok-message.ensures.items own c.remove.ensures.items;
+      seats = seated_removed w.rises w.is_seated c.args.place x ms c.remove_at.new.messages.items w.seats.items c.free_seat.new.seats.items p c.self.invariant.seats c.free_seat.ensures.order within c.in_ok-message.ensures.value c.in_ok-message.ensures.items own c.free_seat.ensures.seats;
     }
