@@ -6,7 +6,7 @@ use Rattle.std.proofs.lemmas.Bool.{cases_Bool}
 use Rattle.std.proofs.lemmas.Grind.{common_steps}
 use Rattle.sctp_model.specs.numbers.Lists.{Has}
 use Rattle.sctp_chains.specs.Same.{total}
-use Rattle.sctp_chains.specs.Links.{ChainKept, chain_of, one_of, join, is_linked, is_whole, one_if_whole, whole_in}
+use Rattle.sctp_chains.specs.Links.{ChainKept, chain_of, one_of, is_linked, is_whole, one_if_whole, whole_in}
 use Rattle.sctp_chains.specs.declared.chain.Chain.{Chain}
 use Rattle.sctp_chains.specs.declared.chain.Head.{Head}
 use Rattle.sctp_chains.specs.declared.chain.Part.{Part}

@@ -17,6 +17,7 @@ use crate::filed::Filed;
 use crate::filing::place;
 use crate::rank::rank_at;
 use crate::search::whole_with;
+use crate::spare::Spare;
 use crate::whole::{Fragments, Whole, whole_of};
 use sctp_framing::Framing;
 use sctp_values::{Kind, NoMemory, small_len};
@@ -66,7 +67,7 @@ impl<F: Framing> Chains<F> {
     pub fn is_empty(&self) -> bool
         ensures { (l : Lane) (kept : Kept) → StandsFor F.format self.now l kept → result ≡ (length kept == 0) }
     {
-        self.filed.chains.is_empty()
+        self.filed.chains.len() == 0
     }
 
     /// The lowest index of the chunks kept, in a lane whose messages have no number: none exactly where none is kept.
@@ -92,12 +93,13 @@ impl<F: Framing> Chains<F> {
         at < self.filed.chains.len() && self.filed.chains.get(at).first() <= rank
     }
 
-    /// Keeps a chunk, with this index and number in place of its wire values. Its data is copied.
+    /// Keeps a chunk, with this index and number in place of its wire values. Its data is copied, to a spare block if one suits.
     ///
     /// # Errors
     /// Memory ran out, and nothing changed.
     pub fn add(
         &mut self,
+        spare: &mut Spare,
         piece: &Piece<'_>,
         index: u64,
         number: Option<u64>,
@@ -108,7 +110,7 @@ impl<F: Framing> Chains<F> {
         ensures count { OnOk result (chain_count self.new ≤ suc (chain_count self.old)) }
         ensures whole { OnOk result (whole_count self.new ≤ suc (whole_count self.old)) }
     {
-        let part = part_of::<F>(self.alloc, piece, index, number)?;
+        let part = part_of::<F>(self.alloc, spare, piece, index, number)?;
         self.filed.file(self.alloc, part)?;
         self.held = self.held.saturating_add(small_len(piece.bytes.len()));
         Ok(())
@@ -121,6 +123,7 @@ impl<F: Framing> Chains<F> {
     #[inline(always)]
     pub fn alone(
         &self,
+        spare: &mut Spare,
         piece: &Piece<'_>,
         index: u64,
         number: u64,
@@ -132,7 +135,7 @@ impl<F: Framing> Chains<F> {
         if !piece.end || !F::begins(piece.begin, piece.word) || !self.is_above(number) {
             return Ok(None);
         }
-        let data = Vec::from_slice(self.alloc, piece.bytes).map_err(|_| NoMemory)?;
+        let data = spare.copy(self.alloc, piece.bytes)?;
         Ok(Some(Whole {
             first: index,
             number: Some(number),
@@ -215,13 +218,14 @@ impl<F: Framing> Chains<F> {
 /// Memory ran out.
 fn part_of<F: Framing>(
     alloc: Global,
+    spare: &mut Spare,
     piece: &Piece<'_>,
     index: u64,
     number: Option<u64>,
 ) -> Result<Part, NoMemory>
     ensures { IfOk result (λ p. cells_in (one_of p) ≡ cell_of F.format (counted index (piece_meaning piece.now) number) ∷ []) }
 {
-    let data = Vec::from_slice(alloc, piece.bytes).map_err(|_| NoMemory)?;
+    let data = spare.copy(alloc, piece.bytes)?;
     let head = if F::begins(piece.begin, piece.word) {
         Some(Head {
             index,

@@ -25,7 +25,9 @@ mod letting_go;
 mod parts;
 mod rank;
 mod search;
+mod spare;
 mod whole;
 
 pub use chains::Chains;
+pub use spare::Spare;
 pub use whole::{Fragments, Whole};

@@ -1,12 +1,12 @@
 -- Bits in words of 64: one is put, the next one is found.
-use Rattle.std.proofs.Common.{◌≡◌, ℕ, zero, suc, ◌+◌, ◌-◌, ◌*◌, ◌/◌, ◌%◌, ◌^◌, ◌<◌, ◌≤◌, min, List, [], ◌∷◌, length, get_or, set, replicate, Option, None, Some, inl, inr, refl, sym, ◌∙◌, ap, subst, arith, w64}
+use Rattle.std.proofs.Common.{◌≡◌, ℕ, zero, suc, ◌+◌, ◌-◌, ◌*◌, ◌/◌, ◌%◌, ◌^◌, ◌<◌, ◌≤◌, min, List, [], ◌∷◌, length, get_or, set, replicate, Option, None, Some, inl, inr, refl, sym, ◌∙◌, ap, arith, w64}
 use Rattle.std.specs.Prelude.{bit_and}
 use Rattle.std.specs.Int.{bit_at, trailing_zeros}
 use Rattle.std.proofs.lemmas.Bool.{cases_eq, cases_lt}
-use Rattle.std.proofs.lemmas.List.{get_or-set_same, get_or-set_other, get_or-replicate, length-replicate}
+use Rattle.std.proofs.lemmas.List.{get_or-set_same, get_or-set_other, length-replicate}
 use Rattle.std.proofs.lemmas.Nat.{and_le_l}
 use Rattle.std.proofs.lemmas.Nat.Bits.{bit_at_and, bit_at_mask_inside, bit_at_mask_below, bit_at-zero, bit_at-lt, bit_at-trailing_zeros}
-use Rattle.sctp_recv.specs.inner.Bits.{word_at, bit_in, IsBitFrom, BitFrom, IsNextBit, NextBit, AreTops}
+use Rattle.sctp_recv.specs.inner.Bits.{word_at, bit_in, BitFrom, NextBit, AreTops}
 
 -- ---- one word
 

@@ -17,6 +17,7 @@ ghost use Rattle.sctp_recv.specs.inner.Giving.{sized, HasRoom, SameChunks, AreCo
 
 use crate::inbound::Inbound;
 use crate::message::{Message, message_of};
+use sctp_chains::Spare;
 use sctp_framing::Framing;
 use sctp_values::{Kind, NoMemory, small_len};
 use sctp_wire::Piece;
@@ -148,6 +149,7 @@ fn is_next(number: Option<u64>, next: u64) -> bool
 /// Memory ran out, and nothing changed.
 fn keep_ordered<F: Framing>(
     inbound: &mut Inbound<F>,
+    spare: &mut Spare,
     piece: &Piece<'_>,
     index: u64,
     number: Option<u64>,
@@ -161,7 +163,7 @@ fn keep_ordered<F: Framing>(
     make_room(inbound, 1)?;
     let next = inbound.next;
     if is_next(number, next) {
-        if let Some(whole) = inbound.ordered.alone(piece, index, next)? {
+        if let Some(whole) = inbound.ordered.alone(spare, piece, index, next)? {
             inbound.next = number_after(whole.number);
             let bytes = wait(
                 &mut inbound.waiting,
@@ -170,7 +172,7 @@ fn keep_ordered<F: Framing>(
             return Ok(give_on(inbound, piece.stream, next, bytes));
         }
     }
-    inbound.ordered.add(piece, index, number)?;
+    inbound.ordered.add(spare, piece, index, number)?;
     Ok(give_ordered(inbound, piece.stream, next))
 }
 
@@ -180,6 +182,7 @@ fn keep_ordered<F: Framing>(
 /// Memory ran out, and nothing changed.
 fn keep_unordered<F: Framing>(
     inbound: &mut Inbound<F>,
+    spare: &mut Spare,
     piece: &Piece<'_>,
     index: u64,
     number: Option<u64>,
@@ -191,7 +194,7 @@ fn keep_unordered<F: Framing>(
     ensures refused { OnErr result ((inbound_of inbound.new ≡ inbound_of inbound.old) × SameChunks F.format inbound.old inbound.new) }
 {
     make_one(&mut inbound.waiting)?;
-    inbound.unordered.add(piece, index, number)?;
+    inbound.unordered.add(spare, piece, index, number)?;
     inbound.largest = larger(inbound.largest, number);
     match inbound.unordered.take_with(piece, index, number) {
         Some(whole) => Ok(wait(
@@ -208,6 +211,7 @@ fn keep_unordered<F: Framing>(
 /// Memory ran out, and nothing changed.
 pub(crate) fn keep_in<F: Framing>(
     inbound: &mut Inbound<F>,
+    spare: &mut Spare,
     piece: &Piece<'_>,
     index: u64,
     number: Option<u64>,
@@ -220,7 +224,7 @@ pub(crate) fn keep_in<F: Framing>(
 {
     let unordered = piece.unordered;
     if unordered {
-        return keep_unordered(inbound, piece, index, number);
+        return keep_unordered(inbound, spare, piece, index, number);
     }
-    keep_ordered(inbound, piece, index, number)
+    keep_ordered(inbound, spare, piece, index, number)
 }

@@ -125,12 +125,15 @@ impl<F: Framing> Receiver<F> {
         };
         let inbound: &mut Inbound<F> = made;
         let before = inbound.kept_bytes();
-        let given = keep_in(inbound, piece, index, number)?;
+        let waited = inbound.waiting.len();
+        let given = keep_in(inbound, &mut self.spare, piece, index, number)?;
+        let more = inbound.waiting.len().saturating_sub(waited);
         self.held = self
             .held
             .saturating_sub(before)
             .saturating_add(inbound.kept_bytes())
             .saturating_add(given);
+        self.spare.waits(more);
         let _ = self.seen.add(index);
         show(&mut self.ready, &self.streams, piece.stream);
         Ok(())

@@ -22,6 +22,7 @@ use crate::ready::{Ready, show};
 use crate::sack::SackLists;
 use crate::seen::Seen;
 use crate::stream::{Stream, fresh_streams, take_first};
+use sctp_chains::Spare;
 use sctp_framing::Framing;
 use sctp_serial::tsn_of;
 use sctp_values::{Kind, NoMemory};
@@ -41,6 +42,8 @@ pub struct Receiver<F: Framing> {
     pub(crate) lows: Lows,
     /// On which streams a message waits.
     pub(crate) ready: Ready,
+    /// Blocks of messages that came back.
+    pub(crate) spare: Spare,
 }
 
 /// On how many of so many streams a bound is noted: on none where unordered messages have numbers.
@@ -80,6 +83,7 @@ impl<F: Framing> Receiver<F> {
             duplicates: Duplicates::new(alloc),
             lows,
             ready,
+            spare: Spare::new(alloc),
         })
     }
 
@@ -177,10 +181,20 @@ impl<F: Framing> Receiver<F> {
         match take_first(&mut self.streams[at]) {
             Some(message) => {
                 self.held = less(self.held, &message);
+                self.spare.taken();
                 show(&mut self.ready, &self.streams, stream);
                 Some(message)
             }
             None => None,
         }
+    }
+
+    /// A message that was taken comes back, and its memory holds the data of chunks that come. The receiver keeps that of so many messages at most as
+    /// waited at once, since the first one came back, in blocks of no more bytes than its buffer; what is more it lets go of, and likewise a block that a
+    /// chunk doesn't fit or would fill by less than half. It takes no memory, and shows in no answer.
+    pub fn give_back(&mut self, message: Message)
+        ensures { (v : ReceiverView) → StandsFor F.format self.old v → StandsFor F.format self.new v }
+    {
+        self.spare.give_back(message.parts, self.buffer);
     }
 }

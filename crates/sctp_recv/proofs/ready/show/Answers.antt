@@ -1,9 +1,8 @@
-use Rattle.std.proofs.Common.{◌≡◌, ◌*◌, ◌<◌, ℕ, List, length, map, sym, ◌∙◌, ap, subst, arith, if◌then◌else◌}
+use Rattle.std.proofs.Common.{◌≡◌, ◌<◌, ℕ, length, map, sym, ◌∙◌, ap, arith, if◌then◌else◌}
 use Rattle.std.proofs.lemmas.List.{length-map}
 use Rattle.std.specs.Prelude.{min}
 use Rattle.sctp_recv.specs.Fields.{stream_of}
 use Rattle.sctp_recv.specs.ReceiverKept.{StreamKept, stream_at}
-use Rattle.sctp_recv.specs.inner.Bits.{bit_in}
 use Rattle.sctp_recv.proofs.ShownLemmas.{shown_put, shown_past}
 use Rattle.sctp_recv.proofs.StreamLemmas.{stream_mapped}
 use Rattle.sctp_recv.proofs.ready.show.Goals as goal

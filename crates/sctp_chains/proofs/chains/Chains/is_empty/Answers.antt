@@ -1,4 +1,4 @@
-use Rattle.std.proofs.Common.{ℕ, length, map, sym, ◌∙◌, ap}
+use Rattle.std.proofs.Common.{ℕ, map, sym, ◌∙◌, ap}
 use Rattle.std.specs.Prelude.{◌==◌}
 use Rattle.sctp_chains.specs.Links.{chain_of}
 use Rattle.sctp_chains.specs.StandsFor.{StandsFor}
@@ -10,4 +10,4 @@ pub returns : goal.returns
 unfolding StandsFor
 returns g c = λ l kept stands.
     let ms = c.args.self.now.filed.chains.items in
-    c.is_empty.ensures ∙ ap (λ (n : ℕ). n == 0) (sym (length_kept ms)) ∙ as_empty g.F.Framing.format l (map chain_of ms) c.args.self.now.held kept stands
+    ap (λ (n : ℕ). n == 0) (c.len.ensures ∙ sym (length_kept ms)) ∙ as_empty g.F.Framing.format l (map chain_of ms) c.args.self.now.held kept stands

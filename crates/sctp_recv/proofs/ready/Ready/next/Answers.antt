@@ -1,4 +1,4 @@
-use Rattle.std.proofs.Common.{◌≡◌, ◌/◌, ◌%◌, ◌<◌, ℕ, length, ap, arith}
+use Rattle.std.proofs.Common.{◌/◌, ◌%◌, ◌<◌, ℕ, length, ap, arith}
 use Rattle.sctp_recv.proofs.BitLemmas.{read_word, word_skipped}
 use Rattle.sctp_recv.proofs.ready.Ready.next.Goals as goal
 

@@ -1,4 +1,4 @@
-use Rattle.std.proofs.Common.{◌≡◌, ◌<◌, ℕ, refl, subst, arith, w64, rules}
+use Rattle.std.proofs.Common.{◌<◌, refl, arith, w64}
 use Rattle.std.specs.Int.{trailing_zeros}
 use Rattle.sctp_recv.proofs.BitLemmas.{read_word, tops_some, lowest_bit, top_found}
 use Rattle.sctp_recv.proofs.ready.Ready.next_from.Goals as goal
