@@ -6,7 +6,8 @@ set -euo pipefail
 [ $# = 1 ] || { echo "install.sh PREFIX" >&2; exit 2; }
 root=$(CDPATH='' cd -- "$(dirname -- "$0")" && pwd -P)
 core=$root/crates/sctp_c/out/libsctp_c.a
-heap=$(dirname "$(rt doc)")/c/liblibc_c.a
+page=$(rt doc)
+heap=$(dirname "$page")/c/liblibc_c.a
 [ -f "$core" ] || { echo "install.sh: first (cd crates/sctp_c && rt lib)" >&2; exit 1; }
 mkdir -p "$1/lib/pkgconfig" "$1/include"
 prefix=$(CDPATH='' cd -- "$1" && pwd -P)

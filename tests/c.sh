@@ -1,6 +1,6 @@
 #!/usr/bin/env bash
-# The library for C, tried: tests/c.sh, behind (cd crates/sctp_c && rt lib). It needs `rt` and a C compiler; C++, valgrind, cargo and
-# python3 are used where they are, and it says what it leaves out. It takes a minute or two, and prints a line for each try.
+# The library for C, tried: tests/c.sh, behind (cd crates/sctp_c && rt lib). It needs `rt` and a C compiler; C++, valgrind, libusrsctp, cargo
+# and python3 are used where they are, and it says what it leaves out. It takes some minutes, and prints a line for each try.
 
 set -euo pipefail
 root=$(CDPATH='' cd -- "$(dirname -- "$0")/.." && pwd -P)
@@ -70,6 +70,36 @@ if there valgrind "valgrind"; then
     each "the same as I-DATA" 19 64 i
     each "64 bytes, one to a packet" 1 64
     each "16 KiB" 1 16384
+fi
+
+# ---- beside usrsctp in one process
+if echo '#include <usrsctp.h>' | "$cc" -E - > /dev/null 2>&1; then
+    "$cc" "${flags[@]}" -o "$at/usrsctp" tests/c/usrsctp/*.c "${static[@]}" -lusrsctp
+    tried=0
+    exchange() { told=$("$at/usrsctp" "$@") || { say "usrsctp $*: $told"; exit 1; }; tried=$((tried + 1)); }
+    for mode in data data-pr idata idata-pr; do
+        for caller in ours theirs both; do
+            # shellcheck disable=SC2086
+            for link in "0 0" "0 30" "10 10" "30 30"; do
+                for ending in ours-shuts theirs-shuts both-shut ours-aborts theirs-aborts; do exchange 1 $caller $mode $mode $link wide $ending; done
+                for ending in ours-shuts theirs-shuts both-shut; do exchange 2 $caller $mode $mode $link narrow $ending; done
+            done
+            for other in data data-pr idata idata-pr; do exchange 3 $caller $mode $other 10 10 wide ours-shuts; done
+        done
+    done
+    say "usrsctp in one process: $tried exchanges, as wanted"
+    # of what leaks and is read uninitialised, what isn't usrsctp's own
+    if "$cc" "${flags[@]}" -fsanitize=address,undefined -fno-sanitize-recover=all -o "$at/sanitized" tests/c/usrsctp/*.c "${static[@]}" -lusrsctp 2> /dev/null; then
+        for mode in data data-pr idata idata-pr; do ASAN_OPTIONS=detect_leaks=0 "$at/sanitized" 4 theirs $mode $mode 10 10 wide ours-shuts > /dev/null; done
+        say "the same under sanitizers, an exchange a mode"
+    fi
+    if there valgrind "usrsctp under valgrind"; then
+        printf '{\n theirs\n Memcheck:%s\n ...\n obj:*/libusrsctp.so*\n}\n' Leak Cond Value4 Value8 > "$at/theirs"
+        valgrind -q --error-exitcode=1 --leak-check=full --suppressions="$at/theirs" "$at/usrsctp" 4 ours idata-pr idata-pr 10 10 wide ours-shuts > /dev/null
+        say "the same under valgrind, one exchange"
+    fi
+else
+    say "left out, no usrsctp.h (libusrsctp-dev): usrsctp in one process"
 fi
 
 # ---- one end over UDP, twice
