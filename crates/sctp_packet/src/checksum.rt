@@ -133,7 +133,7 @@ fn after_sixteen(register: u32, bytes: &[u8]) -> u32
     requires { 16 ≤ length bytes.now }
     ensures { bits 32 result ≡ register_after (drop 1 divisor) (bits 32 register) (message_bits (take 16 bytes.now)) }
 {
-    left_by_eight(register, bytes, HALF) ^ left_by_eight(0, &bytes[HALF..], 0)
+    left_by_eight(register, bytes, HALF) ^ left_alone(&bytes[HALF..])
 }
 
 /// The register after the first eight bytes.
@@ -162,6 +162,22 @@ fn left_by_eight(register: u32, bytes: &[u8], follow: usize) -> u32
         ^ entry(follow + 5, (mixed >> 16) % 256)
         ^ entry(follow + 6, (mixed >> 8) % 256)
         ^ entry(follow + 7, mixed % 256)
+}
+
+/// What the first eight bytes leave where no register is added and nothing follows.
+#[inline(always)]
+fn left_alone(bytes: &[u8]) -> u32
+    requires { 8 ≤ length bytes.now }
+    ensures { result ≡ steps 64 (little_number 8 bytes.now) }
+{
+    entry(0, u32::from(bytes[7]))
+        ^ entry(1, u32::from(bytes[6]))
+        ^ entry(2, u32::from(bytes[5]))
+        ^ entry(3, u32::from(bytes[4]))
+        ^ entry(4, u32::from(bytes[3]))
+        ^ entry(5, u32::from(bytes[2]))
+        ^ entry(6, u32::from(bytes[1]))
+        ^ entry(7, u32::from(bytes[0]))
 }
 
 /// What the table has for a byte that so many bytes follow.
