@@ -99,7 +99,7 @@ list() {
 lay() {
     mkdir -p "$room/crates" || exit 3
     closure "$@" >"$room/names"
-    grep -E "^($(paste -s -d '|' "$room/names")):" crates.txt >"$room/crates.txt"
+    grep -E "^($(paste -s -d '|' "$room/names"))( [a-z]+)?:" crates.txt >"$room/crates.txt"
     cp -- HANDLES "$room/" || exit 3
     while read -r crate; do
         mkdir -p "$room/crates/$crate/out" || exit 3
