@@ -76,6 +76,9 @@ pub(crate) fn forget_stretch(stretches: &mut Vec<Stretch>, index: u32)
     ensures here { (s : Stretch) → slice_get stretches.new.items (index / 64 % 512) ≡ Some s → s.is_known ≡ false }
     ensures others { (k : ℕ) → (k ≡ index / 64 % 512 → ⊥) → slice_get stretches.new.items k ≡ slice_get stretches.old.items k }
 {
+    if stretches.is_empty() {
+        return;
+    }
     put_stretch(stretches, index, UNKNOWN);
 }
 

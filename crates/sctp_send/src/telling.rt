@@ -28,13 +28,12 @@ impl Outstanding {
     {
         let mut at = from;
         while at < to {
-            at = self.tell_on(covered, at, to);
-            self.learn(from, at);
+            at = self.tell_on(covered, from, at, to);
         }
     }
 
-    /// The next entries are told covered, or not: a stretch, or else one. It answers how far that goes.
-    fn tell_on(&mut self, covered: bool, at: usize, to: usize) -> usize
+    /// The next entries of a run that begins at `from` are told covered, or not: a stretch, or else one. It answers how far that goes.
+    fn tell_on(&mut self, covered: bool, from: usize, at: usize, to: usize) -> usize
         requires order { at < to }
         requires within { to ≤ length self.old.items }
         ensures further { at < result }
@@ -45,6 +44,7 @@ impl Outstanding {
             return at + STRETCH;
         }
         self.tell(at, covered);
+        self.learn(from, at + 1);
         at + 1
     }
 

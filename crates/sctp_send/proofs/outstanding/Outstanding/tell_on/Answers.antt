@@ -23,5 +23,5 @@ pub returns-clause-told : goal.returns-clause-told
 returns-clause-told c =
     let w = c.args.self.now in
     let lt : c.args.at < length w.items = omega (arith, c.requires.order, c.requires.within) in
-    c.tell.ensures ∙ ap (changed (told c.args.covered) c.args.at) (c.tell_known.ensures.same c.if-tell_known.false)
+    c.learn.ensures ∙ c.tell.ensures ∙ ap (changed (told c.args.covered) c.args.at) (c.tell_known.ensures.same c.if-tell_known.false)
     ∙ ap (λ (es : List EntryFields). record w { items = es }) (run_step c.args.covered c.args.at c.args.at w.items w.items (omega arith) lt (run_starts c.args.covered c.args.at w.items))

@@ -30,7 +30,7 @@ loop-at-preserved c =
       low = omega (arith, h.low, low);
       high = c.tell_on-at.ensures.upto;
       told =
-          c.learn.ensures ∙ c.tell_on-at.ensures.told ∙ ap (λ (k : OutstandingKept). record k { items = told_where c.args.covered (is_between c.loop-at.at next) 1 k.items }) h.told
+          c.tell_on-at.ensures.told ∙ ap (λ (k : OutstandingKept). record k { items = told_where c.args.covered (is_between c.loop-at.at next) 1 k.items }) h.told
           ∙ ap (λ (es : List EntryFields). record w { items = es }) (run_joined c.args.covered c.args.from c.loop-at.at next w.items h.low low);
     }
 
