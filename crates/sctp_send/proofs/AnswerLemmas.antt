@@ -23,7 +23,7 @@ use Rattle.sctp_send.proofs.QueueLemmas.{fates_given}
 -- ---- the answers
 
 -- what is kept tells whether it is acknowledged whole
-whole_is : (f : Format) (s : Kept) (v : SenderView) (t : ℕ) (n : Name) → Keeps f s v → IsKept v t n → (not (any_rest t s.tracks) && not (any_uncovered t s.items)) ≡ is_covered v n
+pub whole_is : (f : Format) (s : Kept) (v : SenderView) (t : ℕ) (n : Name) → Keeps f s v → IsKept v t n → (not (any_rest t s.tracks) && not (any_uncovered t s.items)) ≡ is_covered v n
 whole_is f s v t n k m = rw (kept_goes_on f s v t n k m.named, kept_uncovered f s v t n k m.named) refl
 
 -- an answer for a message with a number, and the view after it

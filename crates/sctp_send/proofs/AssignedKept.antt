@@ -1,6 +1,6 @@
 -- What is kept when a fragment takes its index and goes out at once: of a message that begins, and of one in part; and how much is outstanding then.
 use Rattle.std.proofs.Common.{◌≡◌, ℕ, zero, suc, ◌+◌, ◌-◌, ◌<◌, ◌≤◌, List, [], ◌∷◌, ◌++◌, length, get_or, set, Bool, true, false, Option, Some, None, refl, sym, ap, ◌∙◌, subst, arith, length-append}
-use Rattle.std.specs.Prelude.{◌==◌, nat_lt}
+use Rattle.std.specs.Prelude.{◌==◌, nat_lt, option_and_then}
 use Rattle.std.proofs.lemmas.Bool.Decides.{nat_tests}
 use Rattle.sctp_model.specs.messages.Format.{Format, Lane}
 use Rattle.sctp_model.specs.messages.Plan.{Message, Entry, Part, End, parts_from}
@@ -20,12 +20,15 @@ use Rattle.sctp_send.specs.SenderKept.{Item, Rest, Track, Kept}
 use Rattle.sctp_model.specs.sender.Abandoning.{waits, has_ticket}
 use Rattle.sctp_send.specs.SenderStands.{rest_here, track_here, Holds, Keeps}
 use Rattle.sctp_send.specs.inner.Walks.{total, one_if_rest, rest_has}
+use Rattle.sctp_send.specs.inner.Expiring.{queue_messages}
+use Rattle.sctp_send.specs.inner.Dues.{is_late, some_late}
 use Rattle.sctp_send.specs.declared.message.Fate.TheVariants.{Numbered}
 pub use Rattle.sctp_send.specs.inner.Newcomers.{begun_items}
 use Rattle.sctp_send.proofs.KeepLemmas.{kept_length}
 use Rattle.sctp_send.proofs.QueueLemmas.{kept_in_part}
 use Rattle.sctp_send.proofs.TableLemmas.{length-table}
 use Rattle.sctp_send.proofs.OverLemmas.{no_item_more, no_item_one, no_begun, no_rest_set, no_rest_at, no_rest_begun, no_rest_after, not_waiting_taken, another_taken}
+use Rattle.sctp_send.proofs.DueLemmas.{late_items_more, late_item_one, late_begun, late_rest_set, late_rest_at, late_rest_begun, late_rest_after, IsLeftIdle}
 use Rattle.sctp_send.proofs.GoneLemmas.{gone_item, holds_sent}
 use Rattle.sctp_send.proofs.NewItems.{new_item, new_items, numbered}
 use Rattle.sctp_send.proofs.AssignLemmas.{number_in, begun_track, track_at, holds_begun}
@@ -77,10 +80,10 @@ after_begun s q rest d turn capacity t = record s {
   capacity = capacity;
 }
 
-pub begun_kept : (f : Format) (s : Kept) (v : SenderView) (q : Queued) (rest : List Queued) (d turn capacity room : ℕ) (x : Track) → Keeps f s v → IsTaken q rest v.queue → q.lane.stream < v.streams
+pub begun_kept : (f : Format) (s : Kept) (v : SenderView) (q : Queued) (rest : List Queued) (d turn capacity room : ℕ) (x : Track) → Keeps f s v → IsTaken q rest v.queue → ((now t : ℕ) → some_late now t (queue_messages v.queue) ≡ false → IsLeftIdle now t q rest) → q.lane.stream < v.streams
     → goes f room v ≡ Some (newcomer v (numbered v q (suc d) rest turn)) → v.streams + (length s.items + suc d) ≤ capacity
     → Keeps f (after_begun s q rest d turn capacity (get_or s.tracks q.lane.stream x)) (gone (newcomer v (numbered v q (suc d) rest turn)))
-begun_kept f s v q rest d turn capacity room x k taken low first space =
+begun_kept f s v q rest d turn capacity room x k taken idle low first space =
     let u = numbered v q (suc d) rest turn in
     let n = number_in q.lane.kind (get_or s.tracks q.lane.stream x) in
     let behind = new_items q.lane n q.message 1 d in
@@ -102,6 +105,17 @@ begun_kept f s v q rest d turn capacity room x k taken low first space =
               queue = not_waiting_taken t q rest v.queue taken waits;
               tracks = no_rest_set t q.lane.stream s.tracks (begun_track q (suc d) (get_or s.tracks q.lane.stream x)) o.tracks (no_rest_begun t q (suc d) (get_or s.tracks q.lane.stream x) other);
               items = no_item_more t s.items (begun_items q.lane n q.message (suc d)) o.items (no_begun t q.lane n q.message d other);
+            };
+      };
+      due = record {
+        many = k.due.many;
+        each = λ t now lt.
+            let i = k.due.each t now lt in
+            let left = idle now t (ap (λ (qs : List Queued). some_late now t (queue_messages qs)) (sym k.holds.queue) ∙ i.queue) in
+            record {
+              queue = left.others;
+              items = λ on. late_items_more now t s.asleep s.items (begun_items q.lane n q.message (suc d)) (i.items on) (late_begun now t s.asleep q.lane n q.message d left.one);
+              tracks = λ on. late_rest_set now t q.lane.stream s.tracks (begun_track q (suc d) (get_or s.tracks q.lane.stream x)) (i.tracks on) (late_rest_begun now t q (suc d) (get_or s.tracks q.lane.stream x) left.one);
             };
       };
       reached = Goes v room (newcomer v u) k.reached parts.0 parts.1;
@@ -187,6 +201,19 @@ continued_kept f s v j turn capacity room e x k low on first space =
               queue = o.queue;
               tracks = no_rest_set t j s.tracks (record (get_or s.tracks j x) { rest = rest_after r.entry r.message }) o.tracks (no_rest_after t r.entry r.message other);
               items = no_item_one t s.items (gone_item (rest_item r)) o.items other;
+            };
+      };
+      due = record {
+        many = k.due.many;
+        each = λ t now lt.
+            let i = k.due.each t now lt in
+            let long = ap (λ (ts : List Track). length ts) k.holds.tracks ∙ length-table (track_here v) 0 v.streams in
+            let there : (get_or s.tracks j x).rest ≡ Some r = ap (λ (y : Track). y.rest) (track_at f s v j x k low) ∙ ap (rest_here v.plan) on in
+            let other : s.partial ≡ true → is_late now t r.message ≡ false = λ may. ap (λ (o : Option Rest). is_late now t (option_and_then (λ y. y.message) o)) (sym there) ∙ late_rest_at now t j s.tracks x (omega (arith, long)) (i.tracks may) in
+            record {
+              queue = i.queue;
+              items = λ may. late_item_one now t s.asleep s.items (gone_item (rest_item r)) (i.items may) (other may);
+              tracks = λ may. late_rest_set now t j s.tracks (record (get_or s.tracks j x) { rest = rest_after r.entry r.message }) (i.tracks may) (late_rest_after now t (get_or s.tracks j x) r.entry r.message (other may));
             };
       };
       reached = Goes v room (newcomer v u) k.reached parts.0 parts.1;

@@ -41,6 +41,9 @@ use Rattle.sctp_send.specs.declared.entry.Place.TheVariants.{Fragment}
 use Rattle.sctp_send.proofs.TableLemmas.{length-table}
 use Rattle.sctp_send.proofs.NewItems.{numbered}
 use Rattle.sctp_send.proofs.AssignLemmas.{number_is, track_at}
+use Rattle.sctp_send.specs.inner.Expiring.{queue_messages}
+use Rattle.sctp_send.specs.inner.Dues.{some_late}
+use Rattle.sctp_send.proofs.DueLemmas.{late_taken, IsLeftIdle}
 use Rattle.sctp_send.proofs.AssignedKept.{begun_kept, outstanding_begun, length-new_items}
 use Rattle.sctp_send.proofs.ChunkLemmas.{chunk_begun, bytes_begun}
 use Rattle.sctp_send.proofs.FewLemmas.{few_messages}
@@ -61,6 +64,7 @@ record IsBegunBy (f : Format) (v : SenderView) (q : Queued) (place count turn : 
   less : ℕ
   some : count ≡ suc less
   taken : IsTaken q (without_place place v.queue) v.queue
+  idle : (now t : ℕ) → some_late now t (queue_messages v.queue) ≡ false → IsLeftIdle now t q (without_place place v.queue)
   low : q.lane.stream < v.streams
   assigned : assigned f v ≡ Some (numbered v q (suc less) (without_place place v.queue) turn)
 
@@ -71,6 +75,7 @@ begun_by f s v place count turn k b =
         less = b.less;
         some = b.some;
         taken = subst (λ (qs : List Queued). IsTaken b.message (without_place place v.queue) qs) (sym whole) (taken_head b.message (without_place place v.queue));
+        idle = λ now t none. late_taken now t place v.queue b.message b.there none;
         low = (subst (λ (qs : List Queued). AllFilled v.streams qs) whole (is_filled f v k.reached)).0.1;
         assigned = now;
       }
@@ -78,6 +83,7 @@ begun_by f s v place count turn k b =
         less = b.less;
         some = b.some;
         taken = subst (λ (qs : List Queued). IsTaken b.message qs v.queue) first.1 (taken_first b.message.lane.stream b.message v.queue first.0);
+        idle = λ now t none. late_taken now t place v.queue b.message b.there none;
         low = first_there v.streams b.message.lane.stream b.message v.queue (is_filled f v k.reached) first.0;
         assigned = now;
       }
@@ -227,7 +233,7 @@ module _ (f : Format) (s : Kept) (v : SenderView) (old : Draft) (m : MessageFiel
       let more_items = length-append (drafted s old).items (begun_items q.lane (number_on (drafted s old).tracks q.lane) q.message (suc by.less)) in
       let new_ones = length-new_items q.lane (number_on (drafted s old).tracks q.lane) q.message 1 by.less in
       let streams = k.holds.streams in
-      let h = begun_kept f (drafted s old) v q (without_place place v.queue) by.less turn capacity (room_in p) fresh_track k by.taken by.low goes_now (omega (arith, many, long, all, more_items, new_ones, streams, room)) in
+      let h = begun_kept f (drafted s old) v q (without_place place v.queue) by.less turn capacity (room_in p) fresh_track k by.taken by.idle by.low goes_now (omega (arith, many, long, all, more_items, new_ones, streams, room)) in
       let queue = subst (λ (qs : List Queued). Keeps f (record (begun (drafted s old) q place (suc by.less) turn capacity) { queue = without_place place qs }) (gone (newcomer v led))) (sym k.holds.queue) h in
       let counted = subst (λ (n : ℕ). Keeps f (begun (drafted s old) q place n turn capacity) (gone (newcomer v led))) (sym by.some) queue in
       let in_packet = tried_put p r _ put (and_parts _ _ on).1 (begun_tried p r new at capacity none put here kept tried) in

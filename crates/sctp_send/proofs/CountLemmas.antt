@@ -10,10 +10,9 @@ use Rattle.sctp_send.specs.SenderKept.{Item}
 use Rattle.sctp_send.specs.OutstandingFields.{is_marked, item_meaning}
 use Rattle.sctp_send.specs.inner.Wishing.{first_place, is_item_marked, is_item_unsent, item_bytes, item_weight, item_flight}
 use Rattle.sctp_send.specs.inner.Walks.{abandoned_items, is_item_unsettled}
-use Rattle.sctp_send.specs.inner.Expiring.{item_message, item_messages}
 use Rattle.sctp_send.specs.inner.Changes.{unmarked, as_covered, as_uncovered}
 use Rattle.sctp_send.specs.inner.Newcomers.{one_if}
-use Rattle.sctp_send.specs.inner.Counting.{count_unsettled, entered, left, lowered, reached, AreWorth, IsCounted}
+use Rattle.sctp_send.specs.inner.Counting.{count_unsettled, entered, left, lowered, reached, IsCounted}
 use Rattle.sctp_send.specs.declared.counts.Counts.{Counts}
 use Rattle.sctp_send.specs.declared.entry.Standing.{Standing}
 use Rattle.sctp_send.specs.declared.entry.Standing.TheVariants.{Unsent, Sent, Marked}
@@ -22,7 +21,6 @@ use Rattle.sctp_send.proofs.ItemLemmas.{item_read}
 use Rattle.sctp_send.proofs.WeightLemmas.{weight_small, one_small, flight_sum, unsettled_one, unsettled_sum}
 use Rattle.sctp_send.proofs.CursorLemmas.{lower_within, reach_within, none_reached, none_behind_first, none_cut, none_set}
 use Rattle.sctp_send.proofs.FrontLemmas.{front_pushed, front_cut, front_stays}
-use Rattle.sctp_send.proofs.WorthLemmas.{messages_by, worth_sooner, worth_push, worth_set}
 
 -- ---- sums modulo 2^64
 
@@ -61,7 +59,6 @@ counts_pushed size es e c h =
       unsent_within = reach_within (is_item_unsent x) c.unsent (length es) (length (es ++ e ∷ [])) (let le = h.unsent_within in omega arith) (omega (arith, longer));
       flight = rw more (sum_pushed item_weight item_flight flight_sum items x c.flight h.flight);
       unsettled = rw more (sum_pushed unsettled_one count_unsettled unsettled_sum items x c.unsettled h.unsettled);
-      earliest = worth_push (item_meaning size) item_message c.earliest es e h.earliest;
       front = rw more (front_pushed items x c.front (length es) long h.front);
     }
 
@@ -81,13 +78,8 @@ counts_behind size e es c front h is =
       unsent_within = let le : c.unsent ≤ suc (length es) = h.unsent_within in omega arith;
       flight = sum_behind item_weight item_flight flight_sum x items c.flight (weight_small size e h.some h.small) h.flight;
       unsettled = sum_behind unsettled_one count_unsettled unsettled_sum x items c.unsettled (one_small (is_item_unsettled x)) h.unsettled;
-      earliest = h.earliest.1;
       front = is;
     }
-
-worth_front : {A B : Type 0} (g : A → B) (f : B → Option Message) (first : ℕ) (xs ys : List A) → AreWorth first (messages_by g f (xs ++ ys)) → AreWorth first (messages_by g f xs)
-worth_front g f first [] ys worth = tt
-worth_front g f first (x ∷ xs) ys worth = (worth.0, worth_front g f first xs ys worth.1)
 
 pub counts_cut : (size : ℕ) (es : List EntryFields) (e : EntryFields) (c : Counts) → IsCounted size (es ++ e ∷ []) c
     → IsCounted size es (record (left (item_meaning size e) c) { marked = min c.marked (length es); unsent = min c.unsent (length es); front = min c.front (length es) })
@@ -105,7 +97,6 @@ counts_cut size es e c h =
       unsent_within = omega arith;
       flight = sum_cut item_weight item_flight flight_sum items x c.flight (weight_small size e h.some h.small) (h.flight ∙ ap (λ (ys : List Item). item_flight ys % 2 ^ 64) more);
       unsettled = sum_cut unsettled_one count_unsettled unsettled_sum items x c.unsettled (one_small (is_item_unsettled x)) (h.unsettled ∙ ap (λ (ys : List Item). count_unsettled ys % 2 ^ 64) more);
-      earliest = worth_front (item_meaning size) item_message c.earliest es (e ∷ []) h.earliest;
       front = front_cut items x c.front (length es) long (h.front ∙ ap abandoned_items more);
     }
 
@@ -131,7 +122,6 @@ counts_set size es at e new c front lt read h is =
       unsent_within = lower_within (is_item_unsent y) c.unsent at (length (set es at new)) (let le = h.unsent_within in omega arith);
       flight = rw more (sum_set item_weight item_flight flight_sum items at x y c.flight within there (weight_small size e h.some h.small) h.flight);
       unsettled = rw more (sum_set unsettled_one count_unsettled unsettled_sum items at x y c.unsettled within there (one_small (is_item_unsettled x)) h.unsettled);
-      earliest = worth_set (item_meaning size) item_message c.earliest at es new h.earliest;
       front = is;
     }
 
@@ -164,9 +154,9 @@ never_marked Unsent = refl
 never_marked Sent = refl
 never_marked Marked = refl
 
-pub counts_covered : (size : ℕ) (es : List EntryFields) (at : ℕ) (e : EntryFields) (c : Counts) → at < length es → e ≡ get_or es at e → c.earliest ≤ LAST_MOMENT → IsCounted size es c
+pub counts_covered : (size : ℕ) (es : List EntryFields) (at : ℕ) (e : EntryFields) (c : Counts) → at < length es → e ≡ get_or es at e → IsCounted size es c
     → IsCounted size (set es at (as_covered e)) (left (item_meaning size e) c)
-counts_covered size es at e c lt read last h =
+counts_covered size es at e c lt read h =
     let x = item_meaning size e in
     let y = item_meaning size (as_covered e) in
     let items = map (item_meaning size) es in
@@ -185,7 +175,6 @@ counts_covered size es at e c lt read last h =
       unsent_within = let le = h.unsent_within in omega (arith, long, le);
       flight = let is = all.flight in omega (arith, is, covered_weight y refl);
       unsettled = let is = all.unsettled in omega (arith, is, covered_settled y refl);
-      earliest = worth_sooner c.earliest (min c.earliest LAST_MOMENT) (item_messages (map (item_meaning size) (set es at (as_covered e)))) (omega (arith, last)) all.earliest;
       front = front;
     }
 
@@ -209,7 +198,6 @@ counts_uncovered size es at e c lt read on h =
       unsent_within = all.unsent_within;
       flight = let is = all.flight in omega (arith, is, covered_weight x on);
       unsettled = let is = all.unsettled in omega (arith, is, covered_settled x on);
-      earliest = all.earliest;
       front = front;
     }
 
@@ -218,9 +206,9 @@ counts_uncovered size es at e c lt read on h =
 pub counts_marked : (size : ℕ) (es : List EntryFields) (c : Counts) (at : ℕ) → at ≤ length es → first_place is_item_marked (take at (map (item_meaning size) es)) ≡ None → IsCounted size es c
     → IsCounted size es (record c { marked = at })
 counts_marked size es c at within none h =
-    record { some = h.some; small = h.small; marked = none; marked_within = within; unsent = h.unsent; unsent_within = h.unsent_within; flight = h.flight; unsettled = h.unsettled; earliest = h.earliest; front = h.front }
+    record { some = h.some; small = h.small; marked = none; marked_within = within; unsent = h.unsent; unsent_within = h.unsent_within; flight = h.flight; unsettled = h.unsettled; front = h.front }
 
 pub counts_unsent : (size : ℕ) (es : List EntryFields) (c : Counts) (at : ℕ) → at ≤ length es → first_place is_item_unsent (take at (map (item_meaning size) es)) ≡ None → IsCounted size es c
     → IsCounted size es (record c { unsent = at })
 counts_unsent size es c at within none h =
-    record { some = h.some; small = h.small; marked = h.marked; marked_within = h.marked_within; unsent = none; unsent_within = within; flight = h.flight; unsettled = h.unsettled; earliest = h.earliest; front = h.front }
+    record { some = h.some; small = h.small; marked = h.marked; marked_within = h.marked_within; unsent = none; unsent_within = within; flight = h.flight; unsettled = h.unsettled; front = h.front }

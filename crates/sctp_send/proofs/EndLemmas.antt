@@ -20,10 +20,13 @@ use Rattle.sctp_model.proofs.sender.AbandonCases.{given_itself}
 use Rattle.sctp_send.specs.SenderKept.{Item, Rest, Track, Kept}
 use Rattle.sctp_send.specs.SenderStands.{item_here, items_from, table, rest_here, track_here, Keeps}
 use Rattle.sctp_send.specs.inner.Walks.{any_rest, rest_has, end_item, EndsAt}
+use Rattle.sctp_send.specs.inner.Expiring.{rest_messages}
+use Rattle.sctp_send.specs.inner.Dues.{some_late}
 use Rattle.sctp_send.specs.declared.message.Fate.TheVariants.{Abandoned as WasAbandoned}
 use Rattle.sctp_send.proofs.TableLemmas.{table-set, table-same}
 use Rattle.sctp_send.proofs.TicketLemmas.{kept_goes_on}
 use Rattle.sctp_send.proofs.OverLemmas.{same_items, no_item_one, no_rest_set, no_rest_there}
+use Rattle.sctp_send.proofs.DueLemmas.{late_given, late_items_more, late_end, late_rest_set}
 use Rattle.sctp_send.proofs.GivenLemmas.{given_item, all_own_drop, same_messages, same_entry_message, given-items_from, given_fates, IsKept, given_after}
 
 -- ---- abandoned: what stands above CUM
@@ -71,7 +74,7 @@ closed_track v n j x is none = tracked v n j None none ∙ ap (λ (y : Track). r
 some_same : {A : Type 0} {x y : A} → Some x ≡ Some y → x ≡ y
 some_same is = cc
 
-get-table : {A : Type 0} (f : ℕ → A) (i n k : ℕ) (x : A) → slice_get (table f i n) k ≡ Some x → (k < n) × (x ≡ f (i + k))
+pub get-table : {A : Type 0} (f : ℕ → A) (i n k : ℕ) (x : A) → slice_get (table f i n) k ≡ Some x → (k < n) × (x ≡ f (i + k))
 get-table f i zero k x is = absurd (cc)
 get-table f i (suc n) zero x is = let same : i + 0 ≡ i = omega arith in (omega arith, rw same (some_same (sym is)))
 get-table f i (suc n) (suc k) x is = let rest = get-table f (suc i) n k x is in let same : suc i + k ≡ i + suc k = omega arith in (let lt = rest.0 in omega arith, rest.1 ∙ ap f same)
@@ -120,6 +123,7 @@ keeps_given f s v t n k m off partial none =
         room = omega (arith, long, fewer, room);
       };
       over = record { within = k.over.within; each = λ x le. let o = k.over.each x le in record { queue = o.queue; tracks = o.tracks; items = same_items x (given_item t) s.items (given_message t) ∙ o.items } };
+      due = record { many = k.due.many; each = λ x now lt. let i = k.due.each x now lt in record { queue = i.queue; items = λ on. late_given now x t s.asleep s.items (i.items on); tracks = i.tracks } };
       reached = rw after at reached;
     })
 
@@ -202,6 +206,16 @@ keeps_ended f s v t n r tracks k m off partial ends =
                 queue = o.queue;
                 tracks = ap (any_rest x) ends.now ∙ no_rest_set x ends.at s.tracks (record ends.track { rest = None }) o.tracks refl;
                 items = no_item_one x (map (given_item t) s.items) (end_item r) (same_items x (given_item t) s.items (given_message t) ∙ o.items) other;
+              };
+        };
+        due = record {
+          many = k.due.many;
+          each = λ x now lt.
+              let i = k.due.each x now lt in
+              record {
+                queue = i.queue;
+                items = λ on. late_items_more now x s.asleep (map (given_item t) s.items) (end_item r ∷ []) (late_given now x t s.asleep s.items (i.items on)) (late_end now x s.asleep r);
+                tracks = λ on. ap (λ (ts : List Track). some_late now x (rest_messages ts)) ends.now ∙ late_rest_set now x ends.at s.tracks (record ends.track { rest = None }) (i.tracks on) refl;
               };
         };
         reached = rw after at reached;

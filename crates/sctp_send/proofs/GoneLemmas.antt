@@ -11,6 +11,7 @@ use Rattle.sctp_model.proofs.sender.FillLaws.{goes_parts}
 use Rattle.sctp_send.specs.SenderKept.{Item, Kept}
 use Rattle.sctp_send.specs.SenderStands.{item_here, items_from, Holds, Keeps}
 use Rattle.sctp_send.proofs.OverLemmas.{same_gone}
+use Rattle.sctp_send.proofs.DueLemmas.{late_gone}
 pub use Rattle.sctp_send.specs.inner.Newcomers.{gone_item}
 
 item_other : (v : SenderView) (i j : ℕ) (e : Entry) → (j ≡ i → ⊥) → item_here (with_sent v i) j e ≡ item_here v j e
@@ -70,5 +71,6 @@ keeps_gone f s v room at d k first low =
     record {
       holds = holds_sent s v at d k.holds low;
       over = record { within = k.over.within; each = λ t le. let o = k.over.each t le in record { queue = o.queue; tracks = o.tracks; items = same_gone t at s.items d ∙ o.items } };
+      due = record { many = k.due.many; each = λ t now lt. let i = k.due.each t now lt in record { queue = i.queue; items = λ on. late_gone now t at s.asleep s.items d ∙ i.items on; tracks = i.tracks } };
       reached = Goes v room (standing v (suc (v.cum + at))) k.reached parts.0 parts.1;
     }

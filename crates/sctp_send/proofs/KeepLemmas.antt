@@ -1,6 +1,6 @@
 -- What a SACK, a SHUTDOWN and the data timer leave of what is kept, for each view that it stands for.
-use Rattle.std.proofs.Common.{◌≡◌, ℕ, zero, suc, ◌+◌, ◌%◌, ◌^◌, ◌<◌, ◌≤◌, List, [], ◌∷◌, length, map, drop, Bool, true, false, Some, None, refl, sym, ap, ◌∙◌, arith, length-drop}
-use Rattle.std.specs.Prelude.{nat_le, slice_get, not, ◌&&◌, ◌||◌, replicate, Option, option_map}
+use Rattle.std.proofs.Common.{◌≡◌, ℕ, zero, suc, ◌+◌, ◌%◌, ◌^◌, ◌<◌, ◌≤◌, List, [], ◌∷◌, length, map, drop, Bool, true, false, Some, None, refl, sym, ap, ◌∙◌, subst, arith, length-drop}
+use Rattle.std.specs.Prelude.{nat_le, slice_get, if◌then◌else◌, not, ◌&&◌, ◌||◌, replicate, Option, option_map}
 use Rattle.std.proofs.lemmas.List.{drop-drop, length-map}
 use Rattle.std.proofs.lemmas.Bool.Decides.{nat_tests}
 use Rattle.sctp_model.specs.messages.Format.{Format}
@@ -10,6 +10,7 @@ use Rattle.sctp_model.specs.sender.SenderView.{SenderView, fresh_sender}
 use Rattle.sctp_model.specs.messages.Acknowledgement.{in_blocks}
 use Rattle.sctp_model.specs.sender.SackTaken.{index_of, sack_fault, sack_covers, covered_by, sack_after, shutdown_fault, shutdown_after}
 use Rattle.sctp_model.specs.sender.Abandoning.{timed_out}
+use Rattle.sctp_model.specs.sender.Entries.{entry_message, is_of_abandoned}
 use Rattle.sctp_model.specs.sender.Reached.{Begins, Covers, Closes, Repeats}
 use Rattle.sctp_model.proofs.sender.Bounds.{is_bounded}
 use Rattle.sctp_model.proofs.sender.OwedLaws.{is_promised, sum-zero}
@@ -17,13 +18,15 @@ use Rattle.sctp_model.proofs.sender.PointLaws.{get-drop}
 use Rattle.sctp_send.specs.SenderKept.{Item, Kept}
 use Rattle.sctp_send.specs.CoveredRuns.{AreCovered, runs_behind}
 use Rattle.sctp_send.specs.declared.entry.CoveredRun.{CoveredRun}
-use Rattle.sctp_send.specs.SenderStands.{items_from, Keeps}
+use Rattle.sctp_send.specs.SenderStands.{item_here, items_from, Keeps}
 use Rattle.sctp_send.specs.inner.Acknowledging.{IsPassing}
+use Rattle.sctp_send.specs.inner.Dues.{is_late, some_late, standing_message, standing_messages}
 use Rattle.sctp_send.proofs.TableLemmas.{table-replicate}
 use Rattle.sctp_send.proofs.ItemLemmas.{timed_item}
 use Rattle.sctp_send.proofs.RunLemmas.{AreOfBlocks, covered_behind}
-use Rattle.sctp_send.proofs.CoverLemmas.{items_told, count_items_told}
-use Rattle.sctp_send.proofs.OverLemmas.{no_item_behind, same_items, same_told, no_rests}
+use Rattle.sctp_send.proofs.CoverLemmas.{item_told, items_told, count_items_told}
+use Rattle.sctp_send.proofs.OverLemmas.{neither, no_item_behind, same_items, same_told, no_rests}
+use Rattle.sctp_send.proofs.DueLemmas.{both_off, late_behind, late_told, late_same, late_no_rests}
 
 -- ---- how much is kept
 
@@ -84,9 +87,36 @@ sacked_runs : (o : Option (List CoveredRun)) (c : ℕ) (bs : List BlockMeaning) 
 sacked_runs None c bs h = tt
 sacked_runs (Some rs) c bs h = (h.order, λ i some. sym (beyond_covers c i bs some) ∙ sym (h.same i some))
 
-pub keeps_sacked : (f : Format) (s : Kept) (v : SenderView) (x : SackMeaning) (n : ℕ) (rs : Option (List CoveredRun)) → Keeps f s v → IsPassing v x.cumulative n → sack_fault v x ≡ None → AreOfBlocks rs x.blocks
+-- what stays covered makes no ticket late
+stays_told : (v : SenderView) (test : ℕ → Bool) (now t c j : ℕ) (es : List Entry) → ((i : ℕ) → j ≤ i → v.covered (c + i) ≡ true → test i ≡ true) → some_late now t (standing_messages true (items_from v (c + j) es)) ≡ false
+    → some_late now t (standing_messages true (items_told test j (items_from v (c + j) es))) ≡ false
+stays_told v test now t c j [] stays none = refl
+stays_told v test now t c j (e ∷ es) stays none =
+    let next : suc (c + j) ≡ c + suc j = omega arith in
+    let x = item_here v (c + j) e in
+    let parts = neither (is_late now t (standing_message true x)) (some_late now t (standing_messages true (items_from v (suc (c + j)) es))) none in
+    let rest = stays_told v test now t c (suc j) es (λ i le. stays i (omega (arith, le))) (ap (λ (n : ℕ). some_late now t (standing_messages true (items_from v n es))) (sym next) ∙ parts.1) in
+    both_off (is_late now t (standing_message true (item_told (test j) x))) (some_late now t (standing_messages true (items_told test (suc j) (items_from v (suc (c + j)) es))))
+    (by_test (test j) (v.covered (c + j)) (is_of_abandoned v e) (stays j (omega arith)) parts.0)
+    (ap (λ (n : ℕ). some_late now t (standing_messages true (items_told test (suc j) (items_from v n es)))) next ∙ rest)
+  where
+    by_test : (told was g : Bool) → (was ≡ true → told ≡ true) → is_late now t (if was || g then None else entry_message v.plan e) ≡ false → is_late now t (if told || g then None else entry_message v.plan e) ≡ false
+    by_test true was g on off = refl
+    by_test false true g on off = let off = on refl in absurd (cc)
+    by_test false false g on off = off
+
+idle_sacked : (v : SenderView) (now t n : ℕ) (b : Bool) (test : ℕ → Bool) (xs : List Item) → drop n xs ≡ items_from v (suc (v.cum + n)) (drop (v.cum + n) v.plan.entries)
+    → (b ≡ true → (i : ℕ) → 0 < i → v.covered (v.cum + n + i) ≡ true → test i ≡ true) → some_late now t (standing_messages b xs) ≡ false → some_late now t (standing_messages b (items_told test 1 (drop n xs))) ≡ false
+idle_sacked v now t n false test xs left stays none = late_told now t test 1 (drop n xs) ∙ late_behind now t n false xs none
+idle_sacked v now t n true test xs left stays none =
+    let one : suc (v.cum + n) ≡ v.cum + n + 1 = omega arith in
+    let are = left ∙ ap (λ (i : ℕ). items_from v i (drop (v.cum + n) v.plan.entries)) one in
+    let before = ap (λ (ys : List Item). some_late now t (standing_messages true ys)) (sym are) ∙ late_behind now t n true xs none in
+    ap (λ (ys : List Item). some_late now t (standing_messages true (items_told test 1 ys))) are ∙ stays_told v test now t (v.cum + n) 1 (drop (v.cum + n) v.plan.entries) (λ i le. stays refl i (omega (arith, le))) before
+
+pub keeps_sacked : (f : Format) (s : Kept) (v : SenderView) (x : SackMeaning) (n : ℕ) (rs : Option (List CoveredRun)) → Keeps f s v → (s.asleep ≡ true → (i : ℕ) → 0 < i → v.covered (v.cum + n + i) ≡ true → in_blocks 0 x.blocks i ≡ true) → IsPassing v x.cumulative n → sack_fault v x ≡ None → AreOfBlocks rs x.blocks
     → Keeps f (record s { cum = (s.cum + n) % 2 ^ 64; rwnd = x.rwnd; items = items_told (in_blocks 0 x.blocks) 1 (drop n s.items); runs = rs }) (sack_after v x)
-keeps_sacked f s v x n rs k p none runs =
+keeps_sacked f s v x n rs k stays p none runs =
     let c = v.cum + n in
     let start : suc (c + 0) ≡ suc c = omega arith in
     let told = rw start at (told_items v c (sack_covers c x.blocks) (drop c v.plan.entries) 0) in
@@ -113,6 +143,16 @@ keeps_sacked f s v x n rs k p none runs =
       over = record {
         within = k.over.within;
         each = λ t le. let o = k.over.each t le in record { queue = o.queue; tracks = o.tracks; items = same_told t (in_blocks 0 x.blocks) 1 (drop n s.items) ∙ no_item_behind t n s.items o.items };
+      };
+      due = record {
+        many = k.due.many;
+        each = λ t now lt.
+            let i = k.due.each t now lt in
+            record {
+              queue = i.queue;
+              items = λ on. idle_sacked v now t n s.asleep (in_blocks 0 x.blocks) s.items (left_items f s v n k) stays (i.items on);
+              tracks = i.tracks;
+            };
       };
       reached = Covers v x k.reached none;
     })
@@ -158,6 +198,7 @@ keeps_shut f s v wire n k p none =
         room = omega (arith, fewer, room);
       };
       over = record { within = k.over.within; each = λ t le. let o = k.over.each t le in record { queue = o.queue; tracks = o.tracks; items = no_item_behind t n s.items o.items } };
+      due = record { many = k.due.many; each = λ t now lt. let i = k.due.each t now lt in record { queue = i.queue; items = λ on. late_behind now t n s.asleep s.items (i.items on); tracks = i.tracks } };
       reached = Closes v wire k.reached none;
     })
 
@@ -194,12 +235,13 @@ keeps_timed f s v k =
         room = omega (arith, long, room);
       };
       over = record { within = k.over.within; each = λ t le. let o = k.over.each t le in record { queue = o.queue; tracks = o.tracks; items = same_items t timed_item s.items (λ y. refl) ∙ o.items } };
+      due = record { many = k.due.many; each = λ t now lt. let i = k.due.each t now lt in record { queue = i.queue; items = λ on. late_same now t s.asleep timed_item s.items (λ y. refl) ∙ i.items on; tracks = i.tracks } };
       reached = Repeats v k.reached;
     }
 
 -- a sender that was given nothing
 pub keeps_fresh : (f : Format) (initial streams fragment rwnd capacity : ℕ) (partial : Bool) → 0 < fragment
-    → Keeps f (record { initial = initial; streams = streams; fragment = fragment; partial = partial; cum = 0; rwnd = rwnd; turn = 0; items = []; queue = []; tracks = replicate streams (record { ordered = 0; unordered = 0; rest = None }); fates = []; ended = 0; runs = Some []; capacity = capacity })
+    → Keeps f (record { initial = initial; streams = streams; fragment = fragment; partial = partial; cum = 0; rwnd = rwnd; turn = 0; items = []; queue = []; tracks = replicate streams (record { ordered = 0; unordered = 0; rest = None }); fates = []; ended = 0; runs = Some []; capacity = capacity; passed = 0; moments = []; asleep = false })
     (fresh_sender initial streams fragment rwnd partial)
 keeps_fresh f initial streams fragment rwnd capacity partial large = record {
   holds = record {
@@ -218,5 +260,6 @@ keeps_fresh f initial streams fragment rwnd capacity partial large = record {
     room = let none = sum-zero (λ j. 0) streams (λ j. refl) in omega (arith, none);
   };
   over = record { within = omega arith; each = λ t le. record { queue = refl; tracks = no_rests t streams; items = refl } };
+  due = record { many = refl; each = λ t now lt. record { queue = refl; items = λ on. refl; tracks = λ on. late_no_rests now t streams } };
   reached = Begins initial streams fragment rwnd partial large;
 }

@@ -5,6 +5,8 @@ pub mod ItemLemmas
 pub mod CoverLemmas
 pub mod RunLemmas
 pub mod OverLemmas
+pub mod DueLemmas
+pub mod MomentLemmas
 pub mod KeepLemmas
 pub mod TellLemmas
 pub mod GapLemmas
@@ -20,6 +22,8 @@ pub mod TrackLemmas
 pub mod WithdrawLemmas
 pub mod GivenLemmas
 pub mod EndLemmas
+pub mod UntilLemmas
+pub mod MomentKept
 pub mod AnswerLemmas
 pub mod LaneLemmas
 pub mod ForwardLemmas
@@ -28,10 +32,10 @@ pub mod GoneLemmas
 pub mod WishLemmas
 pub mod NewItems
 pub mod AssignLemmas
-pub mod ExpireLemmas
-pub mod WorthLemmas
 pub mod OwedLemmas
 pub mod ExpireKept
+pub mod DueKept
+pub mod WakeLemmas
 pub mod GoingOnLemmas
 pub mod CursorLemmas
 pub mod WeightLemmas
@@ -58,15 +62,10 @@ pub mod UndoLemmas
 pub mod BehindLemmas
 pub mod ListParts
 pub mod OrderLemmas
-pub mod BoundLemmas
 pub mod TicketWalks
 pub mod PartPairLemmas
 pub mod PartLookLemmas
 pub mod PartStreams
-pub mod PartWalks
-pub mod MomentWalks
-pub mod PartBounds
-pub mod QueueBounds
 pub mod FateLemmas
 pub mod OverKept
 pub mod PastLemmas

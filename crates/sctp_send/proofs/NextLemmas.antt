@@ -9,7 +9,6 @@ use Rattle.sctp_model.specs.sender.Assigning.{first_on, turn_of, assigned}
 use Rattle.sctp_model.proofs.sender.SetLaws.{is_set}
 use Rattle.sctp_send.specs.SenderKept.{Rest, Track, Kept}
 use Rattle.sctp_send.specs.SenderStands.{Keeps}
-use Rattle.sctp_send.specs.inner.Expiring.{sooner, late_after, soonest, rest_messages}
 use Rattle.sctp_send.specs.inner.Walks.{total, one_if_rest, any_rest, rest_has}
 use Rattle.sctp_send.specs.inner.Newcomers.{rest_at, has_rest, IsNextPart}
 use Rattle.sctp_send.specs.inner.Drafting.{TurnAnswer, NewAnswer, FirstTurnAnswer}
@@ -48,16 +47,6 @@ none_with t (x ∷ ts) none = ap (λ (b : Bool). b || any_rest t ts) (by_rest x.
     by_rest : (o : Option Rest) → one_if_rest o ≡ 0 → rest_has t o ≡ false
     by_rest None is = refl
     by_rest (Some r) is = absurd (omega (arith, is))
-
--- nor is any late
-pub none_late : (now last : ℕ) (found : Option ℕ) (ts : List Track) → total (λ t. one_if_rest t.rest) ts ≡ 0 → soonest now last found (rest_messages ts) ≡ found
-none_late now last found [] none = refl
-none_late now last found (x ∷ ts) none = ap (λ (o : Option ℕ). soonest now last o (rest_messages ts)) (by_rest x.rest found (omega (arith, none))) ∙ none_late now last found ts (omega (arith, none))
-  where
-    by_rest : (o : Option Rest) (t : Option ℕ) → one_if_rest o ≡ 0 → sooner t (late_after now last (option_and_then (λ (r : Rest). r.message) o)) ≡ t
-    by_rest None None is = refl
-    by_rest None (Some n) is = refl
-    by_rest (Some r) t is = absurd (omega (arith, is))
 
 -- ---- the first of some streams
 

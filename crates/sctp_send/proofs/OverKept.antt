@@ -58,8 +58,12 @@ keeps_over f s v n last d k given low settled rests items = record {
   };
   over = record {
     within = let all = fates_given f s v k in omega (arith, all, given);
-    each = λ t le. record { queue = waiting t le; tracks = rests t (omega (arith, le, low)); items = items t (omega (arith, le, low)) };
+    each = λ t le. elim (cases_lt n t) [
+      | inl past ↦ let o = k.over.each t (omega (arith, le, past)) in record { queue = o.queue; tracks = o.tracks; items = o.items }
+      | inr within ↦ record { queue = waiting t within; tracks = rests t (omega (arith, within, low)); items = items t (omega (arith, within, low)) }
+    ];
   };
+  due = record { many = k.due.many; each = λ t now lt. let i = k.due.each t now lt in record { queue = i.queue; items = i.items; tracks = i.tracks } };
   reached = k.reached;
 }
   where
@@ -70,7 +74,7 @@ keeps_over f s v n last d k given low settled rests items = record {
           let back : suc (t - 1) ≡ t = omega (arith, lt) in
           let off = not_waiting f s v (t - 1) d k there (settled (t - 1) (omega (arith, lt)) (omega (arith, le, lt))) in
           ap (waits t) k.holds.queue ∙ subst (λ (x : ℕ). waits x v.queue ≡ false) back off
-      | inr ge ↦ (k.over.each t ge).queue
+      | inr ge ↦ (k.over.each t (omega (arith, ge))).queue
     ]
 
 -- ---- what is still kept isn't over
@@ -78,7 +82,7 @@ keeps_over f s v n last d k given low settled rests items = record {
 pub open_waiting : (f : Format) (s : Kept) (v : SenderView) (t : ℕ) → Keeps f s v → waits t v.queue ≡ true → s.ended < t
 open_waiting f s v t k on = elim (cases_lt s.ended t) [
   | inl lt ↦ lt
-  | inr ge ↦ absurd (clash (ap (waits t) k.holds.queue ∙ on) (k.over.each t ge).queue)
+  | inr ge ↦ absurd (clash (ap (waits t) k.holds.queue ∙ on) (k.over.each t (omega (arith, ge))).queue)
 ]
 
 uncovered_of : (t : ℕ) (xs : List Item) → any_item t xs ≡ false → any_uncovered t xs ≡ false
@@ -88,7 +92,7 @@ uncovered_of t (x ∷ xs) none = let parts = neither (has_ticket t x.message) (a
 pub open_missing : (f : Format) (s : Kept) (v : SenderView) (t : ℕ) → Keeps f s v → (not (any_rest t s.tracks) && not (any_uncovered t s.items)) ≡ false → s.ended < t
 open_missing f s v t k missing = elim (cases_lt s.ended t) [
   | inl lt ↦ lt
-  | inr ge ↦ let o = k.over.each t ge in absurd (clash (rw (o.tracks, uncovered_of t s.items o.items) refl) missing)
+  | inr ge ↦ let o = k.over.each t (omega (arith, ge)) in absurd (clash (rw (o.tracks, uncovered_of t s.items o.items) refl) missing)
 ]
 
 -- ---- what is numbered isn't over
@@ -127,4 +131,4 @@ open_newly f s u v w k l same =
     let left : drop d (drop w.cum w.plan.entries) ≡ drop n w.plan.entries = drop-drop d w.cum w.plan.entries ∙ ap (λ (x : ℕ). drop x w.plan.entries) parts in
     let beyond = items_beyond w (drop w.cum w.plan.entries) (suc w.cum) d in
     subst (λ (es : List Entry). AreOpen u.ended (begun_tickets w.plan es)) left (open_begun w u.ended (d + suc w.cum) (drop d (drop w.cum w.plan.entries))
-    (λ t le. ap (any_item t) beyond ∙ no_item_behind t d (items_from w (suc w.cum) (drop w.cum w.plan.entries)) (ap (any_item t) (sym l.holds.items) ∙ (l.over.each t le).items)))
+    (λ t le. ap (any_item t) beyond ∙ no_item_behind t d (items_from w (suc w.cum) (drop w.cum w.plan.entries)) (ap (any_item t) (sym l.holds.items) ∙ (l.over.each t (omega (arith, le))).items)))

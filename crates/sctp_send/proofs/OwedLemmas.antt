@@ -4,19 +4,15 @@ use Rattle.std.specs.Prelude.{set, insert, remove, replicate}
 use Rattle.std.proofs.lemmas.List.{length-set, length-replicate}
 use Rattle.std.specs.declared.sync.Arc.{Arc}
 use Rattle.std.specs.declared.alloc.Global.{Global}
-use Rattle.sctp_model.specs.numbers.Limits.{LAST_MOMENT}
 use Rattle.sctp_model.specs.sender.SenderView.{Queued}
 use Rattle.sctp_model.specs.sender.Queueing.{cut, owed_for, owed_by_queue}
 use Rattle.sctp_send.specs.SenderKept.{Track, Rest}
-use Rattle.sctp_send.specs.OutstandingFields.{message_meaning}
 use Rattle.sctp_send.specs.SenderFields.{queued_by, counts_meaning, rests_meaning, track_meaning}
 use Rattle.sctp_send.specs.inner.Walks.{total, one_if_rest, rest_owes}
-use Rattle.sctp_send.specs.inner.Expiring.{rest_message, rest_messages}
-use Rattle.sctp_send.specs.inner.Counting.{moment_from, AreWorth, IsOwedOf, IsCountedOf}
+use Rattle.sctp_send.specs.inner.Counting.{IsOwedOf, IsCountedOf}
 use Rattle.sctp_send.specs.declared.message.Message.{Message as MessageFields}
 use Rattle.sctp_send.specs.declared.track.Rest.{Rest as RestFields}
 use Rattle.sctp_send.specs.declared.track.Track.{Track as TrackFields}
-use Rattle.sctp_send.proofs.WorthLemmas.{worth_push, worth_insert, worth_remove, worth_set}
 
 -- ---- messages that wait
 
@@ -42,41 +38,36 @@ sum_remove size [] n x lt read = absurd (omega arith)
 sum_remove size (m ∷ ms) zero x lt read = let same : owed_by size x ≡ owed_by size m = ap (owed_by size) read in omega (arith, same)
 sum_remove size (m ∷ ms) (suc n) x lt read = let rest = sum_remove size ms n x (omega arith) read in omega (arith, rest)
 
--- the counts once a message more waits, which owes so much and is worthless from this moment on
-pub owed_pushed : (size sum first owed moment least : ℕ) (ms next : List (Arc MessageFields Global)) (x : Arc MessageFields Global) → IsOwedOf size ms sum first → next ≡ ms ++ x ∷ [] → owed ≡ owed_by size x % 2 ^ 64
-    → moment ≡ moment_from (Some (message_meaning size x.value)) → least ≡ min first moment → IsOwedOf size next ((sum + owed) % 2 ^ 64) least
-owed_pushed size sum first owed moment least ms next x h is owes from low =
+-- the count once a message more waits, which owes so much
+pub owed_pushed : (size sum owed : ℕ) (ms next : List (Arc MessageFields Global)) (x : Arc MessageFields Global) → IsOwedOf size ms sum → next ≡ ms ++ x ∷ [] → owed ≡ owed_by size x % 2 ^ 64 → IsOwedOf size next ((sum + owed) % 2 ^ 64)
+owed_pushed size sum owed ms next x h is owes =
     let all : owed_by_all size next ≡ owed_by_all size ms + owed_by size x = ap (owed_by_all size) is ∙ sum_push size ms x in
     let before = h.owed in
     record {
       some = h.some;
       owed = omega (arith, all, before, owes);
-      earliest = rw (low, from, is) (worth_push (queued_by size) (λ (q : Queued). Some q.message) first ms x h.earliest);
     }
 
 -- once it waits again at its place
-pub owed_inserted : (size sum first owed moment least n : ℕ) (ms next : List (Arc MessageFields Global)) (x : Arc MessageFields Global) → IsOwedOf size ms sum first → next ≡ insert ms n x → owed ≡ owed_by size x % 2 ^ 64
-    → moment ≡ moment_from (Some (message_meaning size x.value)) → least ≡ min first moment → IsOwedOf size next ((sum + owed) % 2 ^ 64) least
-owed_inserted size sum first owed moment least n ms next x h is owes from low =
+pub owed_inserted : (size sum owed n : ℕ) (ms next : List (Arc MessageFields Global)) (x : Arc MessageFields Global) → IsOwedOf size ms sum → next ≡ insert ms n x → owed ≡ owed_by size x % 2 ^ 64 → IsOwedOf size next ((sum + owed) % 2 ^ 64)
+owed_inserted size sum owed n ms next x h is owes =
     let all : owed_by_all size next ≡ owed_by_all size ms + owed_by size x = ap (owed_by_all size) is ∙ sum_insert size ms n x in
     let before = h.owed in
     record {
       some = h.some;
       owed = omega (arith, all, before, owes);
-      earliest = rw (low, from, is) (worth_insert (queued_by size) (λ (q : Queued). Some q.message) first n ms x h.earliest);
     }
 
 -- once it waits no more
-pub owed_removed : (size sum first owed n : ℕ) (ms next : List (Arc MessageFields Global)) (x : Arc MessageFields Global) → IsOwedOf size ms sum first → n < length ms → x ≡ get_or ms n x → next ≡ remove ms n → owed ≡ owed_by size x % 2 ^ 64
-    → IsOwedOf size next ((sum + (2 ^ 64 - owed)) % 2 ^ 64) first
-owed_removed size sum first owed n ms next x h lt read is owes =
+pub owed_removed : (size sum owed n : ℕ) (ms next : List (Arc MessageFields Global)) (x : Arc MessageFields Global) → IsOwedOf size ms sum → n < length ms → x ≡ get_or ms n x → next ≡ remove ms n → owed ≡ owed_by size x % 2 ^ 64
+    → IsOwedOf size next ((sum + (2 ^ 64 - owed)) % 2 ^ 64)
+owed_removed size sum owed n ms next x h lt read is owes =
     let less : owed_by_all size (remove ms n) + owed_by size x ≡ owed_by_all size ms = sum_remove size ms n x lt read in
     let all : owed_by_all size next ≡ owed_by_all size (remove ms n) = ap (owed_by_all size) is in
     let before = h.owed in
     record {
       some = h.some;
       owed = omega (arith, less, all, before, owes);
-      earliest = rw is (worth_remove (queued_by size) (λ (q : Queued). Some q.message) first n ms h.earliest);
     }
 
 -- ---- streams
@@ -98,17 +89,13 @@ none_fresh : (f : Track → ℕ) (size n : ℕ) → f (track_meaning size fresh_
 none_fresh f size zero none = refl
 none_fresh f size (suc n) none = let rest = none_fresh f size n none in omega (arith, none, rest)
 
-worth_fresh : (size n : ℕ) → AreWorth LAST_MOMENT (rest_messages (map (track_meaning size) (replicate n fresh_fields)))
-worth_fresh size zero = tt
-worth_fresh size (suc n) = (omega arith, worth_fresh size n)
-
 -- the counts of such streams
-pub counted_fresh : (size n : ℕ) (ts : List TrackFields) → 0 < size → n < 2 ^ 16 → ts ≡ replicate n fresh_fields → IsCountedOf size ts 0 0 LAST_MOMENT
+pub counted_fresh : (size n : ℕ) (ts : List TrackFields) → 0 < size → n < 2 ^ 16 → ts ≡ replicate n fresh_fields → IsCountedOf size ts 0 0
 counted_fresh size n ts some few is =
     let long = length-replicate n fresh_fields in
     let parts : total_by (λ t. one_if_rest t.rest) size (replicate n fresh_fields) ≡ 0 = none_fresh (λ (t : Track). one_if_rest t.rest) size n refl in
     let owes : total_by (λ t. rest_owes t.rest) size (replicate n fresh_fields) ≡ 0 = none_fresh (λ (t : Track). rest_owes t.rest) size n refl in
-    rw is (record { some = some; few = omega (arith, long, few); parts = omega (arith, parts); owed = omega (arith, owes); earliest = worth_fresh size n })
+    rw is (record { some = some; few = omega (arith, long, few); parts = omega (arith, parts); owed = omega (arith, owes) })
 
 -- what a stream counts for
 pub record IsCountOf (size : ℕ) (t : TrackFields) (part owed : ℕ) : Type 0 where
@@ -116,10 +103,10 @@ pub record IsCountOf (size : ℕ) (t : TrackFields) (part owed : ℕ) : Type 0 w
   pub owes : owed ≡ rest_owes (track_meaning size t).rest % 2 ^ 64
 
 -- the counts once a stream goes on in another way
-pub counted_set : (size many sum first part owed was had moment least n : ℕ) (ts next : List TrackFields) (x y : TrackFields) → IsCountedOf size ts many sum first → n < length ts → x ≡ get_or ts n x → next ≡ set ts n y
-    → IsCountOf size y part owed → IsCountOf size x was had → moment ≡ moment_from (rest_message (track_meaning size y)) → least ≡ min first moment
-    → IsCountedOf size next (((many + part) % 2 ^ 32 + (2 ^ 32 - was)) % 2 ^ 32) (((sum + owed) % 2 ^ 64 + (2 ^ 64 - had)) % 2 ^ 64) least
-counted_set size many sum first part owed was had moment least n ts next x y h lt read is new old from low =
+pub counted_set : (size many sum part owed was had n : ℕ) (ts next : List TrackFields) (x y : TrackFields) → IsCountedOf size ts many sum → n < length ts → x ≡ get_or ts n x → next ≡ set ts n y
+    → IsCountOf size y part owed → IsCountOf size x was had
+    → IsCountedOf size next (((many + part) % 2 ^ 32 + (2 ^ 32 - was)) % 2 ^ 32) (((sum + owed) % 2 ^ 64 + (2 ^ 64 - had)) % 2 ^ 64)
+counted_set size many sum part owed was had n ts next x y h lt read is new old =
     let parts : total_by (λ t. one_if_rest t.rest) size next + one_if_rest (track_meaning size x).rest ≡ total_by (λ t. one_if_rest t.rest) size ts + one_if_rest (track_meaning size y).rest =
     ap (λ (us : List TrackFields). total_by (λ t. one_if_rest t.rest) size us + one_if_rest (track_meaning size x).rest) is ∙ total_set (λ (t : Track). one_if_rest t.rest) size ts n x y lt read in
     let owes : total_by (λ t. rest_owes t.rest) size next + rest_owes (track_meaning size x).rest ≡ total_by (λ t. rest_owes t.rest) size ts + rest_owes (track_meaning size y).rest =
@@ -130,7 +117,6 @@ counted_set size many sum first part owed was had moment least n ts next x y h l
       few = omega (arith, long, h.few);
       parts = count_turned many part was _ _ _ _ h.parts new.one old.one (at_most (track_meaning size x)) parts;
       owed = sum_turned sum owed had _ _ _ _ h.owed new.owes old.owes owes;
-      earliest = rw (low, from, is) (worth_set (track_meaning size) rest_message first n ts y h.earliest);
     }
   where
     at_most : (t : Track) → one_if_rest t.rest ≤ 1
@@ -166,8 +152,8 @@ parts_within size (t ∷ ts) = let rest = parts_within size ts in let here = mos
     most (Some r) = omega arith
 
 -- the count is exact, since streams are few
-pub no_part : (size other many sum first : ℕ) (ts : List TrackFields) → IsCountedOf size ts many sum first → many ≡ 0 → total_by (λ t. one_if_rest t.rest) other ts ≡ 0
-no_part size other many sum first ts h none =
+pub no_part : (size other many sum : ℕ) (ts : List TrackFields) → IsCountedOf size ts many sum → many ≡ 0 → total_by (λ t. one_if_rest t.rest) other ts ≡ 0
+no_part size other many sum ts h none =
     let most = parts_within size ts in
     let exact = h.parts in
     let few = h.few in

@@ -7,7 +7,7 @@ use Rattle.sctp_model.specs.numbers.Limits.{LAST_MOMENT}
 use Rattle.sctp_send.specs.SenderFields.{counts_meaning, rests_meaning, track_meaning}
 use Rattle.sctp_send.specs.SenderKept.{Track}
 use Rattle.sctp_send.specs.inner.Newcomers.{rest_at, has_rest, IsNextPart}
-use Rattle.sctp_send.specs.inner.PartPairs.{ticket_left, tickets_left, left_on, IsListed, AreLeftBounded, IsStreamsOf, IsFirstLeft}
+use Rattle.sctp_send.specs.inner.PartPairs.{ticket_left, tickets_left, left_on, IsListed, IsStreamsOf, IsFirstLeft}
 use Rattle.sctp_send.specs.inner.Walks.{any_rest, rest_has, GoesOnAt}
 use Rattle.sctp_send.specs.declared.ordered.Pair.{Pair}
 use Rattle.sctp_send.specs.declared.part_lists.PartLists.{PartLists}
@@ -93,17 +93,11 @@ none_left : (n : ℕ) → tickets_left (replicate n fresh_fields) ≡ replicate 
 none_left zero = refl
 none_left (suc n) = ap (λ (os : List (Option ℕ)). None ∷ os) (none_left n)
 
-none_bounded : (bs : List ℕ) (n : ℕ) → AreLeftBounded bs (replicate n fresh_fields)
-none_bounded bs zero j d lt = absurd (omega (arith, lt))
-none_bounded bs (suc n) zero d lt = tt
-none_bounded bs (suc n) (suc j) d lt = none_bounded bs n j d (omega (arith, lt))
-
 -- streams that have no message with a number
-pub streams_fresh : (size n : ℕ) (ts : List TrackFields) (lists : PartLists) (bs : List ℕ) → 0 < size → n < 2 ^ 16 → ts ≡ replicate n fresh_fields → IsListed (replicate n None) lists → IsStreamsOf size ts 0 0 LAST_MOMENT lists bs
-streams_fresh size n ts lists bs some few is h = record {
+pub streams_fresh : (size n : ℕ) (ts : List TrackFields) (lists : PartLists) → 0 < size → n < 2 ^ 16 → ts ≡ replicate n fresh_fields → IsListed (replicate n None) lists → IsStreamsOf size ts 0 0 lists
+streams_fresh size n ts lists some few is h = record {
   counted = counted_fresh size n ts some few is;
   listed = subst (λ (os : List (Option ℕ)). IsListed os lists) (sym (ap tickets_left is ∙ none_left n)) h;
-  bounded = subst (AreLeftBounded bs) (sym is) (none_bounded bs n);
 }
 
 left_read : (at : ℕ) (ts : List TrackFields) (x : TrackFields) → at < length ts → x ≡ get_or ts at x → left_on at (tickets_left ts) ≡ ticket_left x.rest

@@ -1,9 +1,10 @@
 -- Fragments counted, sums over the streams, what is promised, and a message more in the queue.
 use Rattle.std.proofs.Common.{◌≡◌, ℕ, zero, suc, ◌+◌, ◌*◌, ◌/◌, ◌%◌, ◌^◌, ◌<◌, ◌≤◌, List, [], ◌∷◌, ◌++◌, length, Bool, true, false, Option, Some, None, refl, sym, ap, ◌∙◌, subst, arith}
-use Rattle.std.specs.Prelude.{min, nat_lt, nat_le, if◌then◌else◌, ◌==◌, ◌||◌, Result, Ok, Err, IsErrAnd}
+use Rattle.std.specs.Prelude.{min, nat_lt, nat_le, if◌then◌else◌, ◌==◌, ◌||◌, Result, Ok, Err, IsErrAnd, unwrap_or}
+use Rattle.std.proofs.lemmas.List.{length_push}
 use Rattle.std.specs.Int.{div_ceil}
 use Rattle.std.proofs.lemmas.Bool.Decides.{nat_tests}
-use Rattle.sctp_model.specs.numbers.Limits.{LONGEST_MESSAGE, QUEUE_LIMIT, TICKET_LIMIT, TSN_LIMIT}
+use Rattle.sctp_model.specs.numbers.Limits.{LONGEST_MESSAGE, QUEUE_LIMIT, TICKET_LIMIT, TSN_LIMIT, LAST_MOMENT}
 use Rattle.sctp_model.specs.messages.Format.{Format, Lane}
 use Rattle.sctp_model.specs.messages.Plan.{Entry, Part, End}
 use Rattle.sctp_model.specs.sender.SenderView.{Queued, SenderView}
@@ -30,6 +31,8 @@ use Rattle.sctp_send.specs.declared.message.Fate.{Fate}
 use Rattle.sctp_send.specs.declared.message.Fate.TheVariants.{Queued as StillQueued}
 use Rattle.sctp_send.proofs.TableLemmas.{table-push, table-same, length-table}
 use Rattle.sctp_send.proofs.OverLemmas.{not_waiting_more}
+use Rattle.sctp_send.proofs.DueLemmas.{late_queue_more, late_before}
+use Rattle.sctp_send.proofs.MomentLemmas.{due_push}
 use Rattle.sctp_send.proofs.KeepLemmas.{kept_length}
 
 -- ---- fragments
@@ -92,10 +95,10 @@ promised_is f s v k =
 
 -- ---- a message more
 
-pub keeps_queued : (f : Format) (s : Kept) (v : SenderView) (lane : Lane) (payload ticket : ℕ) (bytes : List ℕ) (until : Option ℕ) → Keeps f s v → refusal v lane.stream bytes ≡ None → ticket ≡ suc v.tickets
-    → Keeps f (record s { queue = s.queue ++ record { lane = lane; message = record { ticket = ticket; payload = payload; fragments = cut s.fragment bytes; until = until } } ∷ []; fates = s.fates ++ StillQueued ∷ [] })
+pub keeps_queued : (f : Format) (s : Kept) (v : SenderView) (lane : Lane) (payload ticket : ℕ) (bytes : List ℕ) (until : Option ℕ) → Keeps f s v → refusal v lane.stream bytes ≡ None → ticket ≡ suc v.tickets → unwrap_or until LAST_MOMENT < 2 ^ 64
+    → Keeps f (record s { queue = s.queue ++ record { lane = lane; message = record { ticket = ticket; payload = payload; fragments = cut s.fragment bytes; until = until } } ∷ []; fates = s.fates ++ StillQueued ∷ []; moments = s.moments ++ unwrap_or until LAST_MOMENT ∷ [] })
     (queued v lane payload bytes until)
-keeps_queued f s v lane payload ticket bytes until k free given =
+keeps_queued f s v lane payload ticket bytes until k free given small =
     let u = queued v lane payload bytes until in
     let q : Queued = record { lane = lane; message = record { ticket = suc v.tickets; payload = payload; fragments = cut v.fragment bytes; until = until } } in
     let last : fate_here u (1 + v.tickets) ≡ StillQueued =
@@ -124,9 +127,21 @@ keeps_queued f s v lane payload ticket bytes until k free given =
         covered = k.holds.covered;
         room = k.holds.room;
       };
-      over = let within = k.over.within in record {
+      over = let within = k.over.within in let held = k.due.many in record {
         within = omega arith;
         each = λ t le. let o = k.over.each t le in record { queue = not_waiting_more t s.queue _ o.queue (λ is. omega arith); tracks = o.tracks; items = o.items };
+      };
+      due = record {
+        many = let long = length_push s.moments (unwrap_or until LAST_MOMENT) in let held = k.due.many in omega (arith, long, held);
+        each = λ t now lt.
+            let more = due_push s.passed s.moments (unwrap_or until LAST_MOMENT) t now small lt in
+            let i = k.due.each t now more.0 in
+            let held = k.due.many in
+            record {
+              queue = late_queue_more now t s.queue _ i.queue (late_before now t (record { ticket = ticket; payload = payload; fragments = cut s.fragment bytes; until = until }) (λ same. more.1 (omega (arith, held, given, same))));
+              items = i.items;
+              tracks = i.tracks;
+            };
       };
       reached = Queues v lane payload bytes until k.reached free;
     }

@@ -14,13 +14,10 @@ use Rattle.sctp_model.specs.sender.SenderView.{Queued}
 use Rattle.sctp_model.specs.sender.Words.{when}
 use Rattle.sctp_send.specs.OutstandingFields.{message_meaning}
 use Rattle.sctp_send.specs.SenderFields.{queued_by}
-use Rattle.sctp_send.specs.inner.Bounding.{AreMessagesBounded}
-use Rattle.sctp_send.specs.inner.Expiring.{sooner, late_after, soonest, queue_messages}
 use Rattle.sctp_send.specs.inner.Ordering.{key, before, AreOrdered}
 use Rattle.sctp_send.specs.inner.Seating.{ticket_in, seat_of, DoTicketsRise, IsBetween, AreLower, AreSeats, IsSeatedOf, IsQueueOf}
 use Rattle.sctp_send.specs.declared.message.Message.{Message as MessageFields}
 use Rattle.sctp_send.specs.declared.ordered.Pair.{Pair}
-use Rattle.sctp_send.proofs.ExpireLemmas.{late_walked}
 use Rattle.sctp_send.proofs.PairLemmas.{in_order, before_below, comes_before, comes_behind, is_small, among, same_numbers}
 use Rattle.sctp_send.proofs.RiseLemmas.{rise_inserted, rise_removed}
 use Rattle.sctp_send.proofs.WithdrawLemmas.{walked_place}
@@ -39,17 +36,16 @@ mapped_removed f (y ∷ xs) zero = refl
 mapped_removed f (y ∷ xs) (suc n) = ap (λ ys. f y ∷ ys) (mapped_removed f xs n)
 
 -- no message waits
-pub seated_fresh : (size : ℕ) (seated : Bool) (ms : List (Arc MessageFields Global)) (ps : List Pair) (bs : List ℕ) → 0 < size → ms ≡ [] → ps ≡ [] → IsQueueOf size ms 0 LAST_MOMENT true seated ps bs 0
-seated_fresh size seated ms ps bs some none empty = rw (none, empty) (record {
-  owed = record { some = some; owed = omega arith; earliest = tt };
+pub seated_fresh : (size : ℕ) (seated : Bool) (ms : List (Arc MessageFields Global)) (ps : List Pair) → 0 < size → ms ≡ [] → ps ≡ [] → IsQueueOf size ms 0 true seated ps 0
+seated_fresh size seated ms ps some none empty = rw (none, empty) (record {
+  owed = record { some = some; owed = omega arith };
   seats = record { order = λ on. tt; seats = λ on f. refl };
-  bounded = λ k d lt. absurd (omega (arith, lt));
   bytes = refl;
 })
 
 -- the same messages and seats
-pub seated_same : (size sum first : ℕ) (rises seated : Bool) (ms next : List (Arc MessageFields Global)) (ps qs : List Pair) (bs cs : List ℕ) (bytes : ℕ) → IsQueueOf size ms sum first rises seated ps bs bytes → next ≡ ms → qs ≡ ps → AreMessagesBounded cs ms → IsQueueOf size next sum first rises seated qs cs bytes
-seated_same size sum first rises seated ms next ps qs bs cs bytes h is same bounded = rw (is, same) (record { owed = h.owed; seats = h.seats; bounded = bounded; bytes = h.bytes })
+pub seated_same : (size sum : ℕ) (rises seated : Bool) (ms next : List (Arc MessageFields Global)) (ps qs : List Pair) (bytes : ℕ) → IsQueueOf size ms sum rises seated ps bytes → next ≡ ms → qs ≡ ps → IsQueueOf size next sum rises seated qs bytes
+seated_same size sum rises seated ms next ps qs bytes h is same = rw (is, same) (record { owed = h.owed; seats = h.seats; bytes = h.bytes })
 
 -- one message more
 pub seated_inserted : (was rises had seated : Bool) (n : ℕ) (x : Arc MessageFields Global) (ms next : List (Arc MessageFields Global)) (ps qs : List Pair) (p : Pair) → IsSeatedOf was had ms ps → next ≡ insert ms n x → n ≤ length ms
@@ -114,57 +110,3 @@ place_from t size (suc n) (m ∷ ms) le low =
     let step = walked_place t size (m ∷ ms) 0 x (omega arith) refl (λ e. omega (arith, first, e)) refl in
     let rest = place_from t size n ms (omega arith) (λ k d lt. low (suc k) d (omega arith)) in
     step ∙ ap (λ (ys : List Queued). queued_by size m ∷ ys) rest
-
--- ---- the lowest that is late
-
--- messages with tickets no higher than the last one are passed by
-pub late_from : (now last size n : ℕ) (found : Option ℕ) (ms : List (Arc MessageFields Global)) → n ≤ length ms → AreLower last n ms
-    → soonest now last found (queue_messages (map (queued_by size) ms)) ≡ soonest now last found (drop n (queue_messages (map (queued_by size) ms)))
-late_from now last size zero found ms le low = refl
-late_from now last size (suc n) found [] le low = refl
-late_from now last size (suc n) found (m ∷ ms) le low =
-    let first = low 0 m (omega arith) in
-    let off : nat_lt last (ticket_in m) ≡ false = grind (arith, nat_tests) in
-    let none : late_after now last (Some (message_meaning size m.value)) ≡ None = rw off refl in
-    let rest = late_from now last size n found ms (omega arith) (λ k d lt. low (suc k) d (omega arith)) in
-    ap (λ (o : Option ℕ). soonest now last (sooner found o) (queue_messages (map (queued_by size) ms))) none ∙ ap (λ (o : Option ℕ). soonest now last o (queue_messages (map (queued_by size) ms))) (unfound found) ∙ rest
-  where
-    unfound : (o : Option ℕ) → sooner o None ≡ o
-    unfound None = refl
-    unfound (Some t) = refl
-
--- behind one that is late none has a lower ticket
-rest_later : (now last size here t : ℕ) (ms : List (Arc MessageFields Global)) → DoTicketsRise here ms → t ≤ here → soonest now last (Some t) (queue_messages (map (queued_by size) ms)) ≡ Some t
-rest_later now last size here t [] h le = refl
-rest_later now last size here t (m ∷ ms) h le =
-    ap (λ (o : Option ℕ). soonest now last o (queue_messages (map (queued_by size) ms))) (by_test (nat_lt last (ticket_in m) && is_past now (message_meaning size m.value)))
-    ∙ rest_later now last size (suc (ticket_in m)) t ms h.1 (omega (arith, h.0, le))
-  where
-    by_test : (b : Bool) → sooner (Some t) (when b (ticket_in m)) ≡ Some t
-    by_test false = refl
-    by_test true = let low : min t (ticket_in m) ≡ t = omega (arith, h.0, le) in ap (λ (n : ℕ). Some n) low
-
-rise_dropped : (here at : ℕ) (ms : List (Arc MessageFields Global)) (x : Arc MessageFields Global) → DoTicketsRise here ms → at < length ms → DoTicketsRise (suc (ticket_in (get_or ms at x))) (drop (suc at) ms)
-rise_dropped here at [] x h lt = absurd (omega arith)
-rise_dropped here zero (m ∷ ms) x h lt = h.1
-rise_dropped here (suc at) (m ∷ ms) x h lt = rise_dropped (suc (ticket_in m)) at ms x h.1 (omega arith)
-
--- the first late one ends the walk
-pub late_ends : (now last size at t : ℕ) (start found : Option ℕ) (ms : List (Arc MessageFields Global)) (x : Arc MessageFields Global) → DoTicketsRise 0 ms → at < length ms → x ≡ get_or ms at x
-    → late_after now last (Some (message_meaning size x.value)) ≡ Some t → t ≡ ticket_in x
-    → soonest now last start (queue_messages (map (queued_by size) ms)) ≡ soonest now last found (drop at (queue_messages (map (queued_by size) ms)))
-    → sooner found (late_after now last (Some (message_meaning size x.value))) ≡ soonest now last start (queue_messages (map (queued_by size) ms))
-late_ends now last size at t start found ms x h lt read late own before_it =
-    let one : at + 1 ≡ suc at = omega arith in
-    let walked = late_walked (queued_by size) (λ (q : Queued). Some q.message) now last start found (sooner found (late_after now last (Some (message_meaning size x.value)))) ms at x lt read refl before_it in
-    let ended = rise_dropped 0 at ms x h lt in
-    let here : ticket_in (get_or ms at x) ≡ t = ap ticket_in (sym read) ∙ sym own in
-    let rest = by_found found (drop (suc at) ms) (omega (arith, here)) ended in
-    let moved : drop (suc at) (queue_messages (map (queued_by size) ms)) ≡ queue_messages (map (queued_by size) (drop (suc at) ms)) = drop-map (λ (q : Queued). Some q.message) (suc at) (map (queued_by size) ms) ∙ ap queue_messages (drop-map (queued_by size) (suc at) ms) in
-    sym (walked ∙ ap (λ (k : ℕ). soonest now last (sooner found (late_after now last (Some (message_meaning size x.value)))) (drop k (queue_messages (map (queued_by size) ms)))) one
-    ∙ ap (λ (ys : List (Option Message)). soonest now last (sooner found (late_after now last (Some (message_meaning size x.value)))) ys) moved
-    ∙ ap (λ (o : Option ℕ). soonest now last (sooner found o) (queue_messages (map (queued_by size) (drop (suc at) ms)))) late ∙ rest ∙ ap (λ (o : Option ℕ). sooner found o) (sym late))
-  where
-    by_found : (o : Option ℕ) (ys : List (Arc MessageFields Global)) → t ≤ suc (ticket_in (get_or ms at x)) → DoTicketsRise (suc (ticket_in (get_or ms at x))) ys → soonest now last (sooner o (Some t)) (queue_messages (map (queued_by size) ys)) ≡ sooner o (Some t)
-    by_found None ys le up = rest_later now last size (suc (ticket_in (get_or ms at x))) t ys up le
-    by_found (Some u) ys le up = rest_later now last size (suc (ticket_in (get_or ms at x))) (min u t) ys up (omega (arith, le))

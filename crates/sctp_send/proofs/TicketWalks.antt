@@ -9,7 +9,6 @@ use Rattle.sctp_send.specs.PartsKept.{at_place}
 use Rattle.sctp_send.specs.OutstandingFields.{item_meaning}
 use Rattle.sctp_send.specs.inner.Changes.{unmarked, given, all_given}
 use Rattle.sctp_send.specs.inner.Walks.{any_uncovered, is_item_uncovered}
-use Rattle.sctp_send.specs.inner.Expiring.{sooner, late_after, soonest, item_message, item_messages}
 use Rattle.sctp_send.specs.inner.TicketOrder.{offset_of, AreRising, IsOrderOf, IsPlaceOf, IsInOrder, ticket_of, tickets_of}
 use Rattle.sctp_send.specs.inner.Counting.{IsCounted}
 use Rattle.sctp_send.specs.declared.by_ticket.Spot.{Spot}
@@ -232,99 +231,8 @@ pub all_are_given : (t : ℕ) (es : List EntryFields) → ((n : ℕ) (e : EntryF
 all_are_given t [] each = refl
 all_are_given t (e ∷ es) each = rw (each 0 e refl, all_are_given t es (λ n d there. each (suc n) d there)) refl
 
--- ---- past their time
-
--- what an entry gives, if it is late
-abbrev pub late_of : (now last size : ℕ) → EntryFields → Option ℕ
-late_of now last size e = late_after now last (item_message (item_meaning size e))
-
--- no entry is late with a ticket below this one
-abbrev NoneLower : (now last size t : ℕ) → List EntryFields → Type 0
-NoneLower now last size t es = (m : ℕ) (e : EntryFields) → slice_get es m ≡ Some e → (u : ℕ) → late_of now last size e ≡ Some u → t ≤ u
-
--- what is found and no higher stays
-soonest_stays : (now last size t f : ℕ) (es : List EntryFields) → f ≤ t → NoneLower now last size t es → soonest now last (Some f) (item_messages (map (item_meaning size) es)) ≡ Some f
-soonest_stays now last size t f [] low each = refl
-soonest_stays now last size t f (e ∷ es) low each = by_late (late_of now last size e) refl (soonest_stays now last size t f es low (λ m d there. each (suc m) d there))
-  where
-    by_late : (o : Option ℕ) → late_of now last size e ≡ o → soonest now last (Some f) (item_messages (map (item_meaning size) es)) ≡ Some f
-        → soonest now last (Some f) (item_messages (map (item_meaning size) (e ∷ es))) ≡ Some f
-    by_late None is rest = ap (λ (o : Option ℕ). soonest now last (sooner (Some f) o) (item_messages (map (item_meaning size) es))) is ∙ rest
-    by_late (Some u) is rest =
-        let le = each 0 e refl u is in
-        let same : min f u ≡ f = omega (arith, le, low) in
-        ap (λ (o : Option ℕ). soonest now last (sooner (Some f) o) (item_messages (map (item_meaning size) es))) is
-        ∙ ap (λ (m : ℕ). soonest now last (Some m) (item_messages (map (item_meaning size) es))) same ∙ rest
-
-lower_of_both : (found : Option ℕ) (t u : ℕ) → t ≤ u → sooner (sooner found (Some u)) (Some t) ≡ sooner found (Some t)
-lower_of_both None t u le = ap (λ (n : ℕ). Some n) (omega (arith, le))
-lower_of_both (Some g) t u le = ap (λ (n : ℕ). Some n) (omega (arith, le))
-
-unfound : (found : Option ℕ) → sooner found None ≡ found
-unfound None = refl
-unfound (Some t) = refl
-
--- the lowest of late tickets is the one found, where all others are no lower
-pub soonest_is : (now last size : ℕ) (found : Option ℕ) (t n : ℕ) (es : List EntryFields) (x : EntryFields) → NoneLower now last size t es → n < length es → x ≡ get_or es n x → late_of now last size x ≡ Some t
-    → soonest now last found (item_messages (map (item_meaning size) es)) ≡ sooner found (Some t)
-soonest_is now last size found t n [] x each lt read late = absurd (omega arith)
-soonest_is now last size found t zero (e ∷ es) x each lt read late =
-    let here : late_of now last size e ≡ Some t = subst (λ (d : EntryFields). late_of now last size d ≡ Some t) read late in
-    ap (λ (o : Option ℕ). soonest now last (sooner found o) (item_messages (map (item_meaning size) es))) here ∙ by_found found
-  where
-    rest : (f : ℕ) → f ≤ t → soonest now last (Some f) (item_messages (map (item_meaning size) es)) ≡ Some f
-    rest f low = soonest_stays now last size t f es low (λ m d there. each (suc m) d there)
-
-    by_found : (o : Option ℕ) → soonest now last (sooner o (Some t)) (item_messages (map (item_meaning size) es)) ≡ sooner o (Some t)
-    by_found None = rest t (omega arith)
-    by_found (Some g) = rest (min g t) (omega arith)
-soonest_is now last size found t (suc n) (e ∷ es) x each lt read late =
-    by_late (late_of now last size e) refl (λ o. soonest_is now last size o t n es x (λ m d there. each (suc m) d there) (omega arith) read late)
-  where
-    by_late : (o : Option ℕ) → late_of now last size e ≡ o → ((o : Option ℕ) → soonest now last o (item_messages (map (item_meaning size) es)) ≡ sooner o (Some t))
-        → soonest now last found (item_messages (map (item_meaning size) (e ∷ es))) ≡ sooner found (Some t)
-    by_late None is rest =
-        ap (λ (o : Option ℕ). soonest now last (sooner found o) (item_messages (map (item_meaning size) es))) is
-        ∙ ap (λ (o : Option ℕ). soonest now last o (item_messages (map (item_meaning size) es))) (unfound found)
-        ∙ rest found
-    by_late (Some u) is rest =
-        ap (λ (o : Option ℕ). soonest now last (sooner found o) (item_messages (map (item_meaning size) es))) is
-        ∙ rest (sooner found (Some u)) ∙ lower_of_both found t u (each 0 e refl u is)
-
--- no other is late
-pub soonest_found : (now last size : ℕ) (found : Option ℕ) (es : List EntryFields) → ((m : ℕ) (e : EntryFields) → slice_get es m ≡ Some e → late_of now last size e ≡ None)
-    → soonest now last found (item_messages (map (item_meaning size) es)) ≡ found
-soonest_found now last size found [] each = refl
-soonest_found now last size found (e ∷ es) each =
-    ap (λ (o : Option ℕ). soonest now last (sooner found o) (item_messages (map (item_meaning size) es))) (each 0 e refl)
-    ∙ ap (λ (o : Option ℕ). soonest now last o (item_messages (map (item_meaning size) es))) (unfound found)
-    ∙ soonest_found now last size found es (λ m d there. each (suc m) d there)
-
--- an entry up to the last ticket isn't late
-pub not_above : (now last size : ℕ) (e : EntryFields) → ticket_of e ≤ last → late_of now last size e ≡ None
-not_above now last size e le = by_done (e.covered || e.abandoned) refl
-  where
-    off : nat_lt last e.message.value.ticket ≡ false
-    off = grind (arith, le, nat_tests)
-
-    by_done : (b : Bool) → (e.covered || e.abandoned) ≡ b → late_of now last size e ≡ None
-    by_done true done = rw done refl
-    by_done false on = rw (on, off) refl
-
--- what an entry gives is its ticket
-pub late_ticket_is : (now last size u : ℕ) (e : EntryFields) → late_of now last size e ≡ Some u → u ≡ ticket_of e
-late_ticket_is now last size u e is = by_done (e.covered || e.abandoned) refl
-  where
-    by_test : (b : Bool) → when b e.message.value.ticket ≡ Some u → u ≡ ticket_of e
-    by_test true there = cc
-    by_test false there = absurd (cc)
-
-    by_done : (b : Bool) → (e.covered || e.abandoned) ≡ b → u ≡ ticket_of e
-    by_done true done = absurd (let none = rw done at is in cc)
-    by_done false on = by_test _ (rw on at is)
-
 -- ---- what is outstanding
 
 -- other counts of the same entries
-pub recounted : (size : ℕ) (es : List EntryFields) (capacity : ℕ) (c d : Counts) (o : ByTicket) (room : ℕ) (bs : List ℕ) (ss : List Stretch) → IsCounted size es d → IsInOrder size es capacity c o room bs ss → IsInOrder size es capacity d o room bs ss
-recounted size es capacity c d o room bs ss counted h = record { counted = counted; order = h.order; below = h.below; few = h.few; within = h.within; here = h.here; there = h.there; bounded = h.bounded; known = h.known }
+pub recounted : (size : ℕ) (es : List EntryFields) (capacity : ℕ) (c d : Counts) (o : ByTicket) (room : ℕ) (ss : List Stretch) → IsCounted size es d → IsInOrder size es capacity c o room ss → IsInOrder size es capacity d o room ss
+recounted size es capacity c d o room ss counted h = record { counted = counted; order = h.order; below = h.below; few = h.few; within = h.within; here = h.here; there = h.there; known = h.known }

@@ -9,10 +9,8 @@ use Rattle.sctp_send.specs.PartsKept.{at_place}
 use Rattle.sctp_send.specs.SenderKept.{Rest, Track}
 use Rattle.sctp_send.specs.SenderFields.{counts_meaning, rests_meaning, track_meaning}
 use Rattle.sctp_send.specs.inner.Newcomers.{number_in, counted_in, rest_at, has_rest, track_of}
-use Rattle.sctp_send.specs.inner.Counting.{AreWorth}
 use Rattle.sctp_send.specs.inner.Drafting.{counted_track, left_track}
-use Rattle.sctp_send.specs.inner.Expiring.{rest_message, rest_messages}
-use Rattle.sctp_send.specs.inner.PartPairs.{ticket_left, tickets_left, IsListed, IsLeftBounded, IsStreamsOf}
+use Rattle.sctp_send.specs.inner.PartPairs.{ticket_left, tickets_left, IsListed, IsStreamsOf}
 use Rattle.sctp_send.specs.inner.Undoing.{count_of, counted_to}
 use Rattle.sctp_send.specs.inner.Walks.{total, one_if_rest, rest_owes}
 use Rattle.sctp_send.specs.declared.message.Message.{Message as MessageFields}
@@ -95,19 +93,6 @@ total_stays f size many at k [] same = refl
 total_stays f size many zero k (t ∷ ts) same = ap (λ (n : ℕ). n + total (λ t. f t.rest) (map (track_meaning size) ts)) (rest_stays f size many k t same)
 total_stays f size many (suc at) k (t ∷ ts) same = ap (λ (n : ℕ). f (track_meaning size t).rest + n) (total_stays f size many at k ts same)
 
--- the message that is left
-abbrev message_left : Option Rest → Option Message
-message_left o = option_and_then (λ (r : Rest). r.message) o
-
-messages_stay : (size many at : ℕ) (k : Kind) (ts : List TrackFields) → rest_messages (map (track_meaning size) (at_place (counted_to k many) at ts)) ≡ rest_messages (map (track_meaning size) ts)
-messages_stay size many at k [] = refl
-messages_stay size many zero k (t ∷ ts) = ap (λ (m : Option Message). m ∷ rest_messages (map (track_meaning size) ts)) (rest_stays message_left size many k t same)
-  where
-    same : (a b : Track) (o : Option RestFields) → message_left (rests_meaning size a o) ≡ message_left (rests_meaning size b o)
-    same a b None = refl
-    same a b (Some r) = refl
-messages_stay size many (suc at) k (t ∷ ts) = ap (λ (ms : List (Option Message)). rest_message (track_meaning size t) ∷ ms) (messages_stay size many at k ts)
-
 fields_stay : (many : ℕ) (k : Kind) (t : TrackFields) → (counted_to k many t).rest ≡ t.rest
 fields_stay many Ordered t = refl
 fields_stay many Unordered t = refl
@@ -117,21 +102,14 @@ tickets_stay many at k [] = refl
 tickets_stay many zero k (t ∷ ts) = ap (λ (o : Option RestFields). ticket_left o ∷ tickets_left ts) (fields_stay many k t)
 tickets_stay many (suc at) k (t ∷ ts) = ap (λ (os : List (Option ℕ)). ticket_left t.rest ∷ os) (tickets_stay many at k ts)
 
-read_stays : (many at j : ℕ) (k : Kind) (ts : List TrackFields) (d : TrackFields) → (get_or (at_place (counted_to k many) at ts) j d).rest ≡ (get_or ts j d).rest
-read_stays many at j k [] d = refl
-read_stays many zero zero k (t ∷ ts) d = fields_stay many k t
-read_stays many zero (suc j) k (t ∷ ts) d = refl
-read_stays many (suc at) zero k (t ∷ ts) d = refl
-read_stays many (suc at) (suc j) k (t ∷ ts) d = read_stays many at j k ts d
-
 pub long_stays : (many at : ℕ) (k : Kind) (ts : List TrackFields) → length (at_place (counted_to k many) at ts) ≡ length ts
 long_stays many at k [] = refl
 long_stays many zero k (t ∷ ts) = refl
 long_stays many (suc at) k (t ∷ ts) = ap suc (long_stays many at k ts)
 
 -- all that is said of the streams
-pub streams_counted : (size many at parts owed first : ℕ) (k : Kind) (ts : List TrackFields) (lists : PartLists) (bs : List ℕ) → IsStreamsOf size ts parts owed first lists bs → IsStreamsOf size (at_place (counted_to k many) at ts) parts owed first lists bs
-streams_counted size many at parts owed first k ts lists bs h =
+pub streams_counted : (size many at parts owed : ℕ) (k : Kind) (ts : List TrackFields) (lists : PartLists) → IsStreamsOf size ts parts owed lists → IsStreamsOf size (at_place (counted_to k many) at ts) parts owed lists
+streams_counted size many at parts owed k ts lists h =
     let long = long_stays many at k ts in
     let few = h.counted.few in
     record {
@@ -140,10 +118,8 @@ streams_counted size many at parts owed first k ts lists bs h =
         few = omega (arith, long, few);
         parts = h.counted.parts ∙ ap (λ (n : ℕ). n % 2 ^ 32) (sym (total_stays one_if_rest size many at k ts one));
         owed = h.counted.owed ∙ ap (λ (n : ℕ). n % 2 ^ 64) (sym (total_stays rest_owes size many at k ts owes));
-        earliest = subst (λ (ms : List (Option Message)). AreWorth first ms) (sym (messages_stay size many at k ts)) h.counted.earliest;
       };
       listed = subst (λ (os : List (Option ℕ)). IsListed os lists) (sym (tickets_stay many at k ts)) h.listed;
-      bounded = λ j d lt. subst (λ (o : Option RestFields). IsLeftBounded bs o) (sym (read_stays many at j k ts d)) (h.bounded j d (omega (arith, long, lt)));
     }
   where
     one : (a b : Track) (o : Option RestFields) → one_if_rest (rests_meaning size a o) ≡ one_if_rest (rests_meaning size b o)

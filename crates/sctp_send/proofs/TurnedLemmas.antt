@@ -5,10 +5,8 @@ use Rattle.sctp_model.specs.numbers.Limits.{LAST_MOMENT}
 use Rattle.sctp_model.specs.numbers.Lists.{Has}
 use Rattle.sctp_send.specs.SenderKept.{Item}
 use Rattle.sctp_send.specs.OutstandingFields.{is_marked, item_meaning}
-use Rattle.sctp_send.specs.inner.Bounding.{bound_of, until_of, IsBounded, AreBounded}
 use Rattle.sctp_send.specs.inner.Changes.{unmarked, told}
-use Rattle.sctp_send.specs.inner.Counting.{count_unsettled, AreWorth, IsCounted, moment}
-use Rattle.sctp_send.specs.inner.Expiring.{item_message, item_messages}
+use Rattle.sctp_send.specs.inner.Counting.{count_unsettled, IsCounted}
 use Rattle.sctp_send.specs.inner.Newcomers.{one_if}
 use Rattle.sctp_send.specs.inner.Stretching.{IsPlain, entry_bytes, AreAlike, told_run, turned_counts}
 use Rattle.sctp_send.specs.inner.TicketOrder.{tickets_of}
@@ -108,41 +106,12 @@ same_tickets c zero (suc k) (e ∷ es) = by_told c (same_tickets c zero k es)
     by_told true rest = ap (λ (ts : List ℕ). e.message.value.ticket ∷ ts) rest
     by_told false rest = ap (λ (ts : List ℕ). e.message.value.ticket ∷ ts) rest
 
--- ---- moments
-
--- a message without a moment is worthless at none
-plain_moment : (size : ℕ) (b : Bool) (e : EntryFields) → IsPlain b e → moment (item_meaning size e) ≡ LAST_MOMENT
-plain_moment size true e h = rw (h.covers) refl
-plain_moment size false e h = rw (h.covers, h.kept, h.timeless) refl
-
-same_worth : (size first : ℕ) (b c : Bool) (n at k : ℕ) (es : List EntryFields) → first ≤ LAST_MOMENT → AreAlike size b n at k es → AreWorth first (item_messages (map (item_meaning size) es))
-    → AreWorth first (item_messages (map (item_meaning size) (told_run c at k es)))
-same_worth size first b c n (suc at) k [] last h worth = absurd h
-same_worth size first b c n (suc at) k (e ∷ es) last h worth = (worth.0, same_worth size first b c n at k es last h worth.1)
-same_worth size first b c n zero zero es last h worth = worth
-same_worth size first b c n zero (suc k) [] last h worth = absurd h
-same_worth size first b c n zero (suc k) (e ∷ es) last h worth =
-    let none = plain_moment size c (told c e) (plain_told b c e h.0) in
-    (omega (arith, none, last), same_worth size first b c (n - entry_bytes size e) zero k es last h.2 worth.1)
-
-pub same_bounded : (size : ℕ) (bs : List ℕ) (b c : Bool) (n at k : ℕ) (es : List EntryFields) → ((t : ℕ) → bound_of bs t ≤ LAST_MOMENT) → AreAlike size b n at k es → AreBounded bs es → AreBounded bs (told_run c at k es)
-same_bounded size bs b c n (suc at) k [] last h bounded d there = absurd h
-same_bounded size bs b c n (suc at) k (e ∷ es) last h bounded d (inl is) = bounded d (inl is)
-same_bounded size bs b c n (suc at) k (e ∷ es) last h bounded d (inr there) = same_bounded size bs b c n at k es last h (λ x here. bounded x (inr here)) d there
-same_bounded size bs b c n zero zero es last h bounded d there = bounded d there
-same_bounded size bs b c n zero (suc k) [] last h bounded d there = absurd h
-same_bounded size bs b c n zero (suc k) (e ∷ es) last h bounded d (inl is) =
-    let timeless = (plain_told b c e h.0).timeless in
-    let until : until_of (told c e).message ≡ LAST_MOMENT = rw timeless refl in
-    subst (λ (x : EntryFields). IsBounded bs x) is (λ on. let le = last (told c e).message.value.ticket in omega (arith, le, until))
-same_bounded size bs b c n zero (suc k) (e ∷ es) last h bounded d (inr there) = same_bounded size bs b c (n - entry_bytes size e) zero k es last h.2 (λ x here. bounded x (inr here)) d there
-
 -- ---- all that is counted
 
-counts_turned_by : (size : ℕ) (b c : Bool) (n at : ℕ) (es : List EntryFields) (d : Counts) (flight unsettled : ℕ) → d.earliest ≤ LAST_MOMENT → AreAlike size b n at 64 es → IsCounted size es d
+counts_turned_by : (size : ℕ) (b c : Bool) (n at : ℕ) (es : List EntryFields) (d : Counts) (flight unsettled : ℕ) → AreAlike size b n at 64 es → IsCounted size es d
     → flight ≡ item_flight (map (item_meaning size) (told_run c at 64 es)) % 2 ^ 64 → unsettled ≡ count_unsettled (map (item_meaning size) (told_run c at 64 es)) % 2 ^ 64
     → IsCounted size (told_run c at 64 es) (record d { flight = flight; unsettled = unsettled })
-counts_turned_by size b c n at es d flight unsettled last h counted one two =
+counts_turned_by size b c n at es d flight unsettled h counted one two =
     let long = length-told_run c at 64 es in
     record {
       some = counted.some;
@@ -153,19 +122,18 @@ counts_turned_by size b c n at es d flight unsettled last h counted one two =
       unsent_within = let le = counted.unsent_within in omega (arith, le, long);
       flight = one;
       unsettled = two;
-      earliest = same_worth size d.earliest b c n at 64 es last h counted.earliest;
       front = counted.front ∙ sym (same_front size c at 64 es);
     }
 
-pub counts_turned : (size : ℕ) (c : Bool) (n at : ℕ) (es : List EntryFields) (d : Counts) → n < 2 ^ 32 → d.earliest ≤ LAST_MOMENT → AreAlike size (not c) n at 64 es → IsCounted size es d
+pub counts_turned : (size : ℕ) (c : Bool) (n at : ℕ) (es : List EntryFields) (d : Counts) → n < 2 ^ 32 → AreAlike size (not c) n at 64 es → IsCounted size es d
     → IsCounted size (told_run c at 64 es) (turned_counts n c d)
-counts_turned size true n at es d small last h counted =
+counts_turned size true n at es d small h counted =
     let sums = covered_sums size n at 64 es h in
     let flight = counted.flight in
     let unsettled = counted.unsettled in
-    counts_turned_by size false true n at es d _ _ last h counted (omega (arith, small, sums.0, flight)) (omega (arith, sums.1, unsettled))
-counts_turned size false n at es d small last h counted =
+    counts_turned_by size false true n at es d _ _ h counted (omega (arith, small, sums.0, flight)) (omega (arith, sums.1, unsettled))
+counts_turned size false n at es d small h counted =
     let sums = uncovered_sums size n at 64 es h in
     let flight = counted.flight in
     let unsettled = counted.unsettled in
-    counts_turned_by size true false n at es d _ _ last h counted (omega (arith, sums.0, flight)) (omega (arith, sums.1, unsettled))
+    counts_turned_by size true false n at es d _ _ h counted (omega (arith, sums.0, flight)) (omega (arith, sums.1, unsettled))

@@ -20,6 +20,7 @@ use Rattle.sctp_send.specs.declared.message.Message.{Message as MessageFields}
 use Rattle.sctp_send.specs.declared.message.Fate.TheVariants.{Queued as StillQueued, Withdrawn}
 use Rattle.sctp_send.proofs.TableLemmas.{table-set}
 use Rattle.sctp_send.proofs.OverLemmas.{not_waiting_without}
+use Rattle.sctp_send.proofs.DueLemmas.{late_without}
 use Rattle.sctp_send.proofs.WalkLemmas.{none_behind, queue_read}
 
 -- ---- the place of a message that waits
@@ -123,5 +124,6 @@ keeps_withdrawn f s v t k on =
         room = k.holds.room;
       };
       over = record { within = k.over.within; each = λ x le. let o = k.over.each x le in record { queue = not_waiting_without x t s.queue o.queue; tracks = o.tracks; items = o.items } };
+      due = record { many = k.due.many; each = λ x now lt. let i = k.due.each x now lt in record { queue = late_without now x t s.queue i.queue; items = i.items; tracks = i.tracks } };
       reached = rw after at reached;
     })

@@ -1,5 +1,5 @@
 -- What the parts of a sender keep: the entries above CUM, the messages that wait, the streams.
-use Rattle.std.specs.Prelude.{◌≡◌, ℕ, zero, suc, List, [], ◌∷◌}
+use Rattle.std.specs.Prelude.{◌≡◌, ℕ, zero, suc, Bool, List, [], ◌∷◌}
 use Rattle.std.specs.declared.sync.Arc.{Arc}
 use Rattle.std.specs.declared.alloc.Global.{Global}
 use Rattle.sctp_send.specs.declared.message.Message.{Message}
@@ -28,6 +28,14 @@ pub record StreamsKept : Type 0 where
 pub record FatesKept : Type 0 where
   pub items : List Fate
   pub ended : ℕ
+  pub capacity : ℕ
+
+-- from which moment on each ticket's message may be late: so many of the first tickets are passed; of how many behind them there is room for; and whether
+-- that is said only of what isn't covered
+pub record DuesKept : Type 0 where
+  pub passed : ℕ
+  pub moments : List ℕ
+  pub asleep : Bool
   pub capacity : ℕ
 
 -- a list in which the element at a place is changed

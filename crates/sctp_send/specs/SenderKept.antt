@@ -45,3 +45,8 @@ pub record Kept : Type 0 where
   pub runs : Option (List CoveredRun)
   -- how many entries above CUM there is room for
   pub capacity : ℕ
+  -- so many of the first tickets are never late again; and of each ticket behind them, the moment from which its message may be
+  pub passed : ℕ
+  pub moments : List ℕ
+  -- that is said of messages whose entries are covered, too, unless this is so
+  pub asleep : Bool

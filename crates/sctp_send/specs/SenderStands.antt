@@ -1,5 +1,5 @@
 -- When a sender stands for a view: what it keeps is what the view says, and the view is one that calls reach.
-use Rattle.std.specs.Prelude.{◌≡◌, ℕ, zero, suc, ◌+◌, ◌≤◌, false, if◌then◌else◌, List, [], ◌∷◌, length, drop, Option, None, Some}
+use Rattle.std.specs.Prelude.{◌≡◌, ℕ, zero, suc, ◌+◌, ◌≤◌, max, false, if◌then◌else◌, List, [], ◌∷◌, length, drop, Option, None, Some}
 use Rattle.sctp_model.specs.messages.Format.{Format, ordered_lane, unordered_lane}
 use Rattle.sctp_model.specs.messages.Plan.{Entry, Plan}
 use Rattle.sctp_model.specs.sender.SenderView.{SenderView}
@@ -9,6 +9,7 @@ use Rattle.sctp_model.specs.sender.Reached.{IsReached}
 use Rattle.sctp_send.specs.SenderKept.{Item, Rest, Track, Kept}
 use Rattle.sctp_send.specs.CoveredRuns.{AreCovered}
 use Rattle.sctp_send.specs.inner.Walks.{any_item, any_rest}
+use Rattle.sctp_send.specs.inner.Dues.{AreDue}
 use Rattle.sctp_send.specs.declared.message.Fate.{Fate}
 use Rattle.sctp_send.specs.declared.message.Fate.TheVariants.{Queued as StillQueued, Numbered, Withdrawn, Abandoned as WasAbandoned}
 
@@ -71,15 +72,16 @@ pub record IsOver (s : Kept) (t : ℕ) : Type 0 where
   pub tracks : any_rest t s.tracks ≡ false
   pub items : any_item t s.items ≡ false
 
--- So it is with the first of the tickets that were given.
+-- So it is with the first of the tickets that were given: those whose fates stand for good, and those that are passed.
 pub record AreOver (s : Kept) (given : ℕ) : Type 0 where
   pub within : s.ended ≤ given
-  pub each : (t : ℕ) → t ≤ s.ended → IsOver s t
+  pub each : (t : ℕ) → t ≤ max s.ended s.passed → IsOver s t
 
--- It is a view that calls reach, and tickets that count as ended are over.
+-- It is a view that calls reach, tickets that count as ended are over, and no ticket is late before its moment.
 pub record Keeps (f : Format) (s : Kept) (v : SenderView) : Type 0 where
   pub holds : Holds s v
   pub over : AreOver s v.tickets
+  pub due : AreDue s v.tickets
   pub reached : IsReached f v
 
 -- Stands for: hidden from the crates above, which know it by the clauses alone.

@@ -10,8 +10,8 @@ pub mod Counting
 pub mod Seating
 pub mod Undoing
 pub mod Lanes
-pub mod Bounding
 pub mod TicketOrder
 pub mod PartPairs
 pub mod FateBlocks
 pub mod Stretching
+pub mod Dues

@@ -1,11 +1,12 @@
 //! The outstanding entries message by message, in the order of their tickets: what is covered, and what is abandoned.
 
-ghost use Rattle.std.specs.Prelude.{◌≡◌, ℕ, ◌<◌, ◌≤◌, true, false, map, length};
+ghost use Rattle.std.specs.Prelude.{◌≡◌, ℕ, ◌<◌, ◌≤◌, true, false, map, length, IfSome, IfNone};
 ghost use Rattle.std.specs.VecDeque.{deque_capacity};
 ghost use Rattle.sctp_send.specs.OutstandingFields.{item_meaning};
 ghost use Rattle.sctp_send.specs.PartsKept.{IsSameRoom, at_place};
 ghost use Rattle.sctp_send.specs.inner.Changes.{given, all_given};
 ghost use Rattle.sctp_send.specs.inner.Counting.{IsCounted};
+ghost use Rattle.sctp_send.specs.inner.Dues.{IsItemUntil};
 ghost use Rattle.sctp_send.specs.inner.Walks.{any_item, any_uncovered, is_item_uncovered};
 
 use crate::counts::{Counts, stand_one};
@@ -28,6 +29,22 @@ impl Outstanding {
             }
         }
         false
+    }
+
+    /// The moment of the message with this ticket, where an entry of it stands above CUM.
+    pub(crate) fn until_of(&self, ticket: u64) -> Option<Option<u64>>
+        ensures some { (size : ℕ) → IfSome result (λ until. IsItemUntil ticket until (map (item_meaning size) self.now.items)) }
+        ensures none { (size : ℕ) → IfNone result (any_item ticket (map (item_meaning size) self.now.items) ≡ false) }
+    {
+        let start = self.by_ticket.place(ticket, 0);
+        let end = self.by_ticket.place(ticket, usize::MAX);
+        for place in start..end {
+            let entry = &self.entries[self.by_ticket.offset(place)];
+            if entry.message.ticket == ticket {
+                return Some(entry.message.until);
+            }
+        }
+        None
     }
 
     /// All entries are of messages with tickets behind this one.

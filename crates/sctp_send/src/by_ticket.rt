@@ -2,11 +2,10 @@
 
 ghost use Rattle.std.specs.Prelude.{◌≡◌, ℕ, ◌+◌, ◌<◌, ◌≤◌, ◌%◌, ◌^◌, ◌++◌, ◌∷◌, [], true, List, length, slice_get, slice_index_or, Some, OnOk};
 ghost use Rattle.std.specs.VecDeque.{deque_len, deque_capacity};
-ghost use Rattle.sctp_send.specs.inner.TicketOrder.{offset_of, comes_before, IsOrderOf, IsPlaceOf, IsGone, AreUpTo, ArePassed};
+ghost use Rattle.sctp_send.specs.inner.TicketOrder.{offset_of, comes_before, IsOrderOf, IsPlaceOf, IsGone, AreUpTo};
 ghost use Rattle.sctp_send.specs.inner.Stretching.{index_at};
 ghost use Rattle.sctp_send.specs.declared.by_ticket.Spot.{Spot};
 
-use crate::bounds::passed;
 use sctp_values::NoMemory;
 use std::alloc::Global;
 use std::collections::VecDeque;
@@ -145,20 +144,6 @@ impl ByTicket {
                 ensures { result ≡ comes_before first ticket offset spot.now }
             { comes_before(first, ticket, offset, spot) },
         )
-    }
-
-    /// A place behind spots, from one on, whose tickets' bounds lie above this moment.
-    pub(crate) fn place_behind(&self, bounds: &[u64], place: usize, now: u64) -> usize
-        ensures order { place ≤ result }
-        ensures passed { (tickets : List ℕ) → IsOrderOf tickets self.now.first self.now.spots.items → ArePassed now bounds.now place result self.now.spots.items }
-    {
-        if place >= self.spots.len() {
-            return place;
-        }
-        match passed(bounds, self.spots[place].ticket, self.highest, now) {
-            Some(last) => self.place(last, usize::MAX).max(place),
-            None => place,
-        }
     }
 
     /// The offset of the entry whose spot has this place.

@@ -5,16 +5,13 @@ ghost use Rattle.sctp_send.specs.SenderKept.{Item};
 ghost use Rattle.sctp_send.specs.OutstandingFields.{item_meaning};
 ghost use Rattle.std.specs.VecDeque.{deque_capacity};
 ghost use Rattle.sctp_send.specs.PartsKept.{at_place};
-ghost use Rattle.sctp_send.specs.inner.Bounding.{bound_of, IsBounded};
 ghost use Rattle.sctp_send.specs.inner.Changes.{stood};
-ghost use Rattle.sctp_send.specs.inner.Counting.{entered, left, lowered, furthest, reached, moment, IsCounted};
+ghost use Rattle.sctp_send.specs.inner.Counting.{entered, left, lowered, furthest, reached, IsCounted};
 ghost use Rattle.sctp_send.specs.inner.Walks.{abandoned_items};
 ghost use Rattle.sctp_send.specs.inner.Newcomers.{one_if};
 
-use crate::bounds::{keep, lower};
 use crate::entry::{Entry, Standing};
-use crate::message::moment_of;
-use crate::wishes::{is_done, is_first_sending, is_repeat, is_unsettled, weight};
+use crate::wishes::{is_first_sending, is_repeat, is_unsettled, weight};
 use std::collections::VecDeque;
 
 /// Counts of entries, by their offsets above CUM. Sums are modulo 2^64.
@@ -28,8 +25,6 @@ pub(crate) struct Counts {
     pub(crate) flight: u64,
     /// How many entries went out, and are neither covered nor abandoned.
     pub(crate) unsettled: u64,
-    /// Before this moment no message is past its time, of entries that are neither covered nor abandoned.
-    pub(crate) earliest: u64,
     /// So many entries in front are abandoned.
     pub(crate) front: usize,
 }
@@ -37,14 +32,13 @@ pub(crate) struct Counts {
 impl Counts {
     /// Those of no entry.
     pub(crate) fn none() -> Counts
-        ensures { result ≡ record { marked = 0; unsent = 0; flight = 0; unsettled = 0; earliest = 0xffff_ffff_ffff_ffff; front = 0 } }
+        ensures { result ≡ record { marked = 0; unsent = 0; flight = 0; unsettled = 0; front = 0 } }
     {
         Counts {
             marked: 0,
             unsent: 0,
             flight: 0,
             unsettled: 0,
-            earliest: u64::MAX,
             front: 0,
         }
     }
@@ -56,7 +50,6 @@ impl Counts {
     {
         self.flight = self.flight.wrapping_add(weight(entry, size));
         self.unsettled = self.unsettled.wrapping_add(one_if(is_unsettled(entry)));
-        self.earliest = self.earliest.min(moment(entry));
     }
 
     /// An entry counts no more.
@@ -112,38 +105,6 @@ fn one_if(counts: bool) -> u64
     ensures { result ≡ one_if counts }
 {
     if counts { 1 } else { 0 }
-}
-
-/// The moment from which the message of an entry is worthless, if it has one and the entry is neither covered nor abandoned; else the last moment.
-pub(crate) fn moment(entry: &Entry) -> u64
-    ensures { (size : ℕ) → result ≡ moment (item_meaning size entry.now) }
-{
-    if is_done(entry) {
-        u64::MAX
-    } else {
-        moment_of(&entry.message)
-    }
-}
-
-/// An entry comes to so many others, none of which is worthless before the earliest moment.
-pub(crate) fn bound_new(bounds: &mut Vec<u64>, earliest: u64, entry: &Entry, others: usize)
-    ensures others { (t m : ℕ) → earliest ≤ m → bound_of bounds.old.items t ≤ m → bound_of bounds.new.items t ≤ m }
-    ensures here { IsBounded bounds.new.items entry.now }
-{
-    let moment = moment(entry);
-    keep(bounds, earliest, moment, others);
-    lower(bounds, entry.message.ticket, moment);
-}
-
-/// An entry changed.
-pub(crate) fn bound_again(bounds: &mut Vec<u64>, entry: &Entry)
-    ensures others { (t : ℕ) → bound_of bounds.new.items t ≤ bound_of bounds.old.items t }
-    ensures here { IsBounded bounds.new.items entry.now }
-{
-    if bounds.is_empty() {
-        return;
-    }
-    lower(bounds, entry.message.ticket, moment(entry));
 }
 
 /// What became of the entry at an offset; its ticket stays.

@@ -1,11 +1,11 @@
 //! Messages that are past their time (RFC 3758, 3.5 and 4.1: timed reliability).
 
-ghost use Rattle.std.specs.Prelude.{◌≡◌, false, None, option_map};
+ghost use Rattle.std.specs.Prelude.{◌≡◌, ℕ, ◌+◌, ◌<◌, ◌≤◌, false, length, option_map, IfSome, IfNone};
 ghost use Rattle.sctp_model.specs.sender.SenderView.{SenderView};
-ghost use Rattle.sctp_model.specs.sender.Abandoning.{has_late, expired};
+ghost use Rattle.sctp_model.specs.sender.Abandoning.{has_late, expired, expire_one, is_to_expire};
 ghost use Rattle.sctp_send.specs.SenderStands.{StandsFor};
 ghost use Rattle.sctp_send.specs.SenderAnswers.{next_late};
-ghost use Rattle.sctp_send.specs.inner.Expiring.{soonest, kept_messages};
+ghost use Rattle.sctp_send.specs.inner.Dues.{due_at, NextLateAnswer};
 
 use crate::sender::Sender;
 use sctp_framing::Framing;
@@ -19,12 +19,7 @@ impl<F: Framing> Sender<F> {
         ensures { (v : SenderView) → StandsFor F.format self.old v → StandsFor F.format self.new (expired v now) }
     {
         self.expire_all(now);
-        self.parts.queue.look_again(now);
-        if !self.head.partial {
-            return;
-        }
-        self.parts.outstanding.look_again(now);
-        self.parts.tracks.look_again(now);
+        self.head.dues.look_again(now);
     }
 
     /// The same, one ticket after the other.
@@ -33,14 +28,49 @@ impl<F: Framing> Sender<F> {
     {
         let mut last = 0;
         for _ in 0..self.head.fates.len() {
-            match self.lowest_late(last, now) {
+            match self.next_due(last, now) {
                 Some(ticket) => {
-                    let _answer = self.abandon(Ticket(ticket));
+                    self.expire_one(ticket, now);
                     last = ticket;
                 }
                 None => return,
             }
         }
+    }
+
+    /// The message with this ticket is abandoned, if it is past its time and may be; its moment is told anew.
+    fn expire_one(&mut self, ticket: u64, now: u64)
+        ensures { (v : SenderView) → StandsFor F.format self.old v → StandsFor F.format self.new (expire_one now v ticket) }
+    {
+        self.abandon_late(ticket, now);
+        self.look_at(ticket);
+    }
+
+    /// The message with this ticket is abandoned, if it is past its time and may be.
+    fn abandon_late(&mut self, ticket: u64, now: u64)
+        ensures { (v : SenderView) → StandsFor F.format self.old v → StandsFor F.format self.new (expire_one now v ticket) }
+    {
+        if self.is_late(ticket, now) {
+            let _answer = self.abandon(Ticket(ticket));
+        }
+    }
+
+    /// The moment of a ticket is told anew.
+    fn look_at(&mut self, ticket: u64)
+        ensures { (v : SenderView) → StandsFor F.format self.old v → StandsFor F.format self.new v }
+    {
+        let until = self.moment(ticket);
+        self.head.dues.tell(ticket, until);
+    }
+
+    /// The first ticket above the last one whose moment has come.
+    fn next_due(&self, last: u64, now: u64) -> Option<u64>
+        ensures above { IfSome result (λ ticket. last < ticket) }
+        ensures given { IfSome result (λ ticket. ticket ≤ self.now.passed + length self.now.moments) }
+        ensures before { IfSome result (λ ticket. (t : ℕ) → last < t → t < ticket → now < due_at self.now.passed self.now.moments t) }
+        ensures none { IfNone result ((t : ℕ) → last < t → now < due_at self.now.passed self.now.moments t) }
+    {
+        self.head.dues.next(last, now)
     }
 
     /// Whether some message that may be abandoned is past its time: where none is, `expire` changes nothing at that moment, which is in
@@ -69,13 +99,30 @@ impl<F: Framing> Sender<F> {
 
     /// The same, by its number.
     fn lowest_late(&self, last: u64, now: u64) -> Option<u64>
-        ensures { result ≡ soonest now last None (kept_messages self.now) }
+        ensures { (v : SenderView) → StandsFor F.format self.now v → NextLateAnswer v last now result }
     {
-        let found = self.parts.queue.late(last, now, None);
-        if !self.head.partial {
-            return found;
+        let mut last = last;
+        for _ in 0..self.head.fates.len() {
+            match self.next_due(last, now) {
+                Some(ticket) => {
+                    if self.is_late(ticket, now) {
+                        return Some(ticket);
+                    }
+                    last = ticket;
+                }
+                None => return None,
+            }
         }
-        let found = self.parts.outstanding.late(last, now, found);
-        self.parts.tracks.late(last, now, found)
+        None
+    }
+
+    /// The message with this ticket is past its time, and may be abandoned.
+    fn is_late(&self, ticket: u64, now: u64) -> bool
+        ensures { (v : SenderView) → StandsFor F.format self.now v → result ≡ is_to_expire v now ticket }
+    {
+        match self.moment(ticket) {
+            Some(until) => until <= now,
+            None => false,
+        }
     }
 }

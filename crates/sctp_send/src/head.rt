@@ -1,5 +1,6 @@
 //! What of a sender a fill leaves as it is, but for the fates that it tells of in the end.
 
+use crate::dues::Dues;
 use crate::entry::CoveredRun;
 use crate::fates::Fates;
 use crate::message::Message;
@@ -20,6 +21,8 @@ pub(crate) struct Head {
     pub(crate) rwnd: u32,
     // by ticket, from 1 on
     pub(crate) fates: Fates,
+    // by ticket, the moment from which its message may be past its time
+    pub(crate) dues: Dues,
     // what the last SACK covers above CUM, unless it had too many blocks; it has no room until a SACK comes behind the first entry
     pub(crate) covered: Vec<CoveredRun>,
     pub(crate) is_known: bool,

@@ -8,7 +8,7 @@ ghost use Rattle.sctp_send.specs.inner.Walks.{abandoned_items, any_unsettled};
 ghost use Rattle.sctp_send.specs.inner.Wishing.{item_flight};
 
 use crate::by_ticket::{ByTicket, MOST};
-use crate::counts::{Counts, bound_again, bound_new, front_behind, stand_one};
+use crate::counts::{Counts, front_behind, stand_one};
 use crate::entry::{CoveredRun, Entry, Standing};
 use crate::message::Message;
 use crate::stretches::{Stretch, forget_stretch, keep_stretches};
@@ -28,8 +28,6 @@ pub(crate) struct Outstanding {
     pub(crate) by_ticket: ByTicket,
     // how many entries there is room for
     pub(crate) room: usize,
-    // by groups of tickets, before which moment no message is past its time; none until a message has a time
-    pub(crate) bounds: Vec<u64>,
     // what is known of 64 entries in a row; nothing until there are many
     pub(crate) stretches: Vec<Stretch>,
     // empty: the places of a SACK's runs and of the next one's, from the first entry on until a SACK is taken
@@ -47,7 +45,7 @@ impl Model for Outstanding {
 
     ghost view = { λ w. record { size = w.size; items = w.entries.items; capacity = w.room } };
 
-    ghost invariant = { λ w. IsInOrder w.size w.entries.items (deque_capacity w.entries) w.counts w.by_ticket w.room w.bounds.items w.stretches.items };
+    ghost invariant = { λ w. IsInOrder w.size w.entries.items (deque_capacity w.entries) w.counts w.by_ticket w.room w.stretches.items };
 }
 
 impl Outstanding {
@@ -63,7 +61,6 @@ impl Outstanding {
             counts: Counts::none(),
             by_ticket: ByTicket::new(alloc),
             room: 0,
-            bounds: Vec::new(alloc),
             stretches: Vec::new(alloc),
             covered: Vec::new(alloc),
             spare: Vec::new(alloc),
@@ -173,7 +170,6 @@ impl Outstanding {
         ensures { self.new ≡ record self.old { items = self.old.items ++ entry ∷ [] } }
     {
         let others = self.entries.len();
-        bound_new(&mut self.bounds, self.counts.earliest, &entry, others);
         self.counts.enter(&entry, self.size);
         self.counts.reach(others, &entry);
         keep_stretches(&mut self.stretches, others);
@@ -239,6 +235,5 @@ impl Outstanding {
             covered,
             abandoned,
         );
-        bound_again(&mut self.bounds, &self.entries[at]);
     }
 }

@@ -1,12 +1,10 @@
 //! Which streams have a message in part, in two orders, so that one is found by halves: by stream, and by ticket.
 
 ghost use Rattle.std.specs.Prelude.{◌≡◌, ℕ, ◌<◌, ◌≤◌, ◌^◌, true, List, Option, None, Some, length, replicate, set, slice_index_or, IfOk};
-ghost use Rattle.sctp_send.specs.inner.Bounding.{bound_of};
 ghost use Rattle.sctp_send.specs.inner.Ordering.{key, before, AreOrdered};
 ghost use Rattle.sctp_send.specs.inner.PartPairs.{left_on, IsListed, FirstLeftAnswer, StreamWithAnswer};
 ghost use Rattle.sctp_send.specs.declared.ordered.Pair.{Pair};
 
-use crate::bounds::passed;
 use crate::ordered::{Ordered, Pair};
 use crate::seats::add_seat;
 use sctp_values::NoMemory;
@@ -75,29 +73,6 @@ impl PartLists {
             first: ticket,
             second: 0,
         })
-    }
-
-    /// A place behind those from one on, by rising ticket, whose tickets' bounds lie above this moment.
-    pub(crate) fn behind(&self, bounds: &[u64], place: usize, now: u64) -> usize
-        ensures order { place ≤ result }
-        ensures passed { (k : ℕ) (d : Pair) → place ≤ k → k < result → k < length self.now.by_ticket.items → now < bound_of bounds.now (slice_index_or self.now.by_ticket.items k d).first }
-    {
-        let many = self.by_ticket.len();
-        if place >= many {
-            return place;
-        }
-        let first = self.by_ticket.get(place).first;
-        let highest = self.by_ticket.get(many - 1).first;
-        match passed(bounds, first, highest, now) {
-            Some(last) => {
-                let behind = Pair {
-                    first: last,
-                    second: u64::MAX,
-                };
-                self.by_ticket.place_of(behind).max(place)
-            }
-            None => place,
-        }
     }
 
     /// The first one on a stream from this one on: the stream, and the ticket.

@@ -1,14 +1,14 @@
 //! The messages that wait for their numbers, the first to come in front, and what is counted of them.
 
-ghost use Rattle.std.specs.Prelude.{◌≡◌, ℕ, ◌+◌, ◌<◌, ◌≤◌, ◌%◌, ◌^◌, ◌↔◌, ◌++◌, ◌∷◌, [], map, length, insert, remove, slice_index_or, OnOk, OnErr, OnSome, IsSome, IfSome, IfNone};
+ghost use Rattle.std.specs.Prelude.{◌≡◌, ℕ, ◌+◌, ◌<◌, ◌≤◌, ◌%◌, ◌^◌, ◌↔◌, ◌++◌, ◌∷◌, [], true, false, map, length, insert, remove, slice_index_or, OnOk, OnErr, OnSome, IsSome, IfSome, IfNone};
 ghost use Rattle.std.specs.VecDeque.{deque_len, deque_capacity};
 ghost use Rattle.sctp_model.specs.sender.Queueing.{owed_by_queue};
+ghost use Rattle.sctp_model.specs.sender.Abandoning.{waits};
 ghost use Rattle.sctp_send.specs.SenderFields.{queued_by};
 ghost use Rattle.sctp_send.specs.Waiting.{waiting_bytes};
 ghost use Rattle.sctp_send.specs.inner.Seating.{AreLower, NextOnAnswer};
 
-use crate::late_queued::bound;
-use crate::message::{Message, bytes_of, moment_of, owed_by_message};
+use crate::message::{Message, bytes_of, owed_by_message};
 use crate::ordered::{Ordered, Pair};
 use crate::seats::{
     Found, add_seat, first_from, fits_at, free_seat, is_in_front, make_room, next_by_looking,
@@ -30,15 +30,11 @@ pub(crate) struct Queue {
     pub(crate) owed: u64,
     // their bytes, modulo 2^64
     pub(crate) bytes: u64,
-    // before this moment no message is past its time
-    pub(crate) earliest: u64,
     // tickets rise from the front on: so it is where `queue` gives them
     pub(crate) rises: bool,
     // where streams take turns, each message by its stream and its ticket
     pub(crate) seats: Ordered,
     pub(crate) is_seated: bool,
-    // by groups of tickets, before which moment no message is past its time; none until many wait, and one of them has a time
-    pub(crate) bounds: Vec<u64>,
 }
 
 impl Model for Queue {
@@ -51,7 +47,7 @@ impl Model for Queue {
 
     ghost view = { λ w. record { size = w.size; items = w.messages.items; capacity = deque_capacity w.messages } };
 
-    ghost invariant = { λ w. IsQueueOf w.size w.messages.items w.owed w.earliest w.rises w.is_seated w.seats.items w.bounds.items w.bytes };
+    ghost invariant = { λ w. IsQueueOf w.size w.messages.items w.owed w.rises w.is_seated w.seats.items w.bytes };
 }
 
 impl Queue {
@@ -68,11 +64,9 @@ impl Queue {
             messages,
             owed: 0,
             bytes: 0,
-            earliest: u64::MAX,
             rises: true,
             seats,
             is_seated: takes_turns,
-            bounds: Vec::new(alloc),
         }
     }
 
@@ -117,19 +111,16 @@ impl Queue {
     {
         let owed = owed_by_message(&message, self.size);
         let bytes = bytes_of(&message);
-        let moment = moment_of(&message);
         let seat = seat_of(&message);
         let behind = self.messages.len();
         let fits = fits_at(&self.messages, self.rises, behind, seat.second);
         make_room(&mut self.seats, self.is_seated)?;
-        bound(&mut self.bounds, self.earliest, &message, behind);
         match self.messages.push_back(message) {
             Ok(()) => {}
             Err(_) => return Err(NoMemory),
         }
         self.owed = self.owed.wrapping_add(owed);
         self.bytes = self.bytes.wrapping_add(bytes);
-        self.earliest = self.earliest.min(moment);
         self.rises = fits;
         self.is_seated = add_seat(&mut self.seats, self.is_seated, seat);
         Ok(())
@@ -160,17 +151,14 @@ impl Queue {
     {
         let owed = owed_by_message(&message, self.size);
         let bytes = bytes_of(&message);
-        let moment = moment_of(&message);
         let seat = seat_of(&message);
         let fits = fits_at(&self.messages, self.rises, place, seat.second);
-        bound(&mut self.bounds, self.earliest, &message, 0);
         match self.messages.insert(place, message) {
             Ok(()) => {}
             Err(_) => return,
         }
         self.owed = self.owed.wrapping_add(owed);
         self.bytes = self.bytes.wrapping_add(bytes);
-        self.earliest = self.earliest.min(moment);
         self.rises = fits;
         self.is_seated = add_seat(&mut self.seats, self.is_seated, seat);
     }
@@ -181,6 +169,23 @@ impl Queue {
         ensures within { result ≤ length self.now.items }
     {
         first_from(&self.messages, self.rises, ticket)
+    }
+
+    /// All messages have tickets behind this one. It says nothing where tickets don't rise.
+    pub(crate) fn is_past(&self, last: u64) -> bool
+        ensures { (size t : ℕ) → result ≡ true → t ≤ last → waits t (map (queued_by size) self.now.items) ≡ false }
+    {
+        if self.messages.len() == 0 {
+            return true;
+        }
+        if !self.rises {
+            return false;
+        }
+        let message = &self.messages[0];
+        if last < message.ticket {
+            return true;
+        }
+        false
     }
 
     /// The first stream from one on, below another, on which a message waits, and the place of the message that has waited longest on it.

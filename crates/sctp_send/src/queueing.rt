@@ -1,15 +1,17 @@
 //! Messages handed in: refused for the first reason that holds, or queued (RFC 9260, 6.9).
 
-ghost use Rattle.std.specs.Prelude.{◌≡◌, ℕ, ◌≤◌, ◌++◌, ◌∷◌, [], true, false, map, OnOk, OnErr, IfErr};
+ghost use Rattle.std.specs.Prelude.{◌≡◌, ℕ, ◌<◌, ◌≤◌, ◌++◌, ◌∷◌, [], true, false, map, length, OnOk, OnErr, IfErr};
 ghost use Rattle.sctp_model.specs.sender.SenderView.{SenderView};
 ghost use Rattle.sctp_model.specs.sender.Queueing.{promised};
 ghost use Rattle.sctp_send.specs.OutstandingFields.{item_meaning, queued_meaning};
 ghost use Rattle.sctp_send.specs.SenderFields.{queued_by, track_meaning};
 ghost use Rattle.sctp_send.specs.inner.Walks.{any_item, any_rest};
-ghost use Rattle.sctp_send.specs.declared.queueing.SendFault.TheVariants.{NoMemory};
+ghost use Rattle.sctp_send.specs.declared.queueing.SendFault.TheVariants.{NoMemory as FaultNoMemory};
 ghost use Rattle.sctp_send.specs.SenderStands.{StandsFor};
 ghost use Rattle.sctp_send.specs.SenderAnswers.{QueueAnswer, queue_after, lane_for};
 
+use crate::dues::Dues;
+use crate::fates::Fates;
 use crate::looking::are_past;
 use crate::message::{Fate, Message, fragments_of, owed, placed};
 use crate::outstanding::Outstanding;
@@ -17,7 +19,7 @@ use crate::queue::Queue;
 use crate::sender::Sender;
 use crate::streams::Streams;
 use sctp_framing::Framing;
-use sctp_values::{Kind, LONGEST_MESSAGE, QUEUE_LIMIT, TICKET_LIMIT, TSN_LIMIT, Ticket};
+use sctp_values::{Kind, LONGEST_MESSAGE, NoMemory, QUEUE_LIMIT, TICKET_LIMIT, TSN_LIMIT, Ticket};
 use std::alloc::Global;
 use std::sync::Arc;
 use thiserror::Error;
@@ -64,9 +66,14 @@ impl<F: Framing> Sender<F> {
         ensures step { (v : SenderView) → StandsFor F.format self.old v
             → StandsFor F.format self.new (queue_after v (lane_for stream ordered) payload_id bytes.items until result) }
     {
-        let answer = self.accept(stream, ordered, payload_id, bytes, until);
-        self.end_tickets();
-        answer
+        match self.accept(stream, ordered, payload_id, bytes, until) {
+            Ok(ticket) => {
+                self.end_tickets();
+                self.pass_tickets();
+                Ok(ticket)
+            }
+            Err(fault) => Err(fault),
+        }
     }
 
     /// The same, without a look at the tickets that are over.
@@ -103,7 +110,7 @@ impl<F: Framing> Sender<F> {
         if promised.wrapping_add(more) > TSN_LIMIT {
             return Err(SendFault::Spent);
         }
-        match self.head.fates.reserve() {
+        match reserve_ticket(&mut self.head.fates, &mut self.head.dues) {
             Ok(()) => {}
             Err(_) => return Err(SendFault::NoMemory),
         }
@@ -124,6 +131,7 @@ impl<F: Framing> Sender<F> {
         )?;
         // There is room for it.
         self.head.fates.push(Fate::Queued);
+        self.head.dues.push(until);
         Ok(Ticket(ticket))
     }
 
@@ -140,6 +148,22 @@ impl<F: Framing> Sender<F> {
         self.head.fates.end_block();
     }
 
+    /// Where nothing is kept of the messages of a page of tickets, these are passed: they are never late.
+    fn pass_tickets(&mut self)
+        ensures { (v : SenderView) → StandsFor F.format self.old v → StandsFor F.format self.new v }
+    {
+        let Some(last) = self.head.dues.first_page() else {
+            return;
+        };
+        if !is_past(&self.parts.tracks, &self.parts.outstanding, last) {
+            return;
+        }
+        if !self.parts.queue.is_past(last) {
+            return;
+        }
+        self.head.dues.pass_page();
+    }
+
     /// The TSNs assigned, and those that the accepted messages may still take.
     fn promised(&self) -> u64
         ensures { (v : SenderView) → StandsFor F.format self.now v → result ≡ promised v }
@@ -152,6 +176,20 @@ impl<F: Framing> Sender<F> {
     }
 }
 
+/// Takes room for a ticket more.
+fn reserve_ticket(fates: &mut Fates, dues: &mut Dues) -> Result<(), NoMemory>
+    ensures items { fates.new.items ≡ fates.old.items }
+    ensures ended { fates.new.ended ≡ fates.old.ended }
+    ensures passed { dues.new.passed ≡ dues.old.passed }
+    ensures moments { dues.new.moments ≡ dues.old.moments }
+    ensures asleep { dues.new.asleep ≡ dues.old.asleep }
+    ensures room { OnOk result (length fates.new.items < fates.new.capacity) }
+    ensures place { OnOk result (length dues.new.moments < dues.new.capacity) }
+{
+    fates.reserve()?;
+    dues.reserve()
+}
+
 /// A message comes to the end of the queue.
 fn enqueue(
     queue: &mut Queue,
@@ -162,7 +200,7 @@ fn enqueue(
     ensures size { queue.new.size ≡ queue.old.size }
     ensures waits { (size : ℕ) → OnOk result (map (queued_by size) queue.new.items ≡ map (queued_by size) queue.old.items ++ queued_meaning size message ∷ []) }
     ensures unchanged { OnErr result (queue.new.items ≡ queue.old.items) }
-    ensures memory { IfErr result (λ fault. fault ≡ NoMemory) }
+    ensures memory { IfErr result (λ fault. fault ≡ FaultNoMemory) }
 {
     let message = match placed(spent, alloc, message) {
         Ok(message) => message,

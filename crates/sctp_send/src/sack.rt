@@ -12,6 +12,7 @@ ghost use Rattle.sctp_send.specs.inner.Acknowledging.{PassingAnswer};
 use crate::covered::cover_blocks;
 use crate::sender::Sender;
 use crate::settling::{forget, mark_unsettled, move_on};
+use crate::waking::wake_for;
 use sctp_framing::Framing;
 use sctp_serial::{S32, Serial, tsn_of};
 use sctp_wire::{Blocks, Sack};
@@ -50,6 +51,15 @@ impl<F: Framing> Sender<F> {
         if are_disordered(&sack.blocks) {
             return Err(SackFault::BadBlock);
         }
+        let is_known = self.head.is_known;
+        wake_for(
+            &mut self.head.dues,
+            &self.parts.outstanding,
+            &self.head.covered,
+            is_known,
+            passed as usize,
+            &sack.blocks,
+        );
         self.parts
             .outstanding
             .lend_runs(&mut self.head.covered, &mut self.head.spare);

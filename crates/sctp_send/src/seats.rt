@@ -1,9 +1,7 @@
 //! Where a message that waits stands: by its ticket among the others, and by its stream.
 
-ghost use Rattle.std.specs.Prelude.{◌≡◌, ℕ, ◌+◌, ◌-◌, ◌<◌, ◌≤◌, Some, true, map, length, insert, remove, slice_index_or, if◌then◌else◌, IfSome};
+ghost use Rattle.std.specs.Prelude.{◌≡◌, ℕ, ◌+◌, ◌-◌, ◌<◌, ◌≤◌, true, map, length, insert, remove, slice_index_or, if◌then◌else◌, IfSome};
 ghost use Rattle.sctp_send.specs.SenderFields.{queued_by};
-ghost use Rattle.sctp_send.specs.OutstandingFields.{message_meaning};
-ghost use Rattle.sctp_send.specs.inner.Expiring.{late_after};
 ghost use Rattle.sctp_send.specs.inner.Newcomers.{FirstOnAnswer, IsFirstOn};
 ghost use Rattle.sctp_send.specs.inner.Ordering.{key, before, AreOrdered};
 ghost use Rattle.sctp_send.specs.inner.Seating.{ticket_in, DoTicketsRise, IsBetween, NextOnAnswer};
@@ -153,15 +151,4 @@ pub(crate) fn next_by_looking(
         }
     }
     None
-}
-
-/// Where tickets rise, a message that is past its time, with a ticket above the last one: none behind it has a lower ticket.
-pub(crate) fn is_first_late(message: &Message, rises: bool, last: u64, now: u64) -> bool
-    ensures rises { result ≡ true → rises ≡ true }
-    ensures late { (size : ℕ) → result ≡ true → late_after now last (Some (message_meaning size message.now)) ≡ Some message.now.ticket }
-{
-    match message.until {
-        Some(until) => rises && until <= now && message.ticket > last,
-        None => false,
-    }
 }

@@ -7,6 +7,7 @@ ghost use Rattle.sctp_model.specs.sender.SenderView.{SenderView, fresh_sender};
 ghost use Rattle.sctp_send.specs.SenderStands.{StandsFor};
 
 use crate::draft::Draft;
+use crate::dues::Dues;
 use crate::fates::Fates;
 use crate::head::Head;
 use crate::message::SPENT;
@@ -52,6 +53,9 @@ impl<F: Framing> Model for Sender<F> {
       ended = s.head.fates.ended;
       runs = when s.head.is_known s.head.covered.items;
       capacity = s.parts.outstanding.capacity;
+      passed = s.head.dues.passed;
+      moments = s.head.dues.moments;
+      asleep = s.head.dues.asleep;
     } };
 
     ghost invariant = { λ s. IsSized s.head.fragment s.parts };
@@ -90,6 +94,7 @@ impl<F: Framing> Sender<F> {
                 cum: 0,
                 rwnd: peer_rwnd,
                 fates: Fates::new(alloc),
+                dues: Dues::new(alloc),
                 covered: Vec::new(alloc),
                 is_known: true,
                 spare: Vec::new(alloc),

@@ -84,7 +84,7 @@ pub(crate) fn move_on(runs: &mut Vec<CoveredRun>, passed: usize)
 }
 
 /// A run as seen from so many entries further on.
-fn run_behind(run: CoveredRun, passed: usize) -> CoveredRun
+pub(crate) fn run_behind(run: CoveredRun, passed: usize) -> CoveredRun
     ensures { result ≡ run_behind passed run }
 {
     CoveredRun {

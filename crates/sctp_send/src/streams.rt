@@ -4,15 +4,10 @@ ghost use Rattle.std.specs.Prelude.{◌≡◌, ℕ, ◌+◌, ◌<◌, ◌≤◌,
 ghost use Rattle.sctp_send.specs.SenderFields.{track_meaning};
 ghost use Rattle.sctp_send.specs.inner.Walks.{total, one_if_rest, rest_owes, any_rest, GoesOnAt};
 ghost use Rattle.sctp_send.specs.inner.Newcomers.{IsNextPart};
-ghost use Rattle.sctp_send.specs.inner.Expiring.{soonest, rest_messages};
 ghost use Rattle.sctp_send.specs.inner.Undoing.{counted_to};
 ghost use Rattle.sctp_send.specs.PartsKept.{at_place};
 
-use crate::bounds::{GROUPS, keep_above, least, replace};
-use crate::looking::{
-    bound_left, bound_listed, earliest_by_looking, late_by_looking, late_listed, moment_of_track,
-    next_part_by_looking, stream_by_looking, ticket_of_track,
-};
+use crate::looking::{next_part_by_looking, stream_by_looking, ticket_of_track};
 use crate::part_lists::PartLists;
 use crate::track::{Track, owed_by_track};
 use sctp_values::{Kind, NoMemory};
@@ -30,12 +25,8 @@ pub(crate) struct Streams {
     parts: u32,
     // the TSNs that they may take, modulo 2^64
     owed: u64,
-    // before this moment no message in part is past its time
-    earliest: u64,
     // which streams have a message in part
     lists: PartLists,
-    // by groups of tickets, before which moment no message in part is past its time; none until one has a time
-    bounds: Vec<u64>,
 }
 
 impl Model for Streams {
@@ -47,7 +38,7 @@ impl Model for Streams {
 
     ghost view = { λ w. record { size = w.size; items = w.tracks.items } };
 
-    ghost invariant = { λ w. IsStreamsOf w.size w.tracks.items w.parts w.owed w.earliest w.lists w.bounds.items };
+    ghost invariant = { λ w. IsStreamsOf w.size w.tracks.items w.parts w.owed w.lists };
 }
 
 impl Streams {
@@ -72,9 +63,7 @@ impl Streams {
             tracks,
             parts: 0,
             owed: 0,
-            earliest: u64::MAX,
             lists,
-            bounds: Vec::new(alloc),
         })
     }
 
@@ -114,10 +103,8 @@ impl Streams {
         ensures before { result ≡ slice_index_or self.old.items at result }
         ensures after { self.new ≡ record self.old { items = set self.old.items at track } }
     {
-        bound_left(&mut self.bounds, self.earliest, &track, self.parts);
         self.parts = self.parts.wrapping_add(one_if_in_part(&track));
         self.owed = self.owed.wrapping_add(owed_by_track(&track, self.size));
-        self.earliest = self.earliest.min(moment_of_track(&track));
         let comes = ticket_of_track(&track);
         let before = mem::replace(&mut self.tracks[at], track);
         self.parts = self.parts.wrapping_sub(one_if_in_part(&before));
@@ -159,49 +146,6 @@ impl Streams {
             Some(stream) => Some(stream as usize),
             None => None,
         }
-    }
-
-    /// The lowest ticket above the last one of messages in part that are past their time, or one found before.
-    pub(crate) fn late(&self, last: u64, now: u64, found: Option<u64>) -> Option<u64>
-        ensures { result ≡ soonest now last found (rest_messages (map (track_meaning self.now.size) self.now.items)) }
-    {
-        if now < self.earliest {
-            return found;
-        }
-        let parts = self.parts;
-        if parts == 0 {
-            return found;
-        }
-        if !self.lists.is_listed() {
-            return late_by_looking(&self.tracks, last, now, found);
-        }
-        late_listed(&self.tracks, &self.lists, &self.bounds, last, now, found)
-    }
-
-    /// Looks anew from which moment on a message in part may be past its time, if that may be this moment.
-    pub(crate) fn look_again(&mut self, now: u64)
-        ensures { self.new ≡ self.old }
-    {
-        if now < self.earliest {
-            return;
-        }
-        self.look_anew(now);
-    }
-
-    /// The same, where it may be. A frame with room for the bounds is made for it alone.
-    #[inline(never)]
-    fn look_anew(&mut self, now: u64)
-        ensures { self.new ≡ self.old }
-    {
-        if !self.lists.is_listed() {
-            self.earliest = earliest_by_looking(&self.tracks);
-            return;
-        }
-        let mut fresh = [u64::MAX; GROUPS];
-        keep_above(&self.bounds, now, &mut fresh);
-        bound_listed(&self.tracks, &self.lists, &self.bounds, now, &mut fresh);
-        self.earliest = least(&fresh);
-        replace(&mut self.bounds, &fresh);
     }
 }
 

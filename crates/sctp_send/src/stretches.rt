@@ -147,8 +147,6 @@ pub(crate) fn turn_stretch(
     ensures counted { IsCounted size entries.new.items counts.new }
     ensures capacity { deque_capacity entries.new ≡ deque_capacity entries.old }
 {
-    // It is read for the proof alone: no moment is later than the last one.
-    let _earliest = counts.earliest;
     set_covered(entries.make_contiguous(), at, covered);
     counts.turn(bytes, covered);
 }

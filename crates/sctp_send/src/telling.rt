@@ -3,13 +3,11 @@
 ghost use Rattle.std.specs.Prelude.{◌≡◌, ℕ, ◌+◌, ◌<◌, ◌≤◌, true, false, length};
 ghost use Rattle.std.specs.VecDeque.{deque_capacity};
 ghost use Rattle.sctp_send.specs.PartsKept.{at_place, changed};
-ghost use Rattle.sctp_model.specs.numbers.Limits.{LAST_MOMENT};
-ghost use Rattle.sctp_send.specs.inner.Bounding.{bound_of, AreBounded};
 ghost use Rattle.sctp_send.specs.inner.Changes.{as_covered, as_uncovered, told, told_where, is_between};
 ghost use Rattle.sctp_send.specs.inner.Counting.{IsCounted};
 ghost use Rattle.sctp_send.specs.inner.Stretching.{told_run};
 
-use crate::counts::{Counts, bound_again};
+use crate::counts::Counts;
 use crate::entry::{Entry, unmarked};
 use crate::outstanding::Outstanding;
 use crate::stretches::{
@@ -67,7 +65,6 @@ impl Outstanding {
         if known.covered == covered {
             return true;
         }
-        are_moments(&self.bounds);
         turn_stretch(
             &mut self.entries,
             &mut self.counts,
@@ -114,20 +111,9 @@ impl Outstanding {
             cover_one(&mut self.entries, &mut self.counts, self.size, at);
             return;
         }
-        uncover_one(
-            &mut self.entries,
-            &mut self.counts,
-            &mut self.bounds,
-            self.size,
-            at,
-        );
+        uncover_one(&mut self.entries, &mut self.counts, self.size, at);
     }
 }
-
-/// No bound lies behind the last moment. It is called for the proof alone.
-fn are_moments(bounds: &[u64])
-    ensures { (t : ℕ) → bound_of bounds.now t ≤ LAST_MOMENT }
-{}
 
 /// The entry at an offset is told covered, where there is nothing to repeat: it counts no more.
 fn cover_one(entries: &mut VecDeque<Entry>, counts: &mut Counts, size: u16, at: usize)
@@ -138,27 +124,18 @@ fn cover_one(entries: &mut VecDeque<Entry>, counts: &mut Counts, size: u16, at: 
     ensures capacity { deque_capacity entries.new ≡ deque_capacity entries.old }
 {
     let entry = &mut entries[at];
-    // It is read for the proof alone: no moment is later than the last one.
-    let _earliest = counts.earliest;
     counts.leave(entry, size);
     entry.standing = unmarked(entry.standing);
     entry.covered = true;
 }
 
 /// The entry at an offset is told uncovered: where it was covered, it counts again.
-fn uncover_one(
-    entries: &mut VecDeque<Entry>,
-    counts: &mut Counts,
-    bounds: &mut Vec<u64>,
-    size: u16,
-    at: usize,
-)
+fn uncover_one(entries: &mut VecDeque<Entry>, counts: &mut Counts, size: u16, at: usize)
     requires within { at < length entries.old.items }
     requires counted { IsCounted size entries.old.items counts.old }
     ensures items { entries.new.items ≡ at_place as_uncovered at entries.old.items }
     ensures counted { IsCounted size entries.new.items counts.new }
     ensures capacity { deque_capacity entries.new ≡ deque_capacity entries.old }
-    ensures bounded { AreBounded bounds.old.items entries.old.items → AreBounded bounds.new.items entries.new.items }
 {
     let entry = &mut entries[at];
     if !entry.covered {
@@ -167,5 +144,4 @@ fn uncover_one(
     entry.covered = false;
     counts.enter(entry, size);
     counts.lower(at, entry);
-    bound_again(bounds, entry);
 }

@@ -11,7 +11,6 @@ use Rattle.sctp_send.specs.SenderFields.{queued_by, track_meaning}
 use Rattle.sctp_send.specs.inner.Wishing.{first_place, is_item_marked, is_item_unsent, item_weight, item_flight}
 use Rattle.sctp_send.specs.inner.Walks.{total, one_if_rest, rest_owes, abandoned_items, is_item_unsettled}
 use Rattle.sctp_send.specs.inner.Newcomers.{one_if}
-use Rattle.sctp_send.specs.inner.Expiring.{item_message, queue_messages, item_messages, rest_messages}
 use Rattle.sctp_send.specs.declared.counts.Counts.{Counts}
 use Rattle.sctp_send.specs.declared.message.Message.{Message as MessageFields}
 use Rattle.sctp_send.specs.declared.entry.Entry.{Entry as EntryFields}
@@ -23,15 +22,6 @@ use Rattle.sctp_send.specs.declared.track.Track.{Track as TrackFields}
 abbrev pub moment_from : Option Message → ℕ
 moment_from None = LAST_MOMENT
 moment_from (Some m) = unwrap_or m.until LAST_MOMENT
-
--- that of an entry's message, unless the entry is covered or abandoned
-abbrev pub moment : Item → ℕ
-moment x = moment_from (item_message x)
-
--- none of these messages is worthless before a moment
-abbrev pub AreWorth : (earliest : ℕ) → List (Option Message) → Type 0
-AreWorth earliest [] = Unit {0}
-AreWorth earliest (m ∷ ms) = (earliest ≤ moment_from m) × AreWorth earliest ms
 
 -- ---- entries
 
@@ -45,7 +35,6 @@ abbrev pub entered : Item → Counts → Counts
 entered x c = record c {
   flight = (c.flight + item_weight x) % 2 ^ 64;
   unsettled = (c.unsettled + one_if (is_item_unsettled x)) % 2 ^ 64;
-  earliest = min c.earliest (moment x);
 }
 
 -- an item is counted no more
@@ -84,21 +73,18 @@ pub record IsCounted (size : ℕ) (es : List EntryFields) (c : Counts) : Type 0 
   pub unsent_within : c.unsent ≤ length es
   pub flight : c.flight ≡ item_flight (map (item_meaning size) es) % 2 ^ 64
   pub unsettled : c.unsettled ≡ count_unsettled (map (item_meaning size) es) % 2 ^ 64
-  pub earliest : AreWorth c.earliest (item_messages (map (item_meaning size) es))
   pub front : c.front ≡ abandoned_items (map (item_meaning size) es)
 
 -- ---- messages that wait, and streams
 
--- what the messages that wait may take, and when the first of them is worthless
-pub record IsOwedOf (size : ℕ) (ms : List (Arc MessageFields Global)) (sum first : ℕ) : Type 0 where
+-- what the messages that wait may take
+pub record IsOwedOf (size : ℕ) (ms : List (Arc MessageFields Global)) (sum : ℕ) : Type 0 where
   pub some : 0 < size
   pub owed : sum ≡ owed_by_queue (map (queued_by size) ms) % 2 ^ 64
-  pub earliest : AreWorth first (queue_messages (map (queued_by size) ms))
 
--- how many messages are in part, what they may take, and when the first of them is worthless
-pub record IsCountedOf (size : ℕ) (ts : List TrackFields) (many sum first : ℕ) : Type 0 where
+-- how many messages are in part, and what they may take
+pub record IsCountedOf (size : ℕ) (ts : List TrackFields) (many sum : ℕ) : Type 0 where
   pub some : 0 < size
   pub few : length ts < 2 ^ 16
   pub parts : many ≡ total (λ t. one_if_rest t.rest) (map (track_meaning size) ts) % 2 ^ 32
   pub owed : sum ≡ total (λ t. rest_owes t.rest) (map (track_meaning size) ts) % 2 ^ 64
-  pub earliest : AreWorth first (rest_messages (map (track_meaning size) ts))

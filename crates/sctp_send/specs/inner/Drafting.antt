@@ -65,6 +65,9 @@ bare h = record {
   ended = h.fates.ended;
   runs = when h.is_known h.covered.items;
   capacity = 0;
+  passed = h.dues.passed;
+  moments = h.dues.moments;
+  asleep = h.dues.asleep;
 }
 
 -- what a sender keeps, with a draft's parts in place of its own

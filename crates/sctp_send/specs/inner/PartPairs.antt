@@ -1,7 +1,6 @@
 -- Which streams have a message in part: the tickets of those messages, by stream, and the pairs that list them in two orders.
 use Rattle.std.specs.Prelude.{◌≡◌, ℕ, suc, ◌<◌, ◌≤◌, true, List, [], ◌∷◌, ◌++◌, map, length, slice_index_or, Option, None, Some}
 use Rattle.std.specs.List.{sum_by}
-use Rattle.sctp_send.specs.inner.Bounding.{bound_of, until_of}
 use Rattle.sctp_send.specs.inner.Counting.{IsCountedOf}
 use Rattle.sctp_send.specs.declared.ordered.Pair.{Pair}
 use Rattle.sctp_send.specs.declared.part_lists.PartLists.{PartLists}
@@ -48,22 +47,10 @@ pub record IsListed (os : List (Option ℕ)) (lists : PartLists) : Type 0 where
   pub by_stream : lists.is_listed ≡ true → AreSame lists.by_stream.items (pairs_from 0 os)
   pub by_ticket : lists.is_listed ≡ true → AreSame lists.by_ticket.items (map turned (pairs_from 0 os))
 
--- ---- bounds
-
--- the message of which something is left isn't worthless before its ticket's bound
-abbrev pub IsLeftBounded : List ℕ → Option RestFields → Type 0
-IsLeftBounded bs None = Unit {0}
-IsLeftBounded bs (Some r) = bound_of bs r.message.value.ticket ≤ until_of r.message
-
--- nor is that of any stream
-abbrev pub AreLeftBounded : List ℕ → List TrackFields → Type 0
-AreLeftBounded bs ts = (j : ℕ) (d : TrackFields) → j < length ts → IsLeftBounded bs (slice_index_or ts j d).rest
-
--- What is counted of the streams, which of them have a message in part, and before which moments none of those is worthless.
-pub record IsStreamsOf (size : ℕ) (ts : List TrackFields) (many sum first : ℕ) (lists : PartLists) (bs : List ℕ) : Type 0 where
-  pub counted : IsCountedOf size ts many sum first
+-- What is counted of the streams, and which of them have a message in part.
+pub record IsStreamsOf (size : ℕ) (ts : List TrackFields) (many sum : ℕ) (lists : PartLists) : Type 0 where
+  pub counted : IsCountedOf size ts many sum
   pub listed : IsListed (tickets_left ts) lists
-  pub bounded : AreLeftBounded bs ts
 
 -- ---- what is found
 

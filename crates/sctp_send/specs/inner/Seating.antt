@@ -5,7 +5,6 @@ use Rattle.std.specs.declared.sync.Arc.{Arc}
 use Rattle.std.specs.declared.alloc.Global.{Global}
 use Rattle.sctp_model.specs.sender.SenderView.{Queued}
 use Rattle.sctp_model.specs.sender.Assigning.{first_on}
-use Rattle.sctp_send.specs.inner.Bounding.{AreMessagesBounded}
 use Rattle.sctp_send.specs.inner.Counting.{IsOwedOf}
 use Rattle.sctp_send.specs.inner.Newcomers.{IsFirstOn}
 use Rattle.sctp_send.specs.declared.message.Message.{Message as MessageFields}
@@ -47,11 +46,10 @@ pub record IsSeatedOf (rises seated : Bool) (ms : List (Arc MessageFields Global
 abbrev pub bytes_of : Arc MessageFields Global → ℕ
 bytes_of m = length m.value.bytes.items
 
--- What is counted of the messages that wait, where they stand, and before which moments none of them is worthless.
-pub record IsQueueOf (size : ℕ) (ms : List (Arc MessageFields Global)) (sum first : ℕ) (rises seated : Bool) (ps : List Pair) (bs : List ℕ) (load : ℕ) : Type 0 where
-  pub owed : IsOwedOf size ms sum first
+-- What is counted of the messages that wait, and where they stand.
+pub record IsQueueOf (size : ℕ) (ms : List (Arc MessageFields Global)) (sum : ℕ) (rises seated : Bool) (ps : List Pair) (load : ℕ) : Type 0 where
+  pub owed : IsOwedOf size ms sum
   pub seats : IsSeatedOf rises seated ms ps
-  pub bounded : AreMessagesBounded bs ms
   pub bytes : load ≡ sum_by bytes_of ms % 2 ^ 64
 
 -- the first of some streams on which a message waits, and the place of the one that has waited longest on it

@@ -6,7 +6,6 @@ use Rattle.sctp_send.specs.declared.by_ticket.Spot.{Spot}
 use Rattle.sctp_send.specs.declared.by_ticket.ByTicket.{ByTicket}
 use Rattle.sctp_send.specs.declared.counts.Counts.{Counts}
 use Rattle.sctp_send.specs.declared.entry.Entry.{Entry as EntryFields}
-use Rattle.sctp_send.specs.inner.Bounding.{bound_of, AreBounded}
 use Rattle.sctp_send.specs.inner.Counting.{IsCounted}
 use Rattle.sctp_send.specs.inner.Stretching.{AreKnown}
 use Rattle.sctp_send.specs.declared.stretches.Stretch.{Stretch}
@@ -41,10 +40,6 @@ pub record IsPlaceOf (first ticket offset : ℕ) (spots : List Spot) (place : �
   pub front : (s : Spot) → Has (take place spots) s → comes_before first ticket offset s ≡ true
   pub back : (s : Spot) → Has (drop place spots) s → comes_before first ticket offset s ≡ true → ⊥
 
--- Spots before one place stand before another, or their tickets' bounds lie above a moment.
-abbrev pub ArePassed : (now : ℕ) → List ℕ → (start end : ℕ) → List Spot → Type 0
-ArePassed now bs m n spots = (s : Spot) → Has (take n spots) s → Has (take m spots) s ⊎ (now < bound_of bs s.ticket)
-
 -- The spot of the entry at this offset went, and no other.
 pub record IsGone (first offset : ℕ) (before after : List Spot) : Type 0 where
   pub front : List Spot
@@ -62,9 +57,9 @@ ticket_of e = e.message.value.ticket
 abbrev pub tickets_of : List EntryFields → List ℕ
 tickets_of es = map ticket_of es
 
--- What is kept of the outstanding: the entries counted, and in the order of their tickets, with room for so many in both lists; bounds of
--- their moments; and what is known of stretches.
-pub record IsInOrder (size : ℕ) (es : List EntryFields) (capacity : ℕ) (c : Counts) (o : ByTicket) (room : ℕ) (bs : List ℕ) (ss : List Stretch) : Type 0 where
+-- What is kept of the outstanding: the entries counted, and in the order of their tickets, with room for so many in both lists; and what is
+-- known of stretches.
+pub record IsInOrder (size : ℕ) (es : List EntryFields) (capacity : ℕ) (c : Counts) (o : ByTicket) (room : ℕ) (ss : List Stretch) : Type 0 where
   pub counted : IsCounted size es c
   pub order : IsOrderOf (tickets_of es) o.first o.spots.items
   pub below : AreUpTo o.highest o.spots.items
@@ -72,5 +67,4 @@ pub record IsInOrder (size : ℕ) (es : List EntryFields) (capacity : ℕ) (c : 
   pub within : length es ≤ room
   pub here : room ≤ capacity
   pub there : room ≤ deque_capacity o.spots
-  pub bounded : AreBounded bs es
   pub known : AreKnown size o.first ss es

@@ -31,5 +31,4 @@ returns-clause-counted c =
     ∙ run_noted c.args.size (not c.args.covered) c.args.covered c.args.bytes c.args.at 64 es c.requires.alike in
     let long : length c.set_covered.new.entries ≡ length es = ap (λ (xs : List EntryFields). length xs) is ∙ length-told_run c.args.covered c.args.at 64 es in
     let items = c.make_contiguous.ensures.writes_back c.set_covered.new.entries (long ∙ sym c.args.entries.now.ok.0) ∙ is in
-    let last : c.args.counts.now.earliest ≤ LAST_MOMENT = omega arith in
-    rw (items, c.turn.ensures) (counts_turned c.args.size c.args.covered c.args.bytes c.args.at es c.args.counts.now c.ranges.bytes.fits last c.requires.alike c.requires.counted)
+    rw (items, c.turn.ensures) (counts_turned c.args.size c.args.covered c.args.bytes c.args.at es c.args.counts.now c.ranges.bytes.fits c.requires.alike c.requires.counted)

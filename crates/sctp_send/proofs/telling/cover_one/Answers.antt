@@ -1,5 +1,4 @@
 use Rattle.std.proofs.Common.{◌≤◌, refl, arith}
-use Rattle.sctp_model.specs.numbers.Limits.{LAST_MOMENT}
 use Rattle.sctp_send.specs.inner.Changes.{as_covered}
 use Rattle.sctp_send.proofs.CountLemmas.{counts_covered}
 use Rattle.sctp_send.proofs.PlacedLemmas.{placed_set}
@@ -8,8 +7,7 @@ use Rattle.sctp_send.proofs.telling.cover_one.Goals as goal
 pub returns-clause-counted : goal.returns-clause-counted
 returns-clause-counted c =
     let counts = c.args.counts.now in
-    let last : counts.earliest ≤ LAST_MOMENT = omega arith in
-    rw (c.unmarked-entry.ensures, c.leave.ensures) (counts_covered c.args.size c.args.entries.now.items c.args.at c.index_mut-entry.result.now counts c.requires.within c.index_mut-entry.ensures.value last c.requires.counted)
+    rw (c.unmarked-entry.ensures, c.leave.ensures) (counts_covered c.args.size c.args.entries.now.items c.args.at c.index_mut-entry.result.now counts c.requires.within c.index_mut-entry.ensures.value c.requires.counted)
 
 pub returns-clause-items : goal.returns-clause-items
 returns-clause-items c =

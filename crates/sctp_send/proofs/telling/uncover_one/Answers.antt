@@ -1,14 +1,12 @@
 use Rattle.std.proofs.Common.{◌≡◌, ◌<◌, List, length, get_or, set, Some, Bool, refl, sym, subst, ap, arith}
 use Rattle.std.proofs.lemmas.List.{length-set, get_or-set_same}
 use Rattle.std.specs.Prelude.{slice_get}
-use Rattle.sctp_send.specs.inner.Bounding.{AreBounded}
 use Rattle.sctp_send.specs.inner.Changes.{as_uncovered}
 use Rattle.sctp_send.specs.PartsKept.{at_place}
 use Rattle.sctp_send.specs.declared.entry.Entry.{Entry as EntryFields}
 use Rattle.sctp_send.proofs.CountLemmas.{counts_uncovered}
 use Rattle.sctp_send.proofs.PlacedLemmas.{placed_set}
 use Rattle.sctp_send.proofs.TicketWalks.{get_read}
-use Rattle.sctp_send.proofs.MomentWalks.{bounded_placed}
 use Rattle.sctp_send.proofs.telling.uncover_one.Goals as goal
 
 pub returns-clause-items : goal.returns-clause-items
@@ -26,15 +24,3 @@ returns-then-not-entry-clause-items c =
     let x = c.index_mut-entry.result.now in
     let same : as_uncovered x ≡ x = ap (λ (b : Bool). record x { covered = b }) (sym c.if-not-entry.true) in
     subst (λ (y : EntryFields). set es c.args.at y ≡ at_place as_uncovered c.args.at es) same (sym (placed_set as_uncovered c.args.at es x c.requires.within c.index_mut-entry.ensures.value))
-
-pub returns-clause-bounded : goal.returns-clause-bounded
-returns-clause-bounded c = λ bounded.
-    let es = c.args.entries.now.items in
-    let x = c.index_mut-entry.result.now in
-    let long : length (set es c.args.at (as_uncovered x)) ≡ length es = length-set es c.args.at (as_uncovered x) in
-    let is = placed_set as_uncovered c.args.at es x c.requires.within c.index_mut-entry.ensures.value in
-    let lt : c.args.at < length (set es c.args.at (as_uncovered x)) = omega (arith, long, c.requires.within) in
-    let read : as_uncovered x ≡ get_or (set es c.args.at (as_uncovered x)) c.args.at (as_uncovered x) = sym (get_or-set_same es c.args.at (as_uncovered x) (as_uncovered x) c.requires.within) in
-    let there = subst (λ (xs : List EntryFields). slice_get xs c.args.at ≡ Some (as_uncovered x)) (sym is) (get_read (set es c.args.at (as_uncovered x)) c.args.at (as_uncovered x) lt read) in
-    subst (λ (xs : List EntryFields). AreBounded c.bound_again.new.bounds.items xs) is
-    (bounded_placed as_uncovered c.args.at c.args.bounds.now.items c.bound_again.new.bounds.items es (as_uncovered x) bounded c.bound_again.ensures.others there c.bound_again.ensures.here)

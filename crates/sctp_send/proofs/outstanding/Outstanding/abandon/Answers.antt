@@ -2,13 +2,11 @@ use Rattle.std.proofs.Common.{◌≡◌, ◌+◌, ◌<◌, ◌≤◌, ℕ, List,
 use Rattle.sctp_send.specs.declared.by_ticket.ByTicket.{ByTicket}
 use Rattle.sctp_send.specs.declared.entry.Entry.{Entry as EntryFields}
 use Rattle.sctp_send.specs.inner.Changes.{given, all_given}
-use Rattle.sctp_send.specs.inner.Bounding.{AreBounded}
 use Rattle.sctp_send.specs.inner.TicketOrder.{IsOrderOf, IsPlaceOf, tickets_of}
 use Rattle.sctp_send.proofs.ListParts.{dropped_more}
 use Rattle.sctp_send.proofs.PlacedLemmas.{count_placed}
 use Rattle.sctp_send.proofs.StoodLemmas.{given_other}
 use Rattle.sctp_send.proofs.TicketWalks.{no_spot, WerePassed, IsGiven, lower_passed, all_passed, higher_left, spot_within, given_ticket, placed_tickets, placed_given, given_more, all_are_given}
-use Rattle.sctp_send.proofs.MomentWalks.{bounded_given}
 use Rattle.sctp_send.specs.inner.Stretching.{AreKnown}
 use Rattle.sctp_send.proofs.KnownLemmas.{SayTheSame, SayNothing, known_placed}
 use Rattle.sctp_send.proofs.outstanding.Outstanding.abandon.Goals as goal
@@ -68,7 +66,6 @@ loop-place-preserved c =
             (known_placed s.size s.by_ticket.first at (given t) s.stretches.items c.forget_stretch.new.stretches.items es
             (subst (λ (i : ℕ). SayTheSame i c.forget_stretch.new.stretches.items s.stretches.items) c.index.ensures c.forget_stretch.ensures.others)
             (subst (λ (i : ℕ). SayNothing i c.forget_stretch.new.stretches.items) c.index.ensures c.forget_stretch.ensures.here) h.kept.known);
-        bounded = subst (λ (xs : List EntryFields). AreBounded s.bounds.items xs) (sym items) (bounded_given t at s.bounds.items es h.kept.bounded);
       };
       size = h.size;
       room = h.room;

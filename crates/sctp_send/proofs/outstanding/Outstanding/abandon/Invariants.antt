@@ -10,7 +10,7 @@ invariant-loop-place l =
     let s = l.self-inside in
     let t = l.initial.self-inside in
     record {
-      kept : IsInOrder s.size s.entries.items (deque_capacity s.entries) s.counts s.by_ticket s.room s.bounds.items s.stretches.items;
+      kept : IsInOrder s.size s.entries.items (deque_capacity s.entries) s.counts s.by_ticket s.room s.stretches.items;
       size : s.size ≡ t.size;
       room : s.room ≡ t.room;
       order : s.by_ticket ≡ t.by_ticket;

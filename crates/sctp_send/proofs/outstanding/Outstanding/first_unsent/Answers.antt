@@ -30,7 +30,7 @@ invariant_of-self c =
     let h = c.loop-at.invariant in
     let s = c.loop-at.self-inside in
     let le : c.loop-at.at ≤ length s.entries.items = omega (arith, h.end, c.loop-at-test.true) in
-    recounted s.size s.entries.items (deque_capacity s.entries) s.counts _ s.by_ticket s.room s.bounds.items s.stretches.items (counts_unsent s.size s.entries.items s.counts c.loop-at.at le h.none h.kept.counted) h.kept
+    recounted s.size s.entries.items (deque_capacity s.entries) s.counts _ s.by_ticket s.room s.stretches.items (counts_unsent s.size s.entries.items s.counts c.loop-at.at le h.none h.kept.counted) h.kept
 
 pub returns-then-is_first_sending-clause-same : goal.returns-then-is_first_sending-clause-same
 returns-then-is_first_sending-clause-same c = c.loop-at.invariant.same
@@ -48,7 +48,7 @@ invariant_of-self-2 c =
     let s = c.loop-at.self-inside in
     let long : c.len-self-inside.result ≡ length s.entries.items = c.len-self-inside.ensures ∙ s.entries.ok.0 in
     let less : c.len-self-inside.result ≤ c.loop-at.at = omega (arith, long, h.end, c.loop-at-test.false) in
-    recounted s.size s.entries.items (deque_capacity s.entries) s.counts _ s.by_ticket s.room s.bounds.items s.stretches.items (counts_unsent s.size s.entries.items s.counts c.len-self-inside.result (omega (arith, long)) (none_less is_item_unsent (map (item_meaning s.size) s.entries.items) c.len-self-inside.result c.loop-at.at less h.none) h.kept.counted) h.kept
+    recounted s.size s.entries.items (deque_capacity s.entries) s.counts _ s.by_ticket s.room s.stretches.items (counts_unsent s.size s.entries.items s.counts c.len-self-inside.result (omega (arith, long)) (none_less is_item_unsent (map (item_meaning s.size) s.entries.items) c.len-self-inside.result c.loop-at.at less h.none) h.kept.counted) h.kept
 
 pub returns-clause-same : goal.returns-clause-same
 returns-clause-same c = c.loop-at.invariant.same

@@ -10,7 +10,7 @@ abbrev pub invariant-loop-at : goal.invariant-loop-at
 invariant-loop-at l =
     let s = l.self-inside in
     record {
-      kept : IsInOrder s.size s.entries.items (deque_capacity s.entries) s.counts s.by_ticket s.room s.bounds.items s.stretches.items;
+      kept : IsInOrder s.size s.entries.items (deque_capacity s.entries) s.counts s.by_ticket s.room s.stretches.items;
       same : ◌≡◌ {A = OutstandingKept} (record { size = s.size; items = s.entries.items; capacity = s.room }) l.fn.self;
       end : l.at-end ≡ length s.entries.items;
       none : first_place is_item_unsent (take l.at (map (item_meaning s.size) s.entries.items)) ≡ None;

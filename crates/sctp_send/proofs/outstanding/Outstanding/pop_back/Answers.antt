@@ -3,7 +3,6 @@ use Rattle.std.proofs.lemmas.List.{map-append}
 use Rattle.sctp_send.specs.declared.message.Message.{Message as MessageFields}
 use Rattle.sctp_send.specs.declared.entry.Entry.{Entry as EntryFields}
 use Rattle.sctp_send.specs.inner.Counting.{IsCounted}
-use Rattle.sctp_send.specs.inner.Bounding.{AreBounded}
 use Rattle.sctp_send.specs.inner.TicketOrder.{IsOrderOf, ticket_of, tickets_of}
 use Rattle.sctp_send.proofs.CountLemmas.{counts_cut}
 use Rattle.sctp_send.proofs.ListParts.{in_front}
@@ -41,5 +40,4 @@ invariant_of-self c =
       known =
           subst (λ (n : ℕ). AreKnown s.size n s.stretches.items rest) (sym c.pop_back-in-Some.ensures.first)
           (known_cut s.size o.first s.stretches.items rest c.in-Some.entry (subst (λ (es : List EntryFields). AreKnown s.size o.first s.stretches.items es) items h.known));
-      bounded = λ d there. subst (λ (es : List EntryFields). AreBounded s.bounds.items es) items h.bounded d (in_front rest (c.in-Some.entry ∷ []) d there);
     }

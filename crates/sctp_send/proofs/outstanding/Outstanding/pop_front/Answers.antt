@@ -4,7 +4,6 @@ use Rattle.sctp_send.specs.declared.counts.Counts.{Counts}
 use Rattle.sctp_send.specs.declared.message.Message.{Message as MessageFields}
 use Rattle.sctp_send.specs.declared.entry.Entry.{Entry as EntryFields}
 use Rattle.sctp_send.specs.inner.Counting.{IsCounted}
-use Rattle.sctp_send.specs.inner.Bounding.{AreBounded}
 use Rattle.sctp_send.specs.inner.TicketOrder.{IsOrderOf, tickets_of}
 use Rattle.sctp_send.proofs.CountLemmas.{counts_behind}
 use Rattle.sctp_send.specs.inner.Stretching.{AreKnown}
@@ -36,5 +35,4 @@ invariant_of-self c =
       here = let le = h.here in omega (arith, c.pop_front.ensures.capacity, le);
       there = let le = h.there in omega (arith, c.pop_front-in-Some.ensures.capacity, le);
       known = known_behind s.size o.first c.pop_front-in-Some.new.self.first s.stretches.items c.in-Some.entry rest c.pop_front-in-Some.ensures.first (subst (λ (es : List EntryFields). AreKnown s.size o.first s.stretches.items es) items h.known);
-      bounded = λ d there. subst (λ (es : List EntryFields). AreBounded s.bounds.items es) items h.bounded d (inr there);
     }

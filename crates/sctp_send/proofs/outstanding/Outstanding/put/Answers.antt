@@ -1,13 +1,11 @@
 use Rattle.std.proofs.Common.{◌≡◌, ◌<◌, ◌∷◌, [], ◌++◌, List, ℕ, length, sym, ◌∙◌, ap, subst, arith, length-append}
 use Rattle.std.proofs.lemmas.List.{map-append}
 use Rattle.sctp_send.specs.PartsKept.{OutstandingKept}
-use Rattle.sctp_send.specs.inner.Bounding.{AreBounded}
 use Rattle.sctp_send.specs.inner.TicketOrder.{IsOrderOf, ticket_of, tickets_of}
 use Rattle.sctp_send.specs.declared.message.Message.{Message as MessageFields}
 use Rattle.sctp_send.specs.declared.entry.Entry.{Entry as EntryFields}
 use Rattle.sctp_send.proofs.CountLemmas.{counts_pushed}
 use Rattle.sctp_send.proofs.TicketWalks.{long_tickets}
-use Rattle.sctp_send.proofs.MomentWalks.{bounded_pushed}
 use Rattle.sctp_send.specs.inner.Stretching.{index_at, AreKnown}
 use Rattle.sctp_send.proofs.KnownLemmas.{SayTheSame, SayNothing, known_less, known_pushed}
 use Rattle.sctp_send.proofs.outstanding.Outstanding.put.Goals as goal
@@ -58,5 +56,4 @@ invariant_of-self c =
           (subst (λ (i : ℕ). SayTheSame i c.forget_stretch.new.stretches.items c.keep_stretches.new.stretches.items) here c.forget_stretch.ensures.others)
           (subst (λ (i : ℕ). SayNothing i c.forget_stretch.new.stretches.items) here c.forget_stretch.ensures.here)
           (known_less s.size s.by_ticket.first s.stretches.items c.keep_stretches.new.stretches.items es c.keep_stretches.ensures h.known)));
-      bounded = subst (λ (xs : List EntryFields). AreBounded c.bound_new.new.bounds.items xs) (sym items) (bounded_pushed s.size s.counts.earliest s.bounds.items c.bound_new.new.bounds.items es e h.counted.earliest h.bounded c.bound_new.ensures.others c.bound_new.ensures.here);
     }

@@ -2,12 +2,10 @@ use Rattle.std.proofs.Common.{◌≡◌, ◌<◌, ℕ, List, length, Some, refl,
 use Rattle.std.specs.Prelude.{slice_get}
 use Rattle.sctp_send.specs.PartsKept.{OutstandingKept}
 use Rattle.sctp_send.specs.inner.Changes.{stood}
-use Rattle.sctp_send.specs.inner.Bounding.{AreBounded}
 use Rattle.sctp_send.specs.inner.TicketOrder.{IsOrderOf, tickets_of}
 use Rattle.sctp_send.specs.declared.entry.Entry.{Entry as EntryFields}
 use Rattle.sctp_send.proofs.PlacedLemmas.{count_placed}
 use Rattle.sctp_send.proofs.TicketWalks.{get_read, placed_tickets}
-use Rattle.sctp_send.proofs.MomentWalks.{bounded_placed}
 use Rattle.sctp_send.specs.inner.Stretching.{AreKnown}
 use Rattle.sctp_send.proofs.KnownLemmas.{SayTheSame, SayNothing, known_placed}
 use Rattle.sctp_send.proofs.outstanding.Outstanding.stand.Goals as goal
@@ -17,13 +15,6 @@ stand_one-requires c = record {
   within = subst (λ (w : OutstandingKept). c.args.at < length w.items) (sym c.self.view_is) c.requires;
   counted = c.self.invariant.counted;
 }
-
-pub index-requires-2 : goal.index-requires-2
-index-requires-2 c =
-    let es = c.self.inside.entries.items in
-    let lt : c.args.at < length es = subst (λ (w : OutstandingKept). c.args.at < length w.items) (sym c.self.view_is) c.requires in
-    let long : length c.stand_one.new.entries.items ≡ length es = ap (λ (xs : List EntryFields). length xs) c.stand_one.ensures.items ∙ count_placed (stood c.args.standing c.args.covered c.args.abandoned) c.args.at es in
-    omega (arith, lt, long, c.stand_one.new.entries.ok)
 
 pub invariant_of-self : goal.invariant_of-self
 invariant_of-self c =
@@ -47,12 +38,6 @@ invariant_of-self c =
           (known_placed s.size s.by_ticket.first c.args.at new s.stretches.items c.forget_stretch.new.stretches.items es
           (subst (λ (i : ℕ). SayTheSame i c.forget_stretch.new.stretches.items s.stretches.items) c.index.ensures c.forget_stretch.ensures.others)
           (subst (λ (i : ℕ). SayNothing i c.forget_stretch.new.stretches.items) c.index.ensures c.forget_stretch.ensures.here) h.known);
-      bounded =
-          let x = c.index-2.result.now in
-          let at : c.args.at < length c.stand_one.new.entries.items = omega (arith, long, lt) in
-          let read = subst (λ (xs : List EntryFields). slice_get xs c.args.at ≡ Some x) items (get_read c.stand_one.new.entries.items c.args.at x at c.index-2.ensures) in
-          subst (λ (xs : List EntryFields). AreBounded c.bound_again.new.bounds.items xs) (sym items)
-          (bounded_placed new c.args.at s.bounds.items c.bound_again.new.bounds.items es x h.bounded c.bound_again.ensures.others read c.bound_again.ensures.here);
     }
 
 pub returns : goal.returns

@@ -1,12 +1,10 @@
 use Rattle.std.proofs.Common.{◌≡◌, ◌<◌, ℕ, List, length, refl, sym, ◌∙◌, ap, subst, arith}
 use Rattle.sctp_send.specs.PartsKept.{OutstandingKept}
 use Rattle.sctp_send.specs.inner.Changes.{as_covered, as_uncovered}
-use Rattle.sctp_send.specs.inner.Bounding.{AreBounded}
 use Rattle.sctp_send.specs.inner.TicketOrder.{IsOrderOf, tickets_of}
 use Rattle.sctp_send.specs.declared.entry.Entry.{Entry as EntryFields}
 use Rattle.sctp_send.proofs.PlacedLemmas.{count_placed}
 use Rattle.sctp_send.proofs.TicketWalks.{placed_tickets}
-use Rattle.sctp_send.proofs.MomentWalks.{bounded_covered}
 use Rattle.sctp_send.specs.inner.Stretching.{AreKnown}
 use Rattle.sctp_send.proofs.KnownLemmas.{SayTheSame, SayNothing, known_placed}
 use Rattle.sctp_send.proofs.outstanding.Outstanding.tell.Goals as goal
@@ -43,7 +41,6 @@ invariant_of-self c =
           (known_placed s.size s.by_ticket.first c.args.at as_covered s.stretches.items c.forget_stretch.new.stretches.items es
           (subst (λ (i : ℕ). SayTheSame i c.forget_stretch.new.stretches.items s.stretches.items) c.index.ensures c.forget_stretch.ensures.others)
           (subst (λ (i : ℕ). SayNothing i c.forget_stretch.new.stretches.items) c.index.ensures c.forget_stretch.ensures.here) h.known);
-      bounded = subst (λ (xs : List EntryFields). AreBounded s.bounds.items xs) (sym items) (bounded_covered c.args.at s.bounds.items es h.bounded);
     }
 
 pub invariant_of-self-2 : goal.invariant_of-self-2
@@ -66,7 +63,6 @@ invariant_of-self-2 c =
           (known_placed s.size s.by_ticket.first c.args.at as_uncovered s.stretches.items c.forget_stretch.new.stretches.items es
           (subst (λ (i : ℕ). SayTheSame i c.forget_stretch.new.stretches.items s.stretches.items) c.index.ensures c.forget_stretch.ensures.others)
           (subst (λ (i : ℕ). SayNothing i c.forget_stretch.new.stretches.items) c.index.ensures c.forget_stretch.ensures.here) h.known);
-      bounded = c.uncover_one.ensures.bounded h.bounded;
     }
 
 pub returns-then-covered : goal.returns-then-covered

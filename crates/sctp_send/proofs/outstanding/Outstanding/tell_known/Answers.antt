@@ -2,13 +2,12 @@ use Rattle.std.proofs.Common.{◌≡◌, ◌+◌, ◌≤◌, ◌<◌, ◌%◌, �
 use Rattle.std.specs.Prelude.{not, slice_get}
 use Rattle.sctp_send.specs.PartsKept.{OutstandingKept}
 use Rattle.sctp_model.specs.numbers.Limits.{LAST_MOMENT}
-use Rattle.sctp_send.specs.inner.Bounding.{bound_of, AreBounded}
 use Rattle.sctp_send.specs.inner.Stretching.{AreAlike, told_run, index_at, place_at, AreKnown}
 use Rattle.sctp_send.specs.inner.TicketOrder.{IsOrderOf, tickets_of}
 use Rattle.sctp_send.specs.declared.entry.Entry.{Entry as EntryFields}
 use Rattle.sctp_send.specs.declared.stretches.Stretch.{Stretch}
 use Rattle.sctp_send.proofs.StretchLemmas.{flag_on, flags_same, flags_differ, run_same, length-told_run}
-use Rattle.sctp_send.proofs.TurnedLemmas.{same_tickets, same_bounded}
+use Rattle.sctp_send.proofs.TurnedLemmas.{same_tickets}
 use Rattle.sctp_send.proofs.KnownLemmas.{SayTheSame, known_turned}
 use Rattle.sctp_send.proofs.outstanding.Outstanding.tell_known.Goals as goal
 
@@ -66,7 +65,6 @@ invariant_of-self c =
     let read : slice_get s.stretches.items (place_at (index_at first at)) ≡ Some known =
     ap (λ (ss : List Stretch). slice_get ss (place_at (index_at first at))) (sym c.deref.ensures.value) ∙ ap (λ (i : ℕ). slice_get c.deref.result.now (place_at i)) (sym c.index-index.ensures) ∙ c.stretch_of-known.ensures (flag_on c.stretch_of-known.result.is_known c.if-not-known.false) in
     let alike = h.known at known within begins read (flag_on c.stretch_of-known.result.is_known c.if-not-known.false) in
-    let last = subst (λ (bs : List ℕ). (t : ℕ) → bound_of bs t ≤ LAST_MOMENT) c.deref-2.ensures.value c.are_moments.ensures in
     let long : length c.turn_stretch.new.entries.items ≡ length es = ap (λ (xs : List EntryFields). length xs) items ∙ length-told_run b at 64 es in
     record {
       counted = c.turn_stretch.ensures.counted;
@@ -76,7 +74,6 @@ invariant_of-self c =
       within = let le = h.within in omega (arith, long, le);
       here = let le = h.here in omega (arith, c.turn_stretch.ensures.capacity, le);
       there = h.there;
-      bounded = subst (λ (xs : List EntryFields). AreBounded s.bounds.items xs) (sym items) (same_bounded s.size s.bounds.items known.covered b known.bytes at 64 es last alike h.bounded);
       known = subst (λ (xs : List EntryFields). AreKnown s.size first now xs) (sym items)
           (known_turned s.size first at known.covered b known.bytes s.stretches.items now _ es few within begins
           (subst (λ (i : ℕ). SayTheSame i now s.stretches.items) c.index-index.ensures c.put_stretch.ensures.others)

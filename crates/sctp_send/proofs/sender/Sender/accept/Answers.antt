@@ -8,6 +8,8 @@ use Rattle.sctp_model.specs.sender.Queueing.{cut, owed_for}
 use Rattle.sctp_send.specs.SenderAnswers.{lane_for}
 use Rattle.sctp_send.specs.declared.message.Fate.TheVariants.{Queued as StillQueued}
 use Rattle.sctp_send.proofs.QueueLemmas.{memory_told, spent_ticket, spent_owed, none_refuses, keeps_queued, fates_given}
+use Rattle.std.specs.Prelude.{unwrap_or}
+use Rattle.sctp_model.specs.numbers.Limits.{LAST_MOMENT}
 use Rattle.sctp_send.proofs.sender.Sender.accept.Goals as goal
 
 pub returns-then-given-clause-answer : goal.returns-then-given-clause-answer
@@ -73,5 +75,8 @@ returns-clause-step g c = λ v stands.
     let given = fates_given g.F.Framing.format _ v keeps in
     let fates : c.push.new.self.items ≡ s.head.fates.items ++ StillQueued ∷ [] = rw (c.push.ensures.items, c.in-Ok.ensures.items) refl in
     let ended : c.push.new.self.ended ≡ s.head.fates.ended = rw (c.push.ensures.ended, c.in-Ok.ensures.ended) refl in
-    let taken = keeps_queued g.F.Framing.format _ v (lane_for c.args.stream c.args.ordered) c.args.payload_id (c.len-given.result + 1) c.args.bytes.items c.args.until keeps none (omega (arith, given)) in
-    rw (c.in_ok-enqueue.ensures.waits s.head.fragment, fates, ended, c.of_flag.ensures) taken
+    let moments : c.push-2.new.self.moments ≡ s.head.dues.moments ++ unwrap_or c.args.until LAST_MOMENT ∷ [] = rw (c.push-2.ensures.moments, c.in-Ok.ensures.moments) refl in
+    let passed : c.push-2.new.self.passed ≡ s.head.dues.passed = rw (c.push-2.ensures.passed, c.in-Ok.ensures.passed) refl in
+    let asleep : c.push-2.new.self.asleep ≡ s.head.dues.asleep = rw (c.push-2.ensures.asleep, c.in-Ok.ensures.asleep) refl in
+    let taken = keeps_queued g.F.Framing.format _ v (lane_for c.args.stream c.args.ordered) c.args.payload_id (c.len-given.result + 1) c.args.bytes.items c.args.until keeps none (omega (arith, given)) c.push-2.ensures.small in
+    rw (c.in_ok-enqueue.ensures.waits s.head.fragment, fates, ended, moments, passed, asleep, c.of_flag.ensures) taken

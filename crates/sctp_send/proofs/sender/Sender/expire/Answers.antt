@@ -4,14 +4,8 @@ use Rattle.sctp_send.specs.SenderKept.{Kept}
 use Rattle.sctp_send.specs.SenderStands.{StandsFor, Keeps}
 use Rattle.sctp_send.proofs.sender.Sender.expire.Goals as goal
 
-pub returns-then-not-self : goal.returns-then-not-self
-unfolding StandsFor
-returns-then-not-self g c = λ v stands.
-    let keeps = subst (λ (k : Kept). Keeps g.F.Framing.format k (expired v c.args.now)) (sym c.self.view_is) (c.expire_all.ensures v stands) in
-    rw c.look_again.ensures keeps
-
 pub returns : goal.returns
 unfolding StandsFor
 returns g c = λ v stands.
     let keeps = subst (λ (k : Kept). Keeps g.F.Framing.format k (expired v c.args.now)) (sym c.self.view_is) (c.expire_all.ensures v stands) in
-    rw (c.look_again.ensures, c.look_again-2.ensures, c.look_again-3.ensures) keeps
+    rw c.look_again.ensures keeps

@@ -10,7 +10,7 @@ pub invariant_of-self : goal.invariant_of-self
 invariant_of-self c =
     let w = c.self.inside in
     let is = set_changed (counted_to c.args.kind c.args.many) c.args.at w.tracks.items c.index_mut.result.now c.set_count.new.track c.index_mut.ensures.value c.set_count.ensures in
-    subst (λ (ts : List TrackFields). IsStreamsOf w.size ts w.parts w.owed w.earliest w.lists w.bounds.items) (sym is) (streams_counted w.size c.args.many c.args.at w.parts w.owed w.earliest c.args.kind w.tracks.items w.lists w.bounds.items c.self.invariant)
+    subst (λ (ts : List TrackFields). IsStreamsOf w.size ts w.parts w.owed w.lists) (sym is) (streams_counted w.size c.args.many c.args.at w.parts w.owed c.args.kind w.tracks.items w.lists c.self.invariant)
 
 pub returns : goal.returns
 returns c =

@@ -6,7 +6,6 @@ use Rattle.sctp_send.specs.inner.Walks.{one_if_rest, rest_owes}
 use Rattle.sctp_send.specs.declared.track.Track.{Track as TrackFields}
 use Rattle.sctp_send.proofs.OwedLemmas.{counted_set, IsCountOf}
 use Rattle.sctp_send.proofs.PartStreams.{listed_replaced}
-use Rattle.sctp_send.proofs.PartBounds.{left_changed}
 use Rattle.sctp_send.proofs.streams.Streams.replace.Goals as goal
 
 pub invariant_of-self : goal.invariant_of-self
@@ -21,10 +20,8 @@ invariant_of-self c =
     } in
     let is = ap (λ (t : TrackFields). set w.tracks.items c.args.at t) c.replace-before.ensures.after in
     record {
-      counted = counted_set w.size w.parts w.owed w.earliest c.one_if_in_part.result c.owed_by_track.result c.one_if_in_part-2.result c.owed_by_track-2.result c.moment_of_track.result c.min-self-inside.result c.args.at w.tracks.items
-          (set w.tracks.items c.args.at c.replace-before.new.dest) x c.args.track c.self.invariant.counted low c.index_mut.ensures.value is new old (c.moment_of_track.ensures w.size) c.min-self-inside.ensures;
+      counted = counted_set w.size w.parts w.owed c.one_if_in_part.result c.owed_by_track.result c.one_if_in_part-2.result c.owed_by_track-2.result c.args.at w.tracks.items
+          (set w.tracks.items c.args.at c.replace-before.new.dest) x c.args.track c.self.invariant.counted low c.index_mut.ensures.value is new old;
       listed = listed_replaced c.args.at w.tracks.items (set w.tracks.items c.args.at c.replace-before.new.dest) x c.args.track c.ticket_of_track-goes.result c.ticket_of_track-comes.result w.lists c.change.new.self low c.index_mut.ensures.value is
           (c.ticket_of_track-goes.ensures ∙ ap (λ (t : TrackFields). ticket_left t.rest) c.replace-before.ensures.value) c.ticket_of_track-comes.ensures c.self.invariant.listed c.change.ensures;
-      bounded = left_changed w.size w.earliest c.args.at w.bounds.items c.bound_left.new.bounds.items w.tracks.items (set w.tracks.items c.args.at c.replace-before.new.dest) c.args.track is c.self.invariant.counted.earliest c.self.invariant.bounded
-          c.bound_left.ensures.others c.bound_left.ensures.here;
     }

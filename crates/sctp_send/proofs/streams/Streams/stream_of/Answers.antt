@@ -12,7 +12,7 @@ pub returns-then-self-eq0-clause-none : goal.returns-then-self-eq0-clause-none
 returns-then-self-eq0-clause-none c = λ size.
     let w = c.self.inside in
     subst (λ (k : StreamsKept). any_rest c.args.ticket (map (track_meaning size) k.items) ≡ false) c.self.view_is
-    (none_with c.args.ticket (map (track_meaning size) w.tracks.items) (no_part w.size size w.parts w.owed w.earliest w.tracks.items c.self.invariant.counted c.if-self-eq0.true))
+    (none_with c.args.ticket (map (track_meaning size) w.tracks.items) (no_part w.size size w.parts w.owed w.tracks.items c.self.invariant.counted c.if-self-eq0.true))
 
 pub returns-in-Some-clause-some : goal.returns-in-Some-clause-some
 returns-in-Some-clause-some c = λ size.

@@ -1,0 +1,212 @@
+-- What is kept when moments of tickets are told anew, are woken, or are passed.
+use Rattle.std.proofs.Common.{◌≡◌, ℕ, zero, suc, ◌+◌, ◌-◌, ◌^◌, ◌<◌, ◌≤◌, ◌⊎◌, inl, inr, max, List, [], ◌∷◌, length, get_or, map, drop, Bool, true, false, Option, Some, None, refl, sym, ap, ◌∙◌, subst, arith, length-drop}
+use Rattle.std.specs.Prelude.{◌==◌, ◌&&◌, ◌||◌, nat_le, if◌then◌else◌, unwrap_or}
+use Rattle.std.proofs.lemmas.Bool.{cases_lt, cases_eq}
+use Rattle.std.proofs.lemmas.Bool.Decides.{nat_tests}
+use Rattle.std.specs.declared.sync.Arc.{Arc}
+use Rattle.std.specs.declared.alloc.Global.{Global}
+use Rattle.sctp_model.specs.numbers.Limits.{LAST_MOMENT}
+use Rattle.sctp_model.specs.messages.Format.{Format}
+use Rattle.sctp_model.specs.messages.Plan.{Message, Entry}
+use Rattle.sctp_model.specs.sender.SenderView.{SenderView}
+use Rattle.sctp_model.specs.sender.Words.{some_passes}
+use Rattle.sctp_model.specs.sender.Entries.{entry_message}
+use Rattle.sctp_model.specs.sender.Abandoning.{waits, has_ticket, is_to_expire}
+use Rattle.sctp_model.proofs.sender.OwnLaws.{AllOwn}
+use Rattle.sctp_model.proofs.sender.TicketLaws.{is_ticketed}
+use Rattle.sctp_model.proofs.sender.ExpiredLaws.{all_own_drop}
+use Rattle.sctp_send.specs.SenderKept.{Item, Kept}
+use Rattle.sctp_send.specs.OutstandingFields.{item_meaning, message_meaning}
+use Rattle.sctp_send.specs.SenderFields.{queued_by}
+use Rattle.sctp_send.specs.SenderStands.{items_from, IsOver, Keeps}
+use Rattle.sctp_send.specs.inner.Walks.{any_item, any_rest}
+use Rattle.sctp_send.specs.inner.Seating.{ticket_in, DoTicketsRise}
+use Rattle.sctp_send.specs.inner.Dues.{due_at, is_late, some_late, standing_message, standing_messages, until_of, AreWoken, IsIdle}
+use Rattle.sctp_send.specs.declared.message.Message.{Message as MessageFields}
+use Rattle.sctp_send.specs.declared.entry.Entry.{Entry as EntryFields}
+use Rattle.sctp_send.proofs.OverLemmas.{neither}
+use Rattle.sctp_send.proofs.DueLemmas.{late_before, late_other_items, over_idle}
+use Rattle.sctp_send.proofs.MomentLemmas.{due_behind}
+use Rattle.sctp_send.proofs.MomentKept.{has_come}
+use Rattle.sctp_send.proofs.ExpireKept.{fewer_late, stays_idle}
+
+clash : {b : Bool} → b ≡ true → b ≡ false → ⊥
+clash on off = cc
+
+both_off : (a b : Bool) → a ≡ false → b ≡ false → (a || b) ≡ false
+both_off a b x y = rw (x, y) refl
+
+-- ---- told anew
+
+not_come : (now : ℕ) (r : Option ℕ) → now < unwrap_or r LAST_MOMENT → has_come now r ≡ false
+not_come now None lt = refl
+not_come now (Some until) lt = grind (arith, nat_tests)
+
+-- less is said of a ticket
+idle_asleep : (s : Kept) (now t : ℕ) (ms : List ℕ) → IsIdle s now t → IsIdle (record s { moments = ms; asleep = true }) now t
+idle_asleep s now t ms i = record { queue = i.queue; items = λ on. fewer_late now t s.asleep s.items (i.items on); tracks = i.tracks }
+
+pub keeps_told : (f : Format) (s : Kept) (v : SenderView) (t : ℕ) (r : Option ℕ) (ms : List ℕ) → Keeps f s v → ((now : ℕ) → is_to_expire v now t ≡ has_come now r) → length ms ≡ length s.moments
+    → ((now : ℕ) → now < due_at s.passed ms t → (now < unwrap_or r LAST_MOMENT) ⊎ (now < due_at s.passed s.moments t)) → ((u : ℕ) → (u ≡ t → ⊥) → due_at s.passed ms u ≡ due_at s.passed s.moments u)
+    → Keeps f (record s { moments = ms; asleep = true }) v
+keeps_told f s v t r ms k told long here others = record {
+  holds = record {
+    initial = k.holds.initial;
+    streams = k.holds.streams;
+    fragment = k.holds.fragment;
+    partial = k.holds.partial;
+    cum = k.holds.cum;
+    rwnd = k.holds.rwnd;
+    turn = k.holds.turn;
+    items = k.holds.items;
+    queue = k.holds.queue;
+    tracks = k.holds.tracks;
+    fates = k.holds.fates;
+    covered = k.holds.covered;
+    room = k.holds.room;
+  };
+  over = record { within = k.over.within; each = λ u le. let o = k.over.each u le in record { queue = o.queue; tracks = o.tracks; items = o.items } };
+  due = record {
+    many = let many = k.due.many in omega (arith, many, long);
+    each = λ u now lt. elim (cases_eq u t) [
+      | inr other ↦ let same = others u other in idle_asleep s now u ms (k.due.each u now (omega (arith, lt, same)))
+      | inl same ↦
+          let lower : now < due_at s.passed ms t = subst (λ (x : ℕ). now < due_at s.passed ms x) same lt in
+          subst (λ (x : ℕ). IsIdle (record s { moments = ms; asleep = true }) now x) (sym same) (by_moment now (here now lower))
+    ];
+  };
+  reached = k.reached;
+}
+  where
+    by_moment : (now : ℕ) → (now < unwrap_or r LAST_MOMENT) ⊎ (now < due_at s.passed s.moments t) → IsIdle (record s { moments = ms; asleep = true }) now t
+    by_moment now (inl below) = stays_idle f s v now t ms k (told now ∙ not_come now r below)
+    by_moment now (inr below) = idle_asleep s now t ms (k.due.each t now below)
+
+-- ---- woken
+
+-- no entry has a ticket that was not given
+none_given : (v : SenderView) (t i : ℕ) (es : List Entry) → AllOwn v.plan v.tickets v.plan.entries es → v.tickets < t → any_item t (items_from v i es) ≡ false
+none_given v t i [] own lt = refl
+none_given v t i (e ∷ es) own lt = both_off (has_ticket t (entry_message v.plan e)) (any_item t (items_from v (suc i) es)) (by_ticket (has_ticket t (entry_message v.plan e)) refl) (none_given v t (suc i) es own.1 lt)
+  where
+    by_ticket : (b : Bool) → has_ticket t (entry_message v.plan e) ≡ b → b ≡ false
+    by_ticket false is = refl
+    by_ticket true is = let given = (own.0 t is).1 in absurd (omega (arith, given, lt))
+
+-- entries none of which is late
+all_idle : (now t size : ℕ) (es : List EntryFields) → ((k : ℕ) (d : EntryFields) → k < length es → is_late now t (Some (message_meaning size (get_or es k d).message.value)) ≡ false) → some_late now t (standing_messages false (map (item_meaning size) es)) ≡ false
+all_idle now t size [] off = refl
+all_idle now t size (e ∷ es) off =
+    both_off (is_late now t (standing_message false (item_meaning size e))) (some_late now t (standing_messages false (map (item_meaning size) es))) (by_given e.abandoned (off 0 e (omega arith))) (all_idle now t size es (λ k d lt. off (suc k) d (omega (arith, lt))))
+  where
+    by_given : (b : Bool) → is_late now t (Some (message_meaning size e.message.value)) ≡ false → is_late now t (if b then None else Some (message_meaning size e.message.value)) ≡ false
+    by_given true off = refl
+    by_given false off = off
+
+pub keeps_awake : (f : Format) (s : Kept) (v : SenderView) (size : ℕ) (es : List EntryFields) (ms : List ℕ) (b : Bool) → Keeps f s v → s.items ≡ map (item_meaning size) es → length ms ≡ length s.moments
+    → ((t now : ℕ) → now < due_at s.passed ms t → now < due_at s.passed s.moments t) → (s.asleep ≡ true → b ≡ false → AreWoken s.passed ms es (length es)) → Keeps f (record s { moments = ms; asleep = b }) v
+keeps_awake f s v size es ms b k are long each woken = record {
+  holds = record {
+    initial = k.holds.initial;
+    streams = k.holds.streams;
+    fragment = k.holds.fragment;
+    partial = k.holds.partial;
+    cum = k.holds.cum;
+    rwnd = k.holds.rwnd;
+    turn = k.holds.turn;
+    items = k.holds.items;
+    queue = k.holds.queue;
+    tracks = k.holds.tracks;
+    fates = k.holds.fates;
+    covered = k.holds.covered;
+    room = k.holds.room;
+  };
+  over = record { within = k.over.within; each = λ u le. let o = k.over.each u le in record { queue = o.queue; tracks = o.tracks; items = o.items } };
+  due = record {
+    many = let many = k.due.many in omega (arith, many, long);
+    each = λ t now lt.
+        let i = k.due.each t now (each t now lt) in
+        record { queue = i.queue; items = λ on. by_sleep t now lt s.asleep b refl refl (i.items on); tracks = i.tracks };
+  };
+  reached = k.reached;
+}
+  where
+    by_place : (t now : ℕ) → now < due_at s.passed ms t → s.asleep ≡ true → b ≡ false → some_late now t (standing_messages false s.items) ≡ false
+    by_place t now lt is off = elim (cases_lt s.passed t) [
+      | inr le ↦ late_other_items now t false s.items (k.over.each t (omega (arith, le))).items
+      | inl past ↦ elim (cases_lt v.tickets t) [
+        | inl beyond ↦
+            let own = all_own_drop v.plan v.tickets v.cum v.plan.entries v.plan.entries (is_ticketed f v k.reached).owned in
+            late_other_items now t false s.items (ap (any_item t) k.holds.items ∙ none_given v t (suc v.cum) (drop v.cum v.plan.entries) own beyond)
+        | inr given ↦
+            let many = k.due.many in
+            ap (λ (xs : List Item). some_late now t (standing_messages false xs)) are
+            ∙ all_idle now t size es (λ n d within. late_before now t (message_meaning size (get_or es n d).message.value) (λ same.
+            let low = woken is off n d within within (omega (arith, past, same)) (omega (arith, given, same, many, long)) in
+            let here : now < due_at s.passed ms (get_or es n d).message.value.ticket = subst (λ (x : ℕ). now < due_at s.passed ms x) same lt in
+            omega (arith, here, low)))
+      ]
+    ]
+
+    by_sleep : (t now : ℕ) → now < due_at s.passed ms t → (was is : Bool) → s.asleep ≡ was → b ≡ is → some_late now t (standing_messages was s.items) ≡ false → some_late now t (standing_messages is s.items) ≡ false
+    by_sleep t now lt true false asleep awake none = by_place t now lt asleep awake
+    by_sleep t now lt true true asleep awake none = none
+    by_sleep t now lt false false asleep awake none = none
+    by_sleep t now lt false true asleep awake none = fewer_late now t false s.items none
+
+-- ---- passed
+
+pub keeps_passed : (f : Format) (s : Kept) (v : SenderView) (last : ℕ) → Keeps f s v → last ≡ s.passed + 64 → 64 ≤ length s.moments → ((t : ℕ) → t ≤ last → waits t s.queue ≡ false)
+    → ((t : ℕ) → t ≤ last → any_rest t s.tracks ≡ false) → ((t : ℕ) → t ≤ last → any_item t s.items ≡ false) → Keeps f (record s { passed = s.passed + 64; moments = drop 64 s.moments }) v
+keeps_passed f s v last k end most queue rests items = record {
+  holds = record {
+    initial = k.holds.initial;
+    streams = k.holds.streams;
+    fragment = k.holds.fragment;
+    partial = k.holds.partial;
+    cum = k.holds.cum;
+    rwnd = k.holds.rwnd;
+    turn = k.holds.turn;
+    items = k.holds.items;
+    queue = k.holds.queue;
+    tracks = k.holds.tracks;
+    fates = k.holds.fates;
+    covered = k.holds.covered;
+    room = k.holds.room;
+  };
+  over = record {
+    within = k.over.within;
+    each = λ t le. elim (cases_lt last t) [
+      | inl past ↦ let o = k.over.each t (omega (arith, le, past, end)) in record { queue = o.queue; tracks = o.tracks; items = o.items }
+      | inr within ↦ record { queue = queue t within; tracks = rests t within; items = items t within }
+    ];
+  };
+  due = record {
+    many = let many = k.due.many in let long = length-drop 64 s.moments in omega (arith, many, long, most);
+    each = λ t now lt. elim (cases_lt last t) [
+      | inl past ↦ let i = k.due.each t now (due_behind s.passed s.moments t now most (omega (arith, past, end)) lt) in record { queue = i.queue; items = i.items; tracks = i.tracks }
+      | inr within ↦ over_idle (record s { passed = s.passed + 64; moments = drop 64 s.moments }) now t (record { queue = queue t within; tracks = rests t within; items = items t within })
+    ];
+  };
+  reached = k.reached;
+}
+
+-- ---- the queue
+
+pub none_waits : (size t : ℕ) (ms : List (Arc MessageFields Global)) → length ms ≡ 0 → waits t (map (queued_by size) ms) ≡ false
+none_waits size t [] none = refl
+none_waits size t (m ∷ ms) none = absurd (omega (arith, none))
+
+all_above : (size n t : ℕ) (ms : List (Arc MessageFields Global)) → DoTicketsRise n ms → t < n → waits t (map (queued_by size) ms) ≡ false
+all_above size n t [] rise lt = refl
+all_above size n t (m ∷ ms) rise lt =
+    let low = rise.0 in
+    let off : (ticket_in m == t) ≡ false = grind (arith, nat_tests) in
+    both_off (ticket_in m == t) (waits t (map (queued_by size) ms)) off (all_above size (suc (ticket_in m)) t ms rise.1 (omega (arith, low, lt)))
+
+-- where the first ticket lies behind one, all do
+pub rising_past : (size last t : ℕ) (ms : List (Arc MessageFields Global)) (x : Arc MessageFields Global) → DoTicketsRise 0 ms → x ≡ get_or ms 0 x → last < x.value.ticket → t ≤ last → waits t (map (queued_by size) ms) ≡ false
+rising_past size last t [] x rise read past le = refl
+rising_past size last t (m ∷ ms) x rise read past le =
+    let low : last < ticket_in m = subst (λ (y : Arc MessageFields Global). last < y.value.ticket) read past in
+    all_above size (ticket_in m) t (m ∷ ms) (omega arith, rise.1) (omega (arith, low, le))

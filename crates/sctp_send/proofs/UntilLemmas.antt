@@ -1,0 +1,121 @@
+-- The moment of a ticket's message, where it is found: among those that wait, above CUM or in part.
+use Rattle.std.proofs.Common.{◌≡◌, ℕ, zero, suc, ◌+◌, ◌<◌, ◌≤◌, inl, inr, List, [], ◌∷◌, length, get_or, map, drop, Bool, true, false, Option, Some, None, refl, sym, ap, ◌∙◌, subst, arith}
+use Rattle.std.specs.Prelude.{◌==◌, ◌||◌, if◌then◌else◌, option_and_then, find, slice_get}
+use Rattle.std.proofs.lemmas.Bool.Decides.{nat_tests}
+use Rattle.std.specs.declared.sync.Arc.{Arc}
+use Rattle.std.specs.declared.alloc.Global.{Global}
+use Rattle.sctp_model.specs.messages.Plan.{Message}
+use Rattle.sctp_model.specs.sender.SenderView.{Queued}
+use Rattle.sctp_model.specs.sender.Abandoning.{has_ticket}
+use Rattle.sctp_send.specs.SenderKept.{Item, Rest, Track}
+use Rattle.sctp_send.specs.OutstandingFields.{item_meaning}
+use Rattle.sctp_send.specs.SenderFields.{queued_by, track_meaning}
+use Rattle.sctp_send.specs.inner.Expiring.{rest_message}
+use Rattle.sctp_send.specs.inner.Walks.{any_item, rest_has, GoesOnAt}
+use Rattle.sctp_send.specs.inner.Seating.{ticket_in, AreLower}
+use Rattle.sctp_send.specs.inner.Dues.{IsItemUntil, IsRestUntil, until_left}
+use Rattle.sctp_send.specs.declared.message.Message.{Message as MessageFields}
+use Rattle.sctp_send.specs.declared.entry.Entry.{Entry as EntryFields}
+use Rattle.sctp_send.specs.declared.track.Track.{Track as TrackFields}
+use Rattle.sctp_send.specs.declared.track.Rest.{Rest as RestFields}
+
+-- ---- among those that wait
+
+-- the first one with a ticket
+abbrev pub with_ticket : ℕ → List Queued → Option Queued
+with_ticket t qs = find (λ q. q.message.ticket == t) qs
+
+pub past_lower : (t size n : ℕ) (ms : List (Arc MessageFields Global)) → AreLower t n ms → n ≤ length ms → with_ticket t (map (queued_by size) ms) ≡ with_ticket t (drop n (map (queued_by size) ms))
+past_lower t size zero ms lower le = refl
+past_lower t size (suc n) [] lower le = absurd (omega arith)
+past_lower t size (suc n) (m ∷ ms) lower le =
+    let low : ticket_in m < t = lower 0 m (omega arith) in
+    let off : (ticket_in m == t) ≡ false = grind (arith, nat_tests) in
+    ap (λ (b : Bool). if b then Some (queued_by size m) else with_ticket t (map (queued_by size) ms)) off ∙ past_lower t size n ms (λ k d lt. lower (suc k) d (omega arith)) (omega arith)
+
+past_one : (t size at : ℕ) (ms : List (Arc MessageFields Global)) (x : Arc MessageFields Global) → at < length ms → x ≡ get_or ms at x → (x.value.ticket ≡ t → ⊥)
+    → with_ticket t (drop at (map (queued_by size) ms)) ≡ with_ticket t (drop (suc at) (map (queued_by size) ms))
+past_one t size at [] x lt read other = absurd (omega arith)
+past_one t size zero (m ∷ ms) x lt read other =
+    let off : (x.value.ticket == t) ≡ false = grind (arith, nat_tests) in
+    ap (λ (b : Bool). if b then Some (queued_by size m) else with_ticket t (map (queued_by size) ms)) (ap (λ (y : Arc MessageFields Global). y.value.ticket == t) (sym read) ∙ off)
+past_one t size (suc at) (m ∷ ms) x lt read other = past_one t size at ms x (omega arith) read other
+
+pub past_other : (t size at : ℕ) (ms : List (Arc MessageFields Global)) (x : Arc MessageFields Global) → at < length ms → x ≡ get_or ms at x → (x.value.ticket ≡ t → ⊥)
+    → with_ticket t (drop at (map (queued_by size) ms)) ≡ with_ticket t (drop (at + 1) (map (queued_by size) ms))
+past_other t size at ms x lt read other = let one : suc at ≡ at + 1 = omega arith in past_one t size at ms x lt read other ∙ ap (λ (n : ℕ). with_ticket t (drop n (map (queued_by size) ms))) one
+
+pub found_until : (t size at : ℕ) (ms : List (Arc MessageFields Global)) (x : Arc MessageFields Global) → at < length ms → x ≡ get_or ms at x → x.value.ticket ≡ t
+    → x.value.until ≡ option_and_then (λ q. q.message.until) (with_ticket t (drop at (map (queued_by size) ms)))
+found_until t size at [] x lt read same = absurd (omega arith)
+found_until t size zero (m ∷ ms) x lt read same =
+    let on : (x.value.ticket == t) ≡ true = grind (arith, nat_tests) in
+    ap (λ (y : Arc MessageFields Global). y.value.until) read
+    ∙ sym (ap (λ (b : Bool). option_and_then (λ q. q.message.until) (if b then Some (queued_by size m) else with_ticket t (map (queued_by size) ms))) (ap (λ (y : Arc MessageFields Global). y.value.ticket == t) (sym read) ∙ on))
+found_until t size (suc at) (m ∷ ms) x lt read same = found_until t size at ms x (omega arith) read same
+
+pub none_until : (t size at : ℕ) (ms : List (Arc MessageFields Global)) → length ms ≤ at → with_ticket t (drop at (map (queued_by size) ms)) ≡ None
+none_until t size zero [] le = refl
+none_until t size zero (m ∷ ms) le = absurd (omega arith)
+none_until t size (suc at) [] le = refl
+none_until t size (suc at) (m ∷ ms) le = none_until t size at ms (omega arith)
+
+-- ---- above CUM
+
+mapped : {A B : Type 0} (f : A → B) (xs : List A) (at : ℕ) (x : A) → at < length xs → x ≡ get_or xs at x → slice_get (map f xs) at ≡ Some (f x)
+mapped f [] at x lt read = absurd (omega arith)
+mapped {B = B} f (y ∷ xs) zero x lt read = ap (λ z. Some (f z)) (sym read)
+mapped f (y ∷ xs) (suc at) x lt read = mapped f xs at x (omega arith) read
+
+pub item_until : (t size at : ℕ) (es : List EntryFields) (e : EntryFields) → at < length es → e ≡ get_or es at e → e.message.value.ticket ≡ t → IsItemUntil t e.message.value.until (map (item_meaning size) es)
+item_until t size at es e lt read same = record {
+  at = at;
+  item = item_meaning size e;
+  there = mapped (item_meaning size) es at e lt read;
+  has = (grind (arith, nat_tests), refl);
+}
+
+pub other_ticket : (t : ℕ) (e : EntryFields) → (e.message.value.ticket ≡ t → ⊥) → (e.message.value.ticket == t) ≡ false
+other_ticket t e other = grind (arith, nat_tests)
+
+-- entries of which none has the ticket
+pub no_items : (t size : ℕ) (es : List EntryFields) → ((n : ℕ) (e : EntryFields) → slice_get es n ≡ Some e → (e.message.value.ticket == t) ≡ false) → any_item t (map (item_meaning size) es) ≡ false
+no_items t size [] off = refl
+no_items t size (e ∷ es) off = rw (off 0 e refl) (no_items t size es (λ n d there. off (suc n) d there))
+
+-- ---- in part
+
+read_mapped : {A B : Type 0} (f : A → B) (xs : List A) (at : ℕ) (x : A) (y : B) → x ≡ get_or xs at x → slice_get (map f xs) at ≡ Some y → y ≡ f x
+read_mapped f [] at x y read there = absurd (cc)
+read_mapped f (z ∷ xs) zero x y read there = let same : f z ≡ y = cc in sym same ∙ ap f (sym read)
+read_mapped f (z ∷ xs) (suc at) x y read there = read_mapped f xs at x y read there
+
+pub rest_until : (t size at : ℕ) (ts : List TrackFields) (x : TrackFields) (r : RestFields) → x ≡ get_or ts at x → x.rest ≡ Some r → GoesOnAt t at (map (track_meaning size) ts) → IsRestUntil t r.message.value.until (map (track_meaning size) ts)
+rest_until t size at ts x r read is on =
+    let same = read_mapped (track_meaning size) ts at x on.track read on.there in
+    let rest = ap (λ (y : Track). y.rest) same ∙ rests x.rest is in
+    record {
+      at = at;
+      track = on.track;
+      there = on.there;
+      has = (ap (λ (o : Option Rest). has_ticket t (option_and_then (λ y. y.message) o)) rest ∙ sym (ap (rest_has t) rest) ∙ on.mine, ap (λ (o : Option Rest). option_and_then (λ y. y.until) (option_and_then (λ y. y.message) o)) rest);
+    }
+  where
+    rests : (o : Option RestFields) → o ≡ Some r → (track_meaning size (record x { rest = o })).rest ≡ (track_meaning size (record x { rest = Some r })).rest
+    rests o same = ap (λ (y : Option RestFields). (track_meaning size (record x { rest = y })).rest) same
+
+-- a stream that has it goes on with something
+pub never_none : (t size at : ℕ) (ts : List TrackFields) (x : TrackFields) → x ≡ get_or ts at x → x.rest ≡ None → GoesOnAt t at (map (track_meaning size) ts) → ⊥
+never_none t size at ts x read is on =
+    let same = read_mapped (track_meaning size) ts at x on.track read on.there in
+    let rest : on.track.rest ≡ None = ap (λ (y : Track). y.rest) same ∙ ap (λ (y : Option RestFields). (track_meaning size (record x { rest = y })).rest) is in
+    let off : rest_has t on.track.rest ≡ false = ap (rest_has t) rest in
+    let on = on.mine in
+    cc
+
+pub part_until : (t size at : ℕ) (ts : List TrackFields) (x : TrackFields) (r : Option ℕ) → x ≡ get_or ts at x → GoesOnAt t at (map (track_meaning size) ts) → r ≡ until_left x.rest → IsRestUntil t r (map (track_meaning size) ts)
+part_until t size at ts x r read on is = by_rest x.rest refl
+  where
+    by_rest : (o : Option RestFields) → x.rest ≡ o → IsRestUntil t r (map (track_meaning size) ts)
+    by_rest None none = absurd (never_none t size at ts x read none on)
+    by_rest (Some y) there = subst (λ (u : Option ℕ). IsRestUntil t u (map (track_meaning size) ts)) (sym (is ∙ ap until_left there)) (rest_until t size at ts x y read there on)
