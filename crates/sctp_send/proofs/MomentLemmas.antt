@@ -49,10 +49,10 @@ due_push p ms m t now small lt = elim (cases_lt p t) [
         )
         | inr out ↦ (
           let none = get_or_past ms k (2 ^ 64) out in
-          elim (cases_lt (length ms) k) [
-            | inl further ↦ let end = behind_all ms m k (2 ^ 64) further in omega (arith, is, was, none, end, lt)
-            | inr up ↦ let here : k ≡ length ms = omega (arith, out, up) in let end = ap (λ (n : ℕ). get_or (ms ++ m ∷ []) n (2 ^ 64)) here ∙ at_end ms m (2 ^ 64) in omega (arith, is, was, none, end, lt, small)
-          ],
+              elim (cases_lt (length ms) k) [
+                | inl further ↦ let end = behind_all ms m k (2 ^ 64) further in omega (arith, is, was, none, end, lt)
+                | inr up ↦ let here : k ≡ length ms = omega (arith, out, up) in let end = ap (λ (n : ℕ). get_or (ms ++ m ∷ []) n (2 ^ 64)) here ∙ at_end ms m (2 ^ 64) in omega (arith, is, was, none, end, lt, small)
+              ],
           λ last. let here : k ≡ length ms = omega (arith, last, there) in let end = ap (λ (n : ℕ). get_or (ms ++ m ∷ []) n (2 ^ 64)) here ∙ at_end ms m (2 ^ 64) in omega (arith, is, end, lt),
         )
       ]
