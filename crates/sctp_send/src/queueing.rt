@@ -12,7 +12,6 @@ ghost use Rattle.sctp_send.specs.SenderAnswers.{QueueAnswer, queue_after, lane_f
 
 use crate::dues::Dues;
 use crate::fates::Fates;
-use crate::looking::are_past;
 use crate::message::{Fate, Message, fragments_of, owed, placed};
 use crate::outstanding::Outstanding;
 use crate::queue::Queue;
@@ -217,5 +216,5 @@ fn is_past(tracks: &Streams, outstanding: &Outstanding, last: u64) -> bool
     ensures tracks { (size t : ℕ) → result ≡ true → t ≤ last → any_rest t (map (track_meaning size) tracks.now.items) ≡ false }
     ensures items { (size t : ℕ) → result ≡ true → t ≤ last → any_item t (map (item_meaning size) outstanding.now.items) ≡ false }
 {
-    outstanding.is_past(last) && are_past(tracks.tracks(), last)
+    outstanding.is_past(last) && tracks.is_past(last)
 }

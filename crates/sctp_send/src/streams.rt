@@ -1,13 +1,13 @@
 //! What is kept of each stream, and what is counted of all: so many messages in part, and the TSNs that they may take.
 
-ghost use Rattle.std.specs.Prelude.{◌≡◌, ℕ, ◌+◌, ◌<◌, ◌≤◌, ◌%◌, ◌^◌, false, map, length, set, replicate, slice_index_or, IfOk, IfSome, IfNone};
+ghost use Rattle.std.specs.Prelude.{◌≡◌, ℕ, ◌+◌, ◌<◌, ◌≤◌, ◌%◌, ◌^◌, true, false, map, length, set, replicate, slice_index_or, IfOk, IfSome, IfNone};
 ghost use Rattle.sctp_send.specs.SenderFields.{track_meaning};
 ghost use Rattle.sctp_send.specs.inner.Walks.{total, one_if_rest, rest_owes, any_rest, GoesOnAt};
 ghost use Rattle.sctp_send.specs.inner.Newcomers.{IsNextPart};
 ghost use Rattle.sctp_send.specs.inner.Undoing.{counted_to};
 ghost use Rattle.sctp_send.specs.PartsKept.{at_place};
 
-use crate::looking::{next_part_by_looking, stream_by_looking, ticket_of_track};
+use crate::looking::{are_past, next_part_by_looking, stream_by_looking, ticket_of_track};
 use crate::part_lists::PartLists;
 use crate::track::{Track, owed_by_track};
 use sctp_values::{Kind, NoMemory};
@@ -128,6 +128,16 @@ impl Streams {
             Some(part) => part.first.min(u64::from(below)) as u16,
             None => below,
         }
+    }
+
+    /// All messages in part have tickets behind this one.
+    pub(crate) fn is_past(&self, last: u64) -> bool
+        ensures { (size t : ℕ) → result ≡ true → t ≤ last → any_rest t (map (track_meaning size) self.now.items) ≡ false }
+    {
+        if self.parts == 0 {
+            return true;
+        }
+        are_past(&self.tracks, last)
     }
 
     /// The stream that goes on with the message with this ticket.
