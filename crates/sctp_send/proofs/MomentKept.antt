@@ -1,14 +1,13 @@
 -- From which moment on the message of a ticket is to expire, as what is kept of it tells.
-use Rattle.std.proofs.Common.{◌≡◌, ℕ, zero, suc, ◌+◌, ◌<◌, ◌≤◌, ◌⊎◌, inl, inr, List, [], ◌∷◌, length, drop, Bool, true, false, Option, Some, None, refl, sym, ap, ◌∙◌, subst, arith}
-use Rattle.std.specs.Prelude.{◌==◌, not, ◌&&◌, ◌||◌, nat_le, if◌then◌else◌, option_map, option_and_then, find, slice_get}
+use Rattle.std.proofs.Common.{◌≡◌, ℕ, zero, suc, ◌+◌, ◌<◌, ◌≤◌, ◌⊎◌, inl, inr, List, [], ◌∷◌, length, drop, Bool, true, false, Option, Some, None, refl, sym, ap, ◌∙◌, arith}
+use Rattle.std.specs.Prelude.{◌==◌, not, ◌&&◌, nat_le, if◌then◌else◌, option_map, option_and_then, find, slice_get}
 use Rattle.std.specs.Option.{option_map_or}
-use Rattle.std.proofs.lemmas.Bool.Decides.{nat_tests}
 use Rattle.sctp_model.specs.messages.Format.{Format}
 use Rattle.sctp_model.specs.messages.Plan.{Message, Entry, message_at}
 use Rattle.sctp_model.specs.sender.SenderView.{Queued, SenderView}
 use Rattle.sctp_model.specs.sender.Words.{first_there, some_passes}
-use Rattle.sctp_model.specs.sender.Entries.{continued, entry_message, entry_lane, entry_number}
-use Rattle.sctp_model.specs.sender.Abandoning.{Name, name_at, name_of, waits, has_ticket, is_past, is_overdue, is_abandoned, is_covered, may_abandon, may_abandon_named, message_with, is_to_expire}
+use Rattle.sctp_model.specs.sender.Entries.{continued, entry_message}
+use Rattle.sctp_model.specs.sender.Abandoning.{Name, name_at, name_of, waits, has_ticket, is_past, is_overdue, is_abandoned, is_covered, may_abandon, may_abandon_named, is_to_expire}
 use Rattle.sctp_model.specs.sender.Reached.{IsReached}
 use Rattle.sctp_model.proofs.sender.OwnLaws.{AllOwn, found_owns}
 use Rattle.sctp_model.proofs.sender.TicketLaws.{is_ticketed}
@@ -18,7 +17,7 @@ use Rattle.sctp_send.specs.SenderKept.{Item, Rest, Track, Kept}
 use Rattle.sctp_send.specs.SenderStands.{item_here, items_from, table, rest_here, track_here, fate_here, fate_named, Keeps}
 use Rattle.sctp_send.specs.inner.Expiring.{rest_message}
 use Rattle.sctp_send.specs.inner.Walks.{is_numbered_fate, any_item, any_rest, any_uncovered}
-use Rattle.sctp_send.specs.inner.Dues.{IsUntilOf, IsItemUntil, IsRestUntil, IsNoUntil}
+use Rattle.sctp_send.specs.inner.Dues.{IsUntilOf}
 use Rattle.sctp_send.specs.declared.message.Fate.{Fate}
 use Rattle.sctp_send.specs.declared.message.Fate.TheVariants.{Queued as StillQueued, Numbered, Withdrawn, Abandoned as WasAbandoned}
 use Rattle.sctp_send.proofs.OverLemmas.{neither}

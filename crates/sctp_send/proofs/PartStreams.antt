@@ -3,7 +3,6 @@ use Rattle.std.proofs.Common.{◌≡◌, ℕ, zero, suc, ◌<◌, ◌≤◌, ◌
 use Rattle.std.specs.Prelude.{◌||◌, set, replicate}
 use Rattle.std.proofs.lemmas.Bool.Decides.{nat_tests}
 use Rattle.std.proofs.lemmas.List.{length-map, map-set}
-use Rattle.sctp_model.specs.numbers.Limits.{LAST_MOMENT}
 use Rattle.sctp_send.specs.SenderFields.{counts_meaning, rests_meaning, track_meaning}
 use Rattle.sctp_send.specs.SenderKept.{Track}
 use Rattle.sctp_send.specs.inner.Newcomers.{rest_at, has_rest, IsNextPart}

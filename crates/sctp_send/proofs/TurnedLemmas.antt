@@ -1,11 +1,9 @@
 -- What is counted of entries once those of a stretch are told covered, or not.
-use Rattle.std.proofs.Common.{◌≡◌, ℕ, zero, suc, ◌+◌, ◌-◌, ◌%◌, ◌^◌, ◌<◌, ◌≤◌, List, [], ◌∷◌, length, map, take, Bool, true, false, Option, Some, None, inl, inr, refl, sym, ap, ◌∙◌, subst, arith}
-use Rattle.std.specs.Prelude.{not, ◌&&◌, ◌||◌, if◌then◌else◌, option_map}
-use Rattle.sctp_model.specs.numbers.Limits.{LAST_MOMENT}
-use Rattle.sctp_model.specs.numbers.Lists.{Has}
+use Rattle.std.proofs.Common.{◌≡◌, ℕ, zero, suc, ◌+◌, ◌-◌, ◌%◌, ◌^◌, ◌<◌, List, [], ◌∷◌, map, take, Bool, true, false, Option, Some, refl, sym, ap, ◌∙◌, arith}
+use Rattle.std.specs.Prelude.{not, if◌then◌else◌, option_map}
 use Rattle.sctp_send.specs.SenderKept.{Item}
-use Rattle.sctp_send.specs.OutstandingFields.{is_marked, item_meaning}
-use Rattle.sctp_send.specs.inner.Changes.{unmarked, told}
+use Rattle.sctp_send.specs.OutstandingFields.{item_meaning}
+use Rattle.sctp_send.specs.inner.Changes.{told}
 use Rattle.sctp_send.specs.inner.Counting.{count_unsettled, IsCounted}
 use Rattle.sctp_send.specs.inner.Newcomers.{one_if}
 use Rattle.sctp_send.specs.inner.Stretching.{IsPlain, entry_bytes, AreAlike, told_run, turned_counts}
@@ -13,10 +11,8 @@ use Rattle.sctp_send.specs.inner.TicketOrder.{tickets_of}
 use Rattle.sctp_send.specs.inner.Walks.{abandoned_items, is_item_unsettled}
 use Rattle.sctp_send.specs.inner.Wishing.{first_place, is_item_marked, is_item_unsent, item_weight, item_flight}
 use Rattle.sctp_send.specs.declared.counts.Counts.{Counts}
-use Rattle.sctp_send.specs.declared.entry.Standing.{Standing}
-use Rattle.sctp_send.specs.declared.entry.Standing.TheVariants.{Unsent, Sent, Marked}
 use Rattle.sctp_send.specs.declared.entry.Entry.{Entry as EntryFields}
-use Rattle.sctp_send.proofs.StretchLemmas.{alike_long, length-told_run, alike_turned}
+use Rattle.sctp_send.proofs.StretchLemmas.{length-told_run}
 
 -- ---- a plain entry
 

@@ -1,4 +1,4 @@
-use Rattle.std.proofs.Common.{◌≤◌, refl, arith}
+use Rattle.std.proofs.Common.{refl}
 use Rattle.sctp_send.specs.inner.Changes.{as_covered}
 use Rattle.sctp_send.proofs.CountLemmas.{counts_covered}
 use Rattle.sctp_send.proofs.PlacedLemmas.{placed_set}

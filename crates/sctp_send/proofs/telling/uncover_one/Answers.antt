@@ -1,12 +1,9 @@
-use Rattle.std.proofs.Common.{◌≡◌, ◌<◌, List, length, get_or, set, Some, Bool, refl, sym, subst, ap, arith}
-use Rattle.std.proofs.lemmas.List.{length-set, get_or-set_same}
-use Rattle.std.specs.Prelude.{slice_get}
+use Rattle.std.proofs.Common.{◌≡◌, set, Bool, refl, sym, subst, ap}
 use Rattle.sctp_send.specs.inner.Changes.{as_uncovered}
 use Rattle.sctp_send.specs.PartsKept.{at_place}
 use Rattle.sctp_send.specs.declared.entry.Entry.{Entry as EntryFields}
 use Rattle.sctp_send.proofs.CountLemmas.{counts_uncovered}
 use Rattle.sctp_send.proofs.PlacedLemmas.{placed_set}
-use Rattle.sctp_send.proofs.TicketWalks.{get_read}
 use Rattle.sctp_send.proofs.telling.uncover_one.Goals as goal
 
 pub returns-clause-items : goal.returns-clause-items

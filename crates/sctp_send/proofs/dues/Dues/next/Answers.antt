@@ -1,4 +1,4 @@
-use Rattle.std.proofs.Common.{ℕ, ◌^◌, ◌<◌, ◌≤◌, length, subst, arith}
+use Rattle.std.proofs.Common.{◌^◌, ◌<◌, subst, arith}
 use Rattle.sctp_send.specs.PartsKept.{DuesKept}
 use Rattle.sctp_send.specs.inner.Dues.{due_at}
 use Rattle.sctp_send.proofs.MomentLemmas.{due_above, due_early}

@@ -5,7 +5,6 @@ use Rattle.sctp_send.specs.declared.entry.Entry.{Entry as EntryFields}
 use Rattle.sctp_send.specs.inner.Counting.{IsCounted}
 use Rattle.sctp_send.specs.inner.TicketOrder.{IsOrderOf, ticket_of, tickets_of}
 use Rattle.sctp_send.proofs.CountLemmas.{counts_cut}
-use Rattle.sctp_send.proofs.ListParts.{in_front}
 use Rattle.sctp_send.specs.inner.Stretching.{AreKnown}
 use Rattle.sctp_send.proofs.KnownLemmas.{known_cut}
 use Rattle.sctp_send.proofs.outstanding.Outstanding.pop_back.Goals as goal

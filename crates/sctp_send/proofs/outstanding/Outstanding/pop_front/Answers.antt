@@ -1,4 +1,4 @@
-use Rattle.std.proofs.Common.{◌≡◌, ◌∷◌, ℕ, suc, List, length, inr, sym, subst, ap, ◌∙◌, arith}
+use Rattle.std.proofs.Common.{◌≡◌, ◌∷◌, ℕ, suc, List, length, sym, subst, ap, ◌∙◌, arith}
 use Rattle.sctp_send.specs.OutstandingFields.{item_meaning}
 use Rattle.sctp_send.specs.declared.counts.Counts.{Counts}
 use Rattle.sctp_send.specs.declared.message.Message.{Message as MessageFields}

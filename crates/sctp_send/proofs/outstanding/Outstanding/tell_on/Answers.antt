@@ -1,4 +1,4 @@
-use Rattle.std.proofs.Common.{◌≡◌, ◌+◌, ◌≤◌, ◌<◌, List, length, ap, sym, ◌∙◌, subst, arith}
+use Rattle.std.proofs.Common.{◌<◌, List, length, ap, sym, ◌∙◌, subst, arith}
 use Rattle.sctp_send.specs.PartsKept.{OutstandingKept, changed}
 use Rattle.sctp_send.specs.inner.Changes.{told}
 use Rattle.sctp_send.specs.declared.entry.Entry.{Entry as EntryFields}

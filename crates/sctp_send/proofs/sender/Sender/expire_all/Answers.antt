@@ -1,4 +1,4 @@
-use Rattle.std.proofs.Common.{◌≡◌, ◌∙◌, ℕ, subst, sym, refl, arith}
+use Rattle.std.proofs.Common.{◌≡◌, ℕ, subst, sym, refl, arith}
 use Rattle.sctp_model.proofs.sender.ExpiredLaws.{expired_to}
 use Rattle.sctp_send.specs.SenderKept.{Kept}
 use Rattle.sctp_send.specs.SenderStands.{StandsFor, Keeps}

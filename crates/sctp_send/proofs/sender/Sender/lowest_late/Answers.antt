@@ -1,5 +1,5 @@
-use Rattle.std.proofs.Common.{◌≡◌, ◌∙◌, ℕ, ◌<◌, ◌≤◌, inl, inr, false, subst, sym, ap, arith}
-use Rattle.std.proofs.lemmas.Bool.{cases_lt, cases_eq, and_parts}
+use Rattle.std.proofs.Common.{◌≡◌, ◌∙◌, ℕ, inl, inr, false, subst, sym, arith}
+use Rattle.std.proofs.lemmas.Bool.{cases_lt, and_parts}
 use Rattle.sctp_model.specs.sender.Abandoning.{is_to_expire, is_overdue, may_abandon}
 use Rattle.sctp_send.specs.SenderKept.{Kept}
 use Rattle.sctp_send.specs.SenderStands.{StandsFor, Keeps}

@@ -1,4 +1,4 @@
-use Rattle.std.proofs.Common.{◌∙◌, List, Option, subst, sym, ap, arith, inl, inr}
+use Rattle.std.proofs.Common.{◌∙◌, List, subst, sym, ap, arith, inl, inr}
 use Rattle.std.specs.Prelude.{option_and_then}
 use Rattle.sctp_model.specs.sender.SenderView.{Queued as QueuedMessage}
 use Rattle.sctp_send.specs.SenderKept.{Kept}

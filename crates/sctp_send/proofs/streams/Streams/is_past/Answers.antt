@@ -1,4 +1,4 @@
-use Rattle.std.proofs.Common.{◌≡◌, List, map, subst, sym, false}
+use Rattle.std.proofs.Common.{◌≡◌, List, map, subst, false}
 use Rattle.sctp_send.specs.SenderFields.{track_meaning}
 use Rattle.sctp_send.specs.PartsKept.{StreamsKept}
 use Rattle.sctp_send.specs.inner.Walks.{any_rest}
