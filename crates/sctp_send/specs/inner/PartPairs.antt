@@ -1,5 +1,5 @@
 -- Which streams have a message in part: the tickets of those messages, by stream, and the pairs that list them in two orders.
-use Rattle.std.specs.Prelude.{◌≡◌, ℕ, suc, ◌<◌, ◌≤◌, true, List, [], ◌∷◌, ◌++◌, map, length, slice_index_or, Option, None, Some}
+use Rattle.std.specs.Prelude.{◌≡◌, ℕ, suc, ◌<◌, ◌≤◌, true, List, [], ◌∷◌, ◌++◌, map, slice_index_or, Option, None, Some}
 use Rattle.std.specs.List.{sum_by}
 use Rattle.sctp_send.specs.inner.Counting.{IsCountedOf}
 use Rattle.sctp_send.specs.declared.ordered.Pair.{Pair}
