@@ -1,5 +1,5 @@
 -- Each change that a fill notes leads back to the parts before it.
-use Rattle.std.proofs.Common.{◌≡◌, ℕ, ◌-◌, List, [], ◌∷◌, ◌++◌, suc, length, take, get_or, set, remove, Option, refl, sym, ap, ◌∙◌, ◌<◌}
+use Rattle.std.proofs.Common.{◌≡◌, ℕ, ◌-◌, List, [], ◌∷◌, ◌++◌, suc, length, take, get_or, set, remove, Option, sym, ap, ◌∙◌, ◌<◌}
 use Rattle.std.specs.declared.sync.Arc.{Arc}
 use Rattle.std.specs.declared.alloc.Global.{Global}
 use Rattle.sctp_send.specs.PartsKept.{at_place}
