@@ -26,7 +26,7 @@ use crate::life::{Association, Life, Progress, Unjoined};
 use crate::machine::Machine;
 use crate::packing::{Marks, Packing};
 use crate::putting::{put_echoing, put_open};
-use crate::timers::Alarm;
+use crate::timer::Alarm;
 use crate::traffic::Traffic;
 use sctp_opening::put_init;
 use sctp_packet::PacketWriter;

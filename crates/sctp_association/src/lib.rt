@@ -30,6 +30,7 @@ mod sending;
 mod stage;
 mod starts;
 mod status;
+mod timer;
 mod timers;
 mod traffic;
 
@@ -42,5 +43,6 @@ pub use life::{Association, Life, Opened, Progress, Role, Unjoined};
 pub use machine::Machine;
 pub use stage::{Stage, Tags};
 pub use starts::Starts;
-pub use timers::{Alarm, Timer, Timers};
+pub use timer::{Alarm, Timer};
+pub use timers::Timers;
 pub use traffic::{Directions, Sizes, Traffic};
