@@ -59,6 +59,7 @@ impl Machine {
                 progress: Progress::Open(Stage::Established),
                 traffic,
             }),
+            room: Vec::new(alloc),
         })
     }
 

@@ -26,6 +26,7 @@ mod readers;
 mod receiving;
 mod replying;
 mod reporting;
+mod rooms;
 mod sending;
 mod stage;
 mod starts;

@@ -64,7 +64,7 @@ fn exchange(caller: &mut Endpoint, listener: &mut Endpoint, now: u64) -> Result<
     Ok(())
 }
 
-/// The next packet of `from` goes to `to`, and its answer back, if it has one. False where there was no packet.
+/// The next packet of `from` goes to `to`, and its answer back, if it has one; then the packet is handed back. False where there was no packet.
 fn carry(from: &mut Endpoint, to: &mut Endpoint, now: u64) -> Result<bool> {
     let Some(sent) = from.poll_transmit(now)? else {
         return Ok(false);
@@ -75,6 +75,7 @@ fn carry(from: &mut Endpoint, to: &mut Endpoint, now: u64) -> Result<bool> {
         }
         Verdict::Taken | Verdict::Dropped(_) => {}
     }
+    from.recycle(sent.packet);
     Ok(true)
 }
 
