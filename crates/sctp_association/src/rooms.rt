@@ -3,7 +3,9 @@
 ghost use Rattle.sctp_model.specs.end.EndView.{EndView};
 ghost use Rattle.sctp_association.specs.MachineStands.{MachineStands};
 
+use crate::life::Life;
 use crate::machine::Machine;
+use sctp_recv::Message;
 use std::mem::replace;
 
 #[tactic(auto, unfolding(crate::specs::MachineStands::MachineStands))]
@@ -21,6 +23,16 @@ impl Machine {
             return;
         }
         self.room = packet;
+    }
+
+    /// What comes next may be kept in the blocks of this message, which is forgotten. It takes no memory.
+    pub fn give_back(&mut self, message: Message)
+        ensures { (v : EndView) → MachineStands self.old v → MachineStands self.new v }
+    {
+        match &mut self.life {
+            Life::Unjoined(_) => {}
+            Life::Joined(association) => association.traffic.give_back(message),
+        }
     }
 
     /// The room that is kept, for the next packet: none is kept any more.

@@ -4,6 +4,7 @@ ghost use Rattle.sctp_model.specs.end.EndView.{EndView};
 ghost use Rattle.sctp_endpoint.specs.EndpointStands.{EndpointStands};
 
 use crate::endpoint::Endpoint;
+use sctp_recv::Message;
 
 #[tactic(auto, unfolding(crate::specs::EndpointStands::EndpointStands))]
 impl Endpoint {
@@ -14,5 +15,13 @@ impl Endpoint {
         ensures { (v : EndView) → EndpointStands self.old v → EndpointStands self.new v }
     {
         self.machine.recycle(packet);
+    }
+
+    /// Hands back a message that was taken: it is forgotten, and what comes next may be kept in its blocks in place of new memory. Of these no
+    /// more are kept than the receiver says (`sctp_recv::Receiver::give_back`). It need not be called, and shows in no answer. It takes no memory.
+    pub fn give_back(&mut self, message: Message)
+        ensures { (v : EndView) → EndpointStands self.old v → EndpointStands self.new v }
+    {
+        self.machine.give_back(message);
     }
 }
