@@ -64,12 +64,15 @@ if there valgrind "valgrind"; then
     valgrind -q --error-exitcode=1 --leak-check=full "$at/layout"
     say "under valgrind: nothing is read uninitialised, nothing leaks"
     "$cc" "${flags[@]}" -o "$at/cost" tests/c/cost.c "${static[@]}"
+    # a long copy by `rep movsb` would count as an instruction a byte
+    export GLIBC_TUNABLES=glibc.cpu.x86_rep_movsb_threshold=1000000000:glibc.cpu.x86_rep_stosb_threshold=1000000000
     count() { valgrind --tool=callgrind --callgrind-out-file=/dev/null "$at/cost" "$@" 2>&1 | sed -n 's/.*Collected : \([0-9]*\).*/\1/p'; }
     each() { say "$1: $((($(count "$2" "$3" 300 ${4:+"$4"}) - $(count "$2" "$3" 100 ${4:+"$4"})) / 200 / $2)) instructions a message"; }
     each "64 bytes, 9.5 to a packet" 19 64
     each "the same as I-DATA" 19 64 i
     each "64 bytes, one to a packet" 1 64
     each "16 KiB" 1 16384
+    unset GLIBC_TUNABLES
 fi
 
 # ---- beside usrsctp in one process

@@ -1,6 +1,8 @@
 -- An end that stands for a view, with a part of both changed.
 use Rattle.std.proofs.Common.{◌≡◌, ◌∙◌, ℕ, Bool, true, false, refl, sym, ap, subst}
 use Rattle.std.specs.Prelude.{max, zero, suc, Option, None}
+use Rattle.std.specs.declared.vec.Vec.{Vec}
+use Rattle.std.specs.declared.alloc.Global.{Global}
 use Rattle.sctp_model.specs.sender.SenderView.{SenderView, fresh_sender}
 use Rattle.sctp_model.specs.receiver.ReceiverView.{ReceiverView}
 use Rattle.sctp_model.specs.sender.Abandoning.{expired, timed_out}
@@ -49,6 +51,10 @@ with_both m v d x s f k due timers = record { configuration = k.configuration; r
 
 pub with_delayed : (m : Machine) (v : EndView) (n o : Option ℕ) → KeepsMachine m v → n ≡ o → KeepsMachine (record m { delayed = n }) (record v { delayed = o })
 with_delayed m v n o k is = record { configuration = k.configuration; role = k.role; clock = k.clock; due = k.due; timers = k.timers; delayed = is; phase = k.phase; life = k.life }
+
+-- the room for the next packet is no part of any view
+pub with_room : (m : Machine) (v : EndView) (room : Vec ℕ Global) → KeepsMachine m v → KeepsMachine (record m { room = room }) v
+with_room m v room k = record { configuration = k.configuration; role = k.role; clock = k.clock; due = k.due; timers = k.timers; delayed = k.delayed; phase = k.phase; life = k.life }
 
 -- ---- one thing that is due
 

@@ -2,9 +2,9 @@
 use Rattle.std.specs.Prelude.{Bool, if◌then◌else◌}
 use Rattle.sctp_model.specs.end.EndView as model
 use Rattle.sctp_model.specs.end.Clock.{stopped}
-use Rattle.sctp_association.specs.declared.timers.Alarm.{Alarm}
-use Rattle.sctp_association.specs.declared.timers.Alarm.TheVariants.{Init, Cookie, Fragments, Shutdown, ShutdownAck}
-use Rattle.sctp_association.specs.declared.timers.Timer.{Timer}
+use Rattle.sctp_association.specs.declared.timer.Alarm.{Alarm}
+use Rattle.sctp_association.specs.declared.timer.Alarm.TheVariants.{Init, Cookie, Fragments, Shutdown, ShutdownAck}
+use Rattle.sctp_association.specs.declared.timer.Timer.{Timer}
 use Rattle.sctp_association.specs.declared.timers.Timers.{Timers}
 
 -- which timer

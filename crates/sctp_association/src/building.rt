@@ -26,7 +26,7 @@ use crate::life::{Association, Life, Progress, Unjoined};
 use crate::machine::Machine;
 use crate::packing::{Marks, Packing};
 use crate::putting::{put_echoing, put_open};
-use crate::timers::Alarm;
+use crate::timer::Alarm;
 use crate::traffic::Traffic;
 use sctp_opening::put_init;
 use sctp_packet::PacketWriter;
@@ -58,15 +58,17 @@ impl Machine {
         Ok(self.sent(moment, packing, tickets))
     }
 
-    /// An empty packet of this end, and all that is due.
-    fn packing(&self) -> Packing
-        ensures { (v : EndView) (moment : ℕ) → MachineStands self.now v → IsEmpty (record v { moment = moment }) result }
+    /// An empty packet of this end, in the room that it keeps, and all that is due.
+    fn packing(&mut self) -> Packing
+        ensures empty { (v : EndView) (moment : ℕ) → MachineStands self.old v → IsEmpty (record v { moment = moment }) result }
+        ensures keeps { (v : EndView) → MachineStands self.old v → MachineStands self.new v }
     {
+        let room = self.take_room();
         let config = &self.config;
         let tag = self.peer_tag().unwrap_or(0);
         Packing {
-            writer: PacketWriter::new(
-                self.alloc,
+            writer: PacketWriter::in_room(
+                room,
                 config.limit(),
                 config.own_port(),
                 config.peer_port(),
@@ -94,7 +96,7 @@ impl Machine {
         }
     }
 
-    /// What went in is due no more, its timers start, and the packet is ready, if anything is in it.
+    /// What went in is due no more, its timers start, and the packet is ready, if anything is in it; else its room is kept.
     fn sent(&mut self, moment: u64, packing: Packing, tickets: Vec<Ticket>) -> Option<Built>
         ensures stands { (v : EndView) → MachineStands self.old v → MachineStands self.new (drafted packing.marks (record v { moment = moment })) }
         ensures packet { MatchOption result (packing.writer.chunks ≡ []) (λ b. WritesPacket b.packet.items (packet_of packing.writer)) }
@@ -106,9 +108,12 @@ impl Machine {
         self.when_sack_sent(self.due.sack, packing.marks.sack);
         self.timers.start_all(packing.marks.starts, moment);
         self.due.leave(self.alloc, packing.marks);
-        match packing.writer.finish() {
-            Some(packet) => Some(Built { packet, tickets }),
-            None => None,
+        match packing.writer.finish_or_room() {
+            Ok(packet) => Some(Built { packet, tickets }),
+            Err(room) => {
+                self.recycle(room);
+                None
+            }
         }
     }
 

@@ -14,7 +14,8 @@ ghost use Rattle.sctp_association.specs.CallAnswers.{connect_meaning, connected,
 use crate::life::{Life, Unjoined};
 use crate::machine::Machine;
 use crate::stage::Stage;
-use crate::timers::{Alarm, Timers};
+use crate::timer::Alarm;
+use crate::timers::Timers;
 use sctp_send::{Abandoned, SendFault};
 use sctp_terms::{ConnectFault, Draw, ShutdownFault};
 use sctp_values::Ticket;

@@ -11,7 +11,7 @@ ghost use Rattle.sctp_association.specs.MachineStands.{MachineStands};
 use crate::life::Life;
 use crate::machine::Machine;
 use crate::stage::Stage;
-use crate::timers::Alarm;
+use crate::timer::Alarm;
 use sctp_values::SACK_DELAY;
 
 #[tactic(auto, unfolding(crate::specs::MachineStands::MachineStands))]

@@ -19,7 +19,7 @@ ghost use Rattle.sctp_association.specs.FillsBehind.{FillsBehind};
 
 use crate::packing::Packing;
 use crate::starts::Starts;
-use crate::timers::Alarm;
+use crate::timer::Alarm;
 use crate::traffic::Traffic;
 use sctp_framing::Framing;
 use sctp_packet::PacketWriter;

@@ -20,7 +20,7 @@ ghost use Rattle.sctp_association.specs.MachineStands.{MachineStands};
 
 use crate::life::Life;
 use crate::machine::Machine;
-use crate::timers::Alarm;
+use crate::timer::Alarm;
 use sctp_recv::{Answer, ForwardAnswer};
 use sctp_send::SackFault;
 use sctp_values::NoMemory;

@@ -20,7 +20,8 @@ use crate::due::Due;
 use crate::life::{Association, Life, Progress, Role};
 use crate::machine::Machine;
 use crate::stage::{Stage, Tags};
-use crate::timers::{Alarm, Timers};
+use crate::timer::Alarm;
+use crate::timers::Timers;
 use crate::traffic::{Sizes, Traffic};
 use sctp_cookie::CookieBody;
 use sctp_opening::Terms;
@@ -58,6 +59,7 @@ impl Machine {
                 progress: Progress::Open(Stage::Established),
                 traffic,
             }),
+            room: Vec::new(alloc),
         })
     }
 

@@ -19,7 +19,7 @@ use sctp_terms::Config;
 use std::alloc::Global;
 
 /// An end of an association: how it is set up and came to be, the latest moment that it was told, what is due, its timers, a SACK that waits,
-/// and where it stands.
+/// and where it stands; beside that a room for its next packet.
 #[derive(Drop)]
 pub struct Machine {
     pub(crate) alloc: Global,
@@ -31,6 +31,8 @@ pub struct Machine {
     /// The moment at which a SACK that waits is due, while one waits (RFC 9260, 6.2).
     pub(crate) delayed: Option<u64>,
     pub(crate) life: Life,
+    /// The room of a packet that the user is done with; nothing where none was handed back.
+    pub(crate) room: Vec<u8>,
 }
 
 #[tactic(auto, unfolding(crate::specs::MachineStands::MachineStands))]
@@ -62,6 +64,7 @@ impl Machine {
             timers: Timers::unused(),
             delayed: None,
             life: Life::Unjoined(stands),
+            room: Vec::new(alloc),
         }
     }
 

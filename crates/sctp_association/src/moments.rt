@@ -12,7 +12,8 @@ ghost use Rattle.sctp_association.specs.TimersMean.{alarm_meaning};
 ghost use Rattle.sctp_association.specs.MachineStands.{MachineStands};
 
 use crate::machine::Machine;
-use crate::timers::{Alarm, earlier, is_over_at};
+use crate::timer::{Alarm, is_over_at};
+use crate::timers::earlier;
 use sctp_terms::End;
 
 #[tactic(auto, unfolding(crate::specs::MachineStands::MachineStands))]

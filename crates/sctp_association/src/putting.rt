@@ -13,7 +13,7 @@ use crate::carried::EchoedCookie;
 use crate::due::Due;
 use crate::packing::Packing;
 use crate::replying::{put_answers, put_error};
-use crate::timers::Alarm;
+use crate::timer::Alarm;
 use crate::traffic::Traffic;
 use sctp_terms::Config;
 use sctp_values::NoMemory;

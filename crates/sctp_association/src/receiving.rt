@@ -135,4 +135,14 @@ impl Traffic {
             Traffic::Interleaved(directions) => directions.receiver.take(stream),
         }
     }
+
+    /// A message that was taken is handed back: no step of the receiver.
+    pub(crate) fn give_back(&mut self, message: Message)
+        ensures { (f : Format) (s : SenderView) (r : ReceiverView) → TrafficStands self.old f s r → TrafficStands self.new f s r }
+    {
+        match self {
+            Traffic::Plain(directions) => directions.receiver.give_back(message),
+            Traffic::Interleaved(directions) => directions.receiver.give_back(message),
+        }
+    }
 }

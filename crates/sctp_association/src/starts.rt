@@ -4,7 +4,7 @@ ghost use Rattle.std.specs.Prelude.{◌≡◌, false};
 ghost use Rattle.sctp_association.specs.TimersMean.{alarm_meaning};
 ghost use Rattle.sctp_association.specs.StartsMean.{starts_at, with_start};
 
-use crate::timers::Alarm;
+use crate::timer::Alarm;
 
 /// Which timers of an end are to start.
 #[derive(Clone, Copy)]

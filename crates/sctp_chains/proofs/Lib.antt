@@ -6,6 +6,7 @@ mod CellLemmas
 mod ChainLemmas
 mod SpotLemmas
 mod FilingLemmas
+mod LastLemmas
 mod JoiningLemmas
 mod WholeCounts
 mod OpenLemmas
@@ -24,4 +25,4 @@ mod TakeLemmas
 mod AloneLemmas
 mod WithLemmas
 mod LowestLemmas
-mod EmptyLemmas
+mod RestingLemmas

@@ -54,6 +54,11 @@ TakesLowest f l kept from last (Some m) new = (n : ℕ) × TakesNumber f l kept 
 abbrev pub AreAbove : ℕ → List Piece → Type 0
 AreAbove n kept = (y : Piece) → Has kept y → is_number_below (suc n) y.number ≡ false
 
+-- No chunks are a whole message, and none lies below a number.
+pub record IsResting (f : Format) (l : Lane) (kept : List Piece) (n : ℕ) : Type 0 where
+  pub none : (k : ℕ) → HasNoWhole f kept l k
+  pub above : from_number n kept ≡ kept
+
 -- ---- the whole message of one chunk
 
 -- It is whole with this chunk among its own, and what goes with it is gone.

@@ -1,6 +1,6 @@
 //! The kept chunks of one lane.
 
-ghost use Rattle.std.specs.Prelude.{◌≡◌, ◌≤◌, ◌==◌, ℕ, suc, true, false, not, [], ◌∷◌, length, filter, Some, IfSome, IfOk, OnOk, OnErr, OnSome};
+ghost use Rattle.std.specs.Prelude.{◌≡◌, ◌≤◌, ℕ, suc, true, false, not, [], ◌∷◌, filter, Some, IfSome, IfOk, OnOk, OnErr, OnSome};
 ghost use Rattle.sctp_model.specs.messages.Format.{Lane, Unordered, is_numbered};
 ghost use Rattle.sctp_model.specs.messages.Framing.{lets_go};
 ghost use Rattle.sctp_model.specs.numbers.Lists.{Has};
@@ -9,7 +9,7 @@ ghost use Rattle.sctp_model.specs.receiver.PieceTaken.{is_repeated};
 ghost use Rattle.sctp_wire.specs.ChunkTree.{piece_meaning};
 ghost use Rattle.sctp_chains.specs.Cells.{Kept, cell_of, counted, IsOf, IsLowestIndex};
 ghost use Rattle.sctp_chains.specs.StandsFor.{StandsFor, IsNew, chain_count, whole_count};
-ghost use Rattle.sctp_chains.specs.WholeOf.{TakesLowest, TakesWith, AreAbove, from_number};
+ghost use Rattle.sctp_chains.specs.WholeOf.{TakesLowest, TakesWith, AreAbove, IsResting, from_number};
 ghost use Rattle.sctp_chains.specs.Links.{one_of, cells_in};
 
 use crate::chain::{Head, Part};
@@ -62,12 +62,16 @@ impl<F: Framing> Chains<F> {
         self.filed.whole
     }
 
-    /// Whether no chunk is kept.
+    /// Whether there is nothing to be taken from a number on, nor to be let go below it, in a lane that is numbered, so far as can be told without a
+    /// search.
     #[inline(always)]
-    pub fn is_empty(&self) -> bool
-        ensures { (l : Lane) (kept : Kept) → StandsFor F.format self.now l kept → result ≡ (length kept == 0) }
+    pub fn is_resting(&self, number: u64) -> bool
+        ensures { (l : Lane) (kept : Kept) → StandsFor F.format self.now l kept → is_numbered F.format l.kind ≡ true → result ≡ true → IsResting F.format l kept number }
     {
-        self.filed.chains.len() == 0
+        if self.filed.chains.is_empty() {
+            return true;
+        }
+        self.filed.whole == 0 && rank_at(Some(number), 0) <= self.filed.chains.get(0).first()
     }
 
     /// The lowest index of the chunks kept, in a lane whose messages have no number: none exactly where none is kept.

@@ -2,7 +2,7 @@
 
 ghost use Rattle.std.specs.Prelude.{◌≡◌, ◌≤◌, ◌<◌, ◌+◌, suc, nat_lt, length, get_or, map, OnOk, OnErr, IfOk};
 ghost use Rattle.sctp_chains.specs.Links.{chain_of, one_of, whole_in, AreChains};
-ghost use Rattle.sctp_chains.specs.inner.Filing.{IsPlace, IsLinkBefore, IsLinkBehind, IsJoined, IsWholeOfJoined, HasJointRoom, Gains, StaysOpen};
+ghost use Rattle.sctp_chains.specs.inner.Filing.{IsPlace, IsLinkBefore, IsLinkBehind, IsLonger, IsJoined, IsWholeOfJoined, HasJointRoom, Gains, StaysOpen};
 
 use crate::chain::{Chain, Part, alone, nothing};
 use sctp_sequence::Sequence;
@@ -51,7 +51,7 @@ pub(crate) struct FiledIn {
     pub(crate) whole: usize,
 }
 
-/// Files a fragment.
+/// Files a fragment. One that continues the last chain, as all do of a message that comes in its order, goes there without a search.
 ///
 /// # Errors
 /// Memory ran out, and nothing changed.
@@ -60,6 +60,50 @@ pub(crate) fn file(
     chains: &mut Sequence<Chain>,
     part: Part,
 ) -> Result<FiledIn, NoMemory>
+    ensures few { OnOk result (length chains.new.items ≤ suc (length chains.old.items)) }
+    ensures filed { OnOk result (Gains (one_of part) (map chain_of chains.old.items) (map chain_of chains.new.items)) }
+    ensures one { IfOk result (λ f. f.whole ≤ 1) }
+    ensures whole { IfOk result (λ f. whole_in (map chain_of chains.new.items) ≤ whole_in (map chain_of chains.old.items) + f.whole) }
+    ensures passed { IfOk result (λ f. StaysOpen (map chain_of chains.old.items) (map chain_of chains.new.items) f.at f.whole) }
+    ensures refused { OnErr result (map chain_of chains.new.items ≡ map chain_of chains.old.items) }
+{
+    let end = chains.len();
+    if let Some(last) = linked_before(chains, end, &part) {
+        let whole = lengthen(alloc, chains, last, part)?;
+        return Ok(FiledIn { at: last, whole });
+    }
+    file_among(alloc, chains, part)
+}
+
+/// Puts a fragment behind the chain at a place; it answers 1 where that is a whole message, else 0.
+///
+/// # Errors
+/// Memory ran out, and nothing changed.
+fn lengthen(
+    alloc: Global,
+    chains: &mut Sequence<Chain>,
+    at: usize,
+    part: Part,
+) -> Result<usize, NoMemory>
+    requires { at < length chains.old.items }
+    ensures size { length chains.new.items ≡ length chains.old.items }
+    ensures longer { IfOk result (λ n. IsLonger chains.old.items at part chains.new.items n) }
+    ensures refused { OnErr result (map chain_of chains.new.items ≡ map chain_of chains.old.items) }
+{
+    let mut chain = chains.replace(at, nothing(alloc));
+    let pushed = chain.push_back(part);
+    let whole = chain.whole();
+    let _ = chains.replace(at, chain);
+    pushed?;
+    Ok(whole)
+}
+
+/// Files a fragment wherever it belongs.
+///
+/// # Errors
+/// Memory ran out, and nothing changed.
+#[inline(never)]
+fn file_among(alloc: Global, chains: &mut Sequence<Chain>, part: Part) -> Result<FiledIn, NoMemory>
     ensures few { OnOk result (length chains.new.items ≤ suc (length chains.old.items)) }
     ensures filed { OnOk result (Gains (one_of part) (map chain_of chains.old.items) (map chain_of chains.new.items)) }
     ensures one { IfOk result (λ f. f.whole ≤ 1) }
@@ -77,11 +121,7 @@ pub(crate) fn file(
             Ok(FiledIn { at: left, whole })
         }
         (Some(left), None) => {
-            let mut chain = chains.replace(left, nothing(alloc));
-            let pushed = chain.push_back(part);
-            let whole = chain.whole();
-            let _ = chains.replace(left, chain);
-            pushed?;
+            let whole = lengthen(alloc, chains, left, part)?;
             Ok(FiledIn { at: left, whole })
         }
         (None, Some(right)) => {

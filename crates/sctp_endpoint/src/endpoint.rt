@@ -16,7 +16,7 @@ use std::alloc::Global;
 
 /// One end of an association: a state machine that sends and receives nothing itself, and has no clock and no chance of its own.
 ///
-/// Its calls are of four kinds:
+/// Its calls are of five kinds:
 ///
 /// - What came: [`handle_packet`](Endpoint::handle_packet) takes a packet, [`on_moment`](Endpoint::on_moment) the time, no later than
 ///   [`next_moment`](Endpoint::next_moment) says.
@@ -24,6 +24,8 @@ use std::alloc::Global;
 ///   [`abandon`](Endpoint::abandon), [`shutdown`](Endpoint::shutdown) and [`abort`](Endpoint::abort).
 /// - What goes out: after each of these calls [`poll_transmit`](Endpoint::poll_transmit), until it has nothing more. An answer to a packet
 ///   and the packet of `abort` are sent as they are.
+/// - What its user is done with and may hand back: [`recycle`](Endpoint::recycle) a packet that was sent, and
+///   [`give_back`](Endpoint::give_back) a message that was taken. It shows in no answer.
 /// - What it tells of itself, which changes nothing.
 ///
 /// A moment is a number of milliseconds since any beginning that its user chose; it never goes back: one before the latest that the end was

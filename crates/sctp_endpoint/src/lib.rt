@@ -13,6 +13,7 @@ mod opening;
 mod passing;
 mod pieces;
 mod readers;
+mod rooms;
 mod sacks;
 mod shutdowns;
 mod small;

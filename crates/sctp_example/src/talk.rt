@@ -1,7 +1,7 @@
 //! Two ends of an association as their users drive them: packets in, moments, packets out, and what they hand to each other meanwhile.
 
 use anyhow::{Result, anyhow};
-use sctp_endpoint::{Config, Draw, Endpoint, Key, Message, Verdict};
+use sctp_endpoint::{Config, Draw, Endpoint, Key, Verdict};
 use std::alloc::Global;
 
 /// How often a packet goes over and its answer back before `exchange` gives up.
@@ -28,7 +28,7 @@ fn say_hi(alloc: Global, caller: &mut Endpoint, listener: &mut Endpoint) -> Resu
     let hi = Vec::from_slice(alloc, b"Hi")?;
     caller.send(0, true, 0, hi, None)?;
     exchange(caller, listener, 10)?;
-    let bytes = taken(alloc, listener.take(0))?;
+    let bytes = taken(alloc, listener)?;
     caller.shutdown()?;
     exchange(caller, listener, 20)?;
     Ok(format!(in alloc;
@@ -64,7 +64,7 @@ fn exchange(caller: &mut Endpoint, listener: &mut Endpoint, now: u64) -> Result<
     Ok(())
 }
 
-/// The next packet of `from` goes to `to`, and its answer back, if it has one. False where there was no packet.
+/// The next packet of `from` goes to `to`, and its answer back, if it has one; then the packet is handed back. False where there was no packet.
 fn carry(from: &mut Endpoint, to: &mut Endpoint, now: u64) -> Result<bool> {
     let Some(sent) = from.poll_transmit(now)? else {
         return Ok(false);
@@ -75,14 +75,16 @@ fn carry(from: &mut Endpoint, to: &mut Endpoint, now: u64) -> Result<bool> {
         }
         Verdict::Taken | Verdict::Dropped(_) => {}
     }
+    from.recycle(sent.packet);
     Ok(true)
 }
 
-/// The bytes of a message, if there is one.
-fn taken(alloc: Global, message: Option<Message>) -> Result<Vec<u8>> {
+/// The bytes of the message that waits on stream 0, if there is one, which is handed back once they are copied.
+fn taken(alloc: Global, end: &mut Endpoint) -> Result<Vec<u8>> {
     let mut bytes = Vec::new(alloc);
-    if let Some(message) = message {
+    if let Some(message) = end.take(0) {
         message.copy_to(&mut bytes)?;
+        end.give_back(message);
     }
     Ok(bytes)
 }

@@ -1,9 +1,7 @@
 -- Handing over what is due on a stream, one message after another.
-use Rattle.std.proofs.Common.{◌≡◌, ℕ, suc, ◌+◌, ◌<◌, ◌≤◌, max, true, false, List, [], ◌∷◌, ◌++◌, map, length, inl, refl, sym, ◌∙◌, ap, subst, append_assoc, true≢false, arith}
-use Rattle.std.specs.Prelude.{not, ◌==◌}
-use Rattle.std.proofs.lemmas.Bool.Decides.{nat_tests}
+use Rattle.std.proofs.Common.{◌≡◌, ℕ, suc, ◌+◌, ◌<◌, ◌≤◌, max, true, List, [], ◌∷◌, ◌++◌, map, length, refl, sym, ◌∙◌, ap, subst, append_assoc, arith}
+use Rattle.std.specs.Prelude.{not}
 use Rattle.std.proofs.lemmas.List.{append-nil}
-use Rattle.sctp_model.specs.numbers.Lists.{Has}
 use Rattle.sctp_model.proofs.receiver.OneStep.{filter_has}
 use Rattle.sctp_model.specs.receiver.Receiving.{message_of, HasNoWhole}
 use Rattle.sctp_chains.specs.WholeOf.{from_number, TakesNumber}
@@ -38,19 +36,6 @@ gives_from f s kept mid old new given h same others = record {
   others = λ l ks stands. h.others l ks (others l ks stands);
   bytes = h.bytes;
 }
-
--- there are none
-pub no_pieces : (xs : List Piece) → (length xs == 0) ≡ true → xs ≡ []
-no_pieces [] e = refl
-no_pieces (x ∷ xs) e = absurd (true≢false (sym e ∙ some (length xs)))
-  where
-    some : (n : ℕ) → (suc n == 0) ≡ false
-    some n = grind (arith, nat_tests)
-
--- where no chunk is kept, none are a whole message
-pub none_whole : (f : Format) (l : Lane) (n : ℕ) (kept : List Piece) → kept ≡ [] → HasNoWhole f kept l n
-none_whole f l n kept none [] w = w.0
-none_whole f l n kept none (x ∷ xs) w = subst (λ (ys : List Piece). Has ys x) none (w.1 x (inl refl))
 
 -- at first nothing is handed over
 pub handed_none : {F : Type 0} (f : Format) (s floor : ℕ) (kept : List Piece) (start : Inbound F) → IsHandedSoFar f s floor kept start start 0 kept

@@ -87,15 +87,16 @@ pub(crate) fn give_ordered<F: Framing>(inbound: &mut Inbound<F>, stream: u16, fl
     give_on(inbound, stream, floor, 0)
 }
 
-/// The same, where so many bytes were handed over before: it answers these, too. Where no ordered chunk is kept, none is looked for. Its callers have it in line,
+/// The same, where so many bytes were handed over before: it answers these, too. Where nothing is due of what is kept, nothing is looked for. Its callers have it in line,
 /// since one of them runs for each message.
 #[inline(always)]
 fn give_on<F: Framing>(inbound: &mut Inbound<F>, stream: u16, floor: u64, before: u32) -> u32
     ensures { (start : _) (kept : Kept) → AreCounted kept → IsGivenSoFar F.format stream floor kept start inbound.old before
         → GivesDue F.format stream floor kept start inbound.new result }
 {
-    if inbound.ordered.is_empty() {
-        inbound.next = inbound.next.max(floor);
+    let next = inbound.next.max(floor);
+    if inbound.ordered.is_resting(next) {
+        inbound.next = next;
         return before;
     }
     give_kept(inbound, stream, floor, before)

@@ -1,12 +1,12 @@
 -- Each change that a fill notes leads back to the parts before it.
-use Rattle.std.proofs.Common.{◌≡◌, ℕ, ◌-◌, List, [], ◌∷◌, ◌++◌, suc, length, take, get_or, set, remove, Option, refl, sym, ap, ◌∙◌, ◌<◌}
+use Rattle.std.proofs.Common.{◌≡◌, ℕ, ◌-◌, List, [], ◌∷◌, ◌++◌, suc, length, take, get_or, set, remove, Option, sym, ap, ◌∙◌, ◌<◌}
 use Rattle.std.specs.declared.sync.Arc.{Arc}
 use Rattle.std.specs.declared.alloc.Global.{Global}
 use Rattle.sctp_send.specs.PartsKept.{at_place}
 use Rattle.sctp_send.specs.inner.Drafting.{went_out}
 use Rattle.sctp_send.specs.inner.Undoing.{Parts, parts_of, before_all, origin, waits_again, waiting_again, fragment_entry, counted_to}
 use Rattle.sctp_send.specs.declared.draft.Change.{Change}
-use Rattle.sctp_send.specs.declared.draft.Change.TheVariants.{Out, Begun, Left, In}
+use Rattle.sctp_send.specs.declared.draft.Change.TheVariants.{Out, Begun, Left, Continued}
 use Rattle.sctp_send.specs.declared.draft.Draft.{Draft}
 use Rattle.sctp_send.specs.declared.message.Message.{Message}
 use Rattle.sctp_send.specs.declared.entry.Entry.{Entry as EntryFields}
@@ -46,18 +46,12 @@ left_behind cs ds stream track ts us p noted went is =
     ap (λ (xs : List Change). before_all xs p) noted ∙ before_last cs (Left stream track) p
     ∙ ap (λ (xs : List Track). before_all cs (record p { tracks = xs })) (ap (λ (xs : List Track). set xs stream track) is ∙ went)
 
--- entries came, a stream went on, and the turn is another's
-pub in_behind : (old : Draft) (cs ds : List Change) (es : List EntryFields) (qs : List (Arc Message Global)) (ts : List Track) (count stream turn : ℕ) (track : Track)
-    → ((p : Parts) → p.queue ≡ qs → before_all cs p ≡ before_all old.log.items (record p { queue = old.queue.items }))
-    → ds ≡ cs ++ In count stream track old.turn ∷ [] → old.outstanding.items ≡ take (length es - count) es → set ts stream track ≡ old.tracks.items
-    → before_all ds (record { items = es; queue = qs; tracks = ts; turn = turn }) ≡ origin old
-in_behind old cs ds es qs ts count stream turn track back noted came went =
-    let p : Parts = record { items = es; queue = qs; tracks = ts; turn = turn } in
-    let before : Parts = record { items = take (length es - count) es; queue = qs; tracks = set ts stream track; turn = old.turn } in
-    ap (λ (xs : List Change). before_all xs p) noted ∙ before_last cs (In count stream track old.turn) p ∙ back before refl
+-- a message in part took its next index
+pub continued_behind : (old : Draft) (cs : List Change) (es : List EntryFields) (ts : List Track) (stream turn : ℕ) (track : Track)
+    → cs ≡ old.log.items ++ Continued stream track old.turn ∷ [] → old.outstanding.items ≡ take (length es - 1) es → set ts stream track ≡ old.tracks.items
+    → before_all cs (record { items = es; queue = old.queue.items; tracks = ts; turn = turn }) ≡ origin old
+continued_behind old cs es ts stream turn track noted came went =
+    let p : Parts = record { items = es; queue = old.queue.items; tracks = ts; turn = turn } in
+    ap (λ (ds : List Change). before_all ds p) noted ∙ before_last old.log.items (Continued stream track old.turn) p
     ∙ ap (λ (xs : List EntryFields). before_all old.log.items (record { items = xs; queue = old.queue.items; tracks = set ts stream track; turn = old.turn })) (sym came)
-    ∙ ap (λ (xs : List Track). before_all old.log.items (record { items = old.outstanding.items; queue = old.queue.items; tracks = xs; turn = old.turn })) went
-
--- what was noted before leads back from any parts with the queue as it was
-pub noted_before : (old : Draft) (cs : List Change) → cs ≡ old.log.items → (p : Parts) → p.queue ≡ old.queue.items → before_all cs p ≡ before_all old.log.items (record p { queue = old.queue.items })
-noted_before old cs same p is = ap (λ (xs : List Change). before_all xs p) same ∙ ap (λ (qs : List (Arc Message Global)). before_all old.log.items (record p { queue = qs })) is
+    ∙ ap (λ (us : List Track). before_all old.log.items (record { items = old.outstanding.items; queue = old.queue.items; tracks = us; turn = old.turn })) went

@@ -10,7 +10,7 @@ use Rattle.sctp_send.specs.inner.Changes.{stood}
 use Rattle.sctp_send.specs.inner.Drafting.{went_out}
 use Rattle.sctp_send.specs.inner.Undoing.{Parts, parts_of, stands_so, waits_again, waiting_again, undone, before_all, origin, IsSized, IsKeptRoom, IsBehind}
 use Rattle.sctp_send.specs.declared.draft.Change.{Change}
-use Rattle.sctp_send.specs.declared.draft.Change.TheVariants.{Out, Begun, Left, In}
+use Rattle.sctp_send.specs.declared.draft.Change.TheVariants.{Out, Begun, Left, Continued}
 use Rattle.sctp_send.specs.declared.draft.Draft.{Draft}
 use Rattle.sctp_send.specs.declared.message.Message.{Message}
 use Rattle.sctp_send.specs.declared.entry.Entry.{Entry as EntryFields}
@@ -95,7 +95,7 @@ queue_grows (Begun place from turn) p = by_entry (slice_get p.items from)
     by_entry None = omega arith
     by_entry (Some e) = by_test e.message (nat_le place (length p.queue)) refl
 queue_grows (Left stream track) p = omega arith
-queue_grows (In count stream track turn) p = omega arith
+queue_grows (Continued stream track turn) p = omega arith
 
 pub queue_grown : (cs : List Change) (p : Parts) → length p.queue ≤ length (before_all cs p).queue
 queue_grown [] p = omega arith

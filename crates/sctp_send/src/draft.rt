@@ -46,9 +46,8 @@ pub(crate) enum Change {
         stream: u16,
         track: Track,
     },
-    /// So many entries came behind the others; the stream and the turn were so.
-    In {
-        count: usize,
+    /// The message in part of a stream took its next index; the stream and the turn were so.
+    Continued {
         stream: u16,
         track: Track,
         turn: u16,
@@ -113,14 +112,12 @@ fn undo(draft: &mut Draft, change: Change)
         Change::Out { at, standing } => stand_again(&mut draft.outstanding, at, standing),
         Change::Begun { place, from, turn } => wait_again(draft, place, from, turn),
         Change::Left { stream, track } => go_on_again(&mut draft.tracks, stream, track),
-        Change::In {
-            count,
+        Change::Continued {
             stream,
             track,
             turn,
         } => {
-            let left = draft.outstanding.len().saturating_sub(count);
-            draft.outstanding.truncate(left);
+            let _last = draft.outstanding.pop_back();
             go_on_again(&mut draft.tracks, stream, track);
             draft.turn = turn;
         }

@@ -135,8 +135,7 @@ impl Head {
             Standing::Sent,
         )?;
         let track = leave_on(&mut draft.tracks, stream, left);
-        let change = Change::In {
-            count: 1,
+        let change = Change::Continued {
             stream,
             track,
             turn: draft.turn,

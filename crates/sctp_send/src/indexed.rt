@@ -23,6 +23,7 @@ use sctp_values::NoMemory;
 
 impl Head {
     /// Puts the entry at this offset, where it fits.
+    #[inline(always)]
     pub(crate) fn put_entry<F: Framing>(
         &self,
         draft: &mut Draft,
@@ -80,6 +81,7 @@ impl Head {
     ///
     /// # Errors
     /// `NoMemory`; the packet is then as before. It comes only where the chunk fits.
+    #[inline(always)]
     pub(crate) fn put_at<F: Framing>(
         &self,
         draft: &Draft,

@@ -69,6 +69,7 @@ pub(crate) fn fits<F: Framing>(bytes: usize, packet: &PacketWriter) -> bool
 ///
 /// # Errors
 /// `NoMemory`; the packet is then as before.
+#[inline(always)]
 pub(crate) fn put_fragment<F: Framing>(
     message: &Message,
     number: u64,

@@ -33,6 +33,7 @@ pub(crate) fn push_first(outstanding: &mut Outstanding, message: Arc<Message>, n
 }
 
 /// A fragment takes the next index.
+#[inline(always)]
 pub(crate) fn push_fragment(
     outstanding: &mut Outstanding,
     message: &Arc<Message>,

@@ -54,8 +54,11 @@ impl Outstanding {
         ensures told { result ≡ true → self.new ≡ record self.old { items = told_run covered at 64 self.old.items } }
         ensures same { result ≡ false → self.new ≡ self.old }
     {
+        if to - at < STRETCH {
+            return false;
+        }
         let index = self.by_ticket.index(at);
-        if index % 64 != 0 || to - at < STRETCH || self.entries.len() > MOST_KNOWN {
+        if index % 64 != 0 || self.entries.len() > MOST_KNOWN {
             return false;
         }
         let known = stretch_of(&self.stretches, index);
@@ -86,7 +89,7 @@ impl Outstanding {
     fn learn(&mut self, from: usize, to: usize)
         ensures { self.new ≡ self.old }
     {
-        if to > self.entries.len() || to < STRETCH || to - STRETCH < from {
+        if to < STRETCH || to - STRETCH < from || to > self.entries.len() {
             return;
         }
         let at = to - STRETCH;

@@ -6,7 +6,8 @@ use Rattle.sctp_model.specs.numbers.Lists.{Has}
 use Rattle.sctp_chains.specs.Same.{AreSame}
 use Rattle.sctp_chains.specs.Cells.{Cell}
 use Rattle.sctp_chains.specs.declared.chain.Chain.{Chain}
-use Rattle.sctp_chains.specs.Links.{ChainKept, cells_in, cells_of, is_linked, join, one_if_whole, IsChain, AreChains}
+use Rattle.sctp_chains.specs.declared.chain.Part.{Part}
+use Rattle.sctp_chains.specs.Links.{ChainKept, chain_of, one_of, cells_in, cells_of, is_linked, join, one_if_whole, IsChain, AreChains}
 use Rattle.sctp_chains.specs.inner.Finding.{AreOpen}
 
 -- So many chains at the front lie below a rank, and none behind them does.
@@ -27,6 +28,15 @@ IsLinkBefore cs k a (Some j) = (suc j ≡ k) × (j < length cs) × ((c : ChainKe
 abbrev pub IsLinkBehind : List ChainKept → (k : ℕ) → ChainKept → Option ℕ → Type 0
 IsLinkBehind cs k a None = (c : ChainKept) → k < length cs → c ≡ get_or cs k c → is_linked a c ≡ false
 IsLinkBehind cs k a (Some j) = (j ≡ k) × (j < length cs) × ((c : ChainKept) → c ≡ get_or cs j c → is_linked a c ≡ true)
+
+-- At a place stands a chain that is longer by a fragment, and the number tells whether it is a whole message.
+pub record IsLonger (old : List Chain) (at : ℕ) (p : Part) (new : List Chain) (n : ℕ) : Type 0 where
+  pub from : Chain
+  pub to : Chain
+  pub here : from ≡ get_or old at from
+  pub joined : IsChain (chain_of from) → is_linked (chain_of from) (one_of p) ≡ true → chain_of to ≡ join (chain_of from) (one_of p)
+  pub put : new ≡ set old at to
+  pub whole : n ≡ one_if_whole (chain_of to)
 
 -- a chain is what a chain, the fragment behind it, and the chain behind that are together, if each continues the one before
 pub record IsOneOf (c a d m : ChainKept) : Type 0 where

@@ -5,7 +5,7 @@ use Rattle.std.specs.declared.alloc.Global.{Global}
 use Rattle.sctp_model.specs.numbers.Limits.{GREATEST_FRAGMENT}
 use Rattle.sctp_send.specs.PartsKept.{at_place}
 use Rattle.sctp_send.specs.declared.draft.Change.{Change}
-use Rattle.sctp_send.specs.declared.draft.Change.TheVariants.{Out, Begun, Left, In}
+use Rattle.sctp_send.specs.declared.draft.Change.TheVariants.{Out, Begun, Left, Continued}
 use Rattle.sctp_send.specs.declared.draft.Draft.{Draft}
 use Rattle.sctp_send.specs.declared.message.Message.{Message}
 use Rattle.sctp_send.specs.declared.entry.Entry.{Entry as EntryFields}
@@ -63,7 +63,7 @@ abbrev pub undone : Change → Parts → Parts
 undone (Out at standing) p = record p { items = at_place (stands_so standing) at p.items }
 undone (Begun place from turn) p = waiting_again place from turn (slice_get p.items from) p
 undone (Left stream track) p = record p { tracks = set p.tracks stream track }
-undone (In count stream track turn) p = record p { items = take (length p.items - count) p.items; tracks = set p.tracks stream track; turn = turn }
+undone (Continued stream track turn) p = record p { items = take (length p.items - 1) p.items; tracks = set p.tracks stream track; turn = turn }
 
 -- the parts before all of these changes, of which the last is undone first
 abbrev pub before_all : List Change → Parts → Parts

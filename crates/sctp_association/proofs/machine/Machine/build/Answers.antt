@@ -3,14 +3,18 @@ use Rattle.std.specs.Prelude.{max}
 use Rattle.sctp_association.specs.MachineStands.{MachineStands}
 use Rattle.sctp_association.specs.BuildAnswers.{BuildAnswer}
 use Rattle.sctp_association.proofs.BuildLemmas.{answered}
+use Rattle.sctp_association.proofs.ReportLemmas.{on_err}
 use Rattle.sctp_association.proofs.machine.Machine.build.Goals as goal
+
+pub returns-in_err-tickets-clause-memory : goal.returns-in_err-tickets-clause-memory
+returns-in_err-tickets-clause-memory c = λ v stands. on_err _ _ (c.in_err-tickets.ensures.memory v (c.packing-packing.ensures.keeps v stands))
 
 pub returns-clause-built : goal.returns-clause-built
 unfolding MachineStands
 returns-clause-built c = λ v stands.
     let n = c.max-moment.result in
     let clock : n ≡ max v.moment c.args.now = c.max-moment.ensures ∙ ap (λ (m : ℕ). max m c.args.now) stands.clock in
-    let packed = c.in_ok-tickets.ensures.packed v n stands (c.packing-packing.ensures v n stands) in
+    let packed = c.in_ok-tickets.ensures.packed v n (c.packing-packing.ensures.keeps v stands) (c.packing-packing.ensures.empty v n stands) in
     subst (λ (m : ℕ). BuildAnswer (record v { moment = m }) c.sent.result c.sent.new.self) clock
     (answered (record v { moment = n }) packed.0 c.sent.result c.sent.new.self c.pack.new.packing c.in_ok-tickets.tickets packed.1
     c.sent.ensures.packet c.sent.ensures.size c.sent.ensures.within c.sent.ensures.tickets (c.sent.ensures.stands (record v { sender = packed.0 }) packed.2))

@@ -6,10 +6,11 @@ use Rattle.sctp_association.specs.MachineStands.{MachineStands}
 use Rattle.sctp_association.proofs.BuildLemmas.{tag_by}
 use Rattle.sctp_association.proofs.machine.Machine.packing.Goals as goal
 
-pub returns : goal.returns
+pub returns-clause-empty : goal.returns-clause-empty
 unfolding MachineStands
-returns c = λ v moment stands.
-    let d = c.new.ensures in
+returns-clause-empty c = λ v moment before.
+    let stands = c.take_room-room.ensures v before in
+    let d = c.in_room.ensures in
     record {
       packet = record {
         limit = ap (λ (w : Draft). w.limit) d ∙ (c.limit.ensures.exact ∙ ap (λ (k : Configuration). k.limit) stands.configuration);

@@ -6,20 +6,20 @@ use Rattle.sctp_association.proofs.MachineLemmas.{at_view, with_both}
 use Rattle.sctp_association.proofs.BuildLemmas.{with_moment}
 use Rattle.sctp_association.proofs.machine.Machine.sent.Goals as goal
 
-pub returns-in-Some-clause-stands : goal.returns-in-Some-clause-stands
+pub returns-in-Ok-clause-stands : goal.returns-in-Ok-clause-stands
 unfolding MachineStands
-returns-in-Some-clause-stands c = λ v stands.
+returns-in-Ok-clause-stands c = λ v stands.
     let told = c.when_sack_sent.ensures _ (with_moment _ v c.args.moment stands) in
     let m = c.args.packing.marks in
     at_view _ _ _ (ap (λ (b : Bool). record v { moment = c.args.moment; due = due_left m v.due; timers = started_from (starts_at m.starts) c.args.moment v.timers; delayed = delayed_left b m.sack v.delayed; receiver = receiver_left b m.sack v.receiver }) (sym stands.due.sack))
     (with_both _ _ _ (due_left m v.due) _ (started_from (starts_at m.starts) c.args.moment v.timers) told (c.leave.ensures v.due told.due)
     (c.start_all.ensures ∙ ap (started_from (starts_at m.starts) c.args.moment) told.timers))
 
-pub returns-in-None-clause-stands : goal.returns-in-None-clause-stands
+pub returns-in-Err-clause-stands : goal.returns-in-Err-clause-stands
 unfolding MachineStands
-returns-in-None-clause-stands c = λ v stands.
+returns-in-Err-clause-stands c = λ v stands.
     let told = c.when_sack_sent.ensures _ (with_moment _ v c.args.moment stands) in
     let m = c.args.packing.marks in
-    at_view _ _ _ (ap (λ (b : Bool). record v { moment = c.args.moment; due = due_left m v.due; timers = started_from (starts_at m.starts) c.args.moment v.timers; delayed = delayed_left b m.sack v.delayed; receiver = receiver_left b m.sack v.receiver }) (sym stands.due.sack))
+    c.recycle.ensures _ (at_view _ _ _ (ap (λ (b : Bool). record v { moment = c.args.moment; due = due_left m v.due; timers = started_from (starts_at m.starts) c.args.moment v.timers; delayed = delayed_left b m.sack v.delayed; receiver = receiver_left b m.sack v.receiver }) (sym stands.due.sack))
     (with_both _ _ _ (due_left m v.due) _ (started_from (starts_at m.starts) c.args.moment v.timers) told (c.leave.ensures v.due told.due)
-    (c.start_all.ensures ∙ ap (started_from (starts_at m.starts) c.args.moment) told.timers))
+    (c.start_all.ensures ∙ ap (started_from (starts_at m.starts) c.args.moment) told.timers)))

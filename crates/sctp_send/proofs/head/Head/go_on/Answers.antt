@@ -1,12 +1,14 @@
-use Rattle.std.proofs.Common.{◌≡◌, ◌∙◌, ◌+◌, ◌^◌, ◌%◌, suc, map, ap, refl, sym, arith}
+use Rattle.std.proofs.Common.{◌≡◌, ◌∙◌, ◌+◌, ◌^◌, ◌%◌, suc, List, [], ◌∷◌, ◌++◌, map, ap, refl, sym, arith}
 use Rattle.sctp_values.specs.Meanings.{kind_meaning}
 use Rattle.sctp_send.specs.SenderFields.{latest_in, number_left, track_meaning, rests_meaning}
 use Rattle.sctp_send.specs.inner.Newcomers.{track_of}
 use Rattle.sctp_send.specs.inner.Drafting.{bare, rest_from}
+use Rattle.sctp_send.specs.declared.draft.Change.{Change}
+use Rattle.sctp_send.specs.declared.draft.Change.TheVariants.{Continued}
 use Rattle.sctp_send.specs.declared.draft.Draft.{Draft}
 use Rattle.sctp_send.specs.declared.message.Message.{Message as MessageFields}
 use Rattle.sctp_send.proofs.EnterLemmas.{gone_on_is, track_there}
-use Rattle.sctp_send.proofs.BehindLemmas.{in_behind, noted_before}
+use Rattle.sctp_send.proofs.BehindLemmas.{continued_behind}
 use Rattle.sctp_send.proofs.head.Head.go_on.Goals as goal
 
 pub returns-clause-kept : goal.returns-clause-kept
@@ -32,8 +34,8 @@ returns-clause-behind c =
     let old = c.args.draft.now in
     let es = c.push_fragment.new.outstanding.items in
     record {
-      origin = in_behind old c.reserve.new.self.items c.note.new.log.items es old.queue.items c.leave_on-track.new.tracks.items 1 c.args.stream c.stream_after-draft.result c.leave_on-track.result
-          (noted_before old c.reserve.new.self.items c.reserve.ensures.items) c.note.ensures.items
+      origin = continued_behind old c.note.new.log.items es c.leave_on-track.new.tracks.items c.args.stream c.stream_after-draft.result c.leave_on-track.result
+          (c.note.ensures.items ∙ ap (λ (cs : List Change). cs ++ Continued c.args.stream c.leave_on-track.result old.turn ∷ []) c.reserve.ensures.items)
           (sym c.reserve-2.ensures.items ∙ c.in_ok-push_fragment.ensures.more) c.leave_on-track.ensures.before;
       room = record {
         window = c.in_ok-push_fragment.ensures.size ∙ c.reserve-2.ensures.size;
