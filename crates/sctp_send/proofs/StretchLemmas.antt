@@ -191,8 +191,8 @@ alike_turned size b c n zero (suc k) (e ∷ es) h =
     by_told c (h.1, rest)
   where
     by_told : (d : Bool) → (entry_bytes size e ≤ n) × AreAlike size c (n - entry_bytes size e) zero k (told_run c zero k es) → IsPlain d (told d e) × (entry_bytes size (told d e) ≤ n) × AreAlike size c (n - entry_bytes size (told d e)) zero k (told_run c zero k es)
-    by_told true more = (record { out = rw h.0.out refl; covers = refl; kept = h.0.kept; timeless = h.0.timeless }, more.0, more.1)
-    by_told false more = (record { out = h.0.out; covers = refl; kept = h.0.kept; timeless = h.0.timeless }, more.0, more.1)
+    by_told true more = (record { out = rw h.0.out refl; covers = refl; kept = h.0.kept }, more.0, more.1)
+    by_told false more = (record { out = h.0.out; covers = refl; kept = h.0.kept }, more.0, more.1)
 
 -- others that lie behind those told
 pub alike_front : (size : ℕ) (b c : Bool) (n m j at k : ℕ) (es : List EntryFields) → at + k ≤ m → AreAlike size b n m j es → AreAlike size b n m j (told_run c at k es)

@@ -26,8 +26,8 @@ plain_uncovered size e h = (rw (h.out, h.covers, h.kept) refl, rw (h.out, h.cove
 
 -- told covered, or not, it is plain
 plain_told : (b c : Bool) (e : EntryFields) → IsPlain b e → IsPlain c (told c e)
-plain_told b true e h = record { out = rw h.out refl; covers = refl; kept = h.kept; timeless = h.timeless }
-plain_told b false e h = record { out = h.out; covers = refl; kept = h.kept; timeless = h.timeless }
+plain_told b true e h = record { out = rw h.out refl; covers = refl; kept = h.kept }
+plain_told b false e h = record { out = h.out; covers = refl; kept = h.kept }
 
 -- ---- sums
 

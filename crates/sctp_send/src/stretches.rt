@@ -26,7 +26,7 @@ const FEW: usize = 512;
 /// What is known of a stretch.
 #[derive(Clone, Copy)]
 pub(crate) struct Stretch {
-    /// All its entries went out, none waits to be repeated or is abandoned, and none is of a message with a moment.
+    /// All its entries went out, and none waits to be repeated or is abandoned.
     pub(crate) is_known: bool,
     /// Then all of them are covered, or none is.
     pub(crate) covered: bool,
@@ -125,11 +125,11 @@ fn bytes_in(entry: &Entry, size: u16) -> u32
     bytes_of(&entry.message, entry.place, size).len() as u32
 }
 
-/// An entry went out, doesn't wait to be repeated, isn't abandoned, and its message has no moment.
+/// An entry went out, doesn't wait to be repeated, and isn't abandoned.
 fn is_plain(entry: &Entry) -> bool
     ensures { result ≡ true → IsPlain entry.now.covered entry.now }
 {
-    entry.standing == Standing::Sent && !entry.abandoned && entry.message.until.is_none()
+    entry.standing == Standing::Sent && !entry.abandoned
 }
 
 /// The entries of a stretch are told covered, or not: they stand alike, and are told otherwise now.

@@ -1,5 +1,5 @@
 -- What is known of stretches: of 64 entries in a row, the first of which has an index that 64 divides.
-use Rattle.std.specs.Prelude.{◌≡◌, ℕ, zero, suc, ◌+◌, ◌-◌, ◌/◌, ◌%◌, ◌^◌, ◌≤◌, Bool, true, false, List, [], ◌∷◌, length, slice_get, Some, None}
+use Rattle.std.specs.Prelude.{◌≡◌, ℕ, zero, suc, ◌+◌, ◌-◌, ◌/◌, ◌%◌, ◌^◌, ◌≤◌, Bool, true, false, List, [], ◌∷◌, length, slice_get, Some}
 use Rattle.sctp_send.specs.OutstandingFields.{item_meaning}
 use Rattle.sctp_send.specs.inner.Wishing.{item_bytes}
 use Rattle.sctp_send.specs.inner.Changes.{told}
@@ -8,12 +8,11 @@ use Rattle.sctp_send.specs.declared.entry.Entry.{Entry as EntryFields}
 use Rattle.sctp_send.specs.declared.entry.Standing.TheVariants.{Sent}
 use Rattle.sctp_send.specs.declared.stretches.Stretch.{Stretch}
 
--- The entry went out and doesn't wait to be repeated, it is covered or not, isn't abandoned, and its message has no moment.
+-- The entry went out and doesn't wait to be repeated, it is covered or not, and isn't abandoned.
 pub record IsPlain (covered : Bool) (e : EntryFields) : Type 0 where
   pub out : e.standing ≡ Sent
   pub covers : e.covered ≡ covered
   pub kept : e.abandoned ≡ false
-  pub timeless : e.message.value.until ≡ None
 
 -- how many bytes of data an entry has
 abbrev pub entry_bytes : (size : ℕ) → EntryFields → ℕ
