@@ -19,7 +19,7 @@ use Rattle.sctp_model.proofs.sender.AssignedLaws.{IsSameTicket, IsNumberedNow, n
 use Rattle.sctp_send.specs.SenderKept.{Rest, Track, Kept}
 use Rattle.sctp_send.specs.SenderStands.{table, rest_here, track_here, fate_here, Holds, Keeps}
 pub use Rattle.sctp_send.specs.inner.Newcomers.{number_in, counted_in, begun_track}
-use Rattle.sctp_send.specs.declared.message.Fate.TheVariants.{Numbered}
+use Rattle.sctp_send.specs.declared.kept.message.Fate.TheVariants.{Numbered}
 use Rattle.sctp_send.proofs.TableLemmas.{table-set, get_or-table}
 use Rattle.sctp_send.proofs.NewItems.{new_items, numbered, numbered_items}
 

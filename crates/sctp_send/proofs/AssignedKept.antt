@@ -22,7 +22,7 @@ use Rattle.sctp_send.specs.SenderStands.{rest_here, track_here, Holds, Keeps}
 use Rattle.sctp_send.specs.inner.Walks.{total, one_if_rest, rest_has}
 use Rattle.sctp_send.specs.inner.Expiring.{queue_messages}
 use Rattle.sctp_send.specs.inner.Dues.{is_late, some_late}
-use Rattle.sctp_send.specs.declared.message.Fate.TheVariants.{Numbered}
+use Rattle.sctp_send.specs.declared.kept.message.Fate.TheVariants.{Numbered}
 pub use Rattle.sctp_send.specs.inner.Newcomers.{begun_items}
 use Rattle.sctp_send.proofs.KeepLemmas.{kept_length}
 use Rattle.sctp_send.proofs.QueueLemmas.{kept_in_part}

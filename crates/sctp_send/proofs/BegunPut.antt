@@ -33,11 +33,11 @@ use Rattle.sctp_send.specs.inner.Wishing.{item_flight}
 use Rattle.sctp_send.specs.inner.Drafting.{numbers_of, drafted, fragment_chunk, item_chunk, let_in, IsStopped, IsRefused, IsTried, PutAnswer, NothingStands}
 use Rattle.sctp_values.specs.Meanings.{kind_meaning}
 use Rattle.std.proofs.lemmas.Option.{slice_get-get_or}
-use Rattle.sctp_send.specs.declared.track.Track.{Track as TrackFields}
+use Rattle.sctp_send.specs.declared.kept.track.Track.{Track as TrackFields}
 use Rattle.sctp_send.proofs.WalkLemmas.{track_read}
 use Rattle.sctp_send.specs.declared.draft.Draft.{Draft}
-use Rattle.sctp_send.specs.declared.message.Message.{Message as MessageFields}
-use Rattle.sctp_send.specs.declared.entry.Place.TheVariants.{Fragment}
+use Rattle.sctp_send.specs.declared.kept.message.Message.{Message as MessageFields}
+use Rattle.sctp_send.specs.declared.kept.entry.Place.TheVariants.{Fragment}
 use Rattle.sctp_send.proofs.TableLemmas.{length-table}
 use Rattle.sctp_send.proofs.NewItems.{numbered}
 use Rattle.sctp_send.proofs.AssignLemmas.{number_is, track_at}

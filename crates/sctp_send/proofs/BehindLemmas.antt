@@ -8,10 +8,10 @@ use Rattle.sctp_send.specs.inner.Undoing.{Parts, parts_of, before_all, origin, w
 use Rattle.sctp_send.specs.declared.draft.Change.{Change}
 use Rattle.sctp_send.specs.declared.draft.Change.TheVariants.{Out, Begun, Left, Continued}
 use Rattle.sctp_send.specs.declared.draft.Draft.{Draft}
-use Rattle.sctp_send.specs.declared.message.Message.{Message}
-use Rattle.sctp_send.specs.declared.entry.Entry.{Entry as EntryFields}
-use Rattle.sctp_send.specs.declared.entry.Standing.TheVariants.{Sent}
-use Rattle.sctp_send.specs.declared.track.Track.{Track}
+use Rattle.sctp_send.specs.declared.kept.message.Message.{Message}
+use Rattle.sctp_send.specs.declared.kept.entry.Entry.{Entry as EntryFields}
+use Rattle.sctp_send.specs.declared.kept.entry.Standing.TheVariants.{Sent}
+use Rattle.sctp_send.specs.declared.kept.track.Track.{Track}
 use Rattle.sctp_send.proofs.UndoLemmas.{out_undone, taken_undone, cut_behind, before_last}
 
 -- an entry went out

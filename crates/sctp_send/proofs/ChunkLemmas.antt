@@ -24,9 +24,9 @@ use Rattle.sctp_wire.specs.Layouts.{Fits}
 use Rattle.sctp_send.specs.SenderKept.{Item, Track, Kept}
 use Rattle.sctp_send.specs.SenderStands.{item_here, items_from, Keeps}
 use Rattle.sctp_send.specs.OutstandingFields.{lane_meaning, message_meaning, entry_meaning}
-use Rattle.sctp_send.specs.declared.message.Message.{Message as MessageFields}
-use Rattle.sctp_send.specs.declared.entry.Place.{Place}
-use Rattle.sctp_send.specs.declared.entry.Place.TheVariants.{Fragment, EndMark}
+use Rattle.sctp_send.specs.declared.kept.message.Message.{Message as MessageFields}
+use Rattle.sctp_send.specs.declared.kept.entry.Place.{Place}
+use Rattle.sctp_send.specs.declared.kept.entry.Place.TheVariants.{Fragment, EndMark}
 use Rattle.sctp_send.proofs.KeepLemmas.{kept_length}
 use Rattle.sctp_send.proofs.NewItems.{numbered}
 use Rattle.sctp_send.proofs.AssignLemmas.{number_in, number_is, track_at}

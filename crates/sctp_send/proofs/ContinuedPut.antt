@@ -28,8 +28,8 @@ use Rattle.sctp_send.specs.inner.Newcomers.{gone_item, rest_item, rest_after, re
 use Rattle.sctp_send.specs.inner.Wishing.{item_flight}
 use Rattle.sctp_send.specs.inner.Drafting.{numbers_of, drafted, fragment_chunk, item_chunk, let_in, IsStopped, IsRefused, IsTried, PutAnswer, NothingStands}
 use Rattle.sctp_send.specs.declared.draft.Draft.{Draft}
-use Rattle.sctp_send.specs.declared.entry.Place.TheVariants.{Fragment}
-use Rattle.sctp_send.specs.declared.track.Rest.{Rest as RestFields}
+use Rattle.sctp_send.specs.declared.kept.entry.Place.TheVariants.{Fragment}
+use Rattle.sctp_send.specs.declared.kept.track.Rest.{Rest as RestFields}
 use Rattle.sctp_send.proofs.TableLemmas.{length-table}
 use Rattle.sctp_send.proofs.AssignLemmas.{track_at}
 use Rattle.sctp_send.proofs.GoingOnLemmas.{gone_on}

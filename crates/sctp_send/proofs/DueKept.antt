@@ -21,8 +21,8 @@ use Rattle.sctp_send.specs.SenderStands.{items_from, Keeps}
 use Rattle.sctp_send.specs.inner.Walks.{any_item, any_rest}
 use Rattle.sctp_send.specs.inner.Seating.{ticket_in, DoTicketsRise}
 use Rattle.sctp_send.specs.inner.Dues.{due_at, is_late, some_late, standing_message, standing_messages, AreWoken, IsIdle}
-use Rattle.sctp_send.specs.declared.message.Message.{Message as MessageFields}
-use Rattle.sctp_send.specs.declared.entry.Entry.{Entry as EntryFields}
+use Rattle.sctp_send.specs.declared.kept.message.Message.{Message as MessageFields}
+use Rattle.sctp_send.specs.declared.kept.entry.Entry.{Entry as EntryFields}
 use Rattle.sctp_send.proofs.DueLemmas.{late_before, late_other_items, over_idle}
 use Rattle.sctp_send.proofs.MomentLemmas.{due_behind}
 use Rattle.sctp_send.proofs.MomentKept.{has_come}

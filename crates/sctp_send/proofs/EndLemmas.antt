@@ -22,7 +22,7 @@ use Rattle.sctp_send.specs.SenderStands.{item_here, items_from, table, rest_here
 use Rattle.sctp_send.specs.inner.Walks.{any_rest, rest_has, end_item, EndsAt}
 use Rattle.sctp_send.specs.inner.Expiring.{rest_messages}
 use Rattle.sctp_send.specs.inner.Dues.{some_late}
-use Rattle.sctp_send.specs.declared.message.Fate.TheVariants.{Abandoned as WasAbandoned}
+use Rattle.sctp_send.specs.declared.kept.message.Fate.TheVariants.{Abandoned as WasAbandoned}
 use Rattle.sctp_send.proofs.TableLemmas.{table-set, table-same}
 use Rattle.sctp_send.proofs.TicketLemmas.{kept_goes_on}
 use Rattle.sctp_send.proofs.OverLemmas.{same_items, no_item_one, no_rest_set, no_rest_there}

@@ -20,16 +20,16 @@ use Rattle.sctp_send.specs.inner.Drafting.{numbers_of, all_numbered, AreOpen, dr
 use Rattle.sctp_send.specs.SenderFields.{queued_by, latest_in, number_left, track_meaning, rest_meaning}
 use Rattle.std.specs.declared.alloc.Global.{Global}
 use Rattle.std.specs.declared.sync.Arc.{Arc}
-use Rattle.sctp_send.specs.declared.track.Track.{Track as TrackFields}
+use Rattle.sctp_send.specs.declared.kept.track.Track.{Track as TrackFields}
 use Rattle.sctp_send.specs.declared.draft.Draft.{Draft}
-use Rattle.sctp_send.specs.declared.track.Rest.{Rest as RestFields}
-use Rattle.sctp_send.specs.declared.entry.Standing.TheVariants.{Sent}
-use Rattle.sctp_send.specs.declared.entry.Entry.{Entry as EntryFields}
-use Rattle.sctp_send.specs.declared.message.Fate.{Fate}
-use Rattle.sctp_send.specs.declared.message.Fate.TheVariants.{Numbered}
-use Rattle.sctp_send.specs.declared.message.Message.{Message as MessageFields}
-use Rattle.sctp_send.specs.declared.entry.Place.{Place}
-use Rattle.sctp_send.specs.declared.entry.Place.TheVariants.{Fragment, EndMark}
+use Rattle.sctp_send.specs.declared.kept.track.Rest.{Rest as RestFields}
+use Rattle.sctp_send.specs.declared.kept.entry.Standing.TheVariants.{Sent}
+use Rattle.sctp_send.specs.declared.kept.entry.Entry.{Entry as EntryFields}
+use Rattle.sctp_send.specs.declared.kept.message.Fate.{Fate}
+use Rattle.sctp_send.specs.declared.kept.message.Fate.TheVariants.{Numbered}
+use Rattle.sctp_send.specs.declared.kept.message.Message.{Message as MessageFields}
+use Rattle.sctp_send.specs.declared.kept.entry.Place.{Place}
+use Rattle.sctp_send.specs.declared.kept.entry.Place.TheVariants.{Fragment, EndMark}
 use Rattle.sctp_values.specs.declared.ticket.Ticket.{Ticket}
 use Rattle.sctp_send.proofs.WalkLemmas.{none_behind}
 use Rattle.sctp_send.proofs.ChunkLemmas.{fragment_is}

@@ -4,9 +4,9 @@ use Rattle.std.specs.Prelude.{◌||◌, replicate}
 use Rattle.std.proofs.lemmas.List.{get_or_default, append_assoc, length-replicate, length-take-le, get_or-replicate, get_or_append_left, get_or-append_right, get_or-take, get_or-drop, take-append-le, drop-append-le, take-append-drop, drop_at, length_push}
 use Rattle.sctp_send.specs.inner.Walks.{is_queued_fate}
 use Rattle.sctp_send.specs.inner.FateBlocks.{any_queued, fates_in, fates_of, IsWithin, AreWithin, AreFates, IsBlock, IsEnded}
-use Rattle.sctp_send.specs.declared.message.Fate.{Fate}
-use Rattle.sctp_send.specs.declared.blocks.Block.{Block}
-use Rattle.sctp_send.specs.declared.blocks.Block.TheVariants.{Alike, Each}
+use Rattle.sctp_send.specs.declared.kept.message.Fate.{Fate}
+use Rattle.sctp_send.specs.declared.kept.blocks.Block.{Block}
+use Rattle.sctp_send.specs.declared.kept.blocks.Block.TheVariants.{Alike, Each}
 
 -- ---- how many
 

@@ -26,7 +26,7 @@ use Rattle.sctp_send.specs.SenderKept.{Item, Kept}
 use Rattle.sctp_send.specs.OutstandingFields.{lane_of, item_meaning, entries_of}
 use Rattle.sctp_send.specs.SenderStands.{items_from, Keeps}
 use Rattle.sctp_send.specs.inner.Walks.{abandoned_items}
-use Rattle.sctp_send.specs.declared.entry.Entry.{Entry as EntryFields}
+use Rattle.sctp_send.specs.declared.kept.entry.Entry.{Entry as EntryFields}
 use Rattle.sctp_send.proofs.KeepLemmas.{kept_length}
 use Rattle.sctp_send.proofs.ReaderLemmas.{run_items, run_within}
 

@@ -4,8 +4,8 @@ use Rattle.std.specs.Prelude.{nat_lt, nat_le, not, ◌&&◌, ◌||◌}
 use Rattle.std.proofs.lemmas.Bool.Decides.{nat_tests}
 use Rattle.sctp_send.specs.CoveredRuns.{in_run, in_runs, AreInOrder, HasPassed}
 use Rattle.sctp_send.specs.inner.Changes.{told_where, is_between, in_gaps}
-use Rattle.sctp_send.specs.declared.entry.CoveredRun.{CoveredRun}
-use Rattle.sctp_send.specs.declared.entry.Entry.{Entry as EntryFields}
+use Rattle.sctp_send.specs.declared.kept.entry.CoveredRun.{CoveredRun}
+use Rattle.sctp_send.specs.declared.kept.entry.Entry.{Entry as EntryFields}
 use Rattle.sctp_send.proofs.TellLemmas.{where_same, where_none, where_joined, between_on, between_low, between_high}
 
 -- ---- one run, and those behind it

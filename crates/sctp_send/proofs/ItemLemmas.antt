@@ -5,9 +5,9 @@ use Rattle.sctp_send.specs.PartsKept.{at_place}
 use Rattle.sctp_send.specs.SenderKept.{Item}
 use Rattle.sctp_send.specs.OutstandingFields.{was_sent, is_marked, item_meaning}
 use Rattle.sctp_send.specs.inner.Changes.{marked_if, timed, all_timed}
-use Rattle.sctp_send.specs.declared.entry.Standing.{Standing}
-use Rattle.sctp_send.specs.declared.entry.Standing.TheVariants.{Unsent, Sent, Marked}
-use Rattle.sctp_send.specs.declared.entry.Entry.{Entry as EntryFields}
+use Rattle.sctp_send.specs.declared.kept.entry.Standing.{Standing}
+use Rattle.sctp_send.specs.declared.kept.entry.Standing.TheVariants.{Unsent, Sent, Marked}
+use Rattle.sctp_send.specs.declared.kept.entry.Entry.{Entry as EntryFields}
 
 -- an item marked where it is unsettled
 abbrev pub timed_item : Item → Item

@@ -17,7 +17,7 @@ use Rattle.sctp_model.proofs.sender.OwedLaws.{is_promised, sum-zero}
 use Rattle.sctp_model.proofs.sender.PointLaws.{get-drop}
 use Rattle.sctp_send.specs.SenderKept.{Item, Kept}
 use Rattle.sctp_send.specs.CoveredRuns.{AreCovered, runs_behind}
-use Rattle.sctp_send.specs.declared.entry.CoveredRun.{CoveredRun}
+use Rattle.sctp_send.specs.declared.kept.entry.CoveredRun.{CoveredRun}
 use Rattle.sctp_send.specs.SenderStands.{item_here, items_from, Keeps}
 use Rattle.sctp_send.specs.inner.Acknowledging.{IsPassing}
 use Rattle.sctp_send.specs.inner.Dues.{is_late, some_late, standing_message, standing_messages}

@@ -4,8 +4,8 @@ use Rattle.std.specs.Prelude.{slice_get}
 use Rattle.std.proofs.lemmas.Bool.{cases_lt, cases_eq}
 use Rattle.sctp_send.specs.PartsKept.{at_place}
 use Rattle.sctp_send.specs.inner.Stretching.{AreAlike, told_run, index_at, place_at, AreKnown}
-use Rattle.sctp_send.specs.declared.stretches.Stretch.{Stretch}
-use Rattle.sctp_send.specs.declared.entry.Entry.{Entry as EntryFields}
+use Rattle.sctp_send.specs.declared.kept.stretches.Stretch.{Stretch}
+use Rattle.sctp_send.specs.declared.kept.entry.Entry.{Entry as EntryFields}
 use Rattle.sctp_send.proofs.PlacedLemmas.{count_placed}
 use Rattle.sctp_send.proofs.StretchLemmas.{length-told_run, alike_pushed, alike_cut, alike_before, alike_behind, alike_turned, alike_front, alike_back}
 

@@ -21,7 +21,7 @@ use Rattle.sctp_send.specs.SenderStands.{Keeps}
 use Rattle.sctp_send.specs.SenderFields.{queued_by}
 use Rattle.sctp_send.specs.Waiting.{waiting_bytes, queued_bytes}
 use Rattle.sctp_send.specs.inner.Seating.{bytes_of}
-use Rattle.sctp_send.specs.declared.message.Message.{Message as MessageFields}
+use Rattle.sctp_send.specs.declared.kept.message.Message.{Message as MessageFields}
 
 -- ---- messages come and go
 

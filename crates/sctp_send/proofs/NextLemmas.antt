@@ -13,10 +13,10 @@ use Rattle.sctp_send.specs.inner.Walks.{total, one_if_rest, any_rest, rest_has}
 use Rattle.sctp_send.specs.inner.Newcomers.{rest_at, has_rest, IsNextPart}
 use Rattle.sctp_send.specs.inner.Drafting.{TurnAnswer, NewAnswer, FirstTurnAnswer}
 use Rattle.sctp_send.specs.inner.Seating.{IsNextOn}
-use Rattle.sctp_send.specs.declared.seats.Found.{Found}
-use Rattle.sctp_send.specs.declared.assigning.Beginning.{Beginning}
-use Rattle.sctp_send.specs.declared.assigning.Next.{Next}
-use Rattle.sctp_send.specs.declared.assigning.Next.TheVariants.{Begins, Continues}
+use Rattle.sctp_send.specs.declared.kept.seats.Found.{Found}
+use Rattle.sctp_send.specs.declared.fill.assigning.Beginning.{Beginning}
+use Rattle.sctp_send.specs.declared.fill.assigning.Next.{Next}
+use Rattle.sctp_send.specs.declared.fill.assigning.Next.TheVariants.{Begins, Continues}
 use Rattle.sctp_send.proofs.TurnLemmas.{turn_goes_on, turn_begins, turn_idle, turns_do, turns_all, turns_none, turns_more, new_in_turn}
 
 -- ---- what is in part

@@ -7,7 +7,7 @@ use Rattle.std.proofs.lemmas.Bool.Decides.{nat_tests}
 use Rattle.std.proofs.lemmas.Bool.{cases_lt}
 use Rattle.std.proofs.lemmas.List.Edits.{length-insert}
 use Rattle.sctp_model.specs.numbers.Lists.{Has, AreInOrder}
-use Rattle.sctp_send.specs.declared.by_ticket.Spot.{Spot}
+use Rattle.sctp_send.specs.declared.kept.by_ticket.Spot.{Spot}
 use Rattle.sctp_send.specs.inner.TicketOrder.{offset_of, comes_before, AreRising, IsOrderOf, IsPlaceOf, IsGone, AreUpTo}
 use Rattle.sctp_send.proofs.ListParts.{in_back, in_part, in_around, in_midst, halves, here_first, taken_has, dropped_has, front_or_back, none_dropped, at_same, order_front, order_back, order_across, order_join, order_kept, parted, placed}
 

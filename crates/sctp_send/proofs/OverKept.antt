@@ -16,8 +16,8 @@ use Rattle.sctp_send.specs.SenderKept.{Item, Kept}
 use Rattle.sctp_send.specs.SenderStands.{items_from, fate_here, fate_named, Keeps}
 use Rattle.sctp_send.specs.inner.Walks.{any_item, any_rest, any_uncovered, is_queued_fate}
 use Rattle.sctp_send.specs.inner.Drafting.{AreOpen}
-use Rattle.sctp_send.specs.declared.message.Fate.{Fate}
-use Rattle.sctp_send.specs.declared.message.Fate.TheVariants.{Queued as StillQueued}
+use Rattle.sctp_send.specs.declared.kept.message.Fate.{Fate}
+use Rattle.sctp_send.specs.declared.kept.message.Fate.TheVariants.{Queued as StillQueued}
 use Rattle.sctp_send.proofs.KeepLemmas.{items_beyond}
 use Rattle.sctp_send.proofs.QueueLemmas.{fates_given}
 use Rattle.sctp_send.proofs.ReaderLemmas.{fate_at}

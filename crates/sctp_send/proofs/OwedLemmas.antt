@@ -9,9 +9,9 @@ use Rattle.sctp_send.specs.SenderKept.{Track, Rest}
 use Rattle.sctp_send.specs.SenderFields.{queued_by, counts_meaning, rests_meaning, track_meaning}
 use Rattle.sctp_send.specs.inner.Walks.{total, one_if_rest, rest_owes}
 use Rattle.sctp_send.specs.inner.Counting.{IsOwedOf, IsCountedOf}
-use Rattle.sctp_send.specs.declared.message.Message.{Message as MessageFields}
-use Rattle.sctp_send.specs.declared.track.Rest.{Rest as RestFields}
-use Rattle.sctp_send.specs.declared.track.Track.{Track as TrackFields}
+use Rattle.sctp_send.specs.declared.kept.message.Message.{Message as MessageFields}
+use Rattle.sctp_send.specs.declared.kept.track.Rest.{Rest as RestFields}
+use Rattle.sctp_send.specs.declared.kept.track.Track.{Track as TrackFields}
 
 -- ---- messages that wait
 

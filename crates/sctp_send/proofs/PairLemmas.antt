@@ -6,7 +6,7 @@ use Rattle.std.specs.List.Sorted.{IsPartitionedBy, IsPartitionPoint}
 use Rattle.std.proofs.lemmas.Bool.Decides.{nat_tests}
 use Rattle.std.proofs.lemmas.List.Sums.{sum_by-cons, get_or-le-sum_by}
 use Rattle.sctp_send.specs.inner.Ordering.{key, before, AreInOrder, AreSmall, AreOrdered}
-use Rattle.sctp_send.specs.declared.ordered.Pair.{Pair}
+use Rattle.sctp_send.specs.declared.kept.ordered.Pair.{Pair}
 
 -- ---- where a number comes
 

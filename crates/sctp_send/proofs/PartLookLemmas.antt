@@ -4,8 +4,8 @@ use Rattle.std.specs.Prelude.{nat_lt}
 use Rattle.std.proofs.lemmas.Bool.Decides.{nat_tests}
 use Rattle.sctp_send.specs.inner.Ordering.{key, before, AreOrdered}
 use Rattle.sctp_send.specs.inner.PartPairs.{left_on, IsListed, IsFirstLeft}
-use Rattle.sctp_send.specs.declared.ordered.Pair.{Pair}
-use Rattle.sctp_send.specs.declared.part_lists.PartLists.{PartLists}
+use Rattle.sctp_send.specs.declared.kept.ordered.Pair.{Pair}
+use Rattle.sctp_send.specs.declared.kept.part_lists.PartLists.{PartLists}
 use Rattle.sctp_send.proofs.PairLemmas.{in_order, comes_before, comes_behind, is_small, pair_of}
 use Rattle.sctp_send.proofs.PartPairLemmas.{stream_listed, ticket_listed, stream_left, ticket_left_on}
 

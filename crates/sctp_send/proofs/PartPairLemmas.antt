@@ -6,8 +6,8 @@ use Rattle.std.proofs.lemmas.List.{length-map, get_or-map}
 use Rattle.std.proofs.lemmas.List.Sums.{sum_by-append, sum_by-cons, sum_by-insert, sum_by-remove}
 use Rattle.sctp_send.specs.inner.Ordering.{key, before, AreOrdered, OrderedKept}
 use Rattle.sctp_send.specs.inner.PartPairs.{left_on, pair_on, pairs_from, turned, AreSame, IsListed}
-use Rattle.sctp_send.specs.declared.ordered.Pair.{Pair}
-use Rattle.sctp_send.specs.declared.part_lists.PartLists.{PartLists}
+use Rattle.sctp_send.specs.declared.kept.ordered.Pair.{Pair}
+use Rattle.sctp_send.specs.declared.kept.part_lists.PartLists.{PartLists}
 use Rattle.sctp_send.proofs.PairLemmas.{in_order, before_below, comes_behind, is_small, among, pair_of, is_pair, same_pair, same_numbers, own_pair, some_counts}
 
 -- ---- one stream changes

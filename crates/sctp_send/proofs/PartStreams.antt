@@ -8,10 +8,10 @@ use Rattle.sctp_send.specs.SenderKept.{Track}
 use Rattle.sctp_send.specs.inner.Newcomers.{rest_at, has_rest, IsNextPart}
 use Rattle.sctp_send.specs.inner.PartPairs.{ticket_left, tickets_left, left_on, IsListed, IsStreamsOf, IsFirstLeft}
 use Rattle.sctp_send.specs.inner.Walks.{any_rest, rest_has, GoesOnAt}
-use Rattle.sctp_send.specs.declared.ordered.Pair.{Pair}
-use Rattle.sctp_send.specs.declared.part_lists.PartLists.{PartLists}
-use Rattle.sctp_send.specs.declared.track.Rest.{Rest as RestFields}
-use Rattle.sctp_send.specs.declared.track.Track.{Track as TrackFields}
+use Rattle.sctp_send.specs.declared.kept.ordered.Pair.{Pair}
+use Rattle.sctp_send.specs.declared.kept.part_lists.PartLists.{PartLists}
+use Rattle.sctp_send.specs.declared.kept.track.Rest.{Rest as RestFields}
+use Rattle.sctp_send.specs.declared.kept.track.Track.{Track as TrackFields}
 use Rattle.sctp_send.proofs.OwedLemmas.{fresh_fields, counted_fresh}
 
 -- ---- one stream

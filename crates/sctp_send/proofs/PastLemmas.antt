@@ -7,8 +7,8 @@ use Rattle.sctp_model.specs.sender.Abandoning.{has_ticket}
 use Rattle.sctp_send.specs.OutstandingFields.{item_meaning}
 use Rattle.sctp_send.specs.inner.Walks.{any_item}
 use Rattle.sctp_send.specs.inner.TicketOrder.{IsOrderOf, IsPlaceOf, ticket_of, tickets_of}
-use Rattle.sctp_send.specs.declared.by_ticket.Spot.{Spot}
-use Rattle.sctp_send.specs.declared.entry.Entry.{Entry as EntryFields}
+use Rattle.sctp_send.specs.declared.kept.by_ticket.Spot.{Spot}
+use Rattle.sctp_send.specs.declared.kept.entry.Entry.{Entry as EntryFields}
 use Rattle.sctp_send.proofs.TicketWalks.{WerePassed, all_passed, higher_left}
 
 none_item : (t size : ℕ) (es : List EntryFields) → ((n : ℕ) (e : EntryFields) → slice_get es n ≡ Some e → has_ticket t (item_meaning size e).message ≡ false) → any_item t (map (item_meaning size) es) ≡ false

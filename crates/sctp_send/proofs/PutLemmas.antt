@@ -22,7 +22,7 @@ use Rattle.sctp_send.specs.inner.Wishing.{first_place, is_item_marked, is_item_u
 use Rattle.sctp_send.specs.inner.Newcomers.{gone_item}
 use Rattle.sctp_send.specs.inner.Drafting.{numbers_of, drafted, fragment_chunk, item_chunk, went_out, IsPut, IsStopped, IsRefused, IsTried, PutAnswer, IsNextEntry, IsNextUnsent, NothingStands}
 use Rattle.sctp_send.specs.declared.draft.Draft.{Draft}
-use Rattle.sctp_send.specs.declared.entry.Entry.{Entry as EntryFields}
+use Rattle.sctp_send.specs.declared.kept.entry.Entry.{Entry as EntryFields}
 use Rattle.sctp_send.proofs.ItemLemmas.{item_read}
 use Rattle.sctp_send.proofs.WishLemmas.{wish_marked, wish_unsent, wish_new}
 use Rattle.sctp_send.proofs.GoneLemmas.{keeps_gone}

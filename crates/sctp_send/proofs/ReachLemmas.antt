@@ -22,8 +22,8 @@ use Rattle.sctp_send.specs.SenderKept.{Kept}
 use Rattle.sctp_send.specs.SenderStands.{Keeps}
 use Rattle.sctp_send.specs.OutstandingFields.{item_meaning, entries_of}
 use Rattle.sctp_send.specs.inner.Lanes.{passed_meaning, noted, noted_entry, forward_of_lanes}
-use Rattle.sctp_send.specs.declared.lanes.Passed.{Passed}
-use Rattle.sctp_send.specs.declared.entry.Entry.{Entry as EntryFields}
+use Rattle.sctp_send.specs.declared.forward.lanes.Passed.{Passed}
+use Rattle.sctp_send.specs.declared.kept.entry.Entry.{Entry as EntryFields}
 use Rattle.sctp_send.proofs.LaneLemmas.{skips_more, skips_longer, none_below}
 use Rattle.sctp_send.proofs.ForwardLemmas.{forward_size, is_passed, first_to}
 

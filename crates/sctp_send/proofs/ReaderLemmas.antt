@@ -16,8 +16,8 @@ use Rattle.sctp_model.proofs.sender.TicketLaws.{IsTicketed, is_ticketed, name_of
 use Rattle.sctp_send.specs.SenderKept.{Item, Kept}
 use Rattle.sctp_send.specs.SenderStands.{items_from, fate_here, fate_named, Keeps}
 use Rattle.sctp_send.specs.inner.Walks.{abandoned_items, any_unsettled, total, one_if_rest, is_abandoned_fate}
-use Rattle.sctp_send.specs.declared.message.Fate.{Fate}
-use Rattle.sctp_send.specs.declared.message.Fate.TheVariants.{Queued as StillQueued, Numbered, Abandoned as WasAbandoned}
+use Rattle.sctp_send.specs.declared.kept.message.Fate.{Fate}
+use Rattle.sctp_send.specs.declared.kept.message.Fate.TheVariants.{Queued as StillQueued, Numbered, Abandoned as WasAbandoned}
 use Rattle.sctp_send.proofs.KeepLemmas.{kept_length}
 use Rattle.sctp_send.proofs.QueueLemmas.{kept_in_part, fates_given}
 use Rattle.sctp_send.proofs.TableLemmas.{get_or-table, length-table}

@@ -12,10 +12,10 @@ use Rattle.sctp_send.specs.SenderStands.{item_here, items_from, Keeps}
 use Rattle.sctp_send.specs.CoveredRuns.{in_run, in_runs, AreCovered, runs_behind}
 use Rattle.sctp_send.specs.OutstandingFields.{is_marked, item_meaning}
 use Rattle.sctp_send.specs.inner.Changes.{unmarked, told, all_told, told_where, in_gaps, in_alone, IsExact}
-use Rattle.sctp_send.specs.declared.entry.CoveredRun.{CoveredRun}
-use Rattle.sctp_send.specs.declared.entry.Standing.{Standing}
-use Rattle.sctp_send.specs.declared.entry.Standing.TheVariants.{Unsent, Sent, Marked}
-use Rattle.sctp_send.specs.declared.entry.Entry.{Entry as EntryFields}
+use Rattle.sctp_send.specs.declared.kept.entry.CoveredRun.{CoveredRun}
+use Rattle.sctp_send.specs.declared.kept.entry.Standing.{Standing}
+use Rattle.sctp_send.specs.declared.kept.entry.Standing.TheVariants.{Unsent, Sent, Marked}
+use Rattle.sctp_send.specs.declared.kept.entry.Entry.{Entry as EntryFields}
 use Rattle.sctp_send.proofs.RunLemmas.{runs_more, order_behind, all_behind}
 use Rattle.sctp_send.proofs.KeepLemmas.{left_items}
 use Rattle.sctp_send.proofs.TellLemmas.{where_same, where_none, where_joined}

@@ -5,7 +5,7 @@ use Rattle.std.specs.declared.sync.Arc.{Arc}
 use Rattle.std.specs.declared.alloc.Global.{Global}
 use Rattle.sctp_send.specs.inner.Ordering.{AreInOrder}
 use Rattle.sctp_send.specs.inner.Seating.{ticket_in, DoTicketsRise, IsBetween}
-use Rattle.sctp_send.specs.declared.message.Message.{Message as MessageFields}
+use Rattle.sctp_send.specs.declared.kept.message.Message.{Message as MessageFields}
 use Rattle.sctp_send.proofs.PairLemmas.{order_from, no_lower}
 
 pub rise_in_order : (here : ℕ) (ms : List (Arc MessageFields Global)) → DoTicketsRise here ms → AreInOrder ticket_in here ms

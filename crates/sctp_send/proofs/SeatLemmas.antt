@@ -10,9 +10,9 @@ use Rattle.sctp_send.specs.SenderFields.{queued_by}
 use Rattle.sctp_send.specs.inner.Newcomers.{IsFirstOn}
 use Rattle.sctp_send.specs.inner.Ordering.{key, before, AreOrdered}
 use Rattle.sctp_send.specs.inner.Seating.{ticket_in, seat_of, DoTicketsRise, AreSeats, NextOnAnswer}
-use Rattle.sctp_send.specs.declared.message.Message.{Message as MessageFields}
-use Rattle.sctp_send.specs.declared.ordered.Pair.{Pair}
-use Rattle.sctp_send.specs.declared.seats.Found.{Found}
+use Rattle.sctp_send.specs.declared.kept.message.Message.{Message as MessageFields}
+use Rattle.sctp_send.specs.declared.kept.ordered.Pair.{Pair}
+use Rattle.sctp_send.specs.declared.kept.seats.Found.{Found}
 use Rattle.sctp_send.proofs.RiseLemmas.{rise_in_order, rises}
 use Rattle.sctp_send.proofs.PairLemmas.{in_order, before_below, comes_before, comes_behind, is_small, among, pair_of}
 use Rattle.sctp_send.proofs.WalkLemmas.{queue_read}

@@ -11,8 +11,8 @@ use Rattle.sctp_model.specs.sender.SenderView.{Queued}
 use Rattle.sctp_send.specs.SenderFields.{queued_by}
 use Rattle.sctp_send.specs.inner.Ordering.{key, before, AreOrdered}
 use Rattle.sctp_send.specs.inner.Seating.{ticket_in, seat_of, DoTicketsRise, IsBetween, AreLower, AreSeats, IsSeatedOf, IsQueueOf}
-use Rattle.sctp_send.specs.declared.message.Message.{Message as MessageFields}
-use Rattle.sctp_send.specs.declared.ordered.Pair.{Pair}
+use Rattle.sctp_send.specs.declared.kept.message.Message.{Message as MessageFields}
+use Rattle.sctp_send.specs.declared.kept.ordered.Pair.{Pair}
 use Rattle.sctp_send.proofs.PairLemmas.{in_order, before_below, comes_before, comes_behind, is_small, among, same_numbers}
 use Rattle.sctp_send.proofs.RiseLemmas.{rise_inserted, rise_removed}
 use Rattle.sctp_send.proofs.WithdrawLemmas.{walked_place}

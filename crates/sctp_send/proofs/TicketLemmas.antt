@@ -17,10 +17,10 @@ use Rattle.sctp_send.specs.OutstandingFields.{item_meaning}
 use Rattle.sctp_send.specs.SenderFields.{track_meaning}
 use Rattle.sctp_send.specs.SenderStands.{items_from, table, track_here, rest_here, fate_here, fate_named, Keeps}
 use Rattle.sctp_send.specs.inner.Walks.{is_numbered_fate, any_uncovered, is_item_uncovered, any_rest, rest_has}
-use Rattle.sctp_send.specs.declared.message.Fate.{Fate}
-use Rattle.sctp_send.specs.declared.message.Fate.TheVariants.{Queued as StillQueued, Numbered, Abandoned as WasAbandoned}
-use Rattle.sctp_send.specs.declared.entry.Entry.{Entry as EntryFields}
-use Rattle.sctp_send.specs.declared.track.Track.{Track as TrackFields}
+use Rattle.sctp_send.specs.declared.kept.message.Fate.{Fate}
+use Rattle.sctp_send.specs.declared.kept.message.Fate.TheVariants.{Queued as StillQueued, Numbered, Abandoned as WasAbandoned}
+use Rattle.sctp_send.specs.declared.kept.entry.Entry.{Entry as EntryFields}
+use Rattle.sctp_send.specs.declared.kept.track.Track.{Track as TrackFields}
 use Rattle.sctp_send.proofs.TableLemmas.{table-push}
 use Rattle.sctp_send.proofs.ItemLemmas.{item_read}
 use Rattle.sctp_send.proofs.ReaderLemmas.{fate_at}

@@ -10,13 +10,13 @@ use Rattle.sctp_send.specs.inner.Changes.{unmarked, given, all_given}
 use Rattle.sctp_send.specs.inner.Walks.{any_uncovered, is_item_uncovered}
 use Rattle.sctp_send.specs.inner.TicketOrder.{offset_of, AreRising, IsOrderOf, IsPlaceOf, IsInOrder, ticket_of, tickets_of}
 use Rattle.sctp_send.specs.inner.Counting.{IsCounted}
-use Rattle.sctp_send.specs.declared.by_ticket.Spot.{Spot}
-use Rattle.sctp_send.specs.declared.by_ticket.ByTicket.{ByTicket}
-use Rattle.sctp_send.specs.declared.counts.Counts.{Counts}
-use Rattle.sctp_send.specs.declared.entry.Standing.{Standing}
-use Rattle.sctp_send.specs.declared.stretches.Stretch.{Stretch}
-use Rattle.sctp_send.specs.declared.entry.Standing.TheVariants.{Unsent, Sent, Marked}
-use Rattle.sctp_send.specs.declared.entry.Entry.{Entry as EntryFields}
+use Rattle.sctp_send.specs.declared.kept.by_ticket.Spot.{Spot}
+use Rattle.sctp_send.specs.declared.kept.by_ticket.ByTicket.{ByTicket}
+use Rattle.sctp_send.specs.declared.kept.counts.Counts.{Counts}
+use Rattle.sctp_send.specs.declared.kept.entry.Standing.{Standing}
+use Rattle.sctp_send.specs.declared.kept.stretches.Stretch.{Stretch}
+use Rattle.sctp_send.specs.declared.kept.entry.Standing.TheVariants.{Unsent, Sent, Marked}
+use Rattle.sctp_send.specs.declared.kept.entry.Entry.{Entry as EntryFields}
 use Rattle.sctp_send.proofs.ListParts.{has_at, at_same, here_first, taken_has, dropped_has, front_or_back, taken_one, order_back, halves}
 use Rattle.sctp_send.proofs.OrderLemmas.{before_is, is_before, get_within}
 

@@ -12,10 +12,10 @@ use Rattle.sctp_send.specs.inner.Drafting.{counted_track, left_track}
 use Rattle.sctp_send.specs.inner.PartPairs.{ticket_left, tickets_left, IsListed, IsStreamsOf}
 use Rattle.sctp_send.specs.inner.Undoing.{count_of, counted_to}
 use Rattle.sctp_send.specs.inner.Walks.{total, one_if_rest, rest_owes}
-use Rattle.sctp_send.specs.declared.message.Message.{Message as MessageFields}
-use Rattle.sctp_send.specs.declared.part_lists.PartLists.{PartLists}
-use Rattle.sctp_send.specs.declared.track.Rest.{Rest as RestFields}
-use Rattle.sctp_send.specs.declared.track.Track.{Track as TrackFields}
+use Rattle.sctp_send.specs.declared.kept.message.Message.{Message as MessageFields}
+use Rattle.sctp_send.specs.declared.kept.part_lists.PartLists.{PartLists}
+use Rattle.sctp_send.specs.declared.kept.track.Rest.{Rest as RestFields}
+use Rattle.sctp_send.specs.declared.kept.track.Track.{Track as TrackFields}
 
 -- how many messages of a kind have a number, as it was read
 pub count_read : (size : ℕ) (k : Kind) (t : TrackFields) → number_in (kind_meaning k) (track_meaning size t) ≡ count_of k t

@@ -5,8 +5,8 @@ use Rattle.std.proofs.lemmas.Option.{get_or_from_slice_get}
 use Rattle.sctp_send.specs.SenderKept.{Track}
 use Rattle.sctp_send.specs.SenderFields.{track_meaning, ending_meaning, endings_meaning}
 use Rattle.sctp_send.specs.inner.Walks.{rest_has, GoesOnAt, EndsAt}
-use Rattle.sctp_send.specs.declared.track.Ending.{Ending as EndingFields}
-use Rattle.sctp_send.specs.declared.track.Track.{Track as TrackFields}
+use Rattle.sctp_send.specs.declared.kept.track.Ending.{Ending as EndingFields}
+use Rattle.sctp_send.specs.declared.kept.track.Track.{Track as TrackFields}
 use Rattle.sctp_send.proofs.WalkLemmas.{track_read}
 
 pub rest_taken : (size t at : ℕ) (ts : List TrackFields) (x : TrackFields) (o : Option EndingFields) → x ≡ get_or ts at x → GoesOnAt t at (map (track_meaning size) ts) → endings_meaning size o ≡ (track_meaning size x).rest

@@ -18,8 +18,8 @@ use Rattle.sctp_send.specs.inner.Newcomers.{rest_at, has_rest, fresh_track, with
 use Rattle.sctp_send.specs.inner.Drafting.{TurnAnswer, NewAnswer}
 use Rattle.sctp_send.specs.SenderKept.{Track, Kept}
 use Rattle.sctp_send.specs.SenderStands.{rest_here, track_here, Keeps}
-use Rattle.sctp_send.specs.declared.assigning.Next.{Next}
-use Rattle.sctp_send.specs.declared.assigning.Next.TheVariants.{Begins, Continues}
+use Rattle.sctp_send.specs.declared.fill.assigning.Next.{Next}
+use Rattle.sctp_send.specs.declared.fill.assigning.Next.TheVariants.{Begins, Continues}
 use Rattle.sctp_send.proofs.TableLemmas.{length-table}
 use Rattle.sctp_send.proofs.AssignLemmas.{track_at}
 use Rattle.sctp_send.proofs.WalkLemmas.{none_behind}

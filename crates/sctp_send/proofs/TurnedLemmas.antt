@@ -10,8 +10,8 @@ use Rattle.sctp_send.specs.inner.Stretching.{IsPlain, entry_bytes, AreAlike, tol
 use Rattle.sctp_send.specs.inner.TicketOrder.{tickets_of}
 use Rattle.sctp_send.specs.inner.Walks.{abandoned_items, is_item_unsettled}
 use Rattle.sctp_send.specs.inner.Wishing.{first_place, is_item_marked, is_item_unsent, item_weight, item_flight}
-use Rattle.sctp_send.specs.declared.counts.Counts.{Counts}
-use Rattle.sctp_send.specs.declared.entry.Entry.{Entry as EntryFields}
+use Rattle.sctp_send.specs.declared.kept.counts.Counts.{Counts}
+use Rattle.sctp_send.specs.declared.kept.entry.Entry.{Entry as EntryFields}
 use Rattle.sctp_send.proofs.StretchLemmas.{length-told_run}
 
 -- ---- a plain entry

@@ -12,10 +12,10 @@ use Rattle.sctp_send.specs.SenderFields.{queued_by, track_meaning}
 use Rattle.sctp_send.specs.inner.Walks.{any_item, rest_has, GoesOnAt}
 use Rattle.sctp_send.specs.inner.Seating.{ticket_in, AreLower}
 use Rattle.sctp_send.specs.inner.Dues.{IsItemUntil, IsRestUntil, until_left}
-use Rattle.sctp_send.specs.declared.message.Message.{Message as MessageFields}
-use Rattle.sctp_send.specs.declared.entry.Entry.{Entry as EntryFields}
-use Rattle.sctp_send.specs.declared.track.Track.{Track as TrackFields}
-use Rattle.sctp_send.specs.declared.track.Rest.{Rest as RestFields}
+use Rattle.sctp_send.specs.declared.kept.message.Message.{Message as MessageFields}
+use Rattle.sctp_send.specs.declared.kept.entry.Entry.{Entry as EntryFields}
+use Rattle.sctp_send.specs.declared.kept.track.Track.{Track as TrackFields}
+use Rattle.sctp_send.specs.declared.kept.track.Rest.{Rest as RestFields}
 
 -- ---- among those that wait
 

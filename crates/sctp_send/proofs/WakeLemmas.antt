@@ -6,8 +6,8 @@ use Rattle.sctp_model.specs.sender.Words.{when}
 use Rattle.sctp_model.specs.wire.Chunk.{BlockMeaning}
 use Rattle.sctp_model.specs.messages.Acknowledgement.{in_blocks}
 use Rattle.sctp_send.specs.CoveredRuns.{in_run, in_runs, run_behind, runs_behind, AreCovered}
-use Rattle.sctp_send.specs.declared.entry.CoveredRun.{CoveredRun}
-use Rattle.sctp_send.specs.declared.entry.Entry.{Entry as EntryFields}
+use Rattle.sctp_send.specs.declared.kept.entry.CoveredRun.{CoveredRun}
+use Rattle.sctp_send.specs.declared.kept.entry.Entry.{Entry as EntryFields}
 use Rattle.sctp_send.specs.inner.Dues.{due_at, until_of, AreWoken, is_in_block, LieIn}
 use Rattle.sctp_send.proofs.RunLemmas.{all_behind}
 

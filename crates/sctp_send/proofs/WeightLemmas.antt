@@ -12,9 +12,9 @@ use Rattle.sctp_send.specs.inner.Wishing.{item_bytes, item_weight, item_flight}
 use Rattle.sctp_send.specs.inner.Walks.{is_item_unsettled, any_unsettled}
 use Rattle.sctp_send.specs.inner.Newcomers.{one_if}
 use Rattle.sctp_send.specs.inner.Counting.{count_unsettled}
-use Rattle.sctp_send.specs.declared.entry.Place.{Place}
-use Rattle.sctp_send.specs.declared.entry.Place.TheVariants.{Fragment, EndMark}
-use Rattle.sctp_send.specs.declared.entry.Entry.{Entry as EntryFields}
+use Rattle.sctp_send.specs.declared.kept.entry.Place.{Place}
+use Rattle.sctp_send.specs.declared.kept.entry.Place.TheVariants.{Fragment, EndMark}
+use Rattle.sctp_send.specs.declared.kept.entry.Entry.{Entry as EntryFields}
 use Rattle.sctp_send.proofs.ChunkLemmas.{fragment_is}
 
 -- ---- bytes in flight

@@ -16,8 +16,8 @@ use Rattle.sctp_send.specs.SenderKept.{Kept}
 use Rattle.sctp_send.specs.PartsKept.{QueueKept}
 use Rattle.sctp_send.specs.SenderFields.{queued_by}
 use Rattle.sctp_send.specs.SenderStands.{table, fate_here, fate_named, Keeps}
-use Rattle.sctp_send.specs.declared.message.Message.{Message as MessageFields}
-use Rattle.sctp_send.specs.declared.message.Fate.TheVariants.{Queued as StillQueued, Withdrawn}
+use Rattle.sctp_send.specs.declared.kept.message.Message.{Message as MessageFields}
+use Rattle.sctp_send.specs.declared.kept.message.Fate.TheVariants.{Queued as StillQueued, Withdrawn}
 use Rattle.sctp_send.proofs.TableLemmas.{table-set}
 use Rattle.sctp_send.proofs.OverLemmas.{not_waiting_without}
 use Rattle.sctp_send.proofs.DueLemmas.{late_without}

@@ -2,7 +2,7 @@
 use Rattle.std.specs.Prelude.{◌≡◌, ℕ, ◌+◌, ◌-◌, ◌<◌, ◌≤◌, nat_lt, nat_le, Bool, false, ◌&&◌, ◌||◌, List, [], ◌∷◌, map, drop, Option, None, Some}
 use Rattle.sctp_model.specs.wire.Chunk.{BlockMeaning}
 use Rattle.sctp_model.specs.messages.Acknowledgement.{in_blocks}
-use Rattle.sctp_send.specs.declared.entry.CoveredRun.{CoveredRun}
+use Rattle.sctp_send.specs.declared.kept.entry.CoveredRun.{CoveredRun}
 
 -- an offset above CUM lies in the run
 abbrev pub in_run : CoveredRun → (offset : ℕ) → Bool

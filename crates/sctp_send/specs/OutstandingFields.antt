@@ -7,12 +7,12 @@ use Rattle.sctp_model.specs.sender.Queueing.{cut}
 use Rattle.sctp_values.specs.Meanings.{kind_meaning}
 use Rattle.sctp_values.specs.declared.kind.Kind.{Kind}
 use Rattle.sctp_send.specs.SenderKept.{Item}
-use Rattle.sctp_send.specs.declared.message.Message.{Message as MessageFields}
-use Rattle.sctp_send.specs.declared.entry.Standing.{Standing}
-use Rattle.sctp_send.specs.declared.entry.Standing.TheVariants.{Unsent, Sent, Marked}
-use Rattle.sctp_send.specs.declared.entry.Place.{Place}
-use Rattle.sctp_send.specs.declared.entry.Place.TheVariants.{Fragment, EndMark}
-use Rattle.sctp_send.specs.declared.entry.Entry.{Entry as EntryFields}
+use Rattle.sctp_send.specs.declared.kept.message.Message.{Message as MessageFields}
+use Rattle.sctp_send.specs.declared.kept.entry.Standing.{Standing}
+use Rattle.sctp_send.specs.declared.kept.entry.Standing.TheVariants.{Unsent, Sent, Marked}
+use Rattle.sctp_send.specs.declared.kept.entry.Place.{Place}
+use Rattle.sctp_send.specs.declared.kept.entry.Place.TheVariants.{Fragment, EndMark}
+use Rattle.sctp_send.specs.declared.kept.entry.Entry.{Entry as EntryFields}
 
 -- the entry went out at least once
 abbrev pub was_sent : Standing → Bool

@@ -8,10 +8,10 @@ use Rattle.sctp_model.specs.sender.SenderView.{Queued}
 use Rattle.sctp_values.specs.Meanings.{kind_meaning}
 use Rattle.sctp_send.specs.SenderKept.{Rest, Track}
 use Rattle.sctp_send.specs.OutstandingFields.{lane_meaning, message_meaning, queued_meaning}
-use Rattle.sctp_send.specs.declared.message.Message.{Message as MessageFields}
-use Rattle.sctp_send.specs.declared.track.Ending.{Ending as EndingFields}
-use Rattle.sctp_send.specs.declared.track.Rest.{Rest as RestFields}
-use Rattle.sctp_send.specs.declared.track.Track.{Track as TrackFields}
+use Rattle.sctp_send.specs.declared.kept.message.Message.{Message as MessageFields}
+use Rattle.sctp_send.specs.declared.kept.track.Ending.{Ending as EndingFields}
+use Rattle.sctp_send.specs.declared.kept.track.Rest.{Rest as RestFields}
+use Rattle.sctp_send.specs.declared.kept.track.Track.{Track as TrackFields}
 
 -- a message that waits
 abbrev pub queued_by : ℕ → Arc MessageFields Global → Queued

@@ -2,8 +2,8 @@
 use Rattle.std.specs.Prelude.{ℕ, Bool, List, Option}
 use Rattle.sctp_model.specs.messages.Plan.{Message, Entry}
 use Rattle.sctp_model.specs.sender.SenderView.{Queued}
-use Rattle.sctp_send.specs.declared.message.Fate.{Fate}
-use Rattle.sctp_send.specs.declared.entry.CoveredRun.{CoveredRun}
+use Rattle.sctp_send.specs.declared.kept.message.Fate.{Fate}
+use Rattle.sctp_send.specs.declared.kept.entry.CoveredRun.{CoveredRun}
 
 -- what is kept of one index above CUM
 pub record Item : Type 0 where

@@ -10,8 +10,8 @@ use Rattle.sctp_send.specs.SenderKept.{Item, Rest, Track, Kept}
 use Rattle.sctp_send.specs.CoveredRuns.{AreCovered}
 use Rattle.sctp_send.specs.inner.Walks.{any_item, any_rest}
 use Rattle.sctp_send.specs.inner.Dues.{AreDue}
-use Rattle.sctp_send.specs.declared.message.Fate.{Fate}
-use Rattle.sctp_send.specs.declared.message.Fate.TheVariants.{Queued as StillQueued, Numbered, Withdrawn, Abandoned as WasAbandoned}
+use Rattle.sctp_send.specs.declared.kept.message.Fate.{Fate}
+use Rattle.sctp_send.specs.declared.kept.message.Fate.TheVariants.{Queued as StillQueued, Numbered, Withdrawn, Abandoned as WasAbandoned}
 
 -- what a function answers at n numbers from i on
 abbrev pub table : {A : Type 0} → (ℕ → A) → ℕ → ℕ → List A

@@ -1,5 +1,8 @@
 //! Messages that are abandoned (RFC 3758, 3.5; RFC 8260, 2.3.1).
 
+pub mod expire;
+pub mod moments;
+
 ghost use Rattle.std.specs.Prelude.{◌≡◌, ℕ, ◌<◌, ◌≤◌, ◌+◌, [], ◌∷◌, ◌++◌, true, false, List, length, map, take, drop, set, IfSome, IfNone};
 ghost use Rattle.sctp_send.specs.PartsKept.{IsSameRoom};
 ghost use Rattle.sctp_model.specs.sender.SenderView.{SenderView};
@@ -10,14 +13,14 @@ ghost use Rattle.sctp_send.specs.SenderStands.{StandsFor, fate_here};
 ghost use Rattle.sctp_send.specs.inner.Walks.{is_numbered_fate, any_rest, end_item, EndsAt};
 ghost use Rattle.sctp_send.specs.SenderAnswers.{answer_meaning, answer_code};
 
-use crate::entry::{Entry, Place, Standing};
-use crate::message::Fate;
-use crate::outstanding::Outstanding;
-use crate::queue::Queue;
+use crate::kept::entry::{Entry, Place, Standing};
+use crate::kept::message::Fate;
+use crate::kept::outstanding::Outstanding;
+use crate::kept::queue::Queue;
+use crate::kept::streams::Streams;
+use crate::kept::track::{Ending, Track, ending_of};
 use crate::readers::is_all_covered;
 use crate::sender::Sender;
-use crate::streams::Streams;
-use crate::track::{Ending, Track, ending_of};
 use sctp_framing::Framing;
 use sctp_values::Ticket;
 

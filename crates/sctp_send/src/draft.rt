@@ -6,12 +6,12 @@ ghost use Rattle.sctp_send.specs.PartsKept.{at_place, changed};
 ghost use Rattle.sctp_send.specs.inner.Undoing.{parts_of, undone, origin, stands_so, waits_again, counted_to, IsKeptRoom};
 ghost use Rattle.sctp_send.specs.declared.draft.Change.TheVariants.{Begun};
 
-use crate::entry::{Entry, Standing};
-use crate::message::Message;
-use crate::outstanding::Outstanding;
-use crate::queue::Queue;
-use crate::streams::Streams;
-use crate::track::Track;
+use crate::kept::entry::{Entry, Standing};
+use crate::kept::message::Message;
+use crate::kept::outstanding::Outstanding;
+use crate::kept::queue::Queue;
+use crate::kept::streams::Streams;
+use crate::kept::track::Track;
 use sctp_values::{Kind, Ticket};
 use std::sync::Arc;
 

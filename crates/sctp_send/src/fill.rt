@@ -1,5 +1,11 @@
 //! What goes into a packet (RFC 9260, 6.1 and 6.3.3; RFC 8260, 2.2).
 
+pub mod assigning;
+pub mod entering;
+pub mod indexed;
+pub mod pushing;
+pub mod putting;
+
 ghost use Rattle.std.specs.Prelude.{◌≡◌, [], IfOk, OnErr, OnOk};
 ghost use Rattle.sctp_model.specs.sender.SenderView.{SenderView};
 ghost use Rattle.sctp_send.specs.SenderStands.{StandsFor, Keeps};
@@ -8,9 +14,9 @@ ghost use Rattle.sctp_send.specs.inner.Drafting.{bare, numbers_of, all_numbered,
 ghost use Rattle.sctp_send.specs.inner.Undoing.{IsSized, IsBehind};
 
 use crate::draft::{Draft, begin_anew, forget_changes, undo_all};
-use crate::fates::Fates;
 use crate::head::Head;
-use crate::message::Fate;
+use crate::kept::fates::Fates;
+use crate::kept::message::Fate;
 use crate::sender::Sender;
 use sctp_framing::Framing;
 use sctp_packet::PacketWriter;

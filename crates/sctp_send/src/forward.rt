@@ -1,5 +1,7 @@
 //! How far the point went is told to the peer: FORWARD-TSN and I-FORWARD-TSN (RFC 3758, 3.5; RFC 8260, 2.3.1).
 
+pub mod lanes;
+
 ghost use Rattle.std.specs.Prelude.{◌≡◌, ℕ, ◌+◌, ◌*◌, ◌≤◌, ◌&&◌, true, [], length, map, take, nat_lt, IfOk, OnErr};
 ghost use Rattle.std.specs.List.{AllByRecursion};
 ghost use Rattle.sctp_model.specs.numbers.Limits.{LEAST_PACKET, GREATEST_PACKET};
@@ -15,8 +17,8 @@ ghost use Rattle.sctp_send.specs.SenderKept.{Kept};
 ghost use Rattle.sctp_send.specs.SenderStands.{StandsFor, Keeps};
 ghost use Rattle.sctp_send.specs.inner.Lanes.{passed_meaning, forward_of_lanes};
 
-use crate::lanes::{Lanes, Passed, list_of, note_first};
-use crate::outstanding::Outstanding;
+use crate::forward::lanes::{Lanes, Passed, list_of, note_first};
+use crate::kept::outstanding::Outstanding;
 use crate::readers::abandoned_run;
 use crate::sender::Sender;
 use arrayvec::ArrayVec;

@@ -1,9 +1,9 @@
 //! What of a sender a fill leaves as it is, but for the fates that it tells of in the end.
 
-use crate::dues::Dues;
-use crate::entry::CoveredRun;
-use crate::fates::Fates;
-use crate::message::Message;
+use crate::kept::dues::Dues;
+use crate::kept::entry::CoveredRun;
+use crate::kept::fates::Fates;
+use crate::kept::message::Message;
 use std::alloc::Global;
 use std::sync::Arc;
 

@@ -10,13 +10,13 @@ ghost use Rattle.sctp_send.specs.declared.queueing.SendFault.TheVariants.{NoMemo
 ghost use Rattle.sctp_send.specs.SenderStands.{StandsFor};
 ghost use Rattle.sctp_send.specs.SenderAnswers.{QueueAnswer, queue_after, lane_for};
 
-use crate::dues::Dues;
-use crate::fates::Fates;
-use crate::message::{Fate, Message, fragments_of, owed, placed};
-use crate::outstanding::Outstanding;
-use crate::queue::Queue;
+use crate::kept::dues::Dues;
+use crate::kept::fates::Fates;
+use crate::kept::message::{Fate, Message, fragments_of, owed, placed};
+use crate::kept::outstanding::Outstanding;
+use crate::kept::queue::Queue;
+use crate::kept::streams::Streams;
 use crate::sender::Sender;
-use crate::streams::Streams;
 use sctp_framing::Framing;
 use sctp_values::{Kind, LONGEST_MESSAGE, NoMemory, QUEUE_LIMIT, TICKET_LIMIT, TSN_LIMIT, Ticket};
 use std::alloc::Global;

@@ -10,10 +10,10 @@ ghost use Rattle.sctp_send.specs.SenderStands.{StandsFor};
 ghost use Rattle.sctp_send.specs.Waiting.{queued_bytes};
 ghost use Rattle.sctp_send.specs.inner.Walks.{total, one_if_rest, abandoned_items, any_unsettled, is_item_unsettled, is_abandoned_fate, is_numbered_fate, any_uncovered, any_rest};
 
-use crate::message::Fate;
-use crate::outstanding::Outstanding;
+use crate::kept::message::Fate;
+use crate::kept::outstanding::Outstanding;
+use crate::kept::streams::Streams;
 use crate::sender::Sender;
-use crate::streams::Streams;
 use sctp_framing::Framing;
 use sctp_values::Ticket;
 

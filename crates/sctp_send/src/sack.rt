@@ -1,5 +1,10 @@
 //! SACKs and SHUTDOWNs that come (RFC 9260, 6.2.1 and 9.2).
 
+pub mod covered;
+pub mod settling;
+pub mod telling;
+pub mod waking;
+
 ghost use Rattle.std.specs.Prelude.{◌≡◌, ◌≤◌, length, IfOk};
 ghost use Rattle.sctp_model.specs.sender.SenderView.{SenderView};
 ghost use Rattle.sctp_model.specs.sender.SackTaken.{some_is_bad, some_ends_past, sack_fault, sack_after, shutdown_fault, shutdown_after};
@@ -9,10 +14,10 @@ ghost use Rattle.sctp_send.specs.SenderStands.{StandsFor};
 ghost use Rattle.sctp_send.specs.SenderAnswers.{reason_meaning};
 ghost use Rattle.sctp_send.specs.inner.Acknowledging.{PassingAnswer};
 
-use crate::covered::cover_blocks;
+use crate::sack::covered::cover_blocks;
+use crate::sack::settling::{forget, mark_unsettled, move_on};
+use crate::sack::waking::wake_for;
 use crate::sender::Sender;
-use crate::settling::{forget, mark_unsettled, move_on};
-use crate::waking::wake_for;
 use sctp_framing::Framing;
 use sctp_serial::{S32, Serial, tsn_of};
 use sctp_wire::{Blocks, Sack};

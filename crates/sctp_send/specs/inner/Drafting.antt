@@ -19,18 +19,18 @@ use Rattle.sctp_send.specs.SenderStands.{Keeps}
 use Rattle.sctp_send.specs.OutstandingFields.{was_sent, is_marked, item_meaning, lane_meaning, message_meaning, entry_meaning}
 use Rattle.sctp_send.specs.SenderFields.{queued_by, track_meaning}
 use Rattle.sctp_send.specs.inner.Newcomers.{counted_in, IsBegun, IsContinued, IsTurnBegun, IsTurnContinued}
-use Rattle.sctp_send.specs.declared.assigning.Next.{Next}
-use Rattle.sctp_send.specs.declared.assigning.Next.TheVariants.{Begins, Continues}
+use Rattle.sctp_send.specs.declared.fill.assigning.Next.{Next}
+use Rattle.sctp_send.specs.declared.fill.assigning.Next.TheVariants.{Begins, Continues}
 use Rattle.sctp_send.specs.declared.draft.Draft.{Draft}
 use Rattle.sctp_send.specs.declared.head.Head.{Head}
-use Rattle.sctp_send.specs.declared.message.Fate.{Fate}
-use Rattle.sctp_send.specs.declared.message.Fate.TheVariants.{Numbered}
+use Rattle.sctp_send.specs.declared.kept.message.Fate.{Fate}
+use Rattle.sctp_send.specs.declared.kept.message.Fate.TheVariants.{Numbered}
 use Rattle.sctp_values.specs.declared.ticket.Ticket.{Ticket}
-use Rattle.sctp_send.specs.declared.message.Message.{Message as MessageFields}
-use Rattle.sctp_send.specs.declared.entry.Place.{Place}
-use Rattle.sctp_send.specs.declared.entry.Standing.{Standing}
-use Rattle.sctp_send.specs.declared.entry.Standing.TheVariants.{Sent}
-use Rattle.sctp_send.specs.declared.entry.Entry.{Entry as EntryFields}
+use Rattle.sctp_send.specs.declared.kept.message.Message.{Message as MessageFields}
+use Rattle.sctp_send.specs.declared.kept.entry.Place.{Place}
+use Rattle.sctp_send.specs.declared.kept.entry.Standing.{Standing}
+use Rattle.sctp_send.specs.declared.kept.entry.Standing.TheVariants.{Sent}
+use Rattle.sctp_send.specs.declared.kept.entry.Entry.{Entry as EntryFields}
 
 -- ---- what a draft keeps
 

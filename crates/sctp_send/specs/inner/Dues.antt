@@ -13,11 +13,11 @@ use Rattle.sctp_send.specs.inner.Expiring.{queue_messages, rest_message, rest_me
 use Rattle.sctp_model.specs.wire.Chunk.{BlockMeaning}
 use Rattle.sctp_model.specs.messages.Acknowledgement.{in_blocks}
 use Rattle.sctp_send.specs.CoveredRuns.{in_runs, runs_behind}
-use Rattle.sctp_send.specs.declared.entry.CoveredRun.{CoveredRun}
+use Rattle.sctp_send.specs.declared.kept.entry.CoveredRun.{CoveredRun}
 use Rattle.sctp_send.specs.inner.Walks.{any_item, any_rest}
-use Rattle.sctp_send.specs.declared.message.Message.{Message as MessageFields}
-use Rattle.sctp_send.specs.declared.entry.Entry.{Entry as EntryFields}
-use Rattle.sctp_send.specs.declared.track.Rest.{Rest as RestFields}
+use Rattle.sctp_send.specs.declared.kept.message.Message.{Message as MessageFields}
+use Rattle.sctp_send.specs.declared.kept.entry.Entry.{Entry as EntryFields}
+use Rattle.sctp_send.specs.declared.kept.track.Rest.{Rest as RestFields}
 
 -- ---- the moment of a ticket
 

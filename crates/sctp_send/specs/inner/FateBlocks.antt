@@ -1,9 +1,9 @@
 -- Fates by ticket: of a block of tickets that ended alike for good, one; and else one for each.
 use Rattle.std.specs.Prelude.{◌≡◌, ℕ, ◌+◌, ◌*◌, ◌^◌, ◌<◌, ◌≤◌, Bool, false, ◌||◌, List, [], ◌∷◌, ◌++◌, length, take, drop, replicate}
 use Rattle.sctp_send.specs.inner.Walks.{is_queued_fate}
-use Rattle.sctp_send.specs.declared.message.Fate.{Fate}
-use Rattle.sctp_send.specs.declared.blocks.Block.{Block}
-use Rattle.sctp_send.specs.declared.blocks.Block.TheVariants.{Alike, Each}
+use Rattle.sctp_send.specs.declared.kept.message.Fate.{Fate}
+use Rattle.sctp_send.specs.declared.kept.blocks.Block.{Block}
+use Rattle.sctp_send.specs.declared.kept.blocks.Block.TheVariants.{Alike, Each}
 
 -- some message waits for its number
 abbrev pub any_queued : List Fate → Bool

@@ -8,7 +8,7 @@ use Rattle.sctp_model.specs.sender.Entries.{entry_lane, entry_number}
 use Rattle.sctp_model.specs.sender.SentChunks.{skip_said}
 use Rattle.sctp_model.specs.wire.Chunk.{ChunkMeaning}
 use Rattle.sctp_send.specs.OutstandingFields.{lane_of}
-use Rattle.sctp_send.specs.declared.lanes.Passed.{Passed}
+use Rattle.sctp_send.specs.declared.forward.lanes.Passed.{Passed}
 
 -- the ordered lane of a stream comes first
 abbrev pub kind_key : Kind → ℕ

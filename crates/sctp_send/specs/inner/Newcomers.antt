@@ -8,7 +8,7 @@ use Rattle.sctp_model.specs.sender.Words.{when}
 use Rattle.sctp_model.specs.sender.Entries.{fragments_in, continued}
 use Rattle.sctp_model.specs.sender.Assigning.{with_message, is_on, first_on, without_first, stream_after, going_on, beginning, turn_of, assigned}
 use Rattle.sctp_send.specs.SenderKept.{Item, Rest, Track, Kept}
-use Rattle.sctp_send.specs.declared.message.Fate.TheVariants.{Numbered}
+use Rattle.sctp_send.specs.declared.kept.message.Fate.TheVariants.{Numbered}
 
 -- ---- items
 

@@ -1,6 +1,6 @@
 -- What stands in rising order, by a number that each element has; and pairs of numbers: by the first, then by the second.
 use Rattle.std.specs.Prelude.{ℕ, suc, ◌+◌, ◌*◌, ◌^◌, ◌<◌, ◌≤◌, nat_lt, if◌then◌else◌, List, [], ◌∷◌}
-use Rattle.sctp_send.specs.declared.ordered.Pair.{Pair}
+use Rattle.sctp_send.specs.declared.kept.ordered.Pair.{Pair}
 
 -- The elements stand in order, the first one no lower than here.
 abbrev pub AreInOrder : {A : Type 0} → (number : A → ℕ) → (here : ℕ) → List A → Type 0

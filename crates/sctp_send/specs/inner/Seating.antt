@@ -7,9 +7,9 @@ use Rattle.sctp_model.specs.sender.SenderView.{Queued}
 use Rattle.sctp_model.specs.sender.Assigning.{first_on}
 use Rattle.sctp_send.specs.inner.Counting.{IsOwedOf}
 use Rattle.sctp_send.specs.inner.Newcomers.{IsFirstOn}
-use Rattle.sctp_send.specs.declared.message.Message.{Message as MessageFields}
-use Rattle.sctp_send.specs.declared.ordered.Pair.{Pair}
-use Rattle.sctp_send.specs.declared.seats.Found.{Found}
+use Rattle.sctp_send.specs.declared.kept.message.Message.{Message as MessageFields}
+use Rattle.sctp_send.specs.declared.kept.ordered.Pair.{Pair}
+use Rattle.sctp_send.specs.declared.kept.seats.Found.{Found}
 
 -- a message's ticket
 abbrev pub ticket_in : Arc MessageFields Global → ℕ

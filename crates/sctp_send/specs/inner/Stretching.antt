@@ -3,10 +3,10 @@ use Rattle.std.specs.Prelude.{◌≡◌, ℕ, zero, suc, ◌+◌, ◌-◌, ◌/�
 use Rattle.sctp_send.specs.OutstandingFields.{item_meaning}
 use Rattle.sctp_send.specs.inner.Wishing.{item_bytes}
 use Rattle.sctp_send.specs.inner.Changes.{told}
-use Rattle.sctp_send.specs.declared.counts.Counts.{Counts}
-use Rattle.sctp_send.specs.declared.entry.Entry.{Entry as EntryFields}
-use Rattle.sctp_send.specs.declared.entry.Standing.TheVariants.{Sent}
-use Rattle.sctp_send.specs.declared.stretches.Stretch.{Stretch}
+use Rattle.sctp_send.specs.declared.kept.counts.Counts.{Counts}
+use Rattle.sctp_send.specs.declared.kept.entry.Entry.{Entry as EntryFields}
+use Rattle.sctp_send.specs.declared.kept.entry.Standing.TheVariants.{Sent}
+use Rattle.sctp_send.specs.declared.kept.stretches.Stretch.{Stretch}
 
 -- The entry went out and doesn't wait to be repeated, it is covered or not, and isn't abandoned.
 pub record IsPlain (covered : Bool) (e : EntryFields) : Type 0 where

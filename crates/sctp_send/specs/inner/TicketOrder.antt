@@ -2,13 +2,13 @@
 use Rattle.std.specs.Prelude.{◌≡◌, ℕ, ◌+◌, ◌-◌, ◌%◌, ◌^◌, ◌<◌, ◌≤◌, nat_lt, ◌==◌, ◌&&◌, ◌||◌, Bool, true, List, ◌∷◌, ◌++◌, length, take, drop, slice_get, Some, map}
 use Rattle.std.specs.VecDeque.{deque_capacity}
 use Rattle.sctp_model.specs.numbers.Lists.{Has, AreInOrder}
-use Rattle.sctp_send.specs.declared.by_ticket.Spot.{Spot}
-use Rattle.sctp_send.specs.declared.by_ticket.ByTicket.{ByTicket}
-use Rattle.sctp_send.specs.declared.counts.Counts.{Counts}
-use Rattle.sctp_send.specs.declared.entry.Entry.{Entry as EntryFields}
+use Rattle.sctp_send.specs.declared.kept.by_ticket.Spot.{Spot}
+use Rattle.sctp_send.specs.declared.kept.by_ticket.ByTicket.{ByTicket}
+use Rattle.sctp_send.specs.declared.kept.counts.Counts.{Counts}
+use Rattle.sctp_send.specs.declared.kept.entry.Entry.{Entry as EntryFields}
 use Rattle.sctp_send.specs.inner.Counting.{IsCounted}
 use Rattle.sctp_send.specs.inner.Stretching.{AreKnown}
-use Rattle.sctp_send.specs.declared.stretches.Stretch.{Stretch}
+use Rattle.sctp_send.specs.declared.kept.stretches.Stretch.{Stretch}
 
 -- the offset of a spot's entry, where the first entry has this index
 abbrev pub offset_of : (first : ℕ) → Spot → ℕ

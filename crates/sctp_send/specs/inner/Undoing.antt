@@ -7,13 +7,13 @@ use Rattle.sctp_send.specs.PartsKept.{at_place}
 use Rattle.sctp_send.specs.declared.draft.Change.{Change}
 use Rattle.sctp_send.specs.declared.draft.Change.TheVariants.{Out, Begun, Left, Continued}
 use Rattle.sctp_send.specs.declared.draft.Draft.{Draft}
-use Rattle.sctp_send.specs.declared.message.Message.{Message}
-use Rattle.sctp_send.specs.declared.entry.Entry.{Entry as EntryFields}
-use Rattle.sctp_send.specs.declared.entry.Standing.{Standing}
-use Rattle.sctp_send.specs.declared.entry.Place.TheVariants.{Fragment}
+use Rattle.sctp_send.specs.declared.kept.message.Message.{Message}
+use Rattle.sctp_send.specs.declared.kept.entry.Entry.{Entry as EntryFields}
+use Rattle.sctp_send.specs.declared.kept.entry.Standing.{Standing}
+use Rattle.sctp_send.specs.declared.kept.entry.Place.TheVariants.{Fragment}
 use Rattle.sctp_values.specs.declared.kind.Kind.{Kind}
 use Rattle.sctp_values.specs.declared.kind.Kind.TheVariants.{Ordered, Unordered}
-use Rattle.sctp_send.specs.declared.track.Track.{Track}
+use Rattle.sctp_send.specs.declared.kept.track.Track.{Track}
 
 -- what a fill may change
 pub record Parts : Type 0 where

@@ -5,8 +5,8 @@ use Rattle.sctp_model.specs.sender.Entries.{entry_lane, entry_number, entry_frag
 use Rattle.sctp_model.specs.sender.Queueing.{owed_for}
 use Rattle.sctp_model.specs.sender.Abandoning.{has_ticket}
 use Rattle.sctp_send.specs.SenderKept.{Item, Rest, Track}
-use Rattle.sctp_send.specs.declared.message.Fate.{Fate}
-use Rattle.sctp_send.specs.declared.message.Fate.TheVariants.{Queued as StillQueued, Numbered, Withdrawn, Abandoned as WasAbandoned}
+use Rattle.sctp_send.specs.declared.kept.message.Fate.{Fate}
+use Rattle.sctp_send.specs.declared.kept.message.Fate.TheVariants.{Queued as StillQueued, Numbered, Withdrawn, Abandoned as WasAbandoned}
 
 -- ---- sums over the streams
 

@@ -2,7 +2,7 @@ use Rattle.std.proofs.Common.{◌≡◌, ◌∙◌, None, map, set, ap}
 use Rattle.sctp_send.specs.SenderFields.{track_meaning}
 use Rattle.sctp_send.specs.PartsKept.{StreamsKept}
 use Rattle.sctp_send.specs.inner.Walks.{GoesOnAt}
-use Rattle.sctp_send.specs.declared.track.Track.{Track as TrackFields}
+use Rattle.sctp_send.specs.declared.kept.track.Track.{Track as TrackFields}
 use Rattle.sctp_send.proofs.TrackLemmas.{rest_taken, never_none, same_read}
 use Rattle.sctp_send.proofs.abandon.end.Goals as goal
 

@@ -1,6 +1,6 @@
 use Rattle.std.proofs.Common.{List, length, ap, arith}
 use Rattle.sctp_send.specs.inner.Undoing.{counted_to}
-use Rattle.sctp_send.specs.declared.track.Track.{Track}
+use Rattle.sctp_send.specs.declared.kept.track.Track.{Track}
 use Rattle.sctp_send.proofs.UndoLemmas.{at_place_past}
 use Rattle.sctp_send.proofs.draft.number_again.Goals as goal
 

@@ -13,9 +13,9 @@ use Rattle.sctp_send.specs.inner.Undoing.{fragment_entry, counted_to}
 use Rattle.sctp_send.specs.declared.draft.Change.{Change}
 use Rattle.sctp_send.specs.declared.draft.Change.TheVariants.{Begun}
 use Rattle.sctp_send.specs.declared.draft.Draft.{Draft}
-use Rattle.sctp_send.specs.declared.entry.Entry.{Entry as EntryFields}
-use Rattle.sctp_send.specs.declared.entry.Standing.TheVariants.{Sent}
-use Rattle.sctp_send.specs.declared.message.Message.{Message as MessageFields}
+use Rattle.sctp_send.specs.declared.kept.entry.Entry.{Entry as EntryFields}
+use Rattle.sctp_send.specs.declared.kept.entry.Standing.TheVariants.{Sent}
+use Rattle.sctp_send.specs.declared.kept.message.Message.{Message as MessageFields}
 use Rattle.sctp_send.proofs.SeatLemmas.{any_default}
 use Rattle.sctp_send.proofs.EnterLemmas.{begun_is, latest_counted, taken_out, last_read, on_ok}
 use Rattle.sctp_send.proofs.TrackCounts.{long_stays, entered_tracks}

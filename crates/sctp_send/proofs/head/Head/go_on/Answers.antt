@@ -6,7 +6,7 @@ use Rattle.sctp_send.specs.inner.Drafting.{bare, rest_from}
 use Rattle.sctp_send.specs.declared.draft.Change.{Change}
 use Rattle.sctp_send.specs.declared.draft.Change.TheVariants.{Continued}
 use Rattle.sctp_send.specs.declared.draft.Draft.{Draft}
-use Rattle.sctp_send.specs.declared.message.Message.{Message as MessageFields}
+use Rattle.sctp_send.specs.declared.kept.message.Message.{Message as MessageFields}
 use Rattle.sctp_send.proofs.EnterLemmas.{gone_on_is, track_there}
 use Rattle.sctp_send.proofs.BehindLemmas.{continued_behind}
 use Rattle.sctp_send.proofs.head.Head.go_on.Goals as goal

@@ -7,7 +7,7 @@ use Rattle.sctp_send.specs.OutstandingFields.{lane_meaning, message_meaning}
 use Rattle.sctp_send.specs.SenderFields.{track_meaning}
 use Rattle.sctp_send.specs.inner.Newcomers.{number_on}
 use Rattle.sctp_send.specs.inner.Drafting.{bare, drafted, let_in, IsRefused}
-use Rattle.sctp_send.specs.declared.message.Message.{Message as MessageFields}
+use Rattle.sctp_send.specs.declared.kept.message.Message.{Message as MessageFields}
 use Rattle.sctp_send.proofs.SeatLemmas.{any_default}
 use Rattle.sctp_send.proofs.NewMayLemmas.{left_over, of_ok, on_err, of_err, no_item}
 use Rattle.sctp_send.proofs.BegunPut.{begun_message, begun_there, window_read, begun_few, begun_held, begun_full, begun_put, begun_refused}

@@ -6,8 +6,8 @@ use Rattle.sctp_send.specs.OutstandingFields.{lane_meaning, message_meaning}
 use Rattle.sctp_send.specs.SenderFields.{number_left, track_meaning, rest_meaning}
 use Rattle.sctp_send.specs.inner.Newcomers.{rest_at, track_of, gone_on}
 use Rattle.sctp_send.specs.inner.Drafting.{bare, drafted, let_in, IsRefused}
-use Rattle.sctp_send.specs.declared.message.Message.{Message as MessageFields}
-use Rattle.sctp_send.specs.declared.track.Track.{Track as TrackFields}
+use Rattle.sctp_send.specs.declared.kept.message.Message.{Message as MessageFields}
+use Rattle.sctp_send.specs.declared.kept.track.Track.{Track as TrackFields}
 use Rattle.sctp_send.proofs.NewMayLemmas.{more_read, of_ok, on_err, of_err, no_item}
 use Rattle.sctp_send.proofs.ContinuedPut.{never_ended, continued_few, continued_held, continued_full, continued_put, continued_refused}
 use Rattle.sctp_send.proofs.head.Head.put_continued.Goals as goal

@@ -4,7 +4,7 @@ use Rattle.sctp_model.specs.sender.Filling.{newcomer}
 use Rattle.sctp_model.proofs.sender.FillLaws.{goes_none}
 use Rattle.sctp_packet.specs.Draft.{room_in}
 use Rattle.sctp_send.specs.inner.Drafting.{bare, NewAnswer}
-use Rattle.sctp_send.specs.declared.assigning.Next.{Next}
+use Rattle.sctp_send.specs.declared.fill.assigning.Next.{Next}
 use Rattle.sctp_send.proofs.head.Head.put_new.Goals as goal
 
 pub returns-in-Some-Begins-clause-put : goal.returns-in-Some-Begins-clause-put

@@ -2,7 +2,7 @@ use Rattle.std.proofs.Common.{subst, sym, ap, arith, inl, inr}
 use Rattle.sctp_send.specs.SenderKept.{Kept}
 use Rattle.sctp_send.specs.SenderStands.{StandsFor, Keeps}
 use Rattle.sctp_send.specs.inner.Walks.{is_numbered_fate}
-use Rattle.sctp_send.specs.declared.message.Fate.TheVariants.{Queued as StillQueued, Numbered, Withdrawn, Abandoned as WasAbandoned}
+use Rattle.sctp_send.specs.declared.kept.message.Fate.TheVariants.{Queued as StillQueued, Numbered, Withdrawn, Abandoned as WasAbandoned}
 use Rattle.sctp_send.proofs.WithdrawLemmas.{keeps_withdrawn}
 use Rattle.sctp_send.proofs.AnswerLemmas.{fate_read, answered_unknown, AnsweredBy, answered_by}
 use Rattle.sctp_send.proofs.OverKept.{open_waiting}

@@ -6,7 +6,7 @@ use Rattle.sctp_send.specs.SenderStands.{StandsFor, Keeps}
 use Rattle.std.proofs.Common.{◌%◌, ◌^◌, ◌+◌, ◌∷◌, ◌++◌, [], List}
 use Rattle.sctp_model.specs.sender.Queueing.{cut, owed_for}
 use Rattle.sctp_send.specs.SenderAnswers.{lane_for}
-use Rattle.sctp_send.specs.declared.message.Fate.TheVariants.{Queued as StillQueued}
+use Rattle.sctp_send.specs.declared.kept.message.Fate.TheVariants.{Queued as StillQueued}
 use Rattle.sctp_send.proofs.QueueLemmas.{memory_told, spent_ticket, spent_owed, none_refuses, keeps_queued, fates_given}
 use Rattle.std.specs.Prelude.{unwrap_or}
 use Rattle.sctp_model.specs.numbers.Limits.{LAST_MOMENT}

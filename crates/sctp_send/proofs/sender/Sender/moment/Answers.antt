@@ -4,7 +4,7 @@ use Rattle.sctp_model.specs.sender.SenderView.{Queued as QueuedMessage}
 use Rattle.sctp_send.specs.SenderKept.{Kept}
 use Rattle.sctp_send.specs.SenderStands.{StandsFor, Keeps}
 use Rattle.sctp_send.specs.inner.Walks.{is_numbered_fate}
-use Rattle.sctp_send.specs.declared.message.Fate.TheVariants.{Queued as StillQueued, Numbered, Withdrawn, Abandoned as WasAbandoned}
+use Rattle.sctp_send.specs.declared.kept.message.Fate.TheVariants.{Queued as StillQueued, Numbered, Withdrawn, Abandoned as WasAbandoned}
 use Rattle.sctp_send.proofs.AnswerLemmas.{fate_read}
 use Rattle.sctp_send.proofs.UntilLemmas.{with_ticket}
 use Rattle.sctp_send.proofs.MomentKept.{has_come, unknown_late, LateBy, late_by, waiting_moment}

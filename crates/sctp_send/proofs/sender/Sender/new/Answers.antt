@@ -3,7 +3,7 @@ use Rattle.std.specs.Prelude.{replicate}
 use Rattle.sctp_send.specs.SenderKept.{Track}
 use Rattle.sctp_send.specs.SenderFields.{track_meaning}
 use Rattle.sctp_send.specs.SenderStands.{StandsFor}
-use Rattle.sctp_send.specs.declared.track.Track.{Track as TrackFields}
+use Rattle.sctp_send.specs.declared.kept.track.Track.{Track as TrackFields}
 use Rattle.sctp_send.proofs.KeepLemmas.{keeps_fresh}
 use Rattle.sctp_send.proofs.sender.Sender.new.Goals as goal
 

@@ -16,7 +16,7 @@ use Rattle.sctp_send.proofs.KeepLemmas.{keeps_sacked}
 use Rattle.sctp_send.proofs.SackLemmas.{sack_by_blocks, blocks_past, blocks_bad, blocks_good, sack_faulty}
 use Rattle.sctp_send.proofs.DueKept.{keeps_awake}
 use Rattle.sctp_send.specs.inner.Dues.{LieIn}
-use Rattle.sctp_send.specs.declared.entry.CoveredRun.{CoveredRun}
+use Rattle.sctp_send.specs.declared.kept.entry.CoveredRun.{CoveredRun}
 use Rattle.sctp_send.proofs.WakeLemmas.{covered_lies}
 use Rattle.sctp_send.proofs.sender.Sender.on_sack.Goals as goal
 

@@ -1,5 +1,0 @@
-use Rattle.std.proofs.Common.{refl}
-use Rattle.sctp_send.proofs.counts.Counts.enter.Goals as goal
-
-pub returns : goal.returns
-returns c = rw (c.one_if.ensures, c.weight.ensures, c.is_unsettled.ensures c.args.size) refl

@@ -1,0 +1,5 @@
+use Rattle.sctp_send.proofs.EnterLemmas.{IsPushed}
+use Rattle.sctp_send.proofs.fill.pushing.push_fragments.Given as goal
+
+abbrev pub invariant-loop-fragment : goal.invariant-loop-fragment
+invariant-loop-fragment l = IsPushed l.fn.outstanding l.outstanding l.message.value l.number l.fragment

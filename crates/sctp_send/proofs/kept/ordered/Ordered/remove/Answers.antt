@@ -1,0 +1,15 @@
+use Rattle.std.proofs.Common.{◌≡◌, ℕ, List, Option, Some, None, sym, subst, Global}
+use Rattle.std.specs.Prelude.{remove, OnSome, IfNone}
+use Rattle.std.specs.declared.collections.VecDeque.{VecDeque}
+use Rattle.sctp_send.specs.inner.Ordering.{AreOrdered}
+use Rattle.sctp_send.specs.declared.kept.ordered.Pair.{Pair}
+use Rattle.sctp_send.proofs.PairLemmas.{ordered_removed}
+use Rattle.sctp_send.proofs.kept.ordered.Ordered.remove.Goals as goal
+
+-- gone or not, the pairs are in order
+either : (r : Option Pair) (n : ℕ) (d e : VecDeque Pair Global) → OnSome r (e.items ≡ remove d.items n) → IfNone r (e ≡ d) → AreOrdered d.items → AreOrdered e.items
+either (Some p) n d e gone same h = subst (λ (ps : List Pair). AreOrdered ps) (sym gone) (ordered_removed n d.items h)
+either None n d e gone same h = subst (λ (x : VecDeque Pair Global). AreOrdered x.items) (sym same) h
+
+pub invariant_of-self : goal.invariant_of-self
+invariant_of-self c = either c.remove-gone.result c.place_of-place.result c.self.inside.pairs c.remove-gone.new.self c.remove-gone.ensures.items c.remove-gone.ensures.unchanged c.self.invariant

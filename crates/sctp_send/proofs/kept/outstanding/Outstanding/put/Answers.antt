@@ -1,0 +1,59 @@
+use Rattle.std.proofs.Common.{◌≡◌, ◌<◌, ◌∷◌, [], ◌++◌, List, ℕ, length, sym, ◌∙◌, ap, subst, arith, length-append}
+use Rattle.std.proofs.lemmas.List.{map-append}
+use Rattle.sctp_send.specs.PartsKept.{OutstandingKept}
+use Rattle.sctp_send.specs.inner.TicketOrder.{IsOrderOf, ticket_of, tickets_of}
+use Rattle.sctp_send.specs.declared.kept.message.Message.{Message as MessageFields}
+use Rattle.sctp_send.specs.declared.kept.entry.Entry.{Entry as EntryFields}
+use Rattle.sctp_send.proofs.CountLemmas.{counts_pushed}
+use Rattle.sctp_send.proofs.TicketWalks.{long_tickets}
+use Rattle.sctp_send.specs.inner.Stretching.{index_at, AreKnown}
+use Rattle.sctp_send.proofs.KnownLemmas.{SayTheSame, SayNothing, known_less, known_pushed}
+use Rattle.sctp_send.proofs.kept.outstanding.Outstanding.put.Goals as goal
+
+pub push-requires : goal.push-requires
+push-requires c =
+    let s = c.self.inside in
+    let h = c.self.invariant in
+    let lt = subst (λ (w : OutstandingKept). length w.items < w.capacity) (sym c.self.view_is) c.requires in
+    record {
+      room = omega (arith, lt, h.there, h.order.many, long_tickets s.entries.items);
+      below = h.below;
+      few = omega (arith, lt, h.few, h.order.many, long_tickets s.entries.items);
+    }
+
+pub push_back_reserved-requires : goal.push_back_reserved-requires
+push_back_reserved-requires c =
+    let s = c.self.inside in
+    let h = c.self.invariant in
+    let lt = subst (λ (w : OutstandingKept). length w.items < w.capacity) (sym c.self.view_is) c.requires in
+    omega (arith, lt, h.here, s.entries.ok)
+
+pub invariant_of-self : goal.invariant_of-self
+invariant_of-self c =
+    let s = c.self.inside in
+    let h = c.self.invariant in
+    let e = c.args.entry in
+    let es = s.entries.items in
+    let items = c.push_back_reserved.ensures.items in
+    let lt = subst (λ (w : OutstandingKept). length w.items < w.capacity) (sym c.self.view_is) c.requires in
+    let long : c.len-others.result ≡ length es = c.len-others.ensures ∙ s.entries.ok.0 in
+    let ticket = ap (λ (m : MessageFields). m.ticket) c.deref.ensures in
+    let more : tickets_of (es ++ e ∷ []) ≡ tickets_of es ++ ticket_of e ∷ [] = map-append ticket_of es (e ∷ []) in
+    let order = subst (λ (t : ℕ). IsOrderOf (tickets_of es ++ t ∷ []) c.push.new.self.first c.push.new.self.spots.items) ticket (c.push.ensures.order (tickets_of es) h.order) in
+    record {
+      counted = rw (items, c.reach.ensures s.size, long, c.enter.ensures) (counts_pushed s.size es e s.counts h.counted);
+      order = subst (λ (ts : List ℕ). IsOrderOf ts c.push.new.self.first c.push.new.self.spots.items) (sym (ap tickets_of items ∙ more)) order;
+      below = c.push.ensures.below;
+      few = h.few;
+      within = let n = ap (λ (xs : List EntryFields). length xs) items in let m = length-append es (e ∷ []) in omega (arith, n, m, lt);
+      here = let le = h.here in omega (arith, le, c.push_back_reserved.ensures.capacity);
+      there = let le = h.there in omega (arith, le, c.push.ensures.capacity);
+      known =
+          let here = c.index.ensures ∙ ap (index_at s.by_ticket.first) long in
+          subst (λ (xs : List EntryFields). AreKnown s.size c.push.new.self.first c.forget_stretch.new.stretches.items xs) (sym items)
+          (subst (λ (n : ℕ). AreKnown s.size n c.forget_stretch.new.stretches.items (es ++ e ∷ [])) (sym c.push.ensures.first)
+          (known_pushed s.size s.by_ticket.first c.keep_stretches.new.stretches.items c.forget_stretch.new.stretches.items es e
+          (subst (λ (i : ℕ). SayTheSame i c.forget_stretch.new.stretches.items c.keep_stretches.new.stretches.items) here c.forget_stretch.ensures.others)
+          (subst (λ (i : ℕ). SayNothing i c.forget_stretch.new.stretches.items) here c.forget_stretch.ensures.here)
+          (known_less s.size s.by_ticket.first s.stretches.items c.keep_stretches.new.stretches.items es c.keep_stretches.ensures h.known)));
+    }

@@ -1,0 +1,14 @@
+use Rattle.std.proofs.Common.{◌≡◌, ◌≤◌, ◌-◌}
+use Rattle.sctp_send.specs.inner.Changes.{told_where, is_between}
+use Rattle.sctp_send.proofs.kept.outstanding.Outstanding.tell_run.Given as goal
+
+-- the run that is told so far
+abbrev pub invariant-loop-at : goal.invariant-loop-at
+invariant-loop-at l = record {
+  low : l.from ≤ l.at;
+  high : l.at ≤ l.to;
+  told : l.self ≡ record l.initial.self { items = told_where l.covered (is_between l.from l.at) 1 l.initial.self.items };
+}
+
+abbrev pub decreases-loop-at : goal.decreases-loop-at
+decreases-loop-at l = l.to - l.at

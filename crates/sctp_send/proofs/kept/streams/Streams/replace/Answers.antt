@@ -1,0 +1,27 @@
+use Rattle.std.proofs.Common.{◌<◌, ◌∙◌, ◌%◌, ◌^◌, length, set, sym, ap, subst}
+use Rattle.sctp_send.specs.SenderFields.{track_meaning}
+use Rattle.sctp_send.specs.PartsKept.{StreamsKept}
+use Rattle.sctp_send.specs.inner.PartPairs.{ticket_left}
+use Rattle.sctp_send.specs.inner.Walks.{one_if_rest, rest_owes}
+use Rattle.sctp_send.specs.declared.kept.track.Track.{Track as TrackFields}
+use Rattle.sctp_send.proofs.OwedLemmas.{counted_set, IsCountOf}
+use Rattle.sctp_send.proofs.PartStreams.{listed_replaced}
+use Rattle.sctp_send.proofs.kept.streams.Streams.replace.Goals as goal
+
+pub invariant_of-self : goal.invariant_of-self
+invariant_of-self c =
+    let w = c.self.inside in
+    let x = c.index_mut.result.now in
+    let low : c.args.at < length w.tracks.items = subst (λ (k : StreamsKept). c.args.at < length k.items) (sym c.self.view_is) c.requires in
+    let new : IsCountOf w.size c.args.track c.one_if_in_part.result c.owed_by_track.result = record { one = c.one_if_in_part.ensures w.size; owes = c.owed_by_track.ensures } in
+    let old : IsCountOf w.size x c.one_if_in_part-2.result c.owed_by_track-2.result = record {
+      one = c.one_if_in_part-2.ensures w.size ∙ ap (λ (t : TrackFields). one_if_rest (track_meaning w.size t).rest) c.replace-before.ensures.value;
+      owes = c.owed_by_track-2.ensures ∙ ap (λ (t : TrackFields). rest_owes (track_meaning w.size t).rest % 2 ^ 64) c.replace-before.ensures.value;
+    } in
+    let is = ap (λ (t : TrackFields). set w.tracks.items c.args.at t) c.replace-before.ensures.after in
+    record {
+      counted = counted_set w.size w.parts w.owed c.one_if_in_part.result c.owed_by_track.result c.one_if_in_part-2.result c.owed_by_track-2.result c.args.at w.tracks.items
+          (set w.tracks.items c.args.at c.replace-before.new.dest) x c.args.track c.self.invariant.counted low c.index_mut.ensures.value is new old;
+      listed = listed_replaced c.args.at w.tracks.items (set w.tracks.items c.args.at c.replace-before.new.dest) x c.args.track c.ticket_of_track-goes.result c.ticket_of_track-comes.result w.lists c.change.new.self low c.index_mut.ensures.value is
+          (c.ticket_of_track-goes.ensures ∙ ap (λ (t : TrackFields). ticket_left t.rest) c.replace-before.ensures.value) c.ticket_of_track-comes.ensures c.self.invariant.listed c.change.ensures;
+    }

@@ -1,0 +1,39 @@
+use Rattle.std.proofs.Common.{◌≡◌, ◌+◌, ◌-◌, ◌<◌, ℕ, suc, length, Bool, Some, sym, ap, subst, arith}
+use Rattle.std.specs.Prelude.{slice_get}
+use Rattle.sctp_send.specs.inner.Stretching.{IsPlain, entry_bytes, AreAlike}
+use Rattle.sctp_send.proofs.TicketWalks.{get_read}
+use Rattle.sctp_send.proofs.StretchLemmas.{flags_not_differ, alike_none, alike_more}
+use Rattle.sctp_send.proofs.kept.stretches.look_at_stretch.Goals as goal
+
+pub loop-place-init : goal.loop-place-init
+loop-place-init c =
+    let es = c.args.entries.now.items in
+    let none : 0 ≡ c.args.at - c.args.at = omega arith in
+    record {
+      low = omega arith;
+      alike = subst (λ (k : ℕ). AreAlike c.args.size c.index.result.now.covered 0 c.args.at k es) none (alike_none c.args.size c.index.result.now.covered c.args.at es (omega (arith, c.requires.within)));
+      few = omega arith;
+    }
+
+pub loop-place-preserved : goal.loop-place-preserved
+loop-place-preserved c =
+    let h = c.loop-place.invariant in
+    let es = c.args.entries.now.items in
+    let e = c.index-entry.result.now in
+    let b = c.index.result.now.covered in
+    let n = c.loop-place.bytes in
+    let at = c.args.at in
+    let p = c.loop-place.place in
+    let k = p - at in
+    let here : p ≡ at + k = omega (arith, h.low) in
+    let next : suc k ≡ p + 1 - at = omega (arith, h.low) in
+    let lt : p < length es = omega (arith, c.requires.within, c.loop-place-test.true) in
+    let read = subst (λ (m : ℕ). slice_get es m ≡ Some e) here (get_read es p e lt c.index-entry.ensures) in
+    let plain = subst (λ (d : Bool). IsPlain d e) (flags_not_differ e.covered b c.if-entry-covered.false) (c.is_plain.ensures c.if-not-is_plain.false) in
+    let more = alike_more c.args.size b n at k es e h.alike read plain in
+    record {
+      low = omega (arith, h.low);
+      alike = subst (λ (m : ℕ). AreAlike c.args.size b m at (p + 1 - at) es) (ap (λ (m : ℕ). n + m) (sym c.bytes_in-bytes.ensures.bytes))
+          (subst (λ (j : ℕ). AreAlike c.args.size b (n + entry_bytes c.args.size e) at j es) next more);
+      few = let short = c.bytes_in-bytes.ensures.short in let few = h.few in omega (arith, short, few, h.low);
+    }

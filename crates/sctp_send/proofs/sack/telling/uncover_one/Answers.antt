@@ -1,0 +1,23 @@
+use Rattle.std.proofs.Common.{◌≡◌, set, Bool, refl, sym, subst, ap}
+use Rattle.sctp_send.specs.inner.Changes.{as_uncovered}
+use Rattle.sctp_send.specs.PartsKept.{at_place}
+use Rattle.sctp_send.specs.declared.kept.entry.Entry.{Entry as EntryFields}
+use Rattle.sctp_send.proofs.CountLemmas.{counts_uncovered}
+use Rattle.sctp_send.proofs.PlacedLemmas.{placed_set}
+use Rattle.sctp_send.proofs.sack.telling.uncover_one.Goals as goal
+
+pub returns-clause-items : goal.returns-clause-items
+returns-clause-items c =
+    let es = c.args.entries.now.items in
+    rw (placed_set as_uncovered c.args.at es c.index_mut-entry.result.now c.requires.within c.index_mut-entry.ensures.value) refl
+
+pub returns-clause-counted : goal.returns-clause-counted
+returns-clause-counted c =
+    rw (c.lower.ensures c.args.size, c.enter.ensures) (counts_uncovered c.args.size c.args.entries.now.items c.args.at c.index_mut-entry.result.now c.args.counts.now c.requires.within c.index_mut-entry.ensures.value (cc) c.requires.counted)
+
+pub returns-then-not-entry-clause-items : goal.returns-then-not-entry-clause-items
+returns-then-not-entry-clause-items c =
+    let es = c.args.entries.now.items in
+    let x = c.index_mut-entry.result.now in
+    let same : as_uncovered x ≡ x = ap (λ (b : Bool). record x { covered = b }) (sym c.if-not-entry.true) in
+    subst (λ (y : EntryFields). set es c.args.at y ≡ at_place as_uncovered c.args.at es) same (sym (placed_set as_uncovered c.args.at es x c.requires.within c.index_mut-entry.ensures.value))

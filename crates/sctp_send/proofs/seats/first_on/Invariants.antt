@@ -1,7 +1,0 @@
-use Rattle.std.proofs.Common.{ℕ, map}
-use Rattle.sctp_send.specs.SenderFields.{queued_by}
-use Rattle.sctp_send.proofs.TurnLemmas.{IsPassedOn}
-use Rattle.sctp_send.proofs.seats.first_on.Given as goal
-
-abbrev pub invariant-loop-at : goal.invariant-loop-at
-invariant-loop-at l = (size : ℕ) → IsPassedOn l.stream l.at (map (queued_by size) l.messages.items)

@@ -1,0 +1,171 @@
+//! What takes an index next, found among what waits and what is in part (RFC 9260, 6.9; RFC 8260, 2.2.2 and 3.2).
+
+ghost use Rattle.std.specs.Prelude.{◌≡◌, ℕ, suc, ◌+◌, ◌<◌, ◌≤◌, ◌%◌, ◌^◌, true, None, Some, map, length, nat_le, IfOk, IfSome, MatchOption};
+ghost use Rattle.sctp_model.specs.messages.Format.{Plain, Interleaved};
+ghost use Rattle.sctp_model.specs.numbers.Limits.{WINDOW};
+ghost use Rattle.sctp_model.specs.sender.Assigning.{first_on};
+ghost use Rattle.sctp_model.specs.sender.SenderView.{SenderView};
+ghost use Rattle.sctp_send.specs.SenderKept.{Kept, Track as KeptTrack};
+ghost use Rattle.sctp_send.specs.SenderStands.{Keeps};
+ghost use Rattle.sctp_send.specs.SenderFields.{track_meaning, rest_meaning};
+ghost use Rattle.sctp_send.specs.inner.Walks.{total, one_if_rest};
+ghost use Rattle.sctp_send.specs.inner.Drafting.{drafted, NewAnswer, FirstTurnAnswer, IsNextWithin};
+ghost use Rattle.sctp_send.specs.inner.Newcomers.{rest_at, has_rest, one_if, track_of};
+
+use crate::draft::Draft;
+use crate::kept::looking::goes_on_at;
+use crate::kept::message::{fragments_of, shared};
+use crate::kept::outstanding::Outstanding;
+use crate::kept::streams::Streams;
+use crate::kept::track::{Rest, Track};
+use sctp_framing::Framing;
+use sctp_values::{NoMemory, WINDOW};
+
+/// A message that takes its number: it stands at this place of the queue, so many of its fragments take their indexes, and this stream's turn
+/// is next then.
+#[derive(Clone, Copy)]
+pub(crate) struct Beginning {
+    pub(crate) place: usize,
+    pub(crate) count: usize,
+    pub(crate) turn: u16,
+}
+
+/// What takes the next index.
+#[derive(Clone, Copy)]
+pub(crate) enum Next {
+    /// A message that has no number yet.
+    Begins(Beginning),
+    /// The next fragment of the message in part of this stream.
+    Continues(u16),
+}
+
+/// What takes the next index: under DATA the message that has waited longest, whole; under I-DATA the streams take turns.
+pub(crate) fn next_new<F: Framing>(draft: &Draft, streams: u16, size: u16) -> Option<Next>
+    requires { 0 < size }
+    ensures next { (s : Kept) (v : SenderView) → s.streams ≡ streams → s.fragment ≡ size → Keeps F.format (drafted s draft.now) v → NewAnswer F.format v result }
+    ensures within { IsNextWithin draft.now streams result }
+{
+    if F::takes_turns() {
+        next_in_turn(draft, streams)
+    } else {
+        next_whole(draft, size)
+    }
+}
+
+/// The message that has waited longest, whole.
+fn next_whole(draft: &Draft, size: u16) -> Option<Next>
+    requires { 0 < size }
+    ensures next { (s : Kept) (v : SenderView) → s.fragment ≡ size → Keeps Plain (drafted s draft.now) v → NewAnswer Plain v result }
+    ensures within { (streams : ℕ) → IsNextWithin draft.now streams result }
+{
+    if draft.queue.len() == 0 {
+        return None;
+    }
+    let message = draft.queue.get(0);
+    Some(Next::Begins(Beginning {
+        place: 0,
+        count: fragments_of(size, &message.bytes).max(1),
+        turn: draft.turn,
+    }))
+}
+
+/// What the first stream in turn that has something to send does.
+fn next_in_turn(draft: &Draft, streams: u16) -> Option<Next>
+    ensures next { (s : Kept) (v : SenderView) → s.streams ≡ streams → Keeps Interleaved (drafted s draft.now) v → NewAnswer Interleaved v result }
+    ensures within { IsNextWithin draft.now streams result }
+{
+    let turn = draft.turn;
+    if let Some(next) = next_between(draft, turn, streams, streams) {
+        return Some(next);
+    }
+    next_between(draft, 0, turn.min(streams), streams)
+}
+
+/// What the first stream from one on, below another, that has something to send does: it goes on with its message in part, or else begins the
+/// message that has waited longest on it.
+fn next_between(draft: &Draft, from: u16, below: u16, streams: u16) -> Option<Next>
+    requires { below ≤ streams }
+    ensures does { (s : Kept) (v : SenderView) → s.streams ≡ streams → Keeps Interleaved (drafted s draft.now) v → FirstTurnAnswer v from below result }
+    ensures within { IsNextWithin draft.now streams result }
+{
+    let Some(found) = draft.queue.next_on(from, below) else {
+        return part_between(draft, from, below, streams);
+    };
+    let stream = found.stream;
+    let behind = stream_after(stream, streams);
+    let part = draft.tracks.next_part(from, stream + 1);
+    if part <= stream {
+        return Some(Next::Continues(part));
+    }
+    Some(Next::Begins(Beginning {
+        place: found.place,
+        count: 1,
+        turn: behind,
+    }))
+}
+
+/// The same where no message waits on any of these streams.
+fn part_between(draft: &Draft, from: u16, below: u16, streams: u16) -> Option<Next>
+    requires { below ≤ streams }
+    ensures does { (s : Kept) (v : SenderView) → s.streams ≡ streams → Keeps Interleaved (drafted s draft.now) v → ((j : ℕ) → from ≤ j → j < below → first_on j v.queue ≡ None) → FirstTurnAnswer v from below result }
+    ensures within { IsNextWithin draft.now streams result }
+{
+    let part = draft.tracks.next_part(from, below);
+    if part < below {
+        return Some(Next::Continues(part));
+    }
+    None
+}
+
+/// The stream behind this one, upward and cyclic.
+pub(crate) fn stream_after(stream: u16, streams: u16) -> u16
+    requires { stream < streams }
+    ensures { result ≡ suc stream % streams }
+{
+    ((u32::from(stream) + 1) % u32::from(streams)) as u16
+}
+
+/// What is left of the message in part of a stream.
+pub(crate) fn rest_of(tracks: &[Track], stream: u16) -> Option<&Rest>
+    ensures there { IfSome result (λ _. stream < length tracks.now) }
+    ensures rest { (size : ℕ) → MatchOption result (None ≡ rest_at (map (track_meaning size) tracks.now) stream) (λ rest. Some (rest_meaning size (track_of (map (track_meaning size) tracks.now) stream) rest.now) ≡ rest_at (map (track_meaning size) tracks.now) stream) }
+{
+    match tracks.get(usize::from(stream)) {
+        Some(track) => track.rest.as_ref(),
+        None => None,
+    }
+}
+
+/// A copy of what is left of a message in part.
+pub(crate) fn copied(rest: &Rest) -> Result<Rest, NoMemory>
+    ensures fragment { IfOk result (λ copy. copy.fragment ≡ rest.now.fragment) }
+    ensures same { (size : ℕ) (t : KeptTrack) → IfOk result (λ copy. rest_meaning size t copy ≡ rest_meaning size t rest.now) }
+{
+    Ok(Rest {
+        message: shared(&rest.message)?,
+        fragment: rest.fragment,
+    })
+}
+
+/// So many indexes more keep within the window, where the stream then has a message in part or not.
+pub(crate) fn has_window(
+    entries: &Outstanding,
+    tracks: &Streams,
+    stream: u16,
+    count: usize,
+    more: bool,
+) -> bool
+    requires { 0 < count }
+    ensures fits { (size : ℕ) → size ≡ tracks.now.size → result ≡ nat_le (length entries.now.items + count + (total (λ t. one_if_rest t.rest) (map (track_meaning size) tracks.now.items) % 2 ^ 32 + one_if more))
+        (WINDOW + one_if (has_rest (rest_at (map (track_meaning size) tracks.now.items) stream))) }
+    ensures few { result ≡ true → count ≤ WINDOW + 1 }
+{
+    let window = WINDOW as usize;
+    let outstanding = entries.len();
+    if outstanding > window || count > window + 1 {
+        return false;
+    }
+    let parts = tracks.in_part() as usize + usize::from(more);
+    let had = usize::from(goes_on_at(tracks.tracks(), stream));
+    outstanding + count + parts <= window + had
+}

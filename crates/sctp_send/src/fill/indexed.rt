@@ -1,0 +1,127 @@
+//! What has its index goes into a packet: the chunk of an entry, where it fits, and what the draft keeps then (RFC 9260, 6.1 and 6.3.3).
+
+ghost use Rattle.std.specs.Prelude.{◌≡◌, suc, ◌+◌, ◌<◌, length, map, slice_index_or, IfOk, OnErr};
+ghost use Rattle.sctp_model.specs.numbers.Serial.{tsn};
+ghost use Rattle.sctp_model.specs.sender.SenderView.{SenderView};
+ghost use Rattle.sctp_send.specs.SenderKept.{Item};
+ghost use Rattle.sctp_send.specs.SenderStands.{Keeps};
+ghost use Rattle.sctp_send.specs.OutstandingFields.{item_meaning};
+ghost use Rattle.sctp_send.specs.PartsKept.{changed};
+ghost use Rattle.sctp_send.specs.inner.Undoing.{IsSized, IsBehind};
+ghost use Rattle.sctp_send.specs.inner.Drafting.{bare, drafted, went_out, item_chunk, IsTried, PutAnswer, IsRefused, IsFlying, IsNextEntry, IsNextUnsent};
+
+use crate::draft::{Change, Draft, note};
+use crate::head::Head;
+use crate::kept::entry::Standing;
+use crate::kept::outstanding::Outstanding;
+use crate::kept::pieces::{bytes_of, fits, put_fragment};
+use crate::kept::wishes::may_flow;
+use sctp_framing::Framing;
+use sctp_packet::PacketWriter;
+use sctp_serial::tsn_of;
+use sctp_values::NoMemory;
+
+impl Head {
+    /// Puts the entry at this offset, where it fits.
+    #[inline(always)]
+    pub(crate) fn put_entry<F: Framing>(
+        &self,
+        draft: &mut Draft,
+        at: usize,
+        packet: &mut PacketWriter,
+    ) -> Result<bool, NoMemory>
+        requires sized { IsSized self.now.fragment draft.old }
+        requires within { at < length draft.old.outstanding.items }
+        ensures put { (v : SenderView) → Keeps F.format (drafted (bare self.now) draft.old) v → IsNextEntry F.format v at
+            → IfOk result (λ put. PutAnswer F.format (bare self.now) v packet.old packet.new draft.old draft.new put) }
+        ensures refused { (v : SenderView) → Keeps F.format (drafted (bare self.now) draft.old) v → IsNextEntry F.format v at
+            → OnErr result (IsRefused F.format v packet.old packet.new) }
+        ensures behind { IsBehind draft.old draft.new }
+    {
+        let entry = draft.outstanding.get(at);
+        let bytes = bytes_of(&entry.message, entry.place, self.fragment).len();
+        if !fits::<F>(bytes, packet) {
+            return Ok(false);
+        }
+        let standing = entry.standing;
+        draft.log.reserve(1).map_err(|_| NoMemory)?;
+        let put = self.put_at::<F>(draft, at, packet)?;
+        if put {
+            note(&mut draft.log, Change::Out { at, standing });
+            send_out(&mut draft.outstanding, at);
+        }
+        Ok(put)
+    }
+
+    /// Puts the entry at this offset for the first time, where it fits and may flow.
+    pub(crate) fn put_unsent<F: Framing>(
+        &self,
+        draft: &mut Draft,
+        at: usize,
+        flying: u64,
+        packet: &mut PacketWriter,
+    ) -> Result<bool, NoMemory>
+        requires sized { IsSized self.now.fragment draft.old }
+        requires within { at < length draft.old.outstanding.items }
+        ensures put { (v : SenderView) → Keeps F.format (drafted (bare self.now) draft.old) v → IsNextUnsent F.format v at → IsFlying (bare self.now) draft.old flying
+            → IfOk result (λ put. PutAnswer F.format (bare self.now) v packet.old packet.new draft.old draft.new put) }
+        ensures refused { (v : SenderView) → Keeps F.format (drafted (bare self.now) draft.old) v → IsNextUnsent F.format v at → IsFlying (bare self.now) draft.old flying
+            → OnErr result (IsRefused F.format v packet.old packet.new) }
+        ensures behind { IsBehind draft.old draft.new }
+    {
+        let entry = draft.outstanding.get(at);
+        let bytes = bytes_of(&entry.message, entry.place, self.fragment).len();
+        if !may_flow(flying, bytes, self.rwnd) {
+            return Ok(false);
+        }
+        self.put_entry::<F>(draft, at, packet)
+    }
+
+    /// Puts the chunk of the entry at this offset, where it fits.
+    ///
+    /// # Errors
+    /// `NoMemory`; the packet is then as before. It comes only where the chunk fits.
+    #[inline(always)]
+    pub(crate) fn put_at<F: Framing>(
+        &self,
+        draft: &Draft,
+        at: usize,
+        packet: &mut PacketWriter,
+    ) -> Result<bool, NoMemory>
+        requires sized { IsSized self.now.fragment draft.now }
+        requires within { at < length draft.now.outstanding.items }
+        ensures tried { (none : Item)
+            → IfOk result (λ put. IsTried packet.old packet.new (item_chunk F.format self.now.initial (suc (self.now.cum + at)) (slice_index_or (map (item_meaning self.now.fragment) draft.now.outstanding.items) at none)) put) }
+        ensures unchanged { OnErr result (packet.new ≡ packet.old) }
+    {
+        let entry = draft.outstanding.get(at);
+        let tsn = self.tsn_at(at);
+        put_fragment::<F>(
+            &entry.message,
+            entry.number,
+            entry.place,
+            self.fragment,
+            tsn,
+            packet,
+        )
+    }
+
+    /// The TSN of the entry at this offset.
+    fn tsn_at(&self, at: usize) -> u32
+        ensures { result ≡ tsn self.now.initial (suc (self.now.cum + at)) }
+    {
+        let index = self.cum.wrapping_add(at as u64).wrapping_add(1);
+        tsn_of(self.initial, index)
+    }
+}
+
+/// An entry goes out.
+fn send_out(outstanding: &mut Outstanding, at: usize)
+    requires { at < length outstanding.old.items }
+    ensures { outstanding.new ≡ changed went_out at outstanding.old }
+{
+    let entry = outstanding.get(at);
+    let covered = entry.covered;
+    let abandoned = entry.abandoned;
+    outstanding.stand(at, Standing::Sent, covered, abandoned);
+}

@@ -1,0 +1,157 @@
+//! One wish after the other goes into a packet, and into a draft (RFC 9260, 6.1 and 6.3.3; RFC 8260, 2.2). Whether one may go is asked first,
+//! without memory; then the draft changes, for which memory may be wanted, and last its chunk is put.
+
+ghost use Rattle.std.specs.Prelude.{◌≡◌, ℕ, ◌<◌, Some, length, IfOk, OnErr};
+ghost use Rattle.sctp_model.specs.messages.Plan.{Part};
+ghost use Rattle.sctp_model.specs.sender.SenderView.{SenderView};
+ghost use Rattle.sctp_send.specs.SenderStands.{Keeps};
+ghost use Rattle.sctp_send.specs.OutstandingFields.{lane_meaning, message_meaning};
+ghost use Rattle.sctp_send.specs.inner.Undoing.{IsSized, IsBehind};
+ghost use Rattle.sctp_send.specs.inner.Drafting.{bare, drafted, let_in, PutAnswer, IsRefused, IsFlying, NothingStands};
+ghost use Rattle.sctp_send.specs.inner.Newcomers.{IsBegun, IsContinued};
+
+use crate::draft::Draft;
+use crate::fill::assigning::{Beginning, Next, copied, has_window, next_new, rest_of};
+use crate::head::Head;
+use crate::kept::entry::Place;
+use crate::kept::message::{Message, fragments_of};
+use crate::kept::pieces::{bytes_of, fits};
+use crate::kept::wishes::may_flow;
+use sctp_framing::Framing;
+use sctp_packet::PacketWriter;
+use sctp_values::NoMemory;
+use std::sync::Arc;
+
+impl Head {
+    /// Puts the next wish into the packet; false where there is none that may go.
+    pub(crate) fn put_next<F: Framing>(
+        &self,
+        draft: &mut Draft,
+        packet: &mut PacketWriter,
+    ) -> Result<bool, NoMemory>
+        requires { IsSized self.now.fragment draft.old }
+        ensures put { (v : SenderView) → Keeps F.format (drafted (bare self.now) draft.old) v
+            → IfOk result (λ put. PutAnswer F.format (bare self.now) v packet.old packet.new draft.old draft.new put) }
+        ensures refused { (v : SenderView) → Keeps F.format (drafted (bare self.now) draft.old) v
+            → OnErr result (IsRefused F.format v packet.old packet.new) }
+        ensures behind { IsBehind draft.old draft.new }
+    {
+        if let Some(at) = draft.outstanding.first_marked() {
+            return self.put_entry::<F>(draft, at, packet);
+        }
+        let flying = draft.outstanding.flight();
+        if let Some(at) = draft.outstanding.first_unsent() {
+            return self.put_unsent::<F>(draft, at, flying, packet);
+        }
+        self.put_new::<F>(draft, flying, packet)
+    }
+
+    /// What is to take the next index does, where its fragment may go.
+    fn put_new<F: Framing>(
+        &self,
+        draft: &mut Draft,
+        flying: u64,
+        packet: &mut PacketWriter,
+    ) -> Result<bool, NoMemory>
+        requires sized { IsSized self.now.fragment draft.old }
+        ensures put { (v : SenderView) → Keeps F.format (drafted (bare self.now) draft.old) v → NothingStands F.format v → IsFlying (bare self.now) draft.old flying
+            → IfOk result (λ put. PutAnswer F.format (bare self.now) v packet.old packet.new draft.old draft.new put) }
+        ensures refused { (v : SenderView) → Keeps F.format (drafted (bare self.now) draft.old) v → NothingStands F.format v → IsFlying (bare self.now) draft.old flying
+            → OnErr result (IsRefused F.format v packet.old packet.new) }
+        ensures behind { IsBehind draft.old draft.new }
+    {
+        match next_new::<F>(draft, self.streams, self.fragment) {
+            Some(Next::Begins(next)) => self.put_begun::<F>(draft, next, flying, packet),
+            Some(Next::Continues(stream)) => self.put_continued::<F>(draft, stream, flying, packet),
+            None => Ok(false),
+        }
+    }
+
+    /// A message takes its number, where its first fragment fits and may flow, and the window has room for all that take an index.
+    fn put_begun<F: Framing>(
+        &self,
+        draft: &mut Draft,
+        next: Beginning,
+        flying: u64,
+        packet: &mut PacketWriter,
+    ) -> Result<bool, NoMemory>
+        requires sized { IsSized self.now.fragment draft.old }
+        requires place { next.place < length draft.old.queue.items }
+        requires some { 0 < next.count }
+        ensures put { (v : SenderView) → Keeps F.format (drafted (bare self.now) draft.old) v → NothingStands F.format v → IsBegun F.format v next.place next.count next.turn → IsFlying (bare self.now) draft.old flying
+            → IfOk result (λ put. PutAnswer F.format (bare self.now) v packet.old packet.new draft.old draft.new put) }
+        ensures refused { (v : SenderView) → Keeps F.format (drafted (bare self.now) draft.old) v → NothingStands F.format v → IsBegun F.format v next.place next.count next.turn → IsFlying (bare self.now) draft.old flying
+            → OnErr result (IsRefused F.format v packet.old packet.new) }
+        ensures behind { IsBehind draft.old draft.new }
+    {
+        let message = draft.queue.get(next.place);
+        if usize::from(message.stream) >= draft.tracks.tracks().len() {
+            return Ok(false);
+        }
+        let more = next.count < fragments_of(self.fragment, &message.bytes);
+        if !has_window(
+            &draft.outstanding,
+            &draft.tracks,
+            message.stream,
+            next.count,
+            more,
+        ) {
+            return Ok(false);
+        }
+        if !self.is_let_in::<F>(message, 0, flying, packet) {
+            return Ok(false);
+        }
+        let at = draft.outstanding.len();
+        self.begin(draft, next)?;
+        self.put_at::<F>(draft, at, packet)
+    }
+
+    /// The message in part of a stream takes its next index, where its fragment fits and may flow.
+    fn put_continued<F: Framing>(
+        &self,
+        draft: &mut Draft,
+        stream: u16,
+        flying: u64,
+        packet: &mut PacketWriter,
+    ) -> Result<bool, NoMemory>
+        requires sized { IsSized self.now.fragment draft.old }
+        requires within { stream < self.now.streams }
+        ensures put { (v : SenderView) → Keeps F.format (drafted (bare self.now) draft.old) v → NothingStands F.format v → IsContinued F.format v stream → IsFlying (bare self.now) draft.old flying
+            → IfOk result (λ put. PutAnswer F.format (bare self.now) v packet.old packet.new draft.old draft.new put) }
+        ensures refused { (v : SenderView) → Keeps F.format (drafted (bare self.now) draft.old) v → NothingStands F.format v → IsContinued F.format v stream → IsFlying (bare self.now) draft.old flying
+            → OnErr result (IsRefused F.format v packet.old packet.new) }
+        ensures behind { IsBehind draft.old draft.new }
+    {
+        let Some(rest) = rest_of(draft.tracks.tracks(), stream) else {
+            return Ok(false);
+        };
+        let next = rest.fragment.wrapping_add(1);
+        let more = (next as usize) < fragments_of(self.fragment, &rest.message.bytes);
+        if !has_window(&draft.outstanding, &draft.tracks, stream, 1, more) {
+            return Ok(false);
+        }
+        if !self.is_let_in::<F>(&rest.message, rest.fragment, flying, packet) {
+            return Ok(false);
+        }
+        let rest = copied(rest)?;
+        let at = draft.outstanding.len();
+        self.go_on(draft, stream, &rest)?;
+        self.put_at::<F>(draft, at, packet)
+    }
+
+    /// A fragment that is to take the next index may flow, while so much is in flight, and fits.
+    fn is_let_in<F: Framing>(
+        &self,
+        message: &Arc<Message>,
+        fragment: u32,
+        flying: u64,
+        packet: &PacketWriter,
+    ) -> bool
+        requires { 0 < self.now.fragment }
+        ensures { (number i : ℕ)
+            → result ≡ let_in F.format flying (bare self.now) i packet.now (Part (lane_meaning message.now.value) number fragment) (Some (message_meaning self.now.fragment message.now.value)) }
+    {
+        let bytes = bytes_of(message, Place::Fragment(fragment), self.fragment).len();
+        may_flow(flying, bytes, self.rwnd) && fits::<F>(bytes, packet)
+    }
+}

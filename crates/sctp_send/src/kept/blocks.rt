@@ -1,0 +1,138 @@
+//! Blocks of tickets that are over: of one whose messages ended alike one fate is kept, and of another one for each ticket.
+
+ghost use Rattle.std.specs.Prelude.{◌≡◌, ◌*◌, ◌<◌, ◌≤◌, true, false, length, take, drop, replicate, slice_index_or, IfSome, IfNone};
+ghost use Rattle.sctp_send.specs.inner.Walks.{is_queued_fate};
+ghost use Rattle.sctp_send.specs.inner.FateBlocks.{any_queued, fates_of, AreWithin, IsBlock, IsEnded};
+
+use crate::kept::message::Fate;
+
+/// How many tickets in a row are a block.
+pub(crate) const BLOCK: usize = 4_096;
+
+/// Fates of a block of tickets that are over.
+#[derive(Clone, Copy)]
+pub(crate) enum Block {
+    /// All ended so.
+    Alike(Fate),
+    /// They ended one so, another so: the fates stand from this place on.
+    Each(u32),
+}
+
+/// The fate of a ticket, counted from 0, of one of these blocks.
+pub(crate) fn fate_in(blocks: &[Block], mixed: &[Fate], at: usize) -> Fate
+    requires there { at < 4096 * length blocks.now }
+    requires within { AreWithin (length mixed.now) blocks.now }
+    ensures { result ≡ slice_index_or (fates_of mixed.now blocks.now) at result }
+{
+    match blocks[at / BLOCK] {
+        Block::Alike(fate) => fate,
+        Block::Each(start) => mixed[start as usize + at % BLOCK],
+    }
+}
+
+/// The first of so many tickets are a block from now on, if none of them waits and there is memory for it.
+pub(crate) fn end_first(
+    blocks: &mut Vec<Block>,
+    mixed: &mut Vec<Fate>,
+    recent: &mut Vec<Fate>,
+) -> bool
+    requires many { 4096 ≤ length recent.old.items }
+    ensures ended { result ≡ true → IsEnded blocks.old.items blocks.new.items mixed.old.items mixed.new.items recent.old.items recent.new.items }
+    ensures blocks { result ≡ false → blocks.new.items ≡ blocks.old.items }
+    ensures mixed { result ≡ false → mixed.new.items ≡ mixed.old.items }
+    ensures recent { result ≡ false → recent.new.items ≡ recent.old.items }
+{
+    match blocks.reserve(1) {
+        Ok(()) => {}
+        Err(_) => return false,
+    }
+    match block_of(recent, mixed) {
+        Some(block) => {
+            blocks.push_reserved(block);
+            drop_front(recent);
+            true
+        }
+        None => false,
+    }
+}
+
+/// A block's fates go from the front.
+fn drop_front(fates: &mut Vec<Fate>)
+    requires { 4096 ≤ length fates.old.items }
+    ensures { fates.new.items ≡ drop 4096 fates.old.items }
+{
+    fates.rotate_left(BLOCK);
+    fates.truncate(fates.len() - BLOCK);
+}
+
+/// The block of the first fates, if none of them is of a message that waits; they stand behind others where they aren't alike.
+fn block_of(recent: &[Fate], mixed: &mut Vec<Fate>) -> Option<Block>
+    requires { 4096 ≤ length recent.now }
+    ensures block { IfSome result (λ block. IsBlock block (take 4096 recent.now) mixed.old.items mixed.new.items) }
+    ensures settled { IfSome result (λ block. any_queued (take 4096 recent.now) ≡ false) }
+    ensures same { IfNone result (mixed.new.items ≡ mixed.old.items) }
+{
+    let fates = &recent[..BLOCK];
+    if is_any_queued(fates) {
+        return None;
+    }
+    let first = fates[0];
+    if are_alike(fates, first) {
+        return Some(Block::Alike(first));
+    }
+    let start = mixed.len();
+    if start > u32::MAX as usize {
+        return None;
+    }
+    match mixed.extend_from_slice(fates) {
+        Ok(()) => Some(Block::Each(start as u32)),
+        Err(_) => None,
+    }
+}
+
+/// Some message waits.
+fn is_any_queued(fates: &[Fate]) -> bool
+    ensures { result ≡ any_queued fates.now }
+{
+    for at in 0..fates.len() {
+        if is_queued(fates[at]) {
+            return true;
+        }
+    }
+    false
+}
+
+/// All fates are this one.
+fn are_alike(fates: &[Fate], fate: Fate) -> bool
+    ensures { result ≡ true → fates.now ≡ replicate (length fates.now) fate }
+{
+    for at in 0..fates.len() {
+        if !are_same(fates[at], fate) {
+            return false;
+        }
+    }
+    true
+}
+
+/// The message waits for its number.
+fn is_queued(fate: Fate) -> bool
+    ensures { result ≡ is_queued_fate fate }
+{
+    match fate {
+        Fate::Queued => true,
+        Fate::Numbered | Fate::Withdrawn | Fate::Abandoned => false,
+    }
+}
+
+/// Two fates are the same.
+fn are_same(one: Fate, other: Fate) -> bool
+    ensures { result ≡ true → one ≡ other }
+{
+    match (one, other) {
+        (Fate::Queued, Fate::Queued) => true,
+        (Fate::Numbered, Fate::Numbered) => true,
+        (Fate::Withdrawn, Fate::Withdrawn) => true,
+        (Fate::Abandoned, Fate::Abandoned) => true,
+        _ => false,
+    }
+}

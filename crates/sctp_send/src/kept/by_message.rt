@@ -1,0 +1,93 @@
+//! The outstanding entries message by message, in the order of their tickets: what is covered, and what is abandoned.
+
+ghost use Rattle.std.specs.Prelude.{◌≡◌, ℕ, ◌<◌, ◌≤◌, true, false, map, length, IfSome, IfNone};
+ghost use Rattle.std.specs.VecDeque.{deque_capacity};
+ghost use Rattle.sctp_send.specs.OutstandingFields.{item_meaning};
+ghost use Rattle.sctp_send.specs.PartsKept.{IsSameRoom, at_place};
+ghost use Rattle.sctp_send.specs.inner.Changes.{given, all_given};
+ghost use Rattle.sctp_send.specs.inner.Counting.{IsCounted};
+ghost use Rattle.sctp_send.specs.inner.Dues.{IsItemUntil};
+ghost use Rattle.sctp_send.specs.inner.Walks.{any_item, any_uncovered, is_item_uncovered};
+
+use crate::kept::counts::{Counts, stand_one};
+use crate::kept::entry::{Entry, unmarked};
+use crate::kept::outstanding::Outstanding;
+use crate::kept::stretches::forget_stretch;
+use std::collections::VecDeque;
+
+impl Outstanding {
+    /// Some entry of the message with this ticket is not covered.
+    pub(crate) fn some_uncovered(&self, ticket: u64) -> bool
+        ensures { (size : ℕ) → result ≡ any_uncovered ticket (map (item_meaning size) self.now.items) }
+    {
+        let start = self.by_ticket.place(ticket, 0);
+        let end = self.by_ticket.place(ticket, usize::MAX);
+        for place in start..end {
+            let entry = &self.entries[self.by_ticket.offset(place)];
+            if is_uncovered(entry, ticket) {
+                return true;
+            }
+        }
+        false
+    }
+
+    /// The moment of the message with this ticket, where an entry of it stands above CUM.
+    pub(crate) fn until_of(&self, ticket: u64) -> Option<Option<u64>>
+        ensures some { (size : ℕ) → IfSome result (λ until. IsItemUntil ticket until (map (item_meaning size) self.now.items)) }
+        ensures none { (size : ℕ) → IfNone result (any_item ticket (map (item_meaning size) self.now.items) ≡ false) }
+    {
+        let start = self.by_ticket.place(ticket, 0);
+        let end = self.by_ticket.place(ticket, usize::MAX);
+        for place in start..end {
+            let entry = &self.entries[self.by_ticket.offset(place)];
+            if entry.message.ticket == ticket {
+                return Some(entry.message.until);
+            }
+        }
+        None
+    }
+
+    /// All entries are of messages with tickets behind this one.
+    pub(crate) fn is_past(&self, last: u64) -> bool
+        ensures { (size t : ℕ) → result ≡ true → t ≤ last → any_item t (map (item_meaning size) self.now.items) ≡ false }
+    {
+        self.by_ticket.place(last, usize::MAX) == 0
+    }
+
+    /// Each entry of the message with this ticket is abandoned.
+    pub(crate) fn abandon(&mut self, ticket: u64)
+        ensures items { self.new.items ≡ all_given ticket self.old.items }
+        ensures kept { IsSameRoom self.old self.new }
+    {
+        let start = self.by_ticket.place(ticket, 0);
+        let end = self.by_ticket.place(ticket, usize::MAX);
+        for place in start..end {
+            let at = self.by_ticket.offset(place);
+            forget_stretch(&mut self.stretches, self.by_ticket.index(at));
+            give_one(&mut self.entries, &mut self.counts, self.size, at, ticket);
+        }
+    }
+}
+
+/// An entry is of the message with this ticket, and not covered.
+fn is_uncovered(entry: &Entry, ticket: u64) -> bool
+    ensures { (size : ℕ) → result ≡ is_item_uncovered ticket (item_meaning size entry.now) }
+{
+    entry.message.ticket == ticket && !entry.covered
+}
+
+/// An entry of the message with this ticket is abandoned; its mark ends.
+fn give_one(entries: &mut VecDeque<Entry>, counts: &mut Counts, size: u16, at: usize, ticket: u64)
+    requires within { at < length entries.old.items }
+    requires counted { IsCounted size entries.old.items counts.old }
+    ensures items { entries.new.items ≡ at_place (given ticket) at entries.old.items }
+    ensures counted { IsCounted size entries.new.items counts.new }
+    ensures capacity { deque_capacity entries.new ≡ deque_capacity entries.old }
+{
+    let entry = &entries[at];
+    if entry.message.ticket == ticket {
+        let standing = unmarked(entry.standing);
+        let covered = entry.covered;
+        stand_one(entries, counts, size, at, standing, covered, true);
+    }
+}

@@ -1,0 +1,145 @@
+//! What became of each ticket: one by one, and of a block of tickets that ended alike for good once for all of them.
+
+ghost use Rattle.std.specs.Prelude.{◌≡◌, ℕ, ◌+◌, ◌^◌, ◌<◌, ◌≤◌, ◌++◌, ◌∷◌, [], false, length, set, slice_index_or, OnOk, IfSome};
+ghost use Rattle.sctp_send.specs.inner.Walks.{is_queued_fate};
+
+use crate::kept::blocks::{BLOCK, Block, end_first, fate_in};
+use crate::kept::message::Fate;
+use sctp_values::NoMemory;
+use std::alloc::Global;
+use std::marker::Model;
+
+/// After so many tickets more it is looked at again whether a block is over.
+const AGAIN: usize = 256;
+
+/// Fates by ticket, from 1 on.
+#[derive(Drop)]
+pub(crate) struct Fates {
+    // those of the first tickets, of which nothing else is kept
+    blocks: Vec<Block>,
+    // how many tickets these are
+    ended: usize,
+    // one by one, those of blocks whose tickets didn't end alike
+    mixed: Vec<Fate>,
+    // one by one, those of the tickets behind
+    recent: Vec<Fate>,
+}
+
+impl Model for Fates {
+    ghost use Rattle.std.specs.Prelude.{◌+◌, ◌++◌};
+    ghost use Rattle.std.specs.Vec.{vec_capacity};
+    ghost use Rattle.sctp_send.specs.PartsKept.{FatesKept};
+
+    ghost Value = { FatesKept };
+
+    ghost use Rattle.sctp_send.specs.inner.FateBlocks.{fates_of, AreFates};
+
+    ghost view = { λ w. record { items = fates_of w.mixed.items w.blocks.items ++ w.recent.items; ended = w.ended; capacity = w.ended + vec_capacity w.recent } };
+
+    ghost invariant = { λ w. AreFates w.ended w.blocks.items w.mixed.items w.recent.items };
+}
+
+impl Fates {
+    /// Those of no ticket.
+    pub(crate) fn new(alloc: Global) -> Fates
+        ensures items { result.items ≡ [] }
+        ensures ended { result.ended ≡ 0 }
+    {
+        Fates {
+            blocks: Vec::new(alloc),
+            ended: 0,
+            mixed: Vec::new(alloc),
+            recent: Vec::new(alloc),
+        }
+    }
+
+    /// How many tickets there are.
+    pub(crate) fn len(&self) -> usize
+        ensures len { result ≡ length self.now.items }
+        ensures ended { self.now.ended ≤ length self.now.items }
+    {
+        self.ended + self.recent.len()
+    }
+
+    /// The fate of a ticket, counted from 0.
+    pub(crate) fn get(&self, at: usize) -> Fate
+        requires { at < length self.now.items }
+        ensures { result ≡ slice_index_or self.now.items at result }
+    {
+        if at < self.ended {
+            fate_in(&self.blocks, &self.mixed, at)
+        } else {
+            self.recent[at - self.ended]
+        }
+    }
+
+    /// Takes room for a ticket more.
+    ///
+    /// # Errors
+    /// `NoMemory`.
+    pub(crate) fn reserve(&mut self) -> Result<(), NoMemory>
+        ensures items { self.new.items ≡ self.old.items }
+        ensures ended { self.new.ended ≡ self.old.ended }
+        ensures room { OnOk result (length self.new.items < self.new.capacity) }
+    {
+        match self.recent.reserve(1) {
+            Ok(()) => Ok(()),
+            Err(_) => Err(NoMemory),
+        }
+    }
+
+    /// A ticket comes behind the others.
+    pub(crate) fn push(&mut self, fate: Fate)
+        requires room { length self.old.items < self.old.capacity }
+        requires few { length self.old.items + 1 < 2 ^ 64 }
+        ensures items { self.new.items ≡ self.old.items ++ fate ∷ [] }
+        ensures ended { self.new.ended ≡ self.old.ended }
+    {
+        self.recent.push_reserved(fate);
+    }
+
+    /// The fate of a ticket, counted from 0, is this from now on: that of one that is over stands.
+    pub(crate) fn set(&mut self, at: usize, fate: Fate)
+        ensures items { self.old.ended ≤ at → self.new.items ≡ set self.old.items at fate }
+        ensures ended { self.new.ended ≡ self.old.ended }
+    {
+        if at >= self.ended {
+            set_at(&mut self.recent, at - self.ended, fate);
+        }
+    }
+
+    /// The last ticket of the next block that may be over, where it is time to look.
+    pub(crate) fn next_end(&self) -> Option<u64>
+        ensures { IfSome result (λ last. last ≡ self.now.ended + 4096) }
+    {
+        let many = self.recent.len();
+        if many < BLOCK || many % AGAIN != 0 {
+            return None;
+        }
+        Some((self.ended + BLOCK) as u64)
+    }
+
+    /// The next block of tickets is over, if there is one of which none waits, and memory for it.
+    pub(crate) fn end_block(&mut self)
+        ensures items { self.new.items ≡ self.old.items }
+        ensures within { self.new.ended ≤ self.old.ended + 4096 }
+        ensures given { self.new.ended ≤ length self.new.items }
+        ensures settled { (at : ℕ) (fate : Fate) → self.old.ended ≤ at → at < self.new.ended → is_queued_fate (slice_index_or self.new.items at fate) ≡ false }
+    {
+        if self.recent.len() < BLOCK {
+            return;
+        }
+        if end_first(&mut self.blocks, &mut self.mixed, &mut self.recent) {
+            self.ended += BLOCK;
+        }
+    }
+}
+
+/// The fate at a place, where there is such a place, is this.
+fn set_at(fates: &mut Vec<Fate>, at: usize, fate: Fate)
+    ensures { fates.new.items ≡ set fates.old.items at fate }
+{
+    if at < fates.len() {
+        fates[at] = fate;
+    }
+}

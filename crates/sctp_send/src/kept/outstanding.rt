@@ -1,0 +1,239 @@
+//! The entries above CUM, and what is counted of them, so that no call goes over all of them for it.
+
+ghost use Rattle.std.specs.Prelude.{◌≡◌, ℕ, ◌+◌, ◌*◌, ◌-◌, ◌<◌, ◌≤◌, ◌%◌, ◌^◌, ◌++◌, ◌∷◌, [], take, drop, map, length, slice_index_or, OnOk, OnErr, IfSome, IfNone};
+ghost use Rattle.sctp_send.specs.OutstandingFields.{item_meaning};
+ghost use Rattle.sctp_send.specs.PartsKept.{changed};
+ghost use Rattle.sctp_send.specs.inner.Changes.{stood};
+ghost use Rattle.sctp_send.specs.inner.Walks.{abandoned_items, any_unsettled};
+ghost use Rattle.sctp_send.specs.inner.Wishing.{item_flight};
+
+use crate::kept::by_ticket::{ByTicket, MOST};
+use crate::kept::counts::{Counts, front_behind, stand_one};
+use crate::kept::entry::{CoveredRun, Entry, Standing};
+use crate::kept::message::Message;
+use crate::kept::stretches::{Stretch, forget_stretch, keep_stretches};
+use sctp_values::NoMemory;
+use std::alloc::Global;
+use std::collections::VecDeque;
+use std::marker::Model;
+use std::sync::Arc;
+
+/// An entry for each index above CUM, that of CUM + 1 in front, with counts of them, and their order by ticket.
+#[derive(Drop)]
+pub(crate) struct Outstanding {
+    // the most bytes of a fragment
+    pub(crate) size: u16,
+    pub(crate) entries: VecDeque<Entry>,
+    pub(crate) counts: Counts,
+    pub(crate) by_ticket: ByTicket,
+    // how many entries there is room for
+    pub(crate) room: usize,
+    // what is known of 64 entries in a row; nothing until there are many
+    pub(crate) stretches: Vec<Stretch>,
+    // empty: the places of a SACK's runs and of the next one's, from the first entry on until a SACK is taken
+    pub(crate) covered: Vec<CoveredRun>,
+    pub(crate) spare: Vec<CoveredRun>,
+}
+
+impl Model for Outstanding {
+    ghost use Rattle.sctp_send.specs.PartsKept.{OutstandingKept};
+
+    ghost Value = { OutstandingKept };
+
+    ghost use Rattle.std.specs.VecDeque.{deque_capacity};
+    ghost use Rattle.sctp_send.specs.inner.TicketOrder.{IsInOrder};
+
+    ghost view = { λ w. record { size = w.size; items = w.entries.items; capacity = w.room } };
+
+    ghost invariant = { λ w. IsInOrder w.size w.entries.items (deque_capacity w.entries) w.counts w.by_ticket w.room w.stretches.items };
+}
+
+impl Outstanding {
+    /// No entry, of fragments with at most so many bytes.
+    pub(crate) fn new(alloc: Global, size: u16) -> Outstanding
+        requires { 0 < size }
+        ensures size { result.size ≡ size }
+        ensures items { result.items ≡ [] }
+    {
+        Outstanding {
+            size,
+            entries: VecDeque::new(alloc),
+            counts: Counts::none(),
+            by_ticket: ByTicket::new(alloc),
+            room: 0,
+            stretches: Vec::new(alloc),
+            covered: Vec::new(alloc),
+            spare: Vec::new(alloc),
+        }
+    }
+
+    /// How many entries there are.
+    pub(crate) fn len(&self) -> usize
+        ensures { result ≡ length self.now.items }
+    {
+        self.entries.len()
+    }
+
+    /// The entry at an offset.
+    pub(crate) fn get(&self, at: usize) -> &Entry
+        requires { at < length self.now.items }
+        ensures { result.now ≡ slice_index_or self.now.items at result.now }
+    {
+        &self.entries[at]
+    }
+
+    /// How many bytes are in flight, modulo 2^64.
+    pub(crate) fn flight(&self) -> u64
+        ensures flight { result ≡ item_flight (map (item_meaning self.now.size) self.now.items) % 2 ^ 64 }
+        ensures bound { item_flight (map (item_meaning self.now.size) self.now.items) ≤ length self.now.items * 65535 }
+    {
+        self.counts.flight
+    }
+
+    /// Some entry went out, and is neither covered nor abandoned.
+    pub(crate) fn is_unsettled(&self) -> bool
+        ensures { result ≡ any_unsettled (map (item_meaning self.now.size) self.now.items) }
+    {
+        self.counts.unsettled > 0
+    }
+
+    /// How many of the first entries are abandoned.
+    pub(crate) fn front(&self) -> usize
+        ensures { (size : ℕ) → result ≡ abandoned_items (map (item_meaning size) self.now.items) }
+    {
+        self.counts.front
+    }
+
+    /// Room for so many entries more.
+    ///
+    /// # Errors
+    /// `NoMemory`. It comes only where there is no such room.
+    #[inline(always)]
+    pub(crate) fn reserve(&mut self, more: usize) -> Result<(), NoMemory>
+        ensures size { self.new.size ≡ self.old.size }
+        ensures items { self.new.items ≡ self.old.items }
+        ensures capacity { self.old.capacity ≤ self.new.capacity }
+        ensures room { OnOk result (length self.new.items + more ≤ self.new.capacity) }
+        ensures in_place { length self.old.items + more ≤ self.old.capacity → self.new ≡ self.old }
+        ensures refused { OnErr result (self.old.capacity < length self.old.items + more) }
+    {
+        if more <= self.room - self.entries.len() {
+            return Ok(());
+        }
+        self.reserve_anew(more)
+    }
+
+    /// The same, where there is no such room yet. It stands apart, so that what is asked each time stays small.
+    #[inline(never)]
+    fn reserve_anew(&mut self, more: usize) -> Result<(), NoMemory>
+        requires { self.old.capacity < length self.old.items + more }
+        ensures size { self.new.size ≡ self.old.size }
+        ensures items { self.new.items ≡ self.old.items }
+        ensures capacity { self.old.capacity ≤ self.new.capacity }
+        ensures room { OnOk result (length self.new.items + more ≤ self.new.capacity) }
+    {
+        self.entries.reserve(more).map_err(|_| NoMemory)?;
+        self.by_ticket.reserve(more)?;
+        self.reserve_runs()?;
+        self.room = self
+            .entries
+            .capacity()
+            .min(self.by_ticket.capacity())
+            .min(MOST);
+        if more <= self.room - self.entries.len() {
+            Ok(())
+        } else {
+            Err(NoMemory)
+        }
+    }
+
+    /// One entry more, behind the others.
+    ///
+    /// # Errors
+    /// `NoMemory`: there is no entry more. It comes only where there is no room.
+    pub(crate) fn push(&mut self, entry: Entry) -> Result<(), NoMemory>
+        ensures size { self.new.size ≡ self.old.size }
+        ensures items { OnOk result (self.new.items ≡ self.old.items ++ entry ∷ []) }
+        ensures unchanged { OnErr result (self.new.items ≡ self.old.items) }
+        ensures capacity { self.old.capacity ≤ self.new.capacity }
+        ensures in_place { length self.old.items < self.old.capacity → self.new ≡ record self.old { items = self.old.items ++ entry ∷ [] } }
+    {
+        self.reserve(1)?;
+        self.put(entry);
+        Ok(())
+    }
+
+    /// One entry more, behind the others, for which there is room.
+    #[inline(always)]
+    pub(crate) fn put(&mut self, entry: Entry)
+        requires { length self.old.items < self.old.capacity }
+        ensures { self.new ≡ record self.old { items = self.old.items ++ entry ∷ [] } }
+    {
+        let others = self.entries.len();
+        self.counts.enter(&entry, self.size);
+        self.counts.reach(others, &entry);
+        keep_stretches(&mut self.stretches, others);
+        forget_stretch(&mut self.stretches, self.by_ticket.index(others));
+        self.by_ticket.push(entry.message.ticket);
+        self.entries.push_back_reserved(entry);
+    }
+
+    /// The first entry goes, where there is one. It answers the message of that.
+    pub(crate) fn pop_front(&mut self) -> Option<Arc<Message>>
+        ensures { self.new ≡ record self.old { items = drop 1 self.old.items } }
+    {
+        if let Some(entry) = self.entries.pop_front() {
+            self.by_ticket.pop_front(entry.message.ticket);
+            self.counts.leave(&entry, self.size);
+            self.counts.marked = self.counts.marked.saturating_sub(1);
+            self.counts.unsent = self.counts.unsent.saturating_sub(1);
+            self.counts.front = front_behind(self.counts.front, &self.entries);
+            let Entry { message, .. } = entry;
+            return Some(message);
+        }
+        None
+    }
+
+    /// The last entry goes, where there is one.
+    pub(crate) fn pop_back(&mut self) -> Option<Entry>
+        ensures entries { self.new ≡ record self.old { items = take (length self.old.items - 1) self.old.items } }
+        ensures last { IfSome result (λ entry. self.old.items ≡ self.new.items ++ entry ∷ []) }
+        ensures none { IfNone result (self.old.items ≡ []) }
+    {
+        if let Some(entry) = self.entries.pop_back() {
+            self.by_ticket.pop_back(entry.message.ticket);
+            self.counts.leave(&entry, self.size);
+            self.counts.marked = self.counts.marked.min(self.entries.len());
+            self.counts.unsent = self.counts.unsent.min(self.entries.len());
+            self.counts.front = self.counts.front.min(self.entries.len());
+            return Some(entry);
+        }
+        None
+    }
+
+    /// The entries behind the first so many go.
+    pub(crate) fn truncate(&mut self, many: usize)
+        ensures { self.new ≡ record self.old { items = take many self.old.items } }
+    {
+        for _ in many..self.len() {
+            let _gone = self.pop_back();
+        }
+    }
+
+    /// What became of the entry at an offset.
+    pub(crate) fn stand(&mut self, at: usize, standing: Standing, covered: bool, abandoned: bool)
+        requires { at < length self.old.items }
+        ensures { self.new ≡ changed (stood standing covered abandoned) at self.old }
+    {
+        forget_stretch(&mut self.stretches, self.by_ticket.index(at));
+        stand_one(
+            &mut self.entries,
+            &mut self.counts,
+            self.size,
+            at,
+            standing,
+            covered,
+            abandoned,
+        );
+    }
+}

@@ -1,0 +1,103 @@
+//! A fragment's bytes and its chunk (RFC 9260, 3.3.1 and 6.9; RFC 8260, 2.1).
+
+ghost use Rattle.std.specs.Prelude.{◌≡◌, ℕ, ◌<◌, ◌≤◌, ◌^◌, length, IfOk, OnErr, Option, Some};
+ghost use Rattle.sctp_model.specs.messages.Format.{Lane};
+ghost use Rattle.sctp_model.specs.messages.Plan.{Message as Said, Entry};
+ghost use Rattle.sctp_model.specs.numbers.Limits.{GREATEST_FRAGMENT};
+ghost use Rattle.sctp_model.specs.numbers.Serial as serial;
+ghost use Rattle.sctp_model.specs.sender.Entries.{entry_fragment, bytes_in};
+ghost use Rattle.sctp_packet.specs.Draft.{has_room, after_try};
+ghost use Rattle.sctp_send.specs.OutstandingFields.{message_meaning, entry_meaning};
+ghost use Rattle.sctp_send.specs.inner.Drafting.{fragment_chunk, said_chunk};
+
+use crate::kept::entry::Place;
+use crate::kept::message::{Message, fragments_of};
+use sctp_framing::Framing;
+use sctp_packet::PacketWriter;
+use sctp_values::NoMemory;
+use sctp_wire::Piece;
+
+/// The bytes of a fragment: a range of its message's. An end mark has none.
+pub(crate) fn bytes_of(message: &Message, place: Place, size: u16) -> &[u8]
+    requires { 0 < size }
+    ensures { (l : Lane) (n : ℕ) → result.now ≡ bytes_in (entry_meaning l n place) (Some (message_meaning size message.now)) }
+{
+    let bytes = message.bytes.as_slice();
+    match place {
+        Place::Fragment(fragment) => {
+            let from = (fragment as usize * usize::from(size)).min(bytes.len());
+            let to = (from + usize::from(size)).min(bytes.len());
+            &bytes[from..to]
+        }
+        Place::EndMark => &bytes[0..0],
+    }
+}
+
+/// Which fragment of its message it is; an end mark counts as the first.
+fn fragment_of(place: Place) -> u32
+    ensures { (l : Lane) (n : ℕ) → result ≡ entry_fragment (entry_meaning l n place) }
+{
+    match place {
+        Place::Fragment(fragment) => fragment,
+        Place::EndMark => 0,
+    }
+}
+
+/// The stream of a message.
+fn stream_of(message: &Message) -> u16
+    ensures { result ≡ message.now.stream }
+{
+    message.stream
+}
+
+/// The payload id of a message.
+fn payload_of(message: &Message) -> u32
+    ensures { result ≡ message.now.payload_id }
+{
+    message.payload_id
+}
+
+/// A chunk with so many bytes of data fits into what is left of a packet.
+pub(crate) fn fits<F: Framing>(bytes: usize, packet: &PacketWriter) -> bool
+    requires { bytes < 2 ^ 63 }
+    ensures { (initial i : ℕ) (e : Entry) (m : Option Said) → bytes ≡ length (bytes_in e m) → result ≡ has_room packet.now (said_chunk F.format initial i e m) }
+{
+    (F::header() + bytes + 3) / 4 * 4 <= packet.room()
+}
+
+/// Puts the chunk of a fragment into a packet, if it fits.
+///
+/// # Errors
+/// `NoMemory`; the packet is then as before.
+#[inline(always)]
+pub(crate) fn put_fragment<F: Framing>(
+    message: &Message,
+    number: u64,
+    place: Place,
+    size: u16,
+    tsn: u32,
+    packet: &mut PacketWriter,
+) -> Result<bool, NoMemory>
+    requires some { 0 < size }
+    requires short { size ≤ GREATEST_FRAGMENT }
+    ensures answer { (initial i : ℕ) → tsn ≡ serial.tsn initial i → IfOk result (λ put. put ≡ has_room packet.old (fragment_chunk F.format size initial i message.now number place)) }
+    ensures after { (initial i : ℕ) → tsn ≡ serial.tsn initial i → IfOk result (λ put. packet.new ≡ after_try packet.old (fragment_chunk F.format size initial i message.now number place) put) }
+    ensures unchanged { OnErr result (packet.new ≡ packet.old) }
+{
+    let fragment = fragment_of(place);
+    let stream = stream_of(message);
+    let payload_id = payload_of(message);
+    let kind = message.kind;
+    let piece = Piece {
+        immediate: false,
+        unordered: kind.flag(),
+        begin: fragment == 0,
+        end: fragment as usize + 1 == fragments_of(size, &message.bytes),
+        tsn,
+        stream,
+        number: F::wire_number(kind, number),
+        word: F::wire_word(payload_id, fragment),
+        bytes: bytes_of(message, place, size),
+    };
+    packet.try_chunk(&F::data_chunk(piece))
+}

@@ -1,0 +1,236 @@
+//! The messages that wait for their numbers, the first to come in front, and what is counted of them.
+
+ghost use Rattle.std.specs.Prelude.{◌≡◌, ℕ, ◌+◌, ◌<◌, ◌≤◌, ◌%◌, ◌^◌, ◌↔◌, ◌++◌, ◌∷◌, [], true, false, map, length, insert, remove, slice_index_or, OnOk, OnErr, OnSome, IsSome, IfSome, IfNone};
+ghost use Rattle.std.specs.VecDeque.{deque_len, deque_capacity};
+ghost use Rattle.sctp_model.specs.sender.Queueing.{owed_by_queue};
+ghost use Rattle.sctp_model.specs.sender.Abandoning.{waits};
+ghost use Rattle.sctp_send.specs.SenderFields.{queued_by};
+ghost use Rattle.sctp_send.specs.Waiting.{waiting_bytes};
+ghost use Rattle.sctp_send.specs.inner.Seating.{AreLower, NextOnAnswer};
+
+use crate::kept::message::{Message, bytes_of, owed_by_message};
+use crate::kept::ordered::{Ordered, Pair};
+use crate::kept::seats::{
+    Found, add_seat, first_from, fits_at, free_seat, is_in_front, make_room, next_by_looking,
+    seat_of,
+};
+use sctp_values::NoMemory;
+use std::alloc::Global;
+use std::collections::VecDeque;
+use std::marker::Model;
+use std::sync::Arc;
+
+/// The messages without a number, with counts of them.
+#[derive(Drop)]
+pub(crate) struct Queue {
+    // the most bytes of a fragment
+    pub(crate) size: u16,
+    pub(crate) messages: VecDeque<Arc<Message>>,
+    // the TSNs that they may take, modulo 2^64
+    pub(crate) owed: u64,
+    // their bytes, modulo 2^64
+    pub(crate) bytes: u64,
+    // tickets rise from the front on: so it is where `queue` gives them
+    pub(crate) rises: bool,
+    // where streams take turns, each message by its stream and its ticket
+    pub(crate) seats: Ordered,
+    pub(crate) is_seated: bool,
+}
+
+impl Model for Queue {
+    ghost use Rattle.std.specs.VecDeque.{deque_capacity};
+    ghost use Rattle.sctp_send.specs.PartsKept.{QueueKept};
+
+    ghost Value = { QueueKept };
+
+    ghost use Rattle.sctp_send.specs.inner.Seating.{IsQueueOf};
+
+    ghost view = { λ w. record { size = w.size; items = w.messages.items; capacity = deque_capacity w.messages } };
+
+    ghost invariant = { λ w. IsQueueOf w.size w.messages.items w.owed w.rises w.is_seated w.seats.items w.bytes };
+}
+
+impl Queue {
+    /// No message, of fragments with at most so many bytes; streams take turns, or don't.
+    pub(crate) fn new(alloc: Global, size: u16, takes_turns: bool) -> Queue
+        requires { 0 < size }
+        ensures size { result.size ≡ size }
+        ensures items { result.items ≡ [] }
+    {
+        let messages = VecDeque::new(alloc);
+        let seats = Ordered::new(alloc);
+        Queue {
+            size,
+            messages,
+            owed: 0,
+            bytes: 0,
+            rises: true,
+            seats,
+            is_seated: takes_turns,
+        }
+    }
+
+    /// How many messages wait.
+    pub(crate) fn len(&self) -> usize
+        ensures len { result ≡ length self.now.items }
+        ensures within { length self.now.items ≤ self.now.capacity }
+    {
+        self.messages.len()
+    }
+
+    /// The message at a place.
+    pub(crate) fn get(&self, at: usize) -> &Arc<Message>
+        requires { at < length self.now.items }
+        ensures { result.now ≡ slice_index_or self.now.items at result.now }
+    {
+        &self.messages[at]
+    }
+
+    /// The TSNs that the messages may take, modulo 2^64.
+    pub(crate) fn owed(&self) -> u64
+        ensures { result ≡ owed_by_queue (map (queued_by self.now.size) self.now.items) % 2 ^ 64 }
+    {
+        self.owed
+    }
+
+    /// The bytes of the messages, modulo 2^64.
+    pub(crate) fn bytes(&self) -> u64
+        ensures { result ≡ waiting_bytes (map (queued_by self.now.size) self.now.items) % 2 ^ 64 }
+    {
+        self.bytes
+    }
+
+    /// A message waits behind the others.
+    ///
+    /// # Errors
+    /// `NoMemory`: it doesn't wait.
+    pub(crate) fn push(&mut self, message: Arc<Message>) -> Result<(), NoMemory>
+        ensures size { self.new.size ≡ self.old.size }
+        ensures items { OnOk result (self.new.items ≡ self.old.items ++ message ∷ []) }
+        ensures unchanged { OnErr result (self.new.items ≡ self.old.items) }
+    {
+        let owed = owed_by_message(&message, self.size);
+        let bytes = bytes_of(&message);
+        let seat = seat_of(&message);
+        let behind = self.messages.len();
+        let fits = fits_at(&self.messages, self.rises, behind, seat.second);
+        make_room(&mut self.seats, self.is_seated)?;
+        match self.messages.push_back(message) {
+            Ok(()) => {}
+            Err(_) => return Err(NoMemory),
+        }
+        self.owed = self.owed.wrapping_add(owed);
+        self.bytes = self.bytes.wrapping_add(bytes);
+        self.rises = fits;
+        self.is_seated = add_seat(&mut self.seats, self.is_seated, seat);
+        Ok(())
+    }
+
+    /// The message at a place waits no more, where there is one.
+    pub(crate) fn remove(&mut self, place: usize) -> Option<Arc<Message>>
+        ensures some { place < length self.old.items → self.new ≡ record self.old { items = remove self.old.items place } }
+        ensures message { IfSome result (λ message. (place < length self.old.items) × (message ≡ slice_index_or self.old.items place message)) }
+        ensures none { IfNone result ((length self.old.items ≤ place) × (self.new ≡ self.old)) }
+    {
+        let message = remove_at(&mut self.messages, place)?;
+        let owed = owed_by_message(&message, self.size);
+        self.owed = self.owed.wrapping_sub(owed);
+        self.bytes = self.bytes.wrapping_sub(bytes_of(&message));
+        let seat = seat_of(&message);
+        free_seat(&mut self.seats, self.is_seated, seat);
+        Some(message)
+    }
+
+    /// A message waits again at its place, where there is room since it went.
+    pub(crate) fn put_back(&mut self, place: usize, message: Arc<Message>)
+        requires place { place ≤ length self.old.items }
+        requires room { length self.old.items < self.old.capacity }
+        ensures size { self.new.size ≡ self.old.size }
+        ensures items { self.new.items ≡ insert self.old.items place message }
+        ensures capacity { self.old.capacity ≤ self.new.capacity }
+    {
+        let owed = owed_by_message(&message, self.size);
+        let bytes = bytes_of(&message);
+        let seat = seat_of(&message);
+        let fits = fits_at(&self.messages, self.rises, place, seat.second);
+        match self.messages.insert(place, message) {
+            Ok(()) => {}
+            Err(_) => return,
+        }
+        self.owed = self.owed.wrapping_add(owed);
+        self.bytes = self.bytes.wrapping_add(bytes);
+        self.rises = fits;
+        self.is_seated = add_seat(&mut self.seats, self.is_seated, seat);
+    }
+
+    /// How many of the first messages have lower tickets, where tickets rise; else none.
+    pub(crate) fn first_from(&self, ticket: u64) -> usize
+        ensures lower { AreLower ticket result self.now.items }
+        ensures within { result ≤ length self.now.items }
+    {
+        first_from(&self.messages, self.rises, ticket)
+    }
+
+    /// All messages have tickets behind this one. It says nothing where tickets don't rise.
+    pub(crate) fn is_past(&self, last: u64) -> bool
+        ensures { (size t : ℕ) → result ≡ true → t ≤ last → waits t (map (queued_by size) self.now.items) ≡ false }
+    {
+        if self.messages.len() == 0 {
+            return true;
+        }
+        if !self.rises {
+            return false;
+        }
+        let message = &self.messages[0];
+        if last < message.ticket {
+            return true;
+        }
+        false
+    }
+
+    /// The first stream from one on, below another, on which a message waits, and the place of the message that has waited longest on it.
+    pub(crate) fn next_on(&self, from: u16, below: u16) -> Option<Found>
+        ensures next { (size : ℕ) → NextOnAnswer from below (map (queued_by size) self.now.items) result }
+        ensures within { IfSome result (λ found. found.place < length self.now.items) }
+    {
+        if is_in_front(&self.messages, from, below) {
+            return Some(Found {
+                stream: from,
+                place: 0,
+            });
+        }
+        let (rises, is_seated) = (self.rises, self.is_seated);
+        if !rises || !is_seated {
+            return next_by_looking(&self.messages, from, below);
+        }
+        let at = self.seats.place_of(Pair {
+            first: u64::from(from),
+            second: 0,
+        });
+        if at >= self.seats.len() {
+            return None;
+        }
+        let seat = self.seats.get(at);
+        let place = first_from(&self.messages, rises, seat.second);
+        let message = &self.messages[place];
+        let stream = message.stream;
+        if stream >= below {
+            return None;
+        }
+        Some(Found { stream, place })
+    }
+}
+
+/// The message at a place goes, where there is one. The first one moves no other.
+fn remove_at(messages: &mut VecDeque<Arc<Message>>, place: usize) -> Option<Arc<Message>>
+    ensures value { IfSome result (λ message. message ≡ slice_index_or messages.old.items place message) }
+    ensures items { OnSome result (messages.new.items ≡ remove messages.old.items place) }
+    ensures variant { IsSome result ↔ (place < deque_len messages.old) }
+    ensures unchanged { IfNone result (messages.new ≡ messages.old) }
+    ensures capacity { deque_capacity messages.new ≡ deque_capacity messages.old }
+{
+    if place > 0 || messages.is_empty() {
+        return messages.remove(place);
+    }
+    messages.pop_front()
+}

@@ -1,0 +1,154 @@
+//! Where a message that waits stands: by its ticket among the others, and by its stream.
+
+ghost use Rattle.std.specs.Prelude.{◌≡◌, ℕ, ◌+◌, ◌-◌, ◌<◌, ◌≤◌, true, map, length, insert, remove, slice_index_or, if◌then◌else◌, IfSome};
+ghost use Rattle.sctp_send.specs.SenderFields.{queued_by};
+ghost use Rattle.sctp_send.specs.inner.Newcomers.{FirstOnAnswer, IsFirstOn};
+ghost use Rattle.sctp_send.specs.inner.Ordering.{key, before, AreOrdered};
+ghost use Rattle.sctp_send.specs.inner.Seating.{ticket_in, DoTicketsRise, IsBetween, NextOnAnswer};
+
+use crate::kept::message::Message;
+use crate::kept::ordered::{Ordered, Pair};
+use sctp_values::NoMemory;
+use std::collections::VecDeque;
+use std::sync::Arc;
+
+/// A stream on which a message waits, and the place of the message that has waited longest on it.
+#[derive(Clone, Copy)]
+pub(crate) struct Found {
+    pub(crate) stream: u16,
+    pub(crate) place: usize,
+}
+
+/// A message by its stream and its ticket.
+pub(crate) fn seat_of(message: &Message) -> Pair
+    ensures first { result.first ≡ message.now.stream }
+    ensures second { result.second ≡ message.now.ticket }
+{
+    Pair {
+        first: u64::from(message.stream),
+        second: message.ticket,
+    }
+}
+
+/// Tickets rise, and go on rising with one at a place: it lies between those of its neighbours there.
+pub(crate) fn fits_at(
+    messages: &VecDeque<Arc<Message>>,
+    rises: bool,
+    place: usize,
+    ticket: u64,
+) -> bool
+    requires { place ≤ length messages.now.items }
+    ensures rises { result ≡ true → rises ≡ true }
+    ensures between { result ≡ true → IsBetween place ticket messages.now.items }
+{
+    rises
+        && (place == 0 || messages[place - 1].ticket < ticket)
+        && (place == messages.len() || ticket < messages[place].ticket)
+}
+
+/// How many of the first messages have lower tickets, by halves, where tickets rise; else none.
+pub(crate) fn first_from(messages: &VecDeque<Arc<Message>>, rises: bool, ticket: u64) -> usize
+    requires { rises ≡ true → DoTicketsRise 0 messages.now.items }
+    ensures place { result ≡ (if rises then before ticket_in ticket messages.now.items else 0) }
+    ensures within { result ≤ length messages.now.items }
+{
+    if !rises || messages.len() == 0 {
+        return 0;
+    }
+    // The first one is asked for most often.
+    if messages[0].ticket >= ticket {
+        return 0;
+    }
+    let mut low = 1;
+    let mut high = messages.len();
+    while low < high {
+        let middle = low + (high - low) / 2;
+        if messages[middle].ticket < ticket {
+            low = middle + 1;
+        } else {
+            high = middle;
+        }
+    }
+    low
+}
+
+/// There is room for one seat more, where the seats are kept.
+///
+/// # Errors
+/// `NoMemory`.
+pub(crate) fn make_room(seats: &mut Ordered, is_seated: bool) -> Result<(), NoMemory>
+    ensures { seats.new.items ≡ seats.old.items }
+{
+    if is_seated { seats.reserve(1) } else { Ok(()) }
+}
+
+/// A seat is taken, where the seats are kept and there is memory for it: whether they still are those of all messages.
+pub(crate) fn add_seat(seats: &mut Ordered, is_seated: bool, seat: Pair) -> bool
+    ensures kept { result ≡ true → is_seated ≡ true }
+    ensures seats { result ≡ true → seats.new.items ≡ insert seats.old.items (before key (key seat) seats.old.items) seat }
+{
+    if !is_seated || seats.reserve(1).is_err() {
+        return false;
+    }
+    seats.insert(seat);
+    true
+}
+
+/// A seat is free again, where the seats are kept.
+#[inline(always)]
+pub(crate) fn free_seat(seats: &mut Ordered, is_seated: bool, seat: Pair)
+    ensures order { is_seated ≡ true → AreOrdered seats.old.items }
+    ensures seats { is_seated ≡ true → before key (key seat) seats.old.items < length seats.old.items
+        → seats.new.items ≡ remove seats.old.items (before key (key seat) seats.old.items) }
+{
+    if is_seated {
+        seats.remove(seat);
+    }
+}
+
+/// The place of the message that has waited longest on a stream.
+fn first_on(messages: &VecDeque<Arc<Message>>, stream: u16) -> Option<usize>
+    ensures first { (size : ℕ) → FirstOnAnswer stream (map (queued_by size) messages.now.items) result }
+    ensures within { IfSome result (λ at. at < length messages.now.items) }
+{
+    for at in 0..messages.len() {
+        let message = &messages[at];
+        if message.stream == stream {
+            return Some(at);
+        }
+    }
+    None
+}
+
+/// The message in front of all is of a stream, which is below another.
+pub(crate) fn is_in_front(messages: &VecDeque<Arc<Message>>, stream: u16, below: u16) -> bool
+    ensures first { (size : ℕ) → result ≡ true → IsFirstOn stream 0 (map (queued_by size) messages.now.items) }
+    ensures low { result ≡ true → stream < below }
+    ensures within { result ≡ true → 0 < length messages.now.items }
+{
+    if messages.len() == 0 || stream >= below {
+        return false;
+    }
+    let message = &messages[0];
+    if message.stream == stream {
+        return true;
+    }
+    false
+}
+
+/// The first stream from one on, below another, on which a message waits, and where, by looking through all messages for each.
+pub(crate) fn next_by_looking(
+    messages: &VecDeque<Arc<Message>>,
+    from: u16,
+    below: u16,
+) -> Option<Found>
+    ensures next { (size : ℕ) → NextOnAnswer from below (map (queued_by size) messages.now.items) result }
+    ensures within { IfSome result (λ found. found.place < length messages.now.items) }
+{
+    for stream in from..below {
+        if let Some(place) = first_on(messages, stream) {
+            return Some(Found { stream, place });
+        }
+    }
+    None
+}

@@ -1,0 +1,198 @@
+//! What is kept of each stream, and what is counted of all: so many messages in part, and the TSNs that they may take.
+
+ghost use Rattle.std.specs.Prelude.{◌≡◌, ℕ, ◌+◌, ◌<◌, ◌≤◌, ◌%◌, ◌^◌, true, false, map, length, set, replicate, slice_index_or, IfOk, IfSome, IfNone};
+ghost use Rattle.sctp_send.specs.SenderFields.{track_meaning};
+ghost use Rattle.sctp_send.specs.inner.Walks.{total, one_if_rest, rest_owes, any_rest, GoesOnAt};
+ghost use Rattle.sctp_send.specs.inner.Newcomers.{IsNextPart};
+ghost use Rattle.sctp_send.specs.inner.Undoing.{counted_to};
+ghost use Rattle.sctp_send.specs.PartsKept.{at_place};
+
+use crate::kept::looking::{are_past, next_part_by_looking, stream_by_looking, ticket_of_track};
+use crate::kept::part_lists::PartLists;
+use crate::kept::track::{Track, owed_by_track};
+use sctp_values::{Kind, NoMemory};
+use std::alloc::Global;
+use std::marker::Model;
+use std::mem;
+
+/// The streams of a sender, with counts of them.
+#[derive(Drop)]
+pub(crate) struct Streams {
+    // the most bytes of a fragment
+    size: u16,
+    tracks: Vec<Track>,
+    // how many messages are in part
+    parts: u32,
+    // the TSNs that they may take, modulo 2^64
+    owed: u64,
+    // which streams have a message in part
+    lists: PartLists,
+}
+
+impl Model for Streams {
+    ghost use Rattle.sctp_send.specs.PartsKept.{StreamsKept};
+
+    ghost Value = { StreamsKept };
+
+    ghost use Rattle.sctp_send.specs.inner.PartPairs.{IsStreamsOf};
+
+    ghost view = { λ w. record { size = w.size; items = w.tracks.items } };
+
+    ghost invariant = { λ w. IsStreamsOf w.size w.tracks.items w.parts w.owed w.lists };
+}
+
+impl Streams {
+    /// Streams that have no message with a number; where they take turns, with room for a message in part on each.
+    ///
+    /// # Errors
+    /// `NoMemory`.
+    pub(crate) fn new(
+        alloc: Global,
+        streams: u16,
+        size: u16,
+        takes_turns: bool,
+    ) -> Result<Streams, NoMemory>
+        requires { 0 < size }
+        ensures size { IfOk result (λ made. made.size ≡ size) }
+        ensures items { IfOk result (λ made. made.items ≡ replicate streams (record { ordered = 0; unordered = 0; rest = None })) }
+    {
+        let tracks = fresh_tracks(alloc, streams)?;
+        let lists = PartLists::new(alloc, streams, takes_turns)?;
+        Ok(Streams {
+            size,
+            tracks,
+            parts: 0,
+            owed: 0,
+            lists,
+        })
+    }
+
+    /// All streams, by number.
+    pub(crate) fn tracks(&self) -> &[Track]
+        ensures { result.now ≡ self.now.items }
+    {
+        &self.tracks
+    }
+
+    /// How many messages are in part, modulo 2^32.
+    pub(crate) fn in_part(&self) -> u32
+        ensures { result ≡ total (λ t. one_if_rest t.rest) (map (track_meaning self.now.size) self.now.items) % 2 ^ 32 }
+    {
+        self.parts
+    }
+
+    /// The TSNs that the messages in part may take, modulo 2^64.
+    pub(crate) fn owed(&self) -> u64
+        ensures { result ≡ total (λ t. rest_owes t.rest) (map (track_meaning self.now.size) self.now.items) % 2 ^ 64 }
+    {
+        self.owed
+    }
+
+    /// So many messages of a kind have a number on a stream. What is left on it stays.
+    #[inline(always)]
+    pub(crate) fn count_to(&mut self, at: usize, kind: Kind, many: u64)
+        requires { at < length self.old.items }
+        ensures { self.new ≡ record self.old { items = at_place (counted_to kind many) at self.old.items } }
+    {
+        set_count(&mut self.tracks[at], kind, many);
+    }
+
+    /// A stream goes on with this, in place of what it answers.
+    pub(crate) fn replace(&mut self, at: usize, track: Track) -> Track
+        requires { at < length self.old.items }
+        ensures before { result ≡ slice_index_or self.old.items at result }
+        ensures after { self.new ≡ record self.old { items = set self.old.items at track } }
+    {
+        self.parts = self.parts.wrapping_add(one_if_in_part(&track));
+        self.owed = self.owed.wrapping_add(owed_by_track(&track, self.size));
+        let comes = ticket_of_track(&track);
+        let before = mem::replace(&mut self.tracks[at], track);
+        self.parts = self.parts.wrapping_sub(one_if_in_part(&before));
+        self.owed = self.owed.wrapping_sub(owed_by_track(&before, self.size));
+        let goes = ticket_of_track(&before);
+        self.lists.change(at as u64, goes, comes);
+        before
+    }
+
+    /// The first stream from one on, below another, with a message in part, or that other.
+    pub(crate) fn next_part(&self, from: u16, below: u16) -> u16
+        ensures { (size : ℕ) → IsNextPart from below (map (track_meaning size) self.now.items) result }
+    {
+        if self.parts == 0 {
+            return below;
+        }
+        if !self.lists.is_listed() {
+            return next_part_by_looking(&self.tracks, from, below);
+        }
+        match self.lists.first_from(from) {
+            Some(part) => part.first.min(u64::from(below)) as u16,
+            None => below,
+        }
+    }
+
+    /// All messages in part have tickets behind this one.
+    pub(crate) fn is_past(&self, last: u64) -> bool
+        ensures { (size t : ℕ) → result ≡ true → t ≤ last → any_rest t (map (track_meaning size) self.now.items) ≡ false }
+    {
+        if self.parts == 0 {
+            return true;
+        }
+        are_past(&self.tracks, last)
+    }
+
+    /// The stream that goes on with the message with this ticket.
+    pub(crate) fn stream_of(&self, ticket: u64) -> Option<usize>
+        ensures within { IfSome result (λ at. at < length self.now.items) }
+        ensures none { (size : ℕ) → IfNone result (any_rest ticket (map (track_meaning size) self.now.items) ≡ false) }
+        ensures some { (size : ℕ) → IfSome result (λ at. GoesOnAt ticket at (map (track_meaning size) self.now.items)) }
+    {
+        if self.parts == 0 {
+            return None;
+        }
+        if !self.lists.is_listed() {
+            return stream_by_looking(&self.tracks, ticket);
+        }
+        match self.lists.stream_with(ticket) {
+            Some(stream) => Some(stream as usize),
+            None => None,
+        }
+    }
+}
+
+/// So many messages of a kind have a number on a stream.
+#[inline(always)]
+fn set_count(track: &mut Track, kind: Kind, many: u64)
+    ensures { track.new ≡ counted_to kind many track.old }
+{
+    match kind {
+        Kind::Ordered => track.ordered = many,
+        Kind::Unordered => track.unordered = many,
+    }
+}
+
+/// Streams that have no message with a number.
+fn fresh_tracks(alloc: Global, streams: u16) -> Result<Vec<Track>, NoMemory>
+    ensures { IfOk result (λ tracks. tracks.items ≡ replicate streams (record { ordered = 0; unordered = 0; rest = None })) }
+{
+    let mut tracks = Vec::new(alloc);
+    for _ in 0..streams {
+        tracks
+            .push(Track {
+                ordered: 0,
+                unordered: 0,
+                rest: None,
+            })
+            .map_err(|_| NoMemory)?;
+    }
+    Ok(tracks)
+}
+
+/// One where a stream has a message in part.
+fn one_if_in_part(track: &Track) -> u32
+    ensures { (size : ℕ) → result ≡ one_if_rest (track_meaning size track.now).rest }
+{
+    match &track.rest {
+        Some(_) => 1,
+        None => 0,
+    }
+}

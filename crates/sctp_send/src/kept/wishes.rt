@@ -1,0 +1,56 @@
+//! What is to go out next, among what has an index; and whether it may flow (RFC 9260, 6.1 and 6.3.3).
+
+ghost use Rattle.std.specs.Prelude.{◌≡◌, ℕ, ◌<◌, ◌||◌};
+ghost use Rattle.sctp_send.specs.OutstandingFields.{item_meaning};
+ghost use Rattle.sctp_send.specs.inner.Wishing.{is_item_marked, is_item_unsent, item_weight, lets_flow};
+ghost use Rattle.sctp_send.specs.inner.Walks.{is_item_unsettled};
+
+use crate::kept::entry::{Entry, Standing};
+use crate::kept::pieces::bytes_of;
+
+/// An entry waits to be repeated.
+pub(crate) fn is_repeat(entry: &Entry) -> bool
+    ensures { (size : ℕ) → result ≡ is_item_marked (item_meaning size entry.now) }
+{
+    entry.standing == Standing::Marked
+}
+
+/// An entry never went out, and the peer may need it.
+pub(crate) fn is_first_sending(entry: &Entry) -> bool
+    ensures { (size : ℕ) → result ≡ is_item_unsent (item_meaning size entry.now) }
+{
+    entry.standing == Standing::Unsent && !entry.covered && !entry.abandoned
+}
+
+/// The bytes of an entry, where it is in flight.
+pub(crate) fn weight(entry: &Entry, size: u16) -> u64
+    requires { 0 < size }
+    ensures { result ≡ item_weight (item_meaning size entry.now) }
+{
+    if entry.standing == Standing::Sent && !entry.covered && !entry.abandoned {
+        bytes_of(&entry.message, entry.place, size).len() as u64
+    } else {
+        0
+    }
+}
+
+/// An entry went out, and is neither covered nor abandoned.
+pub(crate) fn is_unsettled(entry: &Entry) -> bool
+    ensures { (size : ℕ) → result ≡ is_item_unsettled (item_meaning size entry.now) }
+{
+    entry.standing != Standing::Unsent && !entry.covered && !entry.abandoned
+}
+
+/// An entry that is covered, or whose message was abandoned: nothing of it is to be done.
+pub(crate) fn is_done(entry: &Entry) -> bool
+    ensures { result ≡ (entry.now.covered || entry.now.abandoned) }
+{
+    entry.covered || entry.abandoned
+}
+
+/// A first sending of so many bytes needs that nothing is in flight, or that the peer's window has room (RFC 9260, 6.1, rule A).
+pub(crate) fn may_flow(flying: u64, bytes: usize, rwnd: u32) -> bool
+    ensures { result ≡ lets_flow flying bytes rwnd }
+{
+    flying == 0 || flying.saturating_add(bytes as u64) <= u64::from(rwnd)
+}
