@@ -95,11 +95,13 @@ pub(crate) fn look_at(moments: &VecDeque<u64>, leasts: &mut VecDeque<u64>, now: 
 {
     let mut earliest = u64::MAX;
     for page in 0..leasts.len() {
-        if leasts[page] <= now {
+        let mut least = leasts[page];
+        if least <= now {
             let start = page * PAGE;
-            leasts[page] = least_of(moments, start, moments.len().min(start + PAGE));
+            least = least_of(moments, start, moments.len().min(start + PAGE));
+            leasts[page] = least;
         }
-        earliest = earliest.min(leasts[page]);
+        earliest = earliest.min(least);
     }
     earliest
 }
