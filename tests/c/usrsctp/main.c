@@ -50,11 +50,15 @@ uint32_t chance(uint32_t below) {
     return (uint32_t)(((place >> 32) * below) >> 32);
 }
 
-/* Two messages more of each end; and where enough are sent, one of them ends it. */
+/* Two messages more of each end, up to those that are enough, where one of them ends it. Where that aborts, and its ABORT is lost, the
+ * other one learns it by what it sends then: ours sends no HEARTBEAT. */
 static void talk(void) {
     static bool is_over;
     uint32_t enough = wanted.ending < ABORTED_BY_OURS ? MESSAGES : MESSAGES / 2;
-    for (int i = 0; i < 2; i++) send_next(OURS, we_send), send_next(THEIRS, they_send);
+    for (int i = 0; i < 2; i++) {
+        if (is_over || sent(OURS) < enough) send_next(OURS, we_send);
+        if (is_over || sent(THEIRS) < enough) send_next(THEIRS, they_send);
+    }
     if (is_over || sent(OURS) < enough || sent(THEIRS) < enough) return;
     is_over = true;
     we_end();

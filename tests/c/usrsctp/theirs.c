@@ -102,8 +102,9 @@ static void set_options(unsigned mode) {
     option(SCTP_INTERLEAVING_SUPPORTED, &interleave, sizeof interleave);
 }
 
-/* Unless they are to be narrow its buffers are so large that no window closes. Its guard of a shutdown and its cookies live for hours, and
- * its path never counts as broken, as it would until a HEARTBEAT is answered: docs/PEERS.md has what it does else. */
+/* Unless they are to be narrow its buffers are so large that no window closes. Its guard of a shutdown and its cookies live for hours; it repeats
+ * as often as it must, also what counts against it as its HEARTBEATs, and its path never counts as broken, as it would until one of these is
+ * answered: docs/PEERS.md has what it does else. */
 void they_open(uint64_t seed) {
     struct sockaddr_conn name = { .sconn_family = AF_CONN, .sconn_port = htons(PORT + 1), .sconn_addr = &path };
     place = seed;
@@ -112,7 +113,8 @@ void they_open(uint64_t seed) {
     usrsctp_sysctl_set_sctp_recvspace(wanted.narrow ? 131072 : 1 << 22);
     usrsctp_sysctl_set_sctp_max_chunks_on_queue(8192);
     usrsctp_sysctl_set_sctp_shutdown_guard_time_default(36000);
-    usrsctp_sysctl_set_sctp_path_rtx_max_default(20);
+    usrsctp_sysctl_set_sctp_assoc_rtx_max_default(100);
+    usrsctp_sysctl_set_sctp_path_rtx_max_default(200);
     usrsctp_sysctl_set_sctp_valid_cookie_life_default(3600000);
     usrsctp_register_address(&path);
     theirs = usrsctp_socket(AF_CONN, SOCK_STREAM, IPPROTO_SCTP, comes, NULL, 0, NULL);
