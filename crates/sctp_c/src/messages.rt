@@ -1,6 +1,6 @@
 //! Messages that wait, and how C takes them (RFC 9260, 11.1.6).
 
-ghost use Rattle.std.specs.Prelude.{◌≡◌, ◌<◌, ◌≤◌, ◌⊎◌, ◌++◌, length, drop, None, Some, MatchOption, slice_get};
+ghost use Rattle.std.specs.Prelude.{◌≡◌, ◌-◌, ◌^◌, ◌<◌, ◌≤◌, ◌⊎◌, ◌++◌, min, length, drop, None, Some, MatchOption, slice_get};
 ghost use Rattle.sctp_model.specs.receiver.ReceiverView.{Handed};
 ghost use Rattle.sctp_model.specs.end.EndView.{EndView};
 ghost use Rattle.sctp_recv.specs.HandedOf.{handed_of, message_bytes};
@@ -37,6 +37,30 @@ fn next_head(end: &Endpoint, stream: u16) -> Option<SctpMessage>
 {
     match end.waiting(stream, 0) {
         Some(message) => Some(head_of(message)),
+        None => None,
+    }
+}
+
+/// What C is told of a message beside its bytes, and this answer; or that none waits.
+fn tell_head(head: Option<SctpMessage>, message: &mut SctpMessage, answer: u32) -> u32
+    ensures { MatchOption head ((result ≡ NOTHING) × (message.new ≡ message.old)) (λ m. (result ≡ answer) × (message.new ≡ m)) }
+{
+    match head {
+        Some(head) => {
+            *message = head;
+            answer
+        }
+        None => NOTHING,
+    }
+}
+
+/// How many bytes the message has that is taken next from a stream, 2^64 - 1 where there are more.
+fn next_length(end: &Endpoint, stream: u16) -> Option<usize>
+    ensures { (v : EndView) → EndpointStands end.now v → MatchOption result (slice_get (v.receiver.waiting stream) 0 ≡ None)
+        (λ n. (h : Handed) × (slice_get (v.receiver.waiting stream) 0 ≡ Some h) × (n ≡ min (length h.bytes) (2 ^ 64 - 1))) }
+{
+    match end.waiting(stream, 0) {
+        Some(message) => Some(message.len()),
         None => None,
     }
 }
@@ -98,13 +122,7 @@ pub extern "C" fn sctp_endpoint_peek(
     };
     let head = next_head(&end, stream);
     handle.put(end);
-    match head {
-        Some(head) => {
-            *message = head;
-            OK
-        }
-        None => NOTHING,
-    }
+    tell_head(head, message, OK)
 }
 
 /// Takes what waits next on a stream: its bytes go to `room`. Where that is too small it goes on waiting, and the head says its length.
@@ -129,20 +147,20 @@ pub extern "C" fn sctp_endpoint_take(
     let Some(mut end) = handle.take(alloc) else {
         return MISUSE;
     };
-    let Some(head) = next_head(&end, stream) else {
+    let Some(length) = next_length(&end, stream) else {
         handle.put(end);
         return NOTHING;
     };
-    if room.len() < head.length {
+    if room.len() < length {
+        let head = next_head(&end, stream);
         handle.put(end);
-        *message = head;
-        return NEEDS_ROOM;
+        return tell_head(head, message, NEEDS_ROOM);
     }
     let taken = end.take(stream);
     handle.put(end);
     match taken {
         Some(whole) => {
-            *message = head;
+            *message = head_of(&whole);
             put_message(&whole, room);
             OK
         }
