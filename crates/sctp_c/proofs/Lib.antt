@@ -1,4 +1,5 @@
 mod Apart
+mod HandingBack
 mod RoomLemmas
 mod SendLemmas
 mod TicketLemmas

@@ -42,8 +42,9 @@ fn put_tickets(tickets: &[Ticket], room: &mut [u64]) -> u64
     tickets.len() as u64
 }
 
-/// What C is told of the next packet.
+/// What C is told of the next packet. Once that lies in C's room, its own is handed back to the end.
 fn tell_poll(
+    end: &mut Endpoint,
     answer: Result<Option<Sent>, NoMemory>,
     room: &mut [u8],
     tickets: &mut [u64],
@@ -51,6 +52,7 @@ fn tell_poll(
 ) -> u32
     ensures told { IfOk answer (λ o. IfSome o (λ s. length s.packet.items ≤ length room.old)) → PollTold answer result sent.new room.old room.new tickets.old tickets.new }
     ensures untold { ((result ≡ OK) → ⊥) → (room.new ≡ room.old) × (tickets.new ≡ tickets.old) }
+    ensures keeps { (v : EndView) → EndpointStands end.old v → EndpointStands end.new v }
 {
     *sent = SctpSent {
         length: 0,
@@ -62,6 +64,7 @@ fn tell_poll(
         Ok(Some(packet)) => {
             sent.length = put_bytes(&packet.packet, room);
             sent.tickets = put_tickets(&packet.tickets, tickets);
+            end.recycle(packet.packet);
             OK
         }
     }
@@ -98,8 +101,9 @@ pub extern "C" fn sctp_endpoint_poll_transmit(
         return NEEDS_ROOM;
     }
     let answer = end.poll_transmit(now);
+    let told = tell_poll(&mut end, answer, room, tickets, sent);
     handle.put(end);
-    tell_poll(answer, room, tickets, sent)
+    told
 }
 
 /// What C is told of a packet that came.
