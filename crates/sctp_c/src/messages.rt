@@ -156,14 +156,17 @@ pub extern "C" fn sctp_endpoint_take(
         handle.put(end);
         return tell_head(head, message, NEEDS_ROOM);
     }
-    let taken = end.take(stream);
-    handle.put(end);
-    match taken {
+    match end.take(stream) {
         Some(whole) => {
             *message = head_of(&whole);
             put_message(&whole, room);
+            end.give_back(whole);
+            handle.put(end);
             OK
         }
-        None => NOTHING,
+        None => {
+            handle.put(end);
+            NOTHING
+        }
     }
 }
