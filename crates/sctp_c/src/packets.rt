@@ -83,7 +83,7 @@ pub extern "C" fn sctp_endpoint_poll_transmit(
 ) -> u32
     ensures misuse { handle.old.slot.endpoint ≡ None → (result ≡ MISUSE) × (handle.new.slot.endpoint ≡ None) × (sent.new ≡ sent.old) }
     ensures narrow { (v : EndView) → Holds handle.old.slot.endpoint v → length room.old < v.configuration.limit
-        → (result ≡ NEEDS_ROOM) × (sent.new.length ≡ v.configuration.limit) × Holds handle.new.slot.endpoint v }
+        → (result ≡ NEEDS_ROOM) × (sent.new.length ≡ v.configuration.limit) × (sent.new.tickets ≡ 0) × (handle.new.slot.endpoint ≡ handle.old.slot.endpoint) }
     ensures untold { ((result ≡ OK) → ⊥) → (room.new ≡ room.old) × (tickets.new ≡ tickets.old) }
     ensures did { (v : EndView) → Holds handle.old.slot.endpoint v → v.configuration.limit ≤ length room.old
         → Polled v now handle.new.slot.endpoint result sent.new room.old room.new tickets.old tickets.new }
@@ -148,7 +148,7 @@ pub extern "C" fn sctp_endpoint_handle_packet(
     ensures misuse { 0 < draw.now.tag → handle.old.slot.endpoint ≡ None → (result ≡ MISUSE) × (handle.new.slot.endpoint ≡ None) × (told.new ≡ told.old) }
     ensures untold { ((result ≡ OK) → ⊥) → room.new ≡ room.old }
     ensures narrow { (v : EndView) → Holds handle.old.slot.endpoint v → 0 < draw.now.tag → length room.old < v.configuration.limit
-        → (result ≡ NEEDS_ROOM) × (told.new.length ≡ v.configuration.limit) × Holds handle.new.slot.endpoint v }
+        → (result ≡ NEEDS_ROOM) × (told.new.length ≡ v.configuration.limit) × (told.new.verdict ≡ 0) × (told.new.reason ≡ 0) × (handle.new.slot.endpoint ≡ handle.old.slot.endpoint) }
     ensures did { (v : EndView) (o : Option meaning.Packet) → Holds handle.old.slot.endpoint v → 0 < draw.now.tag → v.configuration.limit ≤ length room.old
         → IsRead packet.now o → Heard v now (drawn draw.now) o handle.new.slot.endpoint result told.new room.old room.new }
     ensures notes { (v : EndView) → Holds handle.old.slot.endpoint v → 0 < draw.now.tag → v.configuration.limit ≤ length room.old
@@ -205,7 +205,7 @@ pub extern "C" fn sctp_endpoint_abort(
     ensures misuse { handle.old.slot.endpoint ≡ None → (result ≡ MISUSE) × (handle.new.slot.endpoint ≡ None) × (count.new ≡ count.old) }
     ensures untold { ((result ≡ OK) → ⊥) → room.new ≡ room.old }
     ensures narrow { (v : EndView) → Holds handle.old.slot.endpoint v → length room.old < v.configuration.limit
-        → (result ≡ NEEDS_ROOM) × (count.new ≡ v.configuration.limit) × Holds handle.new.slot.endpoint v }
+        → (result ≡ NEEDS_ROOM) × (count.new ≡ v.configuration.limit) × (handle.new.slot.endpoint ≡ handle.old.slot.endpoint) }
     ensures did { (v : EndView) → Holds handle.old.slot.endpoint v → v.configuration.limit ≤ length room.old
         → Aborted v reason.now handle.new.slot.endpoint result count.new room.old room.new }
     ensures notes { (v : EndView) → Holds handle.old.slot.endpoint v → v.configuration.limit ≤ length room.old → KeepsNotes v handle.new.slot.endpoint }
