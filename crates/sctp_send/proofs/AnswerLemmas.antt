@@ -2,11 +2,12 @@
 use Rattle.std.proofs.Common.{◌≡◌, ℕ, suc, ◌-◌, ◌<◌, ◌≤◌, ◌⊎◌, inl, inr, List, length, Bool, true, false, Option, Some, None, refl, sym, ap, ◌∙◌, arith, get_or}
 use Rattle.std.specs.Prelude.{nat_lt, nat_le, not, ◌&&◌, if◌then◌else◌}
 use Rattle.std.specs.Option.{option_map_or}
+use Rattle.std.proofs.lemmas.Bool.{and_parts}
 use Rattle.std.proofs.lemmas.Bool.Decides.{nat_tests}
 use Rattle.sctp_model.specs.messages.Format.{Format}
 use Rattle.sctp_model.specs.sender.SenderView.{Queued, SenderView}
 use Rattle.sctp_model.specs.sender.Abandoning as gone
-use Rattle.sctp_model.specs.sender.Abandoning.{Name, waits, name_of, is_covered, is_abandoned, abandon_answer, abandon_after}
+use Rattle.sctp_model.specs.sender.Abandoning.{Name, waits, name_of, is_covered, is_abandoned, may_abandon, may_abandon_named, abandon_answer, abandon_after}
 use Rattle.sctp_model.proofs.sender.AbandonCases.{without_none}
 use Rattle.sctp_model.proofs.sender.OwnLaws.{found_owns}
 use Rattle.sctp_model.proofs.sender.TicketLaws.{IsTicketed, is_ticketed}
@@ -59,6 +60,26 @@ answered_given f s v t k on missing free =
     let uncovered = sym (whole_is f s v t m.0 k m.1) ∙ missing in
     let partial = sym k.holds.partial ∙ free in
     record { name = m.0; kept = m.1; uncovered = uncovered; partial = partial; answer = sym (kept_answer v t m.0 m.1 ∙ rw (uncovered, partial) refl) }
+
+-- where it may be abandoned, it is; and where it is, it may be
+pub may_given : (f : Format) (s : Kept) (v : SenderView) (t : ℕ) → Keeps f s v → is_numbered_fate (fate_here v t) ≡ true → may_abandon v t ≡ true → IsGivenNow v t
+may_given f s v t k on may =
+    let m = kept_name f v t k.reached on in
+    let named : may_abandon_named v m.0 ≡ true = sym (ap (λ (o : Option Name). option_map_or (may_abandon_named v) o (waits t v.queue)) m.1.named) ∙ may in
+    let parts = and_parts v.partial (not (is_abandoned v m.0) && not (is_covered v m.0)) named in
+    let uncovered = off_of_not (is_covered v m.0) (and_parts (not (is_abandoned v m.0)) (not (is_covered v m.0)) parts.1).1 in
+    record { name = m.0; kept = m.1; uncovered = uncovered; partial = parts.0; answer = sym (kept_answer v t m.0 m.1 ∙ rw (uncovered, parts.0) refl) }
+  where
+    off_of_not : (b : Bool) → not b ≡ true → b ≡ false
+    off_of_not false on = refl
+    off_of_not true on = absurd (cc)
+
+all_three : (a b c : Bool) → a ≡ true → b ≡ false → c ≡ false → (a && (not b && not c)) ≡ true
+all_three a b c x y z = rw (x, y, z) refl
+
+pub given_may : (v : SenderView) (t : ℕ) → IsGivenNow v t → may_abandon v t ≡ true
+given_may v t g =
+    ap (λ (o : Option Name). option_map_or (may_abandon_named v) o (waits t v.queue)) g.kept.named ∙ all_three v.partial (is_abandoned v g.name) (is_covered v g.name) g.partial g.kept.kept g.uncovered
 
 -- ---- by the byte of fate
 

@@ -16,15 +16,15 @@ use Rattle.sctp_model.proofs.sender.ExpiredLaws.{all_own_drop}
 use Rattle.sctp_send.specs.SenderKept.{Item, Rest, Track, Kept}
 use Rattle.sctp_send.specs.SenderStands.{item_here, items_from, table, rest_here, track_here, fate_here, fate_named, Keeps}
 use Rattle.sctp_send.specs.inner.Expiring.{rest_message}
-use Rattle.sctp_send.specs.inner.Walks.{is_numbered_fate, any_item, any_rest, any_uncovered}
-use Rattle.sctp_send.specs.inner.Dues.{IsUntilOf}
+use Rattle.sctp_send.specs.inner.Walks.{is_numbered_fate, any_rest, any_uncovered}
+use Rattle.sctp_send.specs.inner.Dues.{IsUntilOf, IsOpenUntil}
 use Rattle.sctp_send.specs.declared.kept.message.Fate.{Fate}
 use Rattle.sctp_send.specs.declared.kept.message.Fate.TheVariants.{Queued as StillQueued, Numbered, Withdrawn, Abandoned as WasAbandoned}
 use Rattle.sctp_send.proofs.OverLemmas.{neither}
 use Rattle.sctp_send.proofs.QueueLemmas.{fates_given}
 use Rattle.sctp_send.proofs.EndLemmas.{get-table}
 use Rattle.sctp_send.proofs.GivenLemmas.{kept_name}
-use Rattle.sctp_send.proofs.AnswerLemmas.{answered_given, whole_is}
+use Rattle.sctp_send.proofs.AnswerLemmas.{answered_given, given_may, whole_is}
 
 -- a moment has come
 abbrev pub has_come : (now : ℕ) → Option ℕ → Bool
@@ -154,20 +154,12 @@ owned_rest f v t n j (Some e) h is on has =
     let name : n ≡ name_at e = let both : Some n ≡ Some (name_at e) = sym is ∙ mine in cc in
     ap (λ (y : Name). message_at v.plan y.lane y.number) (sym name)
 
-uncovered_of : (t : ℕ) (xs : List Item) → any_item t xs ≡ false → any_uncovered t xs ≡ false
-uncovered_of t [] none = refl
-uncovered_of t (x ∷ xs) none = let parts = neither (has_ticket t x.message) (any_item t xs) none in rw (parts.0, uncovered_of t xs parts.1) refl
-
-all_three : (a b c : Bool) → a ≡ true → b ≡ false → c ≡ false → (a && (not b && not c)) ≡ true
-all_three a b c x y z = rw (x, y, z) refl
-
 pub numbered_moment : (f : Format) (s : Kept) (v : SenderView) (now t : ℕ) (r : Option ℕ) → Keeps f s v → is_numbered_fate (fate_here v t) ≡ true → s.partial ≡ true → (not (any_rest t s.tracks) && not (any_uncovered t s.items)) ≡ false
     → IsUntilOf t r s.items s.tracks → is_to_expire v now t ≡ has_come now r
 numbered_moment f s v now t r k on free missing until =
     let g = answered_given f s v t k on missing free in
     let n = g.name in
-    let may : may_abandon v t ≡ true = ap (λ (o : Option Name). option_map_or (may_abandon_named v) o (waits t v.queue)) g.kept.named ∙ all_three v.partial (is_abandoned v n) (is_covered v n) g.partial g.kept.kept g.uncovered in
-    ap (λ (b : Bool). is_overdue v now t && b) may ∙ with_true (is_overdue v now t) ∙ overdue_named v now t n g.kept.waits g.kept.named ∙ by_until n g.kept.named until
+    ap (λ (b : Bool). is_overdue v now t && b) (given_may v t g) ∙ with_true (is_overdue v now t) ∙ overdue_named v now t n g.kept.waits g.kept.named ∙ by_until n g.kept.named until
   where
     by_until : (n : Name) → name_of v t ≡ Some n → IsUntilOf t r s.items s.tracks → some_passes (is_past now) (message_at v.plan n.lane n.number) ≡ has_come now r
     by_until n is (inl x) =
@@ -175,14 +167,13 @@ numbered_moment f s v now t r k on free missing until =
         let there = ap (λ (xs : List Item). slice_get xs x.at) (sym k.holds.items) ∙ x.there in
         let same = owned_item v t n (suc v.cum) x.at (drop v.cum v.plan.entries) x.item own is there x.has.0 in
         past_by now (message_at v.plan n.lane n.number) r (ap (λ (m : Option Message). option_and_then (λ y. y.until) m) (sym same) ∙ x.has.1)
-    by_until n is (inr (inl x)) =
+    by_until n is (inr x) =
         let read : slice_get (table (track_here v) 0 v.streams) x.at ≡ Some x.track = ap (λ (ts : List Track). slice_get ts x.at) (sym k.holds.tracks) ∙ x.there in
         let place = get-table (track_here v) 0 v.streams x.at x.track read in
         let track : x.track ≡ track_here v x.at = let same : 0 + x.at ≡ x.at = omega arith in place.1 ∙ ap (track_here v) same in
         let has = ap (λ (y : Track). has_ticket t (rest_message y)) (sym track) ∙ x.has.0 in
         let same = owned_rest f v t n x.at (continued v.plan x.at) k.reached is refl has in
         past_by now (message_at v.plan n.lane n.number) r (ap (λ (m : Option Message). option_and_then (λ y. y.until) m) (sym (ap rest_message track ∙ same)) ∙ x.has.1)
-    by_until n is (inr (inr x)) = absurd (clash (rw (x.tracks, uncovered_of t s.items x.items) refl) missing)
 
 -- where messages with a number may not be abandoned, or all of it is covered
 pub reliable_late : (f : Format) (s : Kept) (v : SenderView) (now t : ℕ) → Keeps f s v → is_numbered_fate (fate_here v t) ≡ true → s.partial ≡ false → is_to_expire v now t ≡ false
@@ -195,3 +186,8 @@ covered_late f s v now t k on whole =
     let m = kept_name f v t k.reached on in
     let covered = sym (whole_is f s v t m.0 k m.1) ∙ whole in
     named_late v now t m.0 m.1.named (ap (λ (b : Bool). v.partial && (not (is_abandoned v m.0) && not b)) covered ∙ ap (λ (b : Bool). v.partial && b) (with_false (not (is_abandoned v m.0))) ∙ with_false v.partial)
+
+-- by what is open of it, or where nothing is
+pub open_moment : (f : Format) (s : Kept) (v : SenderView) (now t : ℕ) (r : Option ℕ) → Keeps f s v → is_numbered_fate (fate_here v t) ≡ true → s.partial ≡ true → IsOpenUntil t r s.items s.tracks → is_to_expire v now t ≡ has_come now r
+open_moment f s v now t r k on free (inl some) = numbered_moment f s v now t r k on free some.0 some.1
+open_moment f s v now t r k on free (inr whole) = covered_late f s v now t k on whole.0 ∙ sym (ap (has_come now) whole.1)

@@ -1,10 +1,11 @@
 -- The moments of tickets, one by one and in pages.
-use Rattle.std.proofs.Common.{◌≡◌, ℕ, suc, ◌+◌, ◌-◌, ◌/◌, ◌^◌, ◌<◌, ◌≤◌, inl, inr, min, List, [], ◌∷◌, ◌++◌, length, get_or, set, drop, Bool, true, false, refl, sym, ap, ◌∙◌, subst, arith, length-drop}
+use Rattle.std.proofs.Common.{◌≡◌, ℕ, suc, ◌+◌, ◌-◌, ◌/◌, ◌%◌, ◌^◌, ◌<◌, ◌≤◌, inl, inr, min, List, [], ◌∷◌, ◌++◌, length, get_or, set, drop, Bool, true, false, refl, sym, ap, ◌∙◌, subst, arith, length-drop}
 use Rattle.std.specs.Prelude.{nat_le, if◌then◌else◌}
 use Rattle.std.proofs.lemmas.Bool.{cases_lt, cases_eq}
 use Rattle.std.proofs.lemmas.Bool.Decides.{nat_tests}
-use Rattle.std.proofs.lemmas.List.{length_push, get_or_append_left, get_or_past, get_or-set_same, get_or-set_other, get_or-drop}
+use Rattle.std.proofs.lemmas.List.{length-set, length_push, get_or_append_left, get_or_past, get_or-set_same, get_or-set_other, get_or-drop}
 use Rattle.sctp_send.specs.inner.Dues.{due_at, AreDues}
+use Rattle.sctp_send.proofs.ListParts.{at_same}
 
 -- ---- one ticket more
 
@@ -114,6 +115,36 @@ pub record IsLowered (ms ns : List ℕ) (at m : ℕ) : Type 0 where
   pub here : (d : ℕ) → at < length ns → get_or ns at d ≤ m
   pub others : (k d : ℕ) → (k ≡ at → ⊥) → get_or ns k d ≡ get_or ms k d
 
+stays_lowered : (ls : List ℕ) (at m x : ℕ) → at < length ls → x ≡ get_or ls at x → x ≤ m → IsLowered ls ls at m
+stays_lowered ls at m x within read le = record {
+  long = refl;
+  each = λ k d. omega arith;
+  above = λ n k d low is. is;
+  here = λ d lt. let same = at_same ls at d x within in omega (arith, same, read, le);
+  others = λ k d other. refl;
+}
+
+set_lowered : (ls : List ℕ) (at m x : ℕ) → at < length ls → x ≡ get_or ls at x → m < x → IsLowered ls (set ls at m) at m
+set_lowered ls at m x within read lt = record {
+  long = length-set ls at m;
+  each = λ k d. elim (cases_eq k at) [
+    | inl same ↦ let now = is k d same in let before = was k d same in omega (arith, now, before, lt)
+    | inr other ↦ let stays = get_or-set_other ls at k m d other in omega (arith, stays)
+  ];
+  above = λ n k d low le. elim (cases_eq k at) [
+    | inl same ↦ let now = is k d same in omega (arith, now, low)
+    | inr other ↦ let stays = get_or-set_other ls at k m d other in omega (arith, stays, le)
+  ];
+  here = λ d long. let now = get_or-set_same ls at m d within in omega (arith, now);
+  others = λ k d other. get_or-set_other ls at k m d other;
+}
+  where
+    is : (k d : ℕ) → k ≡ at → get_or (set ls at m) k d ≡ m
+    is k d same = ap (λ (n : ℕ). get_or (set ls at m) n d) same ∙ get_or-set_same ls at m d within
+
+    was : (k d : ℕ) → k ≡ at → get_or ls k d ≡ x
+    was k d same = ap (λ (n : ℕ). get_or ls n d) same ∙ at_same ls at d x within ∙ sym read
+
 pub dues_lowered : (p : ℕ) (ms ns ls ks : List ℕ) (e m at : ℕ) → AreDues p ms ls e → at < length ms → IsLowered ms ns at m → IsLowered ls ks (at / 64) m → AreDues p ns ks (min e m)
 dues_lowered p ms ns ls ks e m at h within one page = record {
   few = let few = h.few in let long = one.long in omega (arith, few, long);
@@ -137,6 +168,86 @@ dues_lowered p ms ns ls ks e m at h within one page = record {
       let was = h.first k d (omega (arith, pages, lt)) in
       page.above (min e m) k d (omega arith) (omega (arith, was));
 }
+
+-- ---- a ticket comes
+
+-- it begins a page
+pub dues_begun : (p : ℕ) (ms ls : List ℕ) (e m : ℕ) → AreDues p ms ls e → p + suc (length ms) < 2 ^ 64 → length ms % 64 ≡ 0 → AreDues p (ms ++ m ∷ []) (ls ++ m ∷ []) (min e m)
+dues_begun p ms ls e m h few begins =
+    let many = h.pages.many in
+    let long = length_push ms m in
+    let pages = length_push ls m in
+    let count : length ls ≡ length ms / 64 = omega (arith, many, begins) in
+    record {
+      few = omega (arith, few, long);
+      pages = record {
+        many = omega (arith, many, long, pages, begins);
+        least = λ k d lt. elim (cases_lt k (length ms)) [
+          | inl within ↦
+              let page = get_or_append_left ls (m ∷ []) d (k / 64) (omega (arith, many, within)) in
+              let moment = get_or_append_left ms (m ∷ []) d k within in
+              let was = h.pages.least k d within in
+              omega (arith, page, moment, was)
+          | inr out ↦
+              let here : k ≡ length ms = omega (arith, lt, long, out) in
+              let last : k / 64 ≡ length ls = omega (arith, here, count) in
+              let page = ap (λ (n : ℕ). get_or (ls ++ m ∷ []) n d) last ∙ at_end ls m d in
+              let moment = ap (λ (n : ℕ). get_or (ms ++ m ∷ []) n d) here ∙ at_end ms m d in
+              omega (arith, page, moment)
+        ];
+      };
+      first = λ k d lt. elim (cases_lt k (length ls)) [
+        | inl within ↦ let page = get_or_append_left ls (m ∷ []) d k within in let was = h.first k d within in omega (arith, page, was)
+        | inr out ↦
+            let here : k ≡ length ls = omega (arith, lt, pages, out) in
+            let page = ap (λ (n : ℕ). get_or (ls ++ m ∷ []) n d) here ∙ at_end ls m d in
+            omega (arith, page)
+      ];
+    }
+
+-- it lies in the last page
+pub dues_entered : (p : ℕ) (ms ls ks : List ℕ) (e m : ℕ) → AreDues p ms ls e → p + suc (length ms) < 2 ^ 64 → 0 < length ms % 64 → IsLowered ls ks (length ms / 64) m → AreDues p (ms ++ m ∷ []) ks (min e m)
+dues_entered p ms ls ks e m h few goes_on page =
+    let many = h.pages.many in
+    let long = length_push ms m in
+    let pages = page.long in
+    record {
+      few = omega (arith, few, long);
+      pages = record {
+        many = omega (arith, many, long, pages, goes_on);
+        least = λ k d lt. elim (cases_lt k (length ms)) [
+          | inl within ↦
+              let moment = get_or_append_left ms (m ∷ []) d k within in
+              let was = h.pages.least k d within in
+              let low = page.each (k / 64) d in
+              omega (arith, moment, was, low)
+          | inr out ↦
+              let here : k ≡ length ms = omega (arith, lt, long, out) in
+              let low : get_or ks (k / 64) d ≤ m = subst (λ (n : ℕ). get_or ks (n / 64) d ≤ m) (sym here) (page.here d (omega (arith, many, pages, goes_on))) in
+              let moment = ap (λ (n : ℕ). get_or (ms ++ m ∷ []) n d) here ∙ at_end ms m d in
+              omega (arith, low, moment)
+        ];
+      };
+      first = λ k d lt.
+          let was = h.first k d (omega (arith, pages, lt)) in
+          page.above (min e m) k d (omega arith) (omega (arith, was));
+    }
+
+-- the moment of its page is as low
+pub dues_under : (p : ℕ) (ms ls : List ℕ) (e m x : ℕ) → AreDues p ms ls e → p + suc (length ms) < 2 ^ 64 → 0 < length ms % 64 → x ≡ get_or ls (length ms / 64) x → x ≤ m → AreDues p (ms ++ m ∷ []) ls e
+dues_under p ms ls e m x h few goes_on read le =
+    let many = h.pages.many in
+    let page : length ms / 64 < length ls = omega (arith, many, goes_on) in
+    let first = h.first (length ms / 64) x page in
+    let low : min e m ≡ e = omega (arith, first, read, le) in
+    subst (AreDues p (ms ++ m ∷ []) ls) low (dues_entered p ms ls ls e m h few goes_on (stays_lowered ls (length ms / 64) m x page read le))
+
+-- it is lower
+pub dues_lower : (p : ℕ) (ms ls : List ℕ) (e m x : ℕ) → AreDues p ms ls e → p + suc (length ms) < 2 ^ 64 → 0 < length ms % 64 → x ≡ get_or ls (length ms / 64) x → m < x → AreDues p (ms ++ m ∷ []) (set ls (length ms / 64) m) (min e m)
+dues_lower p ms ls e m x h few goes_on read lt =
+    let many = h.pages.many in
+    let page : length ms / 64 < length ls = omega (arith, many, goes_on) in
+    dues_entered p ms ls (set ls (length ms / 64) m) e m h few goes_on (set_lowered ls (length ms / 64) m x page read lt)
 
 -- ---- a page is passed
 

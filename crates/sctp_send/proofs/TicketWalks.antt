@@ -17,7 +17,7 @@ use Rattle.sctp_send.specs.declared.kept.entry.Standing.{Standing}
 use Rattle.sctp_send.specs.declared.kept.stretches.Stretch.{Stretch}
 use Rattle.sctp_send.specs.declared.kept.entry.Standing.TheVariants.{Unsent, Sent, Marked}
 use Rattle.sctp_send.specs.declared.kept.entry.Entry.{Entry as EntryFields}
-use Rattle.sctp_send.proofs.ListParts.{has_at, at_same, here_first, taken_has, dropped_has, front_or_back, taken_one, order_back, halves}
+use Rattle.sctp_send.proofs.ListParts.{has_at, at_same, dropped_more, here_first, taken_has, dropped_has, front_or_back, taken_one, order_back, halves}
 use Rattle.sctp_send.proofs.OrderLemmas.{before_is, is_before, get_within}
 
 -- ---- entries by offset
@@ -131,6 +131,24 @@ module _ (es : List EntryFields) (first : ℕ) (ss : List Spot) (order : IsOrder
       elim (subst (λ (us : List Spot). Has us s) rest there) [
         | inl is ↦ let ticket = ap (λ (z : Spot). z.ticket) is in omega (arith, one, two, ticket)
         | inr later ↦ let le = (rising.0 s later).tickets in omega (arith, one, two, le)
+      ]
+
+  -- those from an entry of another ticket on, behind the place of one: they are behind it
+  pub behind_left : (P : EntryFields → Type 0) (t i k n : ℕ) (d : Spot) (x : EntryFields) → IsPlaceOf first t 0 ss i → i ≤ k → k < length ss → n ≡ offset_of first (get_or ss k d) → x ≡ get_or es n x → (ticket_of x ≡ t → ⊥)
+      → ((e : EntryFields) → t < ticket_of e → P e) → (s : Spot) (e : EntryFields) → Has (drop k ss) s → slice_get es (offset_of first s) ≡ Some e → P e
+  behind_left P t i k n d x place le lt at read other holds s e there here =
+      let y = get_or ss k d in
+      let rest : drop k ss ≡ y ∷ drop (suc k) ss = here_first ss k y lt (at_same ss k d y lt) in
+      let first_there : Has (drop k ss) y = subst (λ (us : List Spot). Has us y) (sym rest) (inl refl) in
+      let mine : slice_get es (offset_of first y) ≡ Some x = subst (λ (m : ℕ). slice_get es m ≡ Some x) at (get_read es n x (spot_within k n d lt at) read) in
+      let ticket = spot_ticket y x (has_at ss k d lt) mine in
+      let low = from_left k n d x lt at read s e there here in
+      elim (cases_lt t (ticket_of x)) [
+        | inl above ↦ holds e (omega (arith, above, low))
+        | inr upto ↦ elim (cases_lt (ticket_of x) t) [
+          | inr same ↦ absurd (other (omega (arith, upto, same)))
+          | inl below ↦ absurd (place.back y (dropped_more ss i k y le first_there) (is_before first t 0 y (omega (arith, ticket, below)) (λ same. absurd (omega (arith, ticket, below, same)))))
+        ]
       ]
 
 -- ---- covered or not

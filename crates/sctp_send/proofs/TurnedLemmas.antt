@@ -4,7 +4,7 @@ use Rattle.std.specs.Prelude.{not, if◌then◌else◌, option_map}
 use Rattle.sctp_send.specs.SenderKept.{Item}
 use Rattle.sctp_send.specs.OutstandingFields.{item_meaning}
 use Rattle.sctp_send.specs.inner.Changes.{told}
-use Rattle.sctp_send.specs.inner.Counting.{count_unsettled, IsCounted}
+use Rattle.sctp_send.specs.inner.Counting.{count_unsettled, lowered, IsCounted}
 use Rattle.sctp_send.specs.inner.Newcomers.{one_if}
 use Rattle.sctp_send.specs.inner.Stretching.{IsPlain, entry_bytes, AreAlike, told_run, turned_counts}
 use Rattle.sctp_send.specs.inner.TicketOrder.{tickets_of}
@@ -21,8 +21,12 @@ plain_covered : (size : ℕ) (e : EntryFields) → IsPlain true e → (item_weig
 plain_covered size e h = (rw (h.out, h.covers) refl, rw (h.out, h.covers) refl)
 
 -- one that isn't has the weight of its bytes, and counts
-plain_uncovered : (size : ℕ) (e : EntryFields) → IsPlain false e → (item_weight (item_meaning size e) ≡ entry_bytes size e) × (one_if (is_item_unsettled (item_meaning size e)) ≡ 1)
+pub plain_uncovered : (size : ℕ) (e : EntryFields) → IsPlain false e → (item_weight (item_meaning size e) ≡ entry_bytes size e) × (one_if (is_item_unsettled (item_meaning size e)) ≡ 1)
 plain_uncovered size e h = (rw (h.out, h.covers, h.kept) refl, rw (h.out, h.covers, h.kept) refl)
+
+-- nor is it to go out
+pub plain_lowered : (size at : ℕ) (e : EntryFields) (c : Counts) → IsPlain false e → lowered at (item_meaning size e) c ≡ c
+plain_lowered size at e c h = rw h.out refl
 
 -- told covered, or not, it is plain
 plain_told : (b c : Bool) (e : EntryFields) → IsPlain b e → IsPlain c (told c e)

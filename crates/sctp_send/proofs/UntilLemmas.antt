@@ -1,21 +1,26 @@
 -- The moment of a ticket's message, where it is found: among those that wait, above CUM or in part.
 use Rattle.std.proofs.Common.{◌≡◌, ℕ, zero, suc, ◌+◌, ◌<◌, ◌≤◌, List, [], ◌∷◌, length, get_or, map, drop, Bool, true, false, Option, Some, None, refl, sym, ap, ◌∙◌, subst, arith}
-use Rattle.std.specs.Prelude.{◌==◌, if◌then◌else◌, option_and_then, find, slice_get}
+use Rattle.std.specs.Prelude.{◌==◌, not, ◌&&◌, ◌||◌, if◌then◌else◌, option_and_then, find, slice_get}
 use Rattle.std.proofs.lemmas.Bool.Decides.{nat_tests}
 use Rattle.std.specs.declared.sync.Arc.{Arc}
 use Rattle.std.specs.declared.alloc.Global.{Global}
 use Rattle.sctp_model.specs.sender.SenderView.{Queued}
 use Rattle.sctp_model.specs.sender.Abandoning.{has_ticket}
-use Rattle.sctp_send.specs.SenderKept.{Rest, Track}
+use Rattle.sctp_send.specs.SenderKept.{Item, Rest, Track}
 use Rattle.sctp_send.specs.OutstandingFields.{item_meaning}
 use Rattle.sctp_send.specs.SenderFields.{queued_by, track_meaning}
-use Rattle.sctp_send.specs.inner.Walks.{any_item, rest_has, GoesOnAt}
+use Rattle.sctp_send.specs.inner.Walks.{any_rest, any_uncovered, is_item_uncovered, rest_has, GoesOnAt}
+use Rattle.sctp_send.specs.inner.Expiring.{rest_message}
 use Rattle.sctp_send.specs.inner.Seating.{ticket_in, AreLower}
 use Rattle.sctp_send.specs.inner.Dues.{IsItemUntil, IsRestUntil, until_left}
 use Rattle.sctp_send.specs.declared.kept.message.Message.{Message as MessageFields}
 use Rattle.sctp_send.specs.declared.kept.entry.Entry.{Entry as EntryFields}
 use Rattle.sctp_send.specs.declared.kept.track.Track.{Track as TrackFields}
 use Rattle.sctp_send.specs.declared.kept.track.Rest.{Rest as RestFields}
+
+and_false : (b : Bool) → (b && false) ≡ false
+and_false true = refl
+and_false false = refl
 
 -- ---- among those that wait
 
@@ -73,13 +78,12 @@ item_until t size at es e lt read same = record {
   has = (grind (arith, nat_tests), refl);
 }
 
-pub other_ticket : (t : ℕ) (e : EntryFields) → (e.message.value.ticket ≡ t → ⊥) → (e.message.value.ticket == t) ≡ false
-other_ticket t e other = grind (arith, nat_tests)
+-- an entry that is covered isn't uncovered, and one of the message that isn't is
+pub covered_item : (t size : ℕ) (e : EntryFields) → e.covered ≡ true → is_item_uncovered t (item_meaning size e) ≡ false
+covered_item t size e on = ap (λ (b : Bool). has_ticket t (item_meaning size e).message && not b) on ∙ and_false (has_ticket t (item_meaning size e).message)
 
--- entries of which none has the ticket
-pub no_items : (t size : ℕ) (es : List EntryFields) → ((n : ℕ) (e : EntryFields) → slice_get es n ≡ Some e → (e.message.value.ticket == t) ≡ false) → any_item t (map (item_meaning size) es) ≡ false
-no_items t size [] off = refl
-no_items t size (e ∷ es) off = rw (off 0 e refl) (no_items t size es (λ n d there. off (suc n) d there))
+pub uncovered_item : (t size : ℕ) (e : EntryFields) → e.message.value.ticket ≡ t → e.covered ≡ false → is_item_uncovered t (item_meaning size e) ≡ true
+uncovered_item t size e same off = let on : (e.message.value.ticket == t) ≡ true = grind (arith, nat_tests) in rw (on, off) refl
 
 -- ---- in part
 
@@ -117,3 +121,32 @@ part_until t size at ts x r read on is = by_rest x.rest refl
     by_rest : (o : Option RestFields) → x.rest ≡ o → IsRestUntil t r (map (track_meaning size) ts)
     by_rest None none = absurd (never_none t size at ts x read none on)
     by_rest (Some y) there = subst (λ (u : Option ℕ). IsRestUntil t u (map (track_meaning size) ts)) (sym (is ∙ ap until_left there)) (rest_until t size at ts x y read there on)
+
+-- ---- what is open of a message
+
+either : (a b : Bool) → b ≡ true → (a || b) ≡ true
+either true b on = refl
+either false b on = on
+
+-- a stream goes on with it
+rest_there : (t at : ℕ) (ts : List Track) (x : Track) → slice_get ts at ≡ Some x → has_ticket t (rest_message x) ≡ true → any_rest t ts ≡ true
+rest_there t at [] x is has = absurd (cc)
+rest_there t zero (y ∷ ts) x is has = let same : y ≡ x = cc in first (rest_has t y.rest) (any_rest t ts) (of_rest y.rest ∙ ap (λ (z : Track). has_ticket t (rest_message z)) same ∙ has)
+  where
+    of_rest : (o : Option Rest) → rest_has t o ≡ has_ticket t (option_and_then (λ r. r.message) o)
+    of_rest None = refl
+    of_rest (Some r) = refl
+
+    first : (a b : Bool) → a ≡ true → (a || b) ≡ true
+    first a b on = rw on refl
+rest_there t (suc at) (y ∷ ts) x is has = either (rest_has t y.rest) (any_rest t ts) (rest_there t at ts x is has)
+
+module _ (t : ℕ) (xs : List Item) (ts : List Track) where
+  pub open_item : any_uncovered t xs ≡ true → (not (any_rest t ts) && not (any_uncovered t xs)) ≡ false
+  open_item on = ap (λ (b : Bool). not (any_rest t ts) && not b) on ∙ and_false (not (any_rest t ts))
+
+  pub open_rest : (until : Option ℕ) → IsRestUntil t until ts → (not (any_rest t ts) && not (any_uncovered t xs)) ≡ false
+  open_rest until r = ap (λ (b : Bool). not b && not (any_uncovered t xs)) (rest_there t r.at ts r.track r.there r.has.0)
+
+  pub open_none : any_rest t ts ≡ false → any_uncovered t xs ≡ false → (not (any_rest t ts) && not (any_uncovered t xs)) ≡ true
+  open_none rests items = rw (rests, items) refl

@@ -6,7 +6,7 @@ pub mod moments;
 ghost use Rattle.std.specs.Prelude.{◌≡◌, ℕ, ◌<◌, ◌≤◌, ◌+◌, [], ◌∷◌, ◌++◌, true, false, List, length, map, take, drop, set, IfSome, IfNone};
 ghost use Rattle.sctp_send.specs.PartsKept.{IsSameRoom};
 ghost use Rattle.sctp_model.specs.sender.SenderView.{SenderView};
-ghost use Rattle.sctp_model.specs.sender.Abandoning.{AbandonAnswer, abandon_answer, abandon_after, without};
+ghost use Rattle.sctp_model.specs.sender.Abandoning.{AbandonAnswer, abandon_answer, abandon_after, may_abandon, waits, without};
 ghost use Rattle.sctp_send.specs.OutstandingFields.{item_meaning};
 ghost use Rattle.sctp_send.specs.SenderFields.{queued_by, track_meaning, ending_meaning};
 ghost use Rattle.sctp_send.specs.SenderStands.{StandsFor, fate_here};
@@ -73,8 +73,7 @@ impl<F: Framing> Sender<F> {
             Fate::Withdrawn => Abandoned::Withdrawn,
             Fate::Abandoned => Abandoned::Abandoned,
             Fate::Queued => {
-                withdraw(&mut self.parts.queue, ticket.0);
-                self.head.fates.set(at - 1, Fate::Withdrawn);
+                self.take_back(ticket.0);
                 Abandoned::Withdrawn
             }
             Fate::Numbered => self.abandon_numbered(ticket.0),
@@ -94,12 +93,50 @@ impl<F: Framing> Sender<F> {
         if !self.head.partial {
             return Abandoned::Reliable;
         }
+        self.give_up(ticket);
+        Abandoned::Abandoned
+    }
+
+    /// Abandons the message with this ticket where it may be abandoned, which is not asked again.
+    pub(crate) fn abandon_open(&mut self, ticket: u64)
+        ensures { (v : SenderView) → StandsFor F.format self.old v → may_abandon v ticket ≡ true → StandsFor F.format self.new (abandon_after v ticket) }
+    {
+        let at = ticket as usize;
+        if at == 0 {
+            return;
+        }
+        if at > self.head.fates.len() {
+            return;
+        }
+        match self.head.fates.get(at - 1) {
+            Fate::Withdrawn => {}
+            Fate::Abandoned => {}
+            Fate::Queued => self.take_back(ticket),
+            Fate::Numbered => self.give_up(ticket),
+        }
+    }
+
+    /// Withdraws the message with this ticket, which waits for its number.
+    fn take_back(&mut self, ticket: u64)
+        requires some { 0 < ticket }
+        requires given { ticket ≤ length self.old.fates }
+        ensures { (v : SenderView) → StandsFor F.format self.old v → waits ticket v.queue ≡ true → StandsFor F.format self.new (abandon_after v ticket) }
+    {
+        withdraw(&mut self.parts.queue, ticket);
+        self.head.fates.set(ticket as usize - 1, Fate::Withdrawn);
+    }
+
+    /// Abandons the message with this ticket, which has a number and may be abandoned.
+    fn give_up(&mut self, ticket: u64)
+        requires some { 0 < ticket }
+        requires given { ticket ≤ length self.old.fates }
+        ensures { (v : SenderView) → StandsFor F.format self.old v → is_numbered_fate (fate_here v ticket) ≡ true → may_abandon v ticket ≡ true → StandsFor F.format self.new (abandon_after v ticket) }
+    {
         self.head.fates.set(ticket as usize - 1, Fate::Abandoned);
         self.parts.outstanding.abandon(ticket);
         if let Some(ending) = end(&mut self.parts.tracks, ticket) {
             push_end(&mut self.parts.outstanding, ending);
         }
-        Abandoned::Abandoned
     }
 }
 

@@ -1,5 +1,5 @@
 -- From which moment on the message of a ticket may be past its time: ticket by ticket, and in pages of 64.
-use Rattle.std.specs.Prelude.{◌≡◌, ℕ, suc, ◌+◌, ◌-◌, ◌/◌, ◌^◌, ◌<◌, ◌≤◌, nat_le, ◌==◌, ◌&&◌, ◌||◌, ◌⊎◌, Bool, true, false, if◌then◌else◌, List, map, length, slice_index_or, slice_get, Option, None, Some, unwrap_or, option_and_then}
+use Rattle.std.specs.Prelude.{◌≡◌, ℕ, suc, ◌+◌, ◌-◌, ◌/◌, ◌^◌, ◌<◌, ◌≤◌, nat_le, ◌==◌, ◌&&◌, ◌||◌, not, ◌⊎◌, Bool, true, false, if◌then◌else◌, List, map, length, slice_index_or, slice_get, Option, None, Some, unwrap_or, option_and_then}
 use Rattle.std.specs.List.{list_any}
 use Rattle.std.specs.declared.sync.Arc.{Arc}
 use Rattle.std.specs.declared.alloc.Global.{Global}
@@ -14,7 +14,7 @@ use Rattle.sctp_model.specs.wire.Chunk.{BlockMeaning}
 use Rattle.sctp_model.specs.messages.Acknowledgement.{in_blocks}
 use Rattle.sctp_send.specs.CoveredRuns.{in_runs, runs_behind}
 use Rattle.sctp_send.specs.declared.kept.entry.CoveredRun.{CoveredRun}
-use Rattle.sctp_send.specs.inner.Walks.{any_item, any_rest}
+use Rattle.sctp_send.specs.inner.Walks.{any_rest, any_uncovered}
 use Rattle.sctp_send.specs.declared.kept.message.Message.{Message as MessageFields}
 use Rattle.sctp_send.specs.declared.kept.entry.Entry.{Entry as EntryFields}
 use Rattle.sctp_send.specs.declared.kept.track.Rest.{Rest as RestFields}
@@ -103,19 +103,17 @@ pub record IsRestUntil (ticket : ℕ) (until : Option ℕ) (ts : List Track) : T
   pub there : slice_get ts at ≡ Some track
   pub has : HasUntil ticket until (rest_message track)
 
--- No message has the ticket, and there is no moment.
-pub record IsNoUntil (ticket : ℕ) (until : Option ℕ) (xs : List Item) (ts : List Track) : Type 0 where
-  pub items : any_item ticket xs ≡ false
-  pub tracks : any_rest ticket ts ≡ false
-  pub none : until ≡ None
-
 -- the moment of what is left of the message with a ticket, or nothing is left of one
 abbrev pub IsLeftUntil : (ticket : ℕ) → (until : Option ℕ) → List Track → Type 0
 IsLeftUntil t until ts = IsRestUntil t until ts ⊎ ((any_rest t ts ≡ false) × (until ≡ None))
 
 -- one of these
 abbrev pub IsUntilOf : (ticket : ℕ) → (until : Option ℕ) → List Item → List Track → Type 0
-IsUntilOf t until xs ts = IsItemUntil t until xs ⊎ (IsRestUntil t until ts ⊎ IsNoUntil t until xs ts)
+IsUntilOf t until xs ts = IsItemUntil t until xs ⊎ IsRestUntil t until ts
+
+-- an entry of the message with a ticket isn't covered, or the message is in part, and this is its moment; or all of it is assigned and covered, and there is none
+abbrev pub IsOpenUntil : (ticket : ℕ) → (until : Option ℕ) → List Item → List Track → Type 0
+IsOpenUntil t until xs ts = (((not (any_rest t ts) && not (any_uncovered t xs)) ≡ false) × IsUntilOf t until xs ts) ⊎ (((not (any_rest t ts) && not (any_uncovered t xs)) ≡ true) × (until ≡ None))
 
 -- ---- the next one
 

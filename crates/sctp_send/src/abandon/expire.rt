@@ -51,7 +51,7 @@ impl<F: Framing> Sender<F> {
         ensures { (v : SenderView) → StandsFor F.format self.old v → StandsFor F.format self.new (expire_one now v ticket) }
     {
         if self.is_late(ticket, now) {
-            let _answer = self.abandon(Ticket(ticket));
+            self.abandon_open(ticket);
         }
     }
 

@@ -8,14 +8,13 @@ ghost use Rattle.sctp_send.specs.OutstandingFields.{item_meaning};
 ghost use Rattle.sctp_send.specs.SenderFields.{queued_by, track_meaning};
 ghost use Rattle.sctp_send.specs.SenderStands.{StandsFor, fate_here};
 ghost use Rattle.sctp_send.specs.inner.Walks.{is_numbered_fate};
-ghost use Rattle.sctp_send.specs.inner.Dues.{IsUntilOf, IsLeftUntil, until_left};
+ghost use Rattle.sctp_send.specs.inner.Dues.{IsOpenUntil, IsLeftUntil, until_left};
 
 use crate::kept::message::Fate;
 use crate::kept::outstanding::Outstanding;
 use crate::kept::queue::Queue;
 use crate::kept::streams::Streams;
 use crate::kept::track::Track;
-use crate::readers::is_all_covered;
 use crate::sender::Sender;
 use sctp_framing::Framing;
 
@@ -47,10 +46,7 @@ impl<F: Framing> Sender<F> {
         if !self.head.partial {
             return None;
         }
-        if is_all_covered(&self.parts.tracks, &self.parts.outstanding, ticket) {
-            return None;
-        }
-        until_numbered(&self.parts.tracks, &self.parts.outstanding, ticket)
+        until_open(&self.parts.tracks, &self.parts.outstanding, ticket)
     }
 }
 
@@ -67,11 +63,11 @@ fn until_waiting(queue: &Queue, ticket: u64) -> Option<u64>
     None
 }
 
-/// The moment of a message of which something has an index above CUM, or is in part.
-fn until_numbered(tracks: &Streams, outstanding: &Outstanding, ticket: u64) -> Option<u64>
-    ensures { (size : ℕ) → IsUntilOf ticket result (map (item_meaning size) outstanding.now.items) (map (track_meaning size) tracks.now.items) }
+/// The moment of a message that has an entry above CUM that is not covered, or is in part; none where all of it is assigned and covered.
+fn until_open(tracks: &Streams, outstanding: &Outstanding, ticket: u64) -> Option<u64>
+    ensures { (size : ℕ) → IsOpenUntil ticket result (map (item_meaning size) outstanding.now.items) (map (track_meaning size) tracks.now.items) }
 {
-    match outstanding.until_of(ticket) {
+    match outstanding.uncovered_until(ticket) {
         Some(until) => until,
         None => until_in_part(tracks, ticket),
     }

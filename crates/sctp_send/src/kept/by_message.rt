@@ -20,27 +20,25 @@ impl Outstanding {
     pub(crate) fn some_uncovered(&self, ticket: u64) -> bool
         ensures { (size : ℕ) → result ≡ any_uncovered ticket (map (item_meaning size) self.now.items) }
     {
-        let start = self.by_ticket.place(ticket, 0);
-        let end = self.by_ticket.place(ticket, usize::MAX);
-        for place in start..end {
-            let entry = &self.entries[self.by_ticket.offset(place)];
-            if is_uncovered(entry, ticket) {
-                return true;
-            }
+        match self.uncovered_until(ticket) {
+            Some(_) => true,
+            None => false,
         }
-        false
     }
 
-    /// The moment of the message with this ticket, where an entry of it stands above CUM.
-    pub(crate) fn until_of(&self, ticket: u64) -> Option<Option<u64>>
+    /// The moment of the message with this ticket, where an entry of it stands above CUM that is not covered.
+    pub(crate) fn uncovered_until(&self, ticket: u64) -> Option<Option<u64>>
         ensures some { (size : ℕ) → IfSome result (λ until. IsItemUntil ticket until (map (item_meaning size) self.now.items)) }
-        ensures none { (size : ℕ) → IfNone result (any_item ticket (map (item_meaning size) self.now.items) ≡ false) }
+        ensures uncovered { (size : ℕ) → IfSome result (λ until. any_uncovered ticket (map (item_meaning size) self.now.items) ≡ true) }
+        ensures none { (size : ℕ) → IfNone result (any_uncovered ticket (map (item_meaning size) self.now.items) ≡ false) }
     {
         let start = self.by_ticket.place(ticket, 0);
-        let end = self.by_ticket.place(ticket, usize::MAX);
-        for place in start..end {
+        for place in start..self.by_ticket.len() {
             let entry = &self.entries[self.by_ticket.offset(place)];
-            if entry.message.ticket == ticket {
+            if entry.message.ticket != ticket {
+                return None;
+            }
+            if !entry.covered {
                 return Some(entry.message.until);
             }
         }
@@ -60,20 +58,15 @@ impl Outstanding {
         ensures kept { IsSameRoom self.old self.new }
     {
         let start = self.by_ticket.place(ticket, 0);
-        let end = self.by_ticket.place(ticket, usize::MAX);
-        for place in start..end {
+        for place in start..self.by_ticket.len() {
             let at = self.by_ticket.offset(place);
+            if self.entries[at].message.ticket != ticket {
+                return;
+            }
             forget_stretch(&mut self.stretches, self.by_ticket.index(at));
             give_one(&mut self.entries, &mut self.counts, self.size, at, ticket);
         }
     }
-}
-
-/// An entry is of the message with this ticket, and not covered.
-fn is_uncovered(entry: &Entry, ticket: u64) -> bool
-    ensures { (size : ℕ) → result ≡ is_item_uncovered ticket (item_meaning size entry.now) }
-{
-    entry.message.ticket == ticket && !entry.covered
 }
 
 /// An entry of the message with this ticket is abandoned; its mark ends.

@@ -1,6 +1,7 @@
 //! Moments of tickets in pages of 64: a page none of whose moments has come is passed at once.
 
 ghost use Rattle.std.specs.Prelude.{◌≡◌, ℕ, ◌<◌, ◌≤◌, drop, length, slice_index_or, unwrap_or, IfSome, IfNone};
+ghost use Rattle.std.specs.Vec.{vec_capacity};
 ghost use Rattle.std.specs.VecDeque.{deque_capacity};
 ghost use Rattle.sctp_model.specs.numbers.Limits.{LAST_MOMENT};
 ghost use Rattle.sctp_send.specs.inner.Dues.{AreLeast, IsEarliest};
@@ -34,7 +35,37 @@ pub(crate) fn lower_at(moments: &mut VecDeque<u64>, at: usize, moment: u64)
     }
 }
 
-/// The first place from one on, before another, whose moment has come.
+/// The same of a page.
+pub(crate) fn lower_page(leasts: &mut Vec<u64>, at: usize, moment: u64)
+    ensures long { length leasts.new.items ≡ length leasts.old.items }
+    ensures each { (k d : ℕ) → slice_index_or leasts.new.items k d ≤ slice_index_or leasts.old.items k d }
+    ensures above { (m k d : ℕ) → m ≤ moment → m ≤ slice_index_or leasts.old.items k d → m ≤ slice_index_or leasts.new.items k d }
+    ensures here { (d : ℕ) → at < length leasts.new.items → slice_index_or leasts.new.items at d ≤ moment }
+    ensures others { (k d : ℕ) → (k ≡ at → ⊥) → slice_index_or leasts.new.items k d ≡ slice_index_or leasts.old.items k d }
+    ensures capacity { vec_capacity leasts.new ≡ vec_capacity leasts.old }
+{
+    if at < leasts.len() {
+        leasts[at] = leasts[at].min(moment);
+    }
+}
+
+/// The first place from one on, before another, whose moment has come; or that other.
+fn first_in(moments: &[u64], from: usize, end: usize, now: u64) -> usize
+    requires within { end ≤ length moments.now }
+    ensures within { result ≤ end }
+    ensures above { result < end → from ≤ result }
+    ensures before { (k d : ℕ) → from ≤ k → k < result → now < slice_index_or moments.now k d }
+{
+    for at in from..end {
+        if moments[at] <= now {
+            return at;
+        }
+    }
+    end
+}
+
+/// The first place from one on, before another, whose moment has come. The moments lie in two slices.
+#[inline(never)]
 fn first_come(moments: &VecDeque<u64>, from: usize, end: usize, now: u64) -> Option<usize>
     requires within { end ≤ length moments.now.items }
     ensures some { IfSome result (λ at. from ≤ at) }
@@ -42,22 +73,25 @@ fn first_come(moments: &VecDeque<u64>, from: usize, end: usize, now: u64) -> Opt
     ensures before { IfSome result (λ at. (k d : ℕ) → from ≤ k → k < at → now < slice_index_or moments.now.items k d) }
     ensures none { IfNone result ((k d : ℕ) → from ≤ k → k < end → now < slice_index_or moments.now.items k d) }
 {
-    for at in from..end {
-        if moments[at] <= now {
-            return Some(at);
-        }
+    let (front, back) = moments.as_slices();
+    let many = front.len();
+    let in_front = end.min(many);
+    let at = first_in(front, from, in_front, now);
+    if at < in_front {
+        return Some(at);
+    }
+    let behind = end.saturating_sub(many);
+    let at = first_in(back, from.saturating_sub(many), behind, now);
+    if at < behind {
+        return Some(many + at);
     }
     None
 }
 
 /// The first place from one on whose moment has come, or how many places there are.
-pub(crate) fn first_due(
-    moments: &VecDeque<u64>,
-    leasts: &VecDeque<u64>,
-    from: usize,
-    now: u64,
-) -> usize
-    requires { AreLeast moments.now.items leasts.now.items }
+#[inline(never)]
+pub(crate) fn first_due(moments: &VecDeque<u64>, leasts: &[u64], from: usize, now: u64) -> usize
+    requires { AreLeast moments.now.items leasts.now }
     ensures within { result ≤ length moments.now.items }
     ensures above { result < length moments.now.items → from ≤ result }
     ensures before { (k d : ℕ) → from ≤ k → k < result → now < slice_index_or moments.now.items k d }
@@ -75,9 +109,9 @@ pub(crate) fn first_due(
 }
 
 /// The least of the moments of places from one on, before another.
-fn least_of(moments: &VecDeque<u64>, from: usize, end: usize) -> u64
-    requires within { end ≤ length moments.now.items }
-    ensures { (k d : ℕ) → from ≤ k → k < end → result ≤ slice_index_or moments.now.items k d }
+fn least_in(moments: &[u64], from: usize, end: usize) -> u64
+    requires within { end ≤ length moments.now }
+    ensures { (k d : ℕ) → from ≤ k → k < end → result ≤ slice_index_or moments.now k d }
 {
     let mut least = u64::MAX;
     for at in from..end {
@@ -86,12 +120,24 @@ fn least_of(moments: &VecDeque<u64>, from: usize, end: usize) -> u64
     least
 }
 
+/// The same of moments that lie in two slices.
+#[inline(never)]
+fn least_of(moments: &VecDeque<u64>, from: usize, end: usize) -> u64
+    requires within { end ≤ length moments.now.items }
+    ensures { (k d : ℕ) → from ≤ k → k < end → result ≤ slice_index_or moments.now.items k d }
+{
+    let (front, back) = moments.as_slices();
+    let many = front.len();
+    let least = least_in(front, from, end.min(many));
+    least.min(least_in(back, from.saturating_sub(many), end.saturating_sub(many)))
+}
+
 /// Looks at the pages of which a moment may have come: each has its least one then. It answers the earliest of all.
-pub(crate) fn look_at(moments: &VecDeque<u64>, leasts: &mut VecDeque<u64>, now: u64) -> u64
-    requires { AreLeast moments.now.items leasts.old.items }
-    ensures least { AreLeast moments.now.items leasts.new.items }
-    ensures earliest { IsEarliest result leasts.new.items }
-    ensures capacity { deque_capacity leasts.new ≡ deque_capacity leasts.old }
+#[inline(never)]
+pub(crate) fn look_at(moments: &VecDeque<u64>, leasts: &mut [u64], now: u64) -> u64
+    requires { AreLeast moments.now.items leasts.old }
+    ensures least { AreLeast moments.now.items leasts.new }
+    ensures earliest { IsEarliest result leasts.new }
 {
     let mut earliest = u64::MAX;
     for page in 0..leasts.len() {
@@ -113,5 +159,15 @@ pub(crate) fn drop_first(moments: &mut VecDeque<u64>, many: usize)
 {
     for _ in 0..many {
         let _gone = moments.pop_front();
+    }
+}
+
+/// The first page goes, where there is one.
+pub(crate) fn drop_page(leasts: &mut Vec<u64>)
+    ensures items { leasts.new.items ≡ drop 1 leasts.old.items }
+    ensures capacity { vec_capacity leasts.new ≡ vec_capacity leasts.old }
+{
+    if !leasts.is_empty() {
+        let _gone = leasts.remove(0);
     }
 }

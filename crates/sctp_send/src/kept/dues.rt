@@ -5,7 +5,9 @@ ghost use Rattle.std.specs.Prelude.{◌≡◌, ℕ, ◌+◌, ◌^◌, ◌<◌, �
 ghost use Rattle.sctp_model.specs.numbers.Limits.{LAST_MOMENT};
 ghost use Rattle.sctp_send.specs.inner.Dues.{due_at};
 
-use crate::kept::due_pages::{PAGE, drop_first, first_due, look_at, lower_at, moment_in};
+use crate::kept::due_pages::{
+    PAGE, drop_first, drop_page, first_due, look_at, lower_at, lower_page, moment_in,
+};
 use sctp_values::NoMemory;
 use std::alloc::Global;
 use std::collections::VecDeque;
@@ -19,7 +21,7 @@ pub struct Dues {
     // those of the tickets behind, one by one
     moments: VecDeque<u64>,
     // of each page of them, one that is no later
-    leasts: VecDeque<u64>,
+    leasts: Vec<u64>,
     // no later than any of these
     earliest: u64,
     // a message was found late and not to be abandoned as it stood, so that its ticket has the last moment
@@ -28,6 +30,7 @@ pub struct Dues {
 
 impl Model for Dues {
     ghost use Rattle.std.specs.Prelude.{◌-◌, ◌*◌, ◌^◌, min};
+    ghost use Rattle.std.specs.Vec.{vec_capacity};
     ghost use Rattle.std.specs.VecDeque.{deque_capacity};
     ghost use Rattle.sctp_send.specs.PartsKept.{DuesKept};
 
@@ -35,7 +38,7 @@ impl Model for Dues {
 
     ghost use Rattle.sctp_send.specs.inner.Dues.{AreDues};
 
-    ghost view = { λ w. record { passed = w.passed; moments = w.moments.items; asleep = w.asleep; capacity = min (2 ^ 64 - 1 - w.passed) (min (deque_capacity w.moments) (64 * deque_capacity w.leasts)) } };
+    ghost view = { λ w. record { passed = w.passed; moments = w.moments.items; asleep = w.asleep; capacity = min (2 ^ 64 - 1 - w.passed) (min (deque_capacity w.moments) (64 * vec_capacity w.leasts)) } };
 
     ghost invariant = { λ w. AreDues w.passed w.moments.items w.leasts.items w.earliest };
 }
@@ -50,7 +53,7 @@ impl Dues {
         Dues {
             passed: 0,
             moments: VecDeque::new(alloc),
-            leasts: VecDeque::new(alloc),
+            leasts: Vec::new(alloc),
             earliest: u64::MAX,
             asleep: false,
         }
@@ -80,6 +83,7 @@ impl Dues {
     }
 
     /// A ticket comes behind the others. Its moment is the one that its message has, or the last.
+    #[inline(always)]
     pub(crate) fn push(&mut self, until: Option<u64>)
         requires { length self.old.moments < self.old.capacity }
         ensures passed { self.new.passed ≡ self.old.passed }
@@ -89,16 +93,20 @@ impl Dues {
     {
         let moment = moment_in(until);
         let many = self.moments.len();
+        let page = many / PAGE;
         if many % PAGE == 0 {
-            self.leasts.push_back_reserved(moment);
-        } else {
-            lower_at(&mut self.leasts, many / PAGE, moment);
+            self.leasts.push_reserved(moment);
+            self.earliest = self.earliest.min(moment);
+        } else if moment < self.leasts[page] {
+            // Else the page's moment is no later, and so the earliest isn't.
+            self.leasts[page] = moment;
+            self.earliest = self.earliest.min(moment);
         }
-        self.earliest = self.earliest.min(moment);
         self.moments.push_back_reserved(moment);
     }
 
     /// The first ticket above the last one whose moment has come.
+    #[inline(always)]
     pub(crate) fn next(&self, last: u64, now: u64) -> Option<u64>
         ensures above { IfSome result (λ ticket. last < ticket) }
         ensures given { IfSome result (λ ticket. ticket ≤ self.now.passed + length self.now.moments) }
@@ -125,7 +133,7 @@ impl Dues {
         ensures asleep { self.new.asleep ≡ self.old.asleep }
     {
         if let Some(at) = self.place(ticket) {
-            lower_at(&mut self.leasts, at / PAGE, moment);
+            lower_page(&mut self.leasts, at / PAGE, moment);
             self.earliest = self.earliest.min(moment);
             self.moments[at] = moment;
         }
@@ -152,7 +160,7 @@ impl Dues {
         ensures asleep { self.new.asleep ≡ self.old.asleep }
     {
         if let Some(at) = self.place(ticket) {
-            lower_at(&mut self.leasts, at / PAGE, moment);
+            lower_page(&mut self.leasts, at / PAGE, moment);
             self.earliest = self.earliest.min(moment);
             lower_at(&mut self.moments, at, moment);
         }
@@ -171,6 +179,7 @@ impl Dues {
     }
 
     /// Pages of which a moment may have come are looked at anew. It changes no moment.
+    #[inline(always)]
     pub(crate) fn look_again(&mut self, now: u64)
         ensures { self.new ≡ self.old }
     {
@@ -213,7 +222,7 @@ impl Dues {
         ensures asleep { self.new.asleep ≡ self.old.asleep }
     {
         drop_first(&mut self.moments, PAGE);
-        drop_first(&mut self.leasts, 1);
+        drop_page(&mut self.leasts);
         self.passed += PAGE as u64;
     }
 }

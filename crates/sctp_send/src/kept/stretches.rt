@@ -35,7 +35,7 @@ pub(crate) struct Stretch {
 }
 
 /// Nothing is known.
-const UNKNOWN: Stretch = Stretch {
+pub(crate) const UNKNOWN: Stretch = Stretch {
     is_known: false,
     covered: false,
     bytes: 0,
@@ -117,7 +117,7 @@ pub(crate) fn look_at_stretch(entries: &VecDeque<Entry>, size: u16, at: usize) -
 }
 
 /// How many bytes of data an entry has.
-fn bytes_in(entry: &Entry, size: u16) -> u32
+pub(crate) fn bytes_in(entry: &Entry, size: u16) -> u32
     requires { 0 < size }
     ensures bytes { result ≡ entry_bytes size entry.now }
     ensures short { result ≤ 65535 }
@@ -126,7 +126,7 @@ fn bytes_in(entry: &Entry, size: u16) -> u32
 }
 
 /// An entry went out, doesn't wait to be repeated, and isn't abandoned.
-fn is_plain(entry: &Entry) -> bool
+pub(crate) fn is_plain(entry: &Entry) -> bool
     ensures { result ≡ true → IsPlain entry.now.covered entry.now }
 {
     entry.standing == Standing::Sent && !entry.abandoned

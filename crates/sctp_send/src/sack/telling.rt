@@ -2,24 +2,43 @@
 
 ghost use Rattle.std.specs.Prelude.{◌≡◌, ℕ, ◌+◌, ◌<◌, ◌≤◌, true, false, length};
 ghost use Rattle.std.specs.VecDeque.{deque_capacity};
+ghost use Rattle.sctp_send.specs.OutstandingFields.{item_meaning};
 ghost use Rattle.sctp_send.specs.PartsKept.{at_place, changed};
 ghost use Rattle.sctp_send.specs.inner.Changes.{as_covered, as_uncovered, told, told_where, is_between};
-ghost use Rattle.sctp_send.specs.inner.Counting.{IsCounted};
-ghost use Rattle.sctp_send.specs.inner.Stretching.{told_run};
+ghost use Rattle.sctp_send.specs.inner.Counting.{entered, left, IsCounted};
+ghost use Rattle.sctp_send.specs.inner.Stretching.{IsPlain, told_run};
 
 use crate::kept::counts::Counts;
 use crate::kept::entry::{Entry, unmarked};
 use crate::kept::outstanding::Outstanding;
 use crate::kept::stretches::{
-    MOST_KNOWN, STRETCH, Stretch, forget_stretch, look_at_stretch, put_stretch, stretch_of,
-    turn_stretch,
+    MOST_KNOWN, STRETCH, Stretch, UNKNOWN, bytes_in, is_plain, look_at_stretch, put_stretch,
+    stretch_of, turn_stretch,
 };
 use std::collections::VecDeque;
 
 impl Outstanding {
     /// Entries behind `from`, up to `to`, are told covered, where there is nothing to repeat, or not. It costs the stretches of which it is
     /// known that they stand alike, and the entries of the others.
+    #[inline(always)]
     pub(crate) fn tell_run(&mut self, covered: bool, from: usize, to: usize)
+        requires order { from ≤ to }
+        requires within { to ≤ length self.old.items }
+        ensures { self.new ≡ record self.old { items = told_where covered (is_between from to) 1 self.old.items } }
+    {
+        if from >= to {
+            return;
+        }
+        if to - from < STRETCH {
+            self.tell_each(covered, from, to);
+            return;
+        }
+        self.tell_long(covered, from, to);
+    }
+
+    /// The same of a run in which a stretch may be whole. It stands apart, so that what most runs of a SACK cost stays small.
+    #[inline(never)]
+    fn tell_long(&mut self, covered: bool, from: usize, to: usize)
         requires order { from ≤ to }
         requires within { to ≤ length self.old.items }
         ensures { self.new ≡ record self.old { items = told_where covered (is_between from to) 1 self.old.items } }
@@ -27,6 +46,18 @@ impl Outstanding {
         let mut at = from;
         while at < to {
             at = self.tell_on(covered, from, at, to);
+        }
+    }
+
+    /// The same, one by one: in a short run no stretch is whole.
+    #[inline(always)]
+    fn tell_each(&mut self, covered: bool, from: usize, to: usize)
+        requires order { from ≤ to }
+        requires within { to ≤ length self.old.items }
+        ensures { self.new ≡ record self.old { items = told_where covered (is_between from to) 1 self.old.items } }
+    {
+        for at in from..to {
+            self.tell(at, covered);
         }
     }
 
@@ -105,16 +136,39 @@ impl Outstanding {
     }
 
     /// The entry at an offset is told covered, where there is nothing to repeat, or not.
+    #[inline(never)]
     pub(crate) fn tell(&mut self, at: usize, covered: bool)
         requires { at < length self.old.items }
         ensures { self.new ≡ changed (told covered) at self.old }
     {
-        forget_stretch(&mut self.stretches, self.by_ticket.index(at));
+        put_stretch(&mut self.stretches, self.by_ticket.index(at), UNKNOWN);
         if covered {
             cover_one(&mut self.entries, &mut self.counts, self.size, at);
             return;
         }
         uncover_one(&mut self.entries, &mut self.counts, self.size, at);
+    }
+}
+
+impl Counts {
+    /// An entry that went out, and is neither covered nor abandoned nor to be repeated, counts no more.
+    fn settle(&mut self, entry: &Entry, size: u16)
+        requires some { 0 < size }
+        requires plain { IsPlain false entry.now }
+        ensures { self.new ≡ left (item_meaning size entry.now) self.old }
+    {
+        self.flight = self.flight.wrapping_sub(u64::from(bytes_in(entry, size)));
+        self.unsettled = self.unsettled.wrapping_sub(1);
+    }
+
+    /// Such an entry counts.
+    fn unsettle(&mut self, entry: &Entry, size: u16)
+        requires some { 0 < size }
+        requires plain { IsPlain false entry.now }
+        ensures { self.new ≡ entered (item_meaning size entry.now) self.old }
+    {
+        self.flight = self.flight.wrapping_add(u64::from(bytes_in(entry, size)));
+        self.unsettled = self.unsettled.wrapping_add(1);
     }
 }
 
@@ -127,6 +181,11 @@ fn cover_one(entries: &mut VecDeque<Entry>, counts: &mut Counts, size: u16, at: 
     ensures capacity { deque_capacity entries.new ≡ deque_capacity entries.old }
 {
     let entry = &mut entries[at];
+    if is_plain(entry) && !entry.covered {
+        counts.settle(entry, size);
+        entry.covered = true;
+        return;
+    }
     counts.leave(entry, size);
     entry.standing = unmarked(entry.standing);
     entry.covered = true;
@@ -145,6 +204,10 @@ fn uncover_one(entries: &mut VecDeque<Entry>, counts: &mut Counts, size: u16, at
         return;
     }
     entry.covered = false;
+    if is_plain(entry) {
+        counts.unsettle(entry, size);
+        return;
+    }
     counts.enter(entry, size);
     counts.lower(at, entry);
 }

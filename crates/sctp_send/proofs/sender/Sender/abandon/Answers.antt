@@ -3,9 +3,7 @@ use Rattle.sctp_send.specs.SenderKept.{Kept}
 use Rattle.sctp_send.specs.SenderStands.{StandsFor, Keeps}
 use Rattle.sctp_send.specs.inner.Walks.{is_numbered_fate}
 use Rattle.sctp_send.specs.declared.kept.message.Fate.TheVariants.{Queued as StillQueued, Numbered, Withdrawn, Abandoned as WasAbandoned}
-use Rattle.sctp_send.proofs.WithdrawLemmas.{keeps_withdrawn}
 use Rattle.sctp_send.proofs.AnswerLemmas.{fate_read, answered_unknown, AnsweredBy, answered_by}
-use Rattle.sctp_send.proofs.OverKept.{open_waiting}
 use Rattle.sctp_send.proofs.sender.Sender.abandon.Goals as goal
 
 pub returns-then-at-eq0-clause-answer : goal.returns-then-at-eq0-clause-answer
@@ -84,8 +82,7 @@ returns-in-Queued-clause-step g c = λ v stands.
     let keeps = subst (λ (k : Kept). Keeps g.F.Framing.format k v) (sym c.self.view_is) stands in
     let fate = fate_read g.F.Framing.format _ v c.args.ticket.0 c.get.result StillQueued keeps (omega arith) (omega arith) c.get.ensures c.in-Queued.is in
     let by = subst (AnsweredBy v c.args.ticket.0) fate (answered_by g.F.Framing.format _ v c.args.ticket.0 keeps (omega arith) (omega arith)) in
-    let behind = open_waiting g.F.Framing.format _ v c.args.ticket.0 keeps by.1 in
-    rw (c.withdraw.ensures.items s.head.fragment, c.set.ensures.items (omega (arith, behind)), c.set.ensures.ended) (keeps_withdrawn g.F.Framing.format _ v c.args.ticket.0 keeps by.1)
+    c.take_back.ensures v stands by.1
 
 pub returns-in-Numbered-clause-answer : goal.returns-in-Numbered-clause-answer
 unfolding StandsFor

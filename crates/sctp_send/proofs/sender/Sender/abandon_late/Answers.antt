@@ -9,8 +9,8 @@ pub returns-then-is_late : goal.returns-then-is_late
 unfolding StandsFor
 returns-then-is_late g c = λ v stands.
     let late = sym (c.is_late.ensures v stands) ∙ c.if-is_late.true in
-    let due = (and_parts (is_overdue v c.args.now c.args.ticket) (may_abandon v c.args.ticket) late).0 in
-    rw due (c.abandon-answer.ensures.step v stands)
+    let both = and_parts (is_overdue v c.args.now c.args.ticket) (may_abandon v c.args.ticket) late in
+    rw both.0 (c.abandon_open.ensures v stands both.1)
 
 pub returns-else-is_late : goal.returns-else-is_late
 unfolding StandsFor

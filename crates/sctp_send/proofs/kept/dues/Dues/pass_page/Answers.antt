@@ -6,4 +6,4 @@ use Rattle.sctp_send.proofs.kept.dues.Dues.pass_page.Goals as goal
 pub invariant_of-self : goal.invariant_of-self
 invariant_of-self c =
     let s = c.self.inside in
-    rw (c.drop_first.ensures.items, c.drop_first-2.ensures.items) (dues_passed s.passed s.moments.items s.leasts.items s.earliest c.self.invariant (subst (λ (w : DuesKept). 64 ≤ length w.moments) (sym c.self.view_is) c.requires))
+    rw (c.drop_first.ensures.items, c.drop_page.ensures.items) (dues_passed s.passed s.moments.items s.leasts.items s.earliest c.self.invariant (subst (λ (w : DuesKept). 64 ≤ length w.moments) (sym c.self.view_is) c.requires))

@@ -1,12 +1,13 @@
 use Rattle.std.proofs.Common.{◌≡◌, ◌+◌, ◌<◌, ◌≤◌, ℕ, List, length, refl, sym, ◌∙◌, ap, subst, arith}
 use Rattle.sctp_send.specs.declared.kept.by_ticket.ByTicket.{ByTicket}
 use Rattle.sctp_send.specs.declared.kept.entry.Entry.{Entry as EntryFields}
+use Rattle.sctp_send.specs.declared.kept.message.Message.{Message as MessageFields}
 use Rattle.sctp_send.specs.inner.Changes.{given, all_given}
 use Rattle.sctp_send.specs.inner.TicketOrder.{IsOrderOf, IsPlaceOf, tickets_of}
-use Rattle.sctp_send.proofs.ListParts.{dropped_more}
+use Rattle.sctp_send.proofs.ListParts.{none_dropped}
 use Rattle.sctp_send.proofs.PlacedLemmas.{count_placed}
 use Rattle.sctp_send.proofs.StoodLemmas.{given_other}
-use Rattle.sctp_send.proofs.TicketWalks.{no_spot, WerePassed, IsGiven, lower_passed, all_passed, higher_left, spot_within, given_ticket, placed_tickets, placed_given, given_more, all_are_given}
+use Rattle.sctp_send.proofs.TicketWalks.{no_spot, WerePassed, IsGiven, lower_passed, all_passed, behind_left, spot_within, given_ticket, placed_tickets, placed_given, given_more, all_are_given}
 use Rattle.sctp_send.specs.inner.Stretching.{AreKnown}
 use Rattle.sctp_send.proofs.KnownLemmas.{SayTheSame, SayNothing, known_placed}
 use Rattle.sctp_send.proofs.kept.outstanding.Outstanding.abandon.Goals as goal
@@ -27,14 +28,14 @@ loop-place-init c =
 
 pub offset-at-requires : goal.offset-at-requires
 offset-at-requires c =
-    let lt : c.loop-place.place < length c.self.inside.by_ticket.spots.items = omega (arith, c.loop-place-test.true, c.place-end.ensures.bound) in
+    let lt : c.loop-place.place < length c.self.inside.by_ticket.spots.items = omega (arith, c.loop-place-test.true, c.len-place-end.ensures) in
     subst (λ (o : ByTicket). c.loop-place.place < length o.spots.items) (sym c.loop-place.invariant.order) lt
 
 pub give_one-requires : goal.give_one-requires
 give_one-requires c =
     let s = c.loop-place.self-inside in
     let h = c.loop-place.invariant in
-    let bound : c.loop-place.place < length c.self.inside.by_ticket.spots.items = omega (arith, c.loop-place-test.true, c.place-end.ensures.bound) in
+    let bound : c.loop-place.place < length c.self.inside.by_ticket.spots.items = omega (arith, c.loop-place-test.true, c.len-place-end.ensures) in
     let lt = subst (λ (o : ByTicket). c.loop-place.place < length o.spots.items) (sym h.order) bound in
     record {
       within = spot_within s.entries.items s.by_ticket.first s.by_ticket.spots.items h.kept.order c.loop-place.place c.offset-at.result no_spot lt (c.offset-at.ensures no_spot);
@@ -49,7 +50,7 @@ loop-place-preserved c =
     let es = s.entries.items in
     let at = c.offset-at.result in
     let items = c.give_one.ensures.items in
-    let bound : c.loop-place.place < length c.self.inside.by_ticket.spots.items = omega (arith, c.loop-place-test.true, c.place-end.ensures.bound) in
+    let bound : c.loop-place.place < length c.self.inside.by_ticket.spots.items = omega (arith, c.loop-place-test.true, c.len-place-end.ensures) in
     let lt = subst (λ (o : ByTicket). c.loop-place.place < length o.spots.items) (sym h.order) bound in
     let long : length c.give_one.new.entries.items ≡ length es = ap (λ (xs : List EntryFields). length xs) items ∙ count_placed (given t) at es in
     record {
@@ -64,8 +65,8 @@ loop-place-preserved c =
         known =
             subst (λ (xs : List EntryFields). AreKnown s.size s.by_ticket.first c.forget_stretch.new.stretches.items xs) (sym items)
             (known_placed s.size s.by_ticket.first at (given t) s.stretches.items c.forget_stretch.new.stretches.items es
-            (subst (λ (i : ℕ). SayTheSame i c.forget_stretch.new.stretches.items s.stretches.items) c.index.ensures c.forget_stretch.ensures.others)
-            (subst (λ (i : ℕ). SayNothing i c.forget_stretch.new.stretches.items) c.index.ensures c.forget_stretch.ensures.here) h.kept.known);
+            (subst (λ (i : ℕ). SayTheSame i c.forget_stretch.new.stretches.items s.stretches.items) c.index-in-loop-place.ensures c.forget_stretch.ensures.others)
+            (subst (λ (i : ℕ). SayNothing i c.forget_stretch.new.stretches.items) c.index-in-loop-place.ensures c.forget_stretch.ensures.here) h.kept.known);
       };
       size = h.size;
       room = h.room;
@@ -78,17 +79,40 @@ loop-place-preserved c =
 pub invariant_of-self : goal.invariant_of-self
 invariant_of-self c = c.loop-place.invariant.kept
 
-pub returns : goal.returns
-returns c =
+pub index-requires : goal.index-requires
+index-requires c =
+    let s = c.loop-place.self-inside in
+    let h = c.loop-place.invariant in
+    let bound : c.loop-place.place < length c.self.inside.by_ticket.spots.items = omega (arith, c.loop-place-test.true, c.len-place-end.ensures) in
+    let lt = subst (λ (o : ByTicket). c.loop-place.place < length o.spots.items) (sym h.order) bound in
+    let within = spot_within s.entries.items s.by_ticket.first s.by_ticket.spots.items h.kept.order c.loop-place.place c.offset-at.result no_spot lt (c.offset-at.ensures no_spot) in
+    omega (arith, within, s.entries.ok)
+
+pub returns-then-deref-ticket : goal.returns-then-deref-ticket
+returns-then-deref-ticket c =
     let s = c.loop-place.self-inside in
     let h = c.loop-place.invariant in
     let t = c.args.ticket in
     let es = s.entries.items in
     let first = s.by_ticket.first in
     let ss = s.by_ticket.spots.items in
-    let end = c.place-end.result in
-    let place = subst (λ (o : ByTicket). IsPlaceOf o.first t 18446744073709551615 o.spots.items end) (sym h.order) (c.place-end.ensures.place (tickets_of c.self.inside.entries.items) c.self.invariant.order) in
-    let left = higher_left es first ss h.kept.order (IsGiven t) t 18446744073709551615 end (omega arith) place (λ e lt. given_other t e (λ same. omega (arith, lt, same))) in
-    let past : end ≤ c.loop-place.place = omega (arith, c.loop-place-test.false) in
-    let all = all_are_given t es (all_passed es first ss h.kept.order (IsGiven t) c.loop-place.place h.fixed (λ u e there read. left u e (dropped_more ss end c.loop-place.place u past there) read)) in
+    let bound : c.loop-place.place < length c.self.inside.by_ticket.spots.items = omega (arith, c.loop-place-test.true, c.len-place-end.ensures) in
+    let lt = subst (λ (o : ByTicket). c.loop-place.place < length o.spots.items) (sym h.order) bound in
+    let ticket = ap (λ (m : MessageFields). m.ticket) c.deref.ensures in
+    let place = subst (λ (o : ByTicket). IsPlaceOf o.first t 0 o.spots.items c.place-start.result) (sym h.order) (c.place-start.ensures.place (tickets_of c.self.inside.entries.items) c.self.invariant.order) in
+    let left = behind_left es first ss h.kept.order (IsGiven t) t c.place-start.result c.loop-place.place c.offset-at.result no_spot c.index.result.now place c.loop-place.auto.place lt (c.offset-at.ensures no_spot) c.index.ensures (λ same. c.if-deref-ticket.true (ticket ∙ same))
+    (λ e above. given_other t e (λ same. omega (arith, above, same))) in
+    let all = all_are_given t es (all_passed es first ss h.kept.order (IsGiven t) c.loop-place.place h.fixed left) in
+    rw (← c.self.view_is) (record { items = sym all ∙ h.given; kept = record { size = h.size; capacity = h.room } })
+
+pub returns : goal.returns
+returns c =
+    let s = c.loop-place.self-inside in
+    let h = c.loop-place.invariant in
+    let t = c.args.ticket in
+    let es = s.entries.items in
+    let ss = s.by_ticket.spots.items in
+    let end : length c.self.inside.by_ticket.spots.items ≤ c.loop-place.place = omega (arith, c.loop-place-test.false, c.len-place-end.ensures) in
+    let past = subst (λ (o : ByTicket). length o.spots.items ≤ c.loop-place.place) (sym h.order) end in
+    let all = all_are_given t es (all_passed es s.by_ticket.first ss h.kept.order (IsGiven t) c.loop-place.place h.fixed (λ u e there read. absurd (none_dropped ss c.loop-place.place u past there))) in
     rw (← c.self.view_is) (record { items = sym all ∙ h.given; kept = record { size = h.size; capacity = h.room } })

@@ -6,6 +6,7 @@ use Rattle.sctp_send.specs.declared.kept.entry.Entry.{Entry as EntryFields}
 use Rattle.sctp_send.proofs.PlacedLemmas.{count_placed}
 use Rattle.sctp_send.proofs.TicketWalks.{placed_tickets}
 use Rattle.sctp_send.specs.inner.Stretching.{AreKnown}
+use Rattle.sctp_send.specs.declared.kept.stretches.Stretch.{Stretch}
 use Rattle.sctp_send.proofs.KnownLemmas.{SayTheSame, SayNothing, known_placed}
 use Rattle.sctp_send.proofs.kept.outstanding.Outstanding.tell.Goals as goal
 
@@ -37,10 +38,10 @@ invariant_of-self c =
       here = let le = h.here in omega (arith, c.cover_one.ensures.capacity, le);
       there = h.there;
       known =
-          subst (λ (xs : List EntryFields). AreKnown s.size s.by_ticket.first c.forget_stretch.new.stretches.items xs) (sym items)
-          (known_placed s.size s.by_ticket.first c.args.at as_covered s.stretches.items c.forget_stretch.new.stretches.items es
-          (subst (λ (i : ℕ). SayTheSame i c.forget_stretch.new.stretches.items s.stretches.items) c.index.ensures c.forget_stretch.ensures.others)
-          (subst (λ (i : ℕ). SayNothing i c.forget_stretch.new.stretches.items) c.index.ensures c.forget_stretch.ensures.here) h.known);
+          subst (λ (xs : List EntryFields). AreKnown s.size s.by_ticket.first c.put_stretch.new.stretches.items xs) (sym items)
+          (known_placed s.size s.by_ticket.first c.args.at as_covered s.stretches.items c.put_stretch.new.stretches.items es
+          (subst (λ (i : ℕ). SayTheSame i c.put_stretch.new.stretches.items s.stretches.items) c.index.ensures c.put_stretch.ensures.others)
+          (subst (λ (i : ℕ). SayNothing i c.put_stretch.new.stretches.items) c.index.ensures (λ t there. ap (λ (x : Stretch). x.is_known) (c.put_stretch.ensures.here t there))) h.known);
     }
 
 pub invariant_of-self-2 : goal.invariant_of-self-2
@@ -59,10 +60,10 @@ invariant_of-self-2 c =
       here = let le = h.here in omega (arith, c.uncover_one.ensures.capacity, le);
       there = h.there;
       known =
-          subst (λ (xs : List EntryFields). AreKnown s.size s.by_ticket.first c.forget_stretch.new.stretches.items xs) (sym items)
-          (known_placed s.size s.by_ticket.first c.args.at as_uncovered s.stretches.items c.forget_stretch.new.stretches.items es
-          (subst (λ (i : ℕ). SayTheSame i c.forget_stretch.new.stretches.items s.stretches.items) c.index.ensures c.forget_stretch.ensures.others)
-          (subst (λ (i : ℕ). SayNothing i c.forget_stretch.new.stretches.items) c.index.ensures c.forget_stretch.ensures.here) h.known);
+          subst (λ (xs : List EntryFields). AreKnown s.size s.by_ticket.first c.put_stretch.new.stretches.items xs) (sym items)
+          (known_placed s.size s.by_ticket.first c.args.at as_uncovered s.stretches.items c.put_stretch.new.stretches.items es
+          (subst (λ (i : ℕ). SayTheSame i c.put_stretch.new.stretches.items s.stretches.items) c.index.ensures c.put_stretch.ensures.others)
+          (subst (λ (i : ℕ). SayNothing i c.put_stretch.new.stretches.items) c.index.ensures (λ t there. ap (λ (x : Stretch). x.is_known) (c.put_stretch.ensures.here t there))) h.known);
     }
 
 pub returns-then-covered : goal.returns-then-covered

@@ -2,7 +2,7 @@ use Rattle.std.proofs.Common.{◌≡◌, ℕ, false}
 use Rattle.sctp_send.specs.OutstandingFields.{item_meaning}
 use Rattle.sctp_send.specs.inner.Walks.{is_item_uncovered}
 use Rattle.sctp_send.proofs.TicketWalks.{WerePassed}
-use Rattle.sctp_send.proofs.kept.outstanding.Outstanding.some_uncovered.Given as goal
+use Rattle.sctp_send.proofs.kept.outstanding.Outstanding.uncovered_until.Given as goal
 
 abbrev pub invariant-loop-place : goal.invariant-loop-place
 invariant-loop-place l =

@@ -1,6 +1,6 @@
 use Rattle.std.proofs.Common.{◌≡◌, ◌≤◌, ◌-◌}
 use Rattle.sctp_send.specs.inner.Changes.{told_where, is_between}
-use Rattle.sctp_send.proofs.kept.outstanding.Outstanding.tell_run.Given as goal
+use Rattle.sctp_send.proofs.kept.outstanding.Outstanding.tell_long.Given as goal
 
 -- the run that is told so far
 abbrev pub invariant-loop-at : goal.invariant-loop-at
