@@ -46,6 +46,7 @@ pub mod RiseLemmas
 pub mod SeatLemmas
 pub mod SeatedLemmas
 pub mod NextLemmas
+pub mod RestLemmas
 pub mod AssignedKept
 pub mod RoomLemmas
 pub mod ChunkLemmas

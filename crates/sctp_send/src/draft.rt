@@ -1,6 +1,6 @@
 //! What filling a packet changes of a sender: where memory runs out, the changes are taken back.
 
-ghost use Rattle.std.specs.Prelude.{◌≡◌, ℕ, ◌<◌, ◌≤◌, ◌+◌, ◌++◌, ◌∷◌, [], set, length, IfOk};
+ghost use Rattle.std.specs.Prelude.{◌≡◌, ℕ, ◌<◌, ◌≤◌, ◌+◌, ◌++◌, ◌∷◌, [], set, length, OnOk};
 ghost use Rattle.std.specs.Vec.{vec_len, vec_capacity};
 ghost use Rattle.sctp_send.specs.PartsKept.{at_place, changed};
 ghost use Rattle.sctp_send.specs.inner.Undoing.{parts_of, undone, origin, stands_so, waits_again, counted_to, IsKeptRoom};
@@ -12,7 +12,7 @@ use crate::kept::outstanding::Outstanding;
 use crate::kept::queue::Queue;
 use crate::kept::streams::Streams;
 use crate::kept::track::Track;
-use sctp_values::{Kind, Ticket};
+use sctp_values::{Kind, NoMemory, Ticket};
 use std::sync::Arc;
 
 /// What filling changes: entries, the queue, streams and the turn as in a sender; the messages that took their numbers, in order; and what was
@@ -54,6 +54,9 @@ pub(crate) enum Change {
     },
 }
 
+/// Room for so many tickets is taken at once.
+const TICKETS: usize = 32;
+
 /// Nothing is noted yet, and nothing is told.
 pub(crate) fn begin_anew(draft: &mut Draft)
     ensures same { draft.new ≡ record draft.old { tickets = draft.new.tickets; log = draft.new.log } }
@@ -67,12 +70,45 @@ pub(crate) fn begin_anew(draft: &mut Draft)
 }
 
 /// Nothing is noted any more.
+#[inline(always)]
 pub(crate) fn forget_changes(log: &mut Vec<Change>)
     ensures { log.new.items ≡ [] }
 {
     if !log.is_empty() {
-        log.clear();
+        clear_changes(log);
     }
+}
+
+/// The same, where something is noted. It stands apart, so that what is asked each time stays small.
+#[inline(never)]
+fn clear_changes(log: &mut Vec<Change>)
+    ensures { log.new.items ≡ [] }
+{
+    log.clear();
+}
+
+/// Room for two changes more. Where there is such, it costs one test.
+#[inline(always)]
+pub(crate) fn reserve_changes(log: &mut Vec<Change>) -> Result<(), NoMemory>
+    ensures items { log.new.items ≡ log.old.items }
+    ensures room { OnOk result (vec_len log.new + 2 ≤ vec_capacity log.new) }
+{
+    if log.capacity() - log.len() >= 2 {
+        return Ok(());
+    }
+    log.reserve(2).map_err(|_| NoMemory)
+}
+
+/// Room for a ticket more. Where there is such, it costs one test.
+#[inline(always)]
+pub(crate) fn reserve_tickets(tickets: &mut Vec<Ticket>) -> Result<(), NoMemory>
+    ensures items { tickets.new.items ≡ tickets.old.items }
+    ensures room { OnOk result (vec_len tickets.new < vec_capacity tickets.new) }
+{
+    if tickets.len() < tickets.capacity() {
+        return Ok(());
+    }
+    tickets.reserve(TICKETS).map_err(|_| NoMemory)
 }
 
 /// A change is noted, where there is room for that.

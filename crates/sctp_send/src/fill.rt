@@ -6,7 +6,8 @@ pub mod indexed;
 pub mod pushing;
 pub mod putting;
 
-ghost use Rattle.std.specs.Prelude.{◌≡◌, [], IfOk, OnErr, OnOk};
+ghost use Rattle.std.specs.Prelude.{◌≡◌, [], true, None, IfOk, OnErr, OnOk};
+ghost use Rattle.sctp_model.specs.sender.Filling.{next_wish};
 ghost use Rattle.sctp_model.specs.sender.SenderView.{SenderView};
 ghost use Rattle.sctp_send.specs.SenderStands.{StandsFor, Keeps};
 ghost use Rattle.sctp_send.specs.FillAnswers.{FillAnswer, PutSomeOf};
@@ -36,7 +37,40 @@ impl<F: Framing> Sender<F> {
     ///
     /// # Errors
     /// `NoMemory`: nothing of the sender changes, and the packet may hold some whole chunks more. It comes only where a further one may go.
+    #[inline(always)]
     pub fn fill(&mut self, packet: &mut PacketWriter) -> Result<Filled, NoMemory>
+        ensures step { (v : SenderView) → StandsFor F.format self.old v → IfOk result (λ filled. FillAnswer F.format v packet.old packet.new self.new filled) }
+        ensures memory { (v : SenderView) → StandsFor F.format self.old v → OnErr result (StandsFor F.format self.new v) }
+        ensures some { (v : SenderView) → StandsFor F.format self.old v → OnErr result (PutSomeOf F.format v packet.old packet.new) }
+    {
+        if self.is_at_rest() {
+            let tickets = Vec::new(self.head.alloc);
+            return Ok(Filled { tickets });
+        }
+        self.fill_on(packet)
+    }
+
+    /// Nothing is to go out: all is out that has its index, no message waits, and none is in part.
+    #[inline(always)]
+    fn is_at_rest(&self) -> bool
+        ensures { (v : SenderView) → StandsFor F.format self.now v → result ≡ true → next_wish F.format v ≡ None }
+    {
+        let streams = self.head.streams;
+        if self.parts.queue.len() > 0 {
+            return false;
+        }
+        if !self.parts.outstanding.is_all_out() {
+            return false;
+        }
+        if self.parts.tracks.next_part(0, streams) < streams {
+            return false;
+        }
+        true
+    }
+
+    /// The same, where something may go. It stands apart, so that it costs little where nothing does.
+    #[inline(never)]
+    fn fill_on(&mut self, packet: &mut PacketWriter) -> Result<Filled, NoMemory>
         ensures step { (v : SenderView) → StandsFor F.format self.old v → IfOk result (λ filled. FillAnswer F.format v packet.old packet.new self.new filled) }
         ensures memory { (v : SenderView) → StandsFor F.format self.old v → OnErr result (StandsFor F.format self.new v) }
         ensures some { (v : SenderView) → StandsFor F.format self.old v → OnErr result (PutSomeOf F.format v packet.old packet.new) }

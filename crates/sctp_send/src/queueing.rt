@@ -190,6 +190,7 @@ fn reserve_ticket(fates: &mut Fates, dues: &mut Dues) -> Result<(), NoMemory>
 }
 
 /// A message comes to the end of the queue.
+#[inline(always)]
 fn enqueue(
     queue: &mut Queue,
     spent: &mut Vec<Arc<Message>>,

@@ -12,7 +12,7 @@ ghost use Rattle.sctp_send.specs.inner.Newcomers.{number_in, number_on, track_of
 ghost use Rattle.sctp_send.specs.inner.Drafting.{bare, numbers_of, drafted, rest_from, left_track};
 ghost use Rattle.sctp_send.specs.inner.Undoing.{Parts, before_all, counted_to, IsSized, IsBehind};
 
-use crate::draft::{Change, Draft, note};
+use crate::draft::{Change, Draft, note, reserve_changes, reserve_tickets};
 use crate::fill::assigning::{Beginning, stream_after};
 use crate::fill::pushing::{push_first, push_fragment, push_further};
 use crate::head::Head;
@@ -24,9 +24,6 @@ use crate::kept::track::{Rest, Track};
 use sctp_values::{Kind, NoMemory, Ticket};
 use std::alloc::Global;
 use std::sync::Arc;
-
-/// Room for so many tickets is taken at once.
-const TICKETS: usize = 32;
 
 impl Head {
     /// The message at a place of the queue takes its number, and so many of its fragments their indexes. All memory is taken first, but for what
@@ -93,9 +90,8 @@ impl Head {
     {
         let message = draft.queue.get(next.place);
         let rest = rest_from(message, next.count as u32, self.fragment)?;
-        draft.log.reserve(2).map_err(|_| NoMemory)?;
-        let more = if draft.tickets.is_empty() { TICKETS } else { 1 };
-        draft.tickets.reserve(more).map_err(|_| NoMemory)?;
+        reserve_changes(&mut draft.log)?;
+        reserve_tickets(&mut draft.tickets)?;
         draft
             .outstanding
             .reserve(next.count + usize::from(self.streams))?;

@@ -81,6 +81,7 @@ impl ByTicket {
     }
 
     /// An entry of this ticket comes behind the others.
+    #[inline(always)]
     pub(crate) fn push(&mut self, ticket: u64)
         requires room { length self.old.spots.items < deque_capacity self.old.spots }
         requires few { length self.old.spots.items < 0xffff_ffff }
@@ -101,6 +102,27 @@ impl ByTicket {
             self.spots.push_back_reserved(spot);
             return;
         }
+        self.push_among(ticket);
+    }
+
+    /// The same, of a ticket above which another may lie. It stands apart, so that what comes at the end stays small.
+    #[inline(never)]
+    fn push_among(&mut self, ticket: u64)
+        requires room { length self.old.spots.items < deque_capacity self.old.spots }
+        requires few { length self.old.spots.items < 0xffff_ffff }
+        requires below { AreUpTo self.old.highest self.old.spots.items }
+        requires low { ticket ≤ self.old.highest }
+        ensures order { (tickets : List ℕ) → IsOrderOf tickets self.old.first self.old.spots.items
+            → IsOrderOf (tickets ++ ticket ∷ []) self.new.first self.new.spots.items }
+        ensures below { AreUpTo self.new.highest self.new.spots.items }
+        ensures capacity { deque_capacity self.old.spots ≤ deque_capacity self.new.spots }
+        ensures first { self.new.first ≡ self.old.first }
+    {
+        let offset = self.spots.len();
+        let spot = Spot {
+            ticket,
+            index: self.first.wrapping_add(offset as u32),
+        };
         let place = self.place(ticket, offset);
         let _placed = self.spots.insert(place, spot);
     }
@@ -119,6 +141,15 @@ impl ByTicket {
             self.remove(ticket, 0);
         }
         self.first = self.first.wrapping_add(1);
+    }
+
+    /// All entries go.
+    pub(crate) fn clear(&mut self)
+        ensures order { self.old.first < 2 ^ 32 → IsOrderOf [] self.new.first self.new.spots.items }
+        ensures below { AreUpTo self.new.highest self.new.spots.items }
+        ensures capacity { deque_capacity self.new.spots ≡ deque_capacity self.old.spots }
+    {
+        self.spots.clear();
     }
 
     /// The last entry goes, which is of this ticket.

@@ -82,6 +82,9 @@ impl Fates {
         ensures ended { self.new.ended ≡ self.old.ended }
         ensures room { OnOk result (length self.new.items < self.new.capacity) }
     {
+        if self.recent.len() < self.recent.capacity() {
+            return Ok(());
+        }
         match self.recent.reserve(1) {
             Ok(()) => Ok(()),
             Err(_) => Err(NoMemory),

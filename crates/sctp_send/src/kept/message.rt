@@ -36,6 +36,7 @@ pub(crate) const SPENT: usize = 64;
 
 /// Keeps the place of a message, without its bytes, where nothing else has it and there is room. What is kept shows in no answer, so that
 /// its contract says nothing.
+#[inline(always)]
 pub(crate) fn lay_by(spent: &mut Vec<Arc<Message>>, alloc: Global, message: Arc<Message>) {
     if spent.len() >= spent.capacity() {
         return;
@@ -52,6 +53,7 @@ pub(crate) fn lay_by(spent: &mut Vec<Arc<Message>>, alloc: Global, message: Arc<
 ///
 /// # Errors
 /// `NoMemory`.
+#[inline(always)]
 pub(crate) fn placed(
     spent: &mut Vec<Arc<Message>>,
     alloc: Global,

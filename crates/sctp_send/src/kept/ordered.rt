@@ -77,6 +77,7 @@ impl Ordered {
     }
 
     /// How many pairs come before one.
+    #[inline(always)]
     pub(crate) fn place_of(&self, pair: Pair) -> usize
         ensures place { result ≡ before key (key pair) self.now.items }
         ensures within { result ≤ length self.now.items }
@@ -87,6 +88,15 @@ impl Ordered {
         if let Some(place) = self.place_at_end(sought) {
             return place;
         }
+        self.place_among(sought)
+    }
+
+    /// The same by halves. It stands apart, so that a place at an end is found at little cost.
+    #[inline(never)]
+    fn place_among(&self, sought: u128) -> usize
+        ensures place { result ≡ before key sought self.now.items }
+        ensures within { result ≤ length self.now.items }
+    {
         self.pairs.partition_point(
             |one: &Pair| -> bool
                 ensures { result ≡ nat_lt (key one.now) sought }
@@ -95,6 +105,7 @@ impl Ordered {
     }
 
     /// The place of what comes before all pairs, or behind them.
+    #[inline(always)]
     fn place_at_end(&self, sought: u128) -> Option<usize>
         ensures place { IfSome result (λ place. place ≡ before key sought self.now.items) }
         ensures within { IfSome result (λ place. place ≤ length self.now.items) }
@@ -122,6 +133,10 @@ impl Ordered {
         ensures capacity { self.old.capacity ≤ self.new.capacity }
     {
         let place = self.place_of(pair);
+        if place >= self.pairs.len() {
+            self.pairs.push_back_reserved(pair);
+            return;
+        }
         let _placed = self.pairs.insert(place, pair);
     }
 
@@ -132,6 +147,10 @@ impl Ordered {
         ensures capacity { self.new.capacity ≡ self.old.capacity }
     {
         let place = self.place_of(pair);
+        if place == 0 {
+            let _gone = self.pairs.pop_front();
+            return;
+        }
         if place < self.pairs.len() {
             let _gone = self.pairs.remove(place);
         }

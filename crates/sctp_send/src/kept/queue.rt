@@ -12,7 +12,7 @@ use crate::kept::message::{Message, bytes_of, owed_by_message};
 use crate::kept::ordered::{Ordered, Pair};
 use crate::kept::seats::{
     Found, add_seat, first_from, fits_at, free_seat, is_in_front, make_room, next_by_looking,
-    seat_of,
+    remove_at, seat_of,
 };
 use sctp_values::NoMemory;
 use std::alloc::Global;
@@ -104,6 +104,7 @@ impl Queue {
     ///
     /// # Errors
     /// `NoMemory`: it doesn't wait.
+    #[inline(always)]
     pub(crate) fn push(&mut self, message: Arc<Message>) -> Result<(), NoMemory>
         ensures size { self.new.size ≡ self.old.size }
         ensures items { OnOk result (self.new.items ≡ self.old.items ++ message ∷ []) }
@@ -127,6 +128,7 @@ impl Queue {
     }
 
     /// The message at a place waits no more, where there is one.
+    #[inline(always)]
     pub(crate) fn remove(&mut self, place: usize) -> Option<Arc<Message>>
         ensures some { place < length self.old.items → self.new ≡ record self.old { items = remove self.old.items place } }
         ensures message { IfSome result (λ message. (place < length self.old.items) × (message ≡ slice_index_or self.old.items place message)) }
@@ -219,18 +221,4 @@ impl Queue {
         }
         Some(Found { stream, place })
     }
-}
-
-/// The message at a place goes, where there is one. The first one moves no other.
-fn remove_at(messages: &mut VecDeque<Arc<Message>>, place: usize) -> Option<Arc<Message>>
-    ensures value { IfSome result (λ message. message ≡ slice_index_or messages.old.items place message) }
-    ensures items { OnSome result (messages.new.items ≡ remove messages.old.items place) }
-    ensures variant { IsSome result ↔ (place < deque_len messages.old) }
-    ensures unchanged { IfNone result (messages.new ≡ messages.old) }
-    ensures capacity { deque_capacity messages.new ≡ deque_capacity messages.old }
-{
-    if place > 0 || messages.is_empty() {
-        return messages.remove(place);
-    }
-    messages.pop_front()
 }

@@ -1,6 +1,7 @@
 //! Where a message that waits stands: by its ticket among the others, and by its stream.
 
-ghost use Rattle.std.specs.Prelude.{◌≡◌, ℕ, ◌+◌, ◌-◌, ◌<◌, ◌≤◌, true, map, length, insert, remove, slice_index_or, if◌then◌else◌, IfSome};
+ghost use Rattle.std.specs.Prelude.{◌≡◌, ℕ, ◌+◌, ◌-◌, ◌<◌, ◌≤◌, ◌↔◌, true, map, length, insert, remove, slice_index_or, if◌then◌else◌, IfSome, IfNone, OnSome, IsSome};
+ghost use Rattle.std.specs.VecDeque.{deque_len, deque_capacity};
 ghost use Rattle.sctp_send.specs.SenderFields.{queued_by};
 ghost use Rattle.sctp_send.specs.inner.Newcomers.{FirstOnAnswer, IsFirstOn};
 ghost use Rattle.sctp_send.specs.inner.Ordering.{key, before, AreOrdered};
@@ -31,6 +32,7 @@ pub(crate) fn seat_of(message: &Message) -> Pair
 }
 
 /// Tickets rise, and go on rising with one at a place: it lies between those of its neighbours there.
+#[inline(always)]
 pub(crate) fn fits_at(
     messages: &VecDeque<Arc<Message>>,
     rises: bool,
@@ -83,11 +85,23 @@ pub(crate) fn make_room(seats: &mut Ordered, is_seated: bool) -> Result<(), NoMe
 }
 
 /// A seat is taken, where the seats are kept and there is memory for it: whether they still are those of all messages.
+#[inline(always)]
 pub(crate) fn add_seat(seats: &mut Ordered, is_seated: bool, seat: Pair) -> bool
     ensures kept { result ≡ true → is_seated ≡ true }
     ensures seats { result ≡ true → seats.new.items ≡ insert seats.old.items (before key (key seat) seats.old.items) seat }
 {
-    if !is_seated || seats.reserve(1).is_err() {
+    if !is_seated {
+        return false;
+    }
+    take_seat(seats, seat)
+}
+
+/// A seat is taken, where there is memory for it. It stands apart, so that it costs little where no seats are kept.
+#[inline(never)]
+fn take_seat(seats: &mut Ordered, seat: Pair) -> bool
+    ensures { result ≡ true → seats.new.items ≡ insert seats.old.items (before key (key seat) seats.old.items) seat }
+{
+    if seats.reserve(1).is_err() {
         return false;
     }
     seats.insert(seat);
@@ -104,6 +118,33 @@ pub(crate) fn free_seat(seats: &mut Ordered, is_seated: bool, seat: Pair)
     if is_seated {
         seats.remove(seat);
     }
+}
+
+/// The message at a place goes, where there is one. The first one moves no other.
+#[inline(always)]
+pub(crate) fn remove_at(messages: &mut VecDeque<Arc<Message>>, place: usize) -> Option<Arc<Message>>
+    ensures value { IfSome result (λ message. message ≡ slice_index_or messages.old.items place message) }
+    ensures items { OnSome result (messages.new.items ≡ remove messages.old.items place) }
+    ensures variant { IsSome result ↔ (place < deque_len messages.old) }
+    ensures unchanged { IfNone result (messages.new ≡ messages.old) }
+    ensures capacity { deque_capacity messages.new ≡ deque_capacity messages.old }
+{
+    if place > 0 || messages.is_empty() {
+        return remove_among(messages, place);
+    }
+    messages.pop_front()
+}
+
+/// The same, where others may move. It stands apart, so that the first one goes at little cost.
+#[inline(never)]
+fn remove_among(messages: &mut VecDeque<Arc<Message>>, place: usize) -> Option<Arc<Message>>
+    ensures value { IfSome result (λ message. message ≡ slice_index_or messages.old.items place message) }
+    ensures items { OnSome result (messages.new.items ≡ remove messages.old.items place) }
+    ensures variant { IsSome result ↔ (place < deque_len messages.old) }
+    ensures unchanged { IfNone result (messages.new ≡ messages.old) }
+    ensures capacity { deque_capacity messages.new ≡ deque_capacity messages.old }
+{
+    messages.remove(place)
 }
 
 /// The place of the message that has waited longest on a stream.

@@ -115,12 +115,21 @@ impl Streams {
     }
 
     /// The first stream from one on, below another, with a message in part, or that other.
+    #[inline(always)]
     pub(crate) fn next_part(&self, from: u16, below: u16) -> u16
         ensures { (size : ℕ) → IsNextPart from below (map (track_meaning size) self.now.items) result }
     {
         if self.parts == 0 {
             return below;
         }
+        self.next_listed(from, below)
+    }
+
+    /// The same, where some message is in part. It stands apart, so that it costs little where none is.
+    #[inline(never)]
+    fn next_listed(&self, from: u16, below: u16) -> u16
+        ensures { (size : ℕ) → IsNextPart from below (map (track_meaning size) self.now.items) result }
+    {
         if !self.lists.is_listed() {
             return next_part_by_looking(&self.tracks, from, below);
         }

@@ -28,6 +28,9 @@ pub(crate) fn cover_blocks(
     ensures runs { result ≡ true → HoldsBlocks covered.new.items blocks.now }
     ensures kept { IsSameRoom outstanding.old outstanding.new }
 {
+    if is_known && covered.is_empty() && blocks.len() == 0 {
+        return true;
+    }
     let fits = remember(spare, blocks);
     retell(outstanding, covered, spare, is_known && fits, blocks);
     mem::swap(covered, spare);

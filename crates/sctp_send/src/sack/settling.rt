@@ -1,6 +1,7 @@
 //! What was assigned and isn't acknowledged cumulatively: an entry for each index, the one of CUM + 1 in front.
 
-ghost use Rattle.std.specs.Prelude.{◌≡◌, ℕ, Bool, true, false, ◌<◌, ◌≤◌, ◌-◌, List, length, drop, None};
+ghost use Rattle.std.specs.Prelude.{◌≡◌, ℕ, Bool, true, false, ◌<◌, ◌≤◌, ◌-◌, List, [], length, drop, None};
+ghost use Rattle.std.specs.VecDeque.{deque_capacity};
 ghost use Rattle.sctp_send.specs.PartsKept.{IsSameRoom, changed};
 ghost use Rattle.sctp_model.specs.messages.Acknowledgement.{in_blocks};
 ghost use Rattle.sctp_send.specs.inner.Changes.{all_told, or_run, timed, all_timed};
@@ -9,11 +10,13 @@ ghost use Rattle.sctp_send.specs.CoveredRuns.{run_behind, runs_behind, HoldsBloc
 ghost use Rattle.sctp_send.specs.inner.Acknowledging.{block_fault};
 ghost use Rattle.sctp_send.specs.declared.kept.entry.Entry.{Entry as EntryFields};
 
-use crate::kept::entry::{CoveredRun, RUNS, Standing};
+use crate::kept::counts::Counts;
+use crate::kept::entry::{CoveredRun, Entry, RUNS, Standing};
 use crate::kept::message::{Message, lay_by};
 use crate::kept::outstanding::Outstanding;
 use sctp_wire::Blocks;
 use std::alloc::Global;
+use std::collections::VecDeque;
 use std::sync::Arc;
 
 /// A run of entries is covered: those from the offset `from` up to before the offset `to`.
@@ -67,8 +70,36 @@ pub(crate) fn forget(
     ensures items { outstanding.new.items ≡ drop passed outstanding.old.items }
     ensures kept { IsSameRoom outstanding.old outstanding.new }
 {
+    if passed == outstanding.len() {
+        outstanding.clear(spent, alloc);
+        return;
+    }
     for _ in 0..passed {
         if let Some(message) = outstanding.pop_front() {
+            lay_by(spent, alloc, message);
+        }
+    }
+}
+
+impl Outstanding {
+    /// All entries go, and with them what is counted: none is looked at for that.
+    fn clear(&mut self, spent: &mut Vec<Arc<Message>>, alloc: Global)
+        ensures { self.new ≡ record self.old { items = [] } }
+    {
+        lay_all(&mut self.entries, spent, alloc);
+        self.by_ticket.clear();
+        self.counts = Counts::none();
+    }
+}
+
+/// All entries go. What they leave is laid by for messages to come.
+fn lay_all(entries: &mut VecDeque<Entry>, spent: &mut Vec<Arc<Message>>, alloc: Global)
+    ensures items { entries.new.items ≡ [] }
+    ensures capacity { deque_capacity entries.new ≡ deque_capacity entries.old }
+{
+    for _ in 0..entries.len() {
+        if let Some(entry) = entries.pop_front() {
+            let Entry { message, .. } = entry;
             lay_by(spent, alloc, message);
         }
     }

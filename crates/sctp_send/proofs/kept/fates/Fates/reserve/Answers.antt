@@ -1,4 +1,5 @@
-use Rattle.std.proofs.Common.{arith}
+use Rattle.std.proofs.Common.{◌<◌, length, subst, arith}
+use Rattle.sctp_send.specs.PartsKept.{FatesKept}
 use Rattle.sctp_send.proofs.FateLemmas.{long_all}
 use Rattle.sctp_send.proofs.kept.fates.Fates.reserve.Goals as goal
 use Rattle.sctp_send.proofs.kept.fates.Fates.reserve.Goals.{in-Ok, in-Err}
@@ -11,3 +12,9 @@ returns-clause-room c =
       | in-Ok w ↦ rw (w.result-is, c.reserve.ensures.items) (let room = w.in-Ok.ensures.ok in omega (arith, long, room, c.reserve.ensures.len, s.recent.ok))
       | in-Err w ↦ rw w.result-is tt
     ]
+
+pub returns-then-len-capacity-clause-room : goal.returns-then-len-capacity-clause-room
+returns-then-len-capacity-clause-room c =
+    let s = c.self.inside in
+    let long = long_all s.ended s.blocks.items s.mixed.items s.recent.items c.self.invariant in
+    subst (λ (k : FatesKept). length k.items < k.capacity) c.self.view_is (omega (arith, long, c.if-len-capacity.true, c.len.ensures, c.capacity.ensures, s.recent.ok))

@@ -1,16 +1,6 @@
-use Rattle.std.proofs.Common.{ℕ, ◌∙◌, ap, rules, of_calls, arith}
-use Rattle.std.specs.Prelude.{nat_lt}
-use Rattle.std.proofs.lemmas.Fn.{always_returns_same}
-use Rattle.sctp_send.specs.inner.Ordering.{OrderedKept, key, before}
-use Rattle.sctp_send.specs.declared.kept.ordered.Pair.{Pair}
-use Rattle.sctp_send.proofs.PairLemmas.{can_search, searched}
+use Rattle.std.proofs.Common.{ℕ, ◌∙◌, ap}
+use Rattle.sctp_send.specs.inner.Ordering.{before, key}
 use Rattle.sctp_send.proofs.kept.ordered.Ordered.place_of.Goals as goal
 
 pub returns-clause-place : goal.returns-clause-place
-returns-clause-place c =
-    let xs = c.self.inside.pairs.items in
-    let sought = c.key_of-sought.result in
-    let test = λ (x : Pair). nat_lt (key x) sought in
-    let point = c.partition_point.ensures.partitioned test (always_returns_same _ _ _ (λ a r f k. search (rules, of_calls))) (can_search key sought 0 xs c.self.invariant.order) in
-    searched key sought c.partition_point.result xs (omega (arith, c.partition_point.ensures.bound, c.self.inside.pairs.ok)) point
-    ∙ ap (λ (n : ℕ). before key n xs) c.key_of-sought.ensures.exact ∙ ap (λ (k : OrderedKept). before key (key c.args.pair) k.items) c.self.view_is
+returns-clause-place c = c.place_among.ensures.place ∙ ap (λ (n : ℕ). before key n c.args.self.now.items) c.key_of-sought.ensures.exact

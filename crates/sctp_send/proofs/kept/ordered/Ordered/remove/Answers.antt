@@ -1,4 +1,4 @@
-use Rattle.std.proofs.Common.{◌≡◌, ℕ, List, Option, Some, None, sym, subst, Global}
+use Rattle.std.proofs.Common.{◌≡◌, ◌∙◌, ℕ, List, [], ◌∷◌, drop, Option, Some, None, refl, sym, subst, Global}
 use Rattle.std.specs.Prelude.{remove, OnSome, IfNone}
 use Rattle.std.specs.declared.collections.VecDeque.{VecDeque}
 use Rattle.sctp_send.specs.inner.Ordering.{AreOrdered}
@@ -11,5 +11,13 @@ either : (r : Option Pair) (n : ℕ) (d e : VecDeque Pair Global) → OnSome r (
 either (Some p) n d e gone same h = subst (λ (ps : List Pair). AreOrdered ps) (sym gone) (ordered_removed n d.items h)
 either None n d e gone same h = subst (λ (x : VecDeque Pair Global). AreOrdered x.items) (sym same) h
 
+-- the first one went
+front_removed : (xs : List Pair) → drop 1 xs ≡ remove xs 0
+front_removed [] = refl
+front_removed (x ∷ xs) = refl
+
 pub invariant_of-self : goal.invariant_of-self
-invariant_of-self c = either c.remove-gone.result c.place_of-place.result c.self.inside.pairs c.remove-gone.new.self c.remove-gone.ensures.items c.remove-gone.ensures.unchanged c.self.invariant
+invariant_of-self c = subst (λ (ps : List Pair). AreOrdered ps) (sym (c.pop_front-gone.ensures.rest ∙ front_removed c.self.inside.pairs.items)) (ordered_removed 0 c.self.inside.pairs.items c.self.invariant)
+
+pub invariant_of-self-then-place-len : goal.invariant_of-self-then-place-len
+invariant_of-self-then-place-len c = either c.remove-gone.result c.place_of-place.result c.self.inside.pairs c.remove-gone.new.self c.remove-gone.ensures.items c.remove-gone.ensures.unchanged c.self.invariant

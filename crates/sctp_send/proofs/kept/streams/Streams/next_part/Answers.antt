@@ -1,11 +1,9 @@
-use Rattle.std.proofs.Common.{map, subst, ◌∙◌, ap, arith, min}
+use Rattle.std.proofs.Common.{map, subst, arith}
 use Rattle.sctp_send.specs.SenderFields.{track_meaning}
 use Rattle.sctp_send.specs.PartsKept.{StreamsKept}
 use Rattle.sctp_send.specs.inner.Newcomers.{IsNextPart}
-use Rattle.sctp_send.specs.inner.PartPairs.{tickets_left}
 use Rattle.sctp_send.proofs.NextLemmas.{none_goes_on}
 use Rattle.sctp_send.proofs.OwedLemmas.{no_part}
-use Rattle.sctp_send.proofs.PartStreams.{next_found, next_none}
 use Rattle.sctp_send.proofs.kept.streams.Streams.next_part.Goals as goal
 
 pub returns-then-self-eq0 : goal.returns-then-self-eq0
@@ -14,16 +12,3 @@ returns-then-self-eq0 c = λ size.
     let none = no_part w.size size w.parts w.owed w.tracks.items c.self.invariant.counted c.if-self-eq0.true in
     subst (λ (k : StreamsKept). IsNextPart c.args.from c.args.below (map (track_meaning size) k.items) c.args.below) c.self.view_is
     (record { before = λ j lo hi. none_goes_on (map (track_meaning size) w.tracks.items) j none; here = λ lt. absurd (omega (arith, lt)); within = omega arith })
-
-pub returns-in-Some : goal.returns-in-Some
-returns-in-Some c = λ size.
-    let w = c.self.inside in
-    let first = c.in-Some.ensures (tickets_left w.tracks.items) c.self.invariant.listed in
-    subst (λ (k : StreamsKept). IsNextPart c.args.from c.args.below (map (track_meaning size) k.items) c.min.result) c.self.view_is
-    (next_found c.args.from c.args.below c.min.result size w.tracks.items c.in-Some.part first (c.min.ensures ∙ ap (λ n. min c.in-Some.part.first n) c.from.ensures))
-
-pub returns-in-None : goal.returns-in-None
-returns-in-None c = λ size.
-    let w = c.self.inside in
-    let none = c.in-None.ensures (tickets_left w.tracks.items) c.self.invariant.listed in
-    subst (λ (k : StreamsKept). IsNextPart c.args.from c.args.below (map (track_meaning size) k.items) c.args.below) c.self.view_is (next_none c.args.from c.args.below size w.tracks.items none)
