@@ -13,5 +13,6 @@ pub mod TableLemmas
 pub mod FoldLemmas
 pub mod JoinedLemmas
 pub mod RoomLemmas
+pub mod BlockLemmas
 pub mod LeftLemmas
 pub mod StepBits

@@ -1,4 +1,4 @@
--- A room in which a run of bytes is folded, a word at a time.
+-- A room in which a run of bytes is folded, a block at a time.
 use Rattle.std.proofs.Common.{◌≡◌, ℕ, zero, suc, replicate, ◌+◌, ◌-◌, ◌*◌, ◌/◌, ◌%◌, ◌^◌, ◌<◌, ◌≤◌, inl, inr, List, length, bit_xor, refl, sym, ap, ◌∙◌, arith}
 use Rattle.std.specs.Prelude.{slice_index, take, drop, [], ◌++◌}
 use Rattle.std.proofs.lemmas.Grind.{common_steps}
@@ -6,6 +6,7 @@ use borrow.Rule.Slice.PartMut.{put_mid, mid_of, post_of}
 use Rattle.std.proofs.lemmas.List.{get_or-append_right, get_or-drop}
 use Rattle.std.proofs.Common.{append-nil}
 use Rattle.std.proofs.lemmas.Bool.{cases_lt}
+use Rattle.std.specs.Int.Bits.{xor_zero_r}
 use Rattle.std.proofs.lemmas.Nat.{xor_mod, xor_shr, pow_pos, shr-shr}
 use Rattle.std.proofs.Math.Nat.{div-eq_of_lt}
 use Rattle.sctp_packet.specs.Folding.{FRONT, byte_of, mixed_byte, reaching, IsFolded, IsLeft}
@@ -23,51 +24,59 @@ high_byte register i small high =
     let zero : 0 / 2 ^ (8 * i - 32) ≡ 0 = div-eq_of_lt (pow_pos (8 * i - 32)) in
     ap (λ (x : ℕ). x % 256) (down ∙ zero)
 
+-- so the bytes behind these are as they were
+pub mixed_plain : (register : ℕ) (bytes : List ℕ) (i : ℕ) → register < 2 ^ 32 → 4 ≤ i → mixed_byte register bytes i ≡ slice_index bytes i
+mixed_plain register bytes i small high = ap (bit_xor (slice_index bytes i)) (high_byte register i small high) ∙ xor_zero_r (slice_index bytes i)
+
+-- and no register leaves all
+pub byte_none : (i : ℕ) → byte_of 0 i ≡ 0
+byte_none i = let none : 0 / 2 ^ (8 * i) ≡ 0 = div-eq_of_lt (pow_pos (8 * i)) in ap (λ (x : ℕ). x % 256) none
+
 -- what reaches a place stands at least 65 places before it
 pub reaching_same : (xs ys : List ℕ) (q p : ℕ) → ((j : ℕ) → j < q → slice_index ys j ≡ slice_index xs j) → 0 < q → p < q + 65 → reaching ys p ≡ reaching xs p
 reaching_same xs ys q p same some near =
     rw (same (p - 65) (omega (arith, near, some)), same (p - 155) (omega (arith, near, some)), same (p - 170) (omega (arith, near, some)), same (p - 195) (omega (arith, near, some)), same (p - 209) (omega (arith, near, some))) refl
 
--- one word more
+-- one block more
 pub folded_more : (register : ℕ) (bytes xs ys : List ℕ) (n : ℕ) → IsFolded register bytes n xs → ((j : ℕ) → j < FRONT + n → slice_index ys j ≡ slice_index xs j) →
-    ((k : ℕ) → k < 8 → slice_index ys (FRONT + n + k) ≡ bit_xor (mixed_byte register bytes (n + k)) (reaching xs (FRONT + n + k))) →
-    ((j : ℕ) → FRONT + n + 8 ≤ j → slice_index ys j ≡ slice_index xs j) → IsFolded register bytes (n + 8) ys
+    ((k : ℕ) → k < 32 → slice_index ys (FRONT + n + k) ≡ bit_xor (mixed_byte register bytes (n + k)) (reaching xs (FRONT + n + k))) →
+    ((j : ℕ) → FRONT + n + 32 ≤ j → slice_index ys j ≡ slice_index xs j) → IsFolded register bytes (n + 32) ys
 folded_more register bytes xs ys n f before here behind = record {
   before = λ j low. before j (omega (arith, low)) ∙ f.before j low;
   each = λ i lt.
       elim (cases_lt i n) [
         | inl old ↦ before (FRONT + i) (omega (arith, old)) ∙ (f.each i old ∙ ap (bit_xor (mixed_byte register bytes i)) (sym (reaching_same xs ys (FRONT + n) (FRONT + i) before (omega arith) (omega (arith, old)))))
-        | inr new ↦ word i (i - n) (omega (arith, new)) (omega (arith, lt))
+        | inr new ↦ block i (i - n) (omega (arith, new)) (omega (arith, lt))
       ];
   behind = λ j high. behind j (omega (arith, high)) ∙ f.behind j (omega (arith, high));
 }
   where
-    word : (i k : ℕ) → i ≡ n + k → k < 8 → slice_index ys (FRONT + i) ≡ bit_xor (mixed_byte register bytes i) (reaching ys (FRONT + i))
-    word i k is few =
+    block : (i k : ℕ) → i ≡ n + k → k < 32 → slice_index ys (FRONT + i) ≡ bit_xor (mixed_byte register bytes i) (reaching ys (FRONT + i))
+    block i k is few =
         let at : FRONT + n + k ≡ FRONT + i = omega (arith, is) in
         let h = here k few in
         let same = reaching_same xs ys (FRONT + n) (FRONT + i) before (omega arith) (omega (arith, is, few)) in
         ap (slice_index ys) (sym at) ∙ (h ∙ (ap (λ (j : ℕ). bit_xor (mixed_byte register bytes j) (reaching xs (FRONT + n + k))) (sym is)
         ∙ (ap (λ (j : ℕ). bit_xor (mixed_byte register bytes i) (reaching xs j)) at ∙ ap (bit_xor (mixed_byte register bytes i)) (sym same))))
 
--- nothing reaches the first word
+-- nothing reaches the first block
 pub folded_none : (register : ℕ) (bytes xs : List ℕ) → ((j : ℕ) → slice_index xs j ≡ 0) → IsFolded register bytes 0 xs
 folded_none register bytes xs empty = record { before = λ j low. empty j; each = λ i lt. absurd (omega (arith, lt)); behind = λ j high. empty j }
 
 pub reaching_none : (xs : List ℕ) (p : ℕ) → ((j : ℕ) → slice_index xs j ≡ 0) → reaching xs p ≡ 0
 reaching_none xs p empty = rw (empty (p - 65), empty (p - 155), empty (p - 170), empty (p - 195), empty (p - 209)) refl
 
--- one word more is left
+-- one block more is left
 pub left_more : (bytes room xs ys : List ℕ) (k n : ℕ) → IsLeft bytes room k n xs → ((j : ℕ) → j < n → slice_index ys j ≡ slice_index xs j) →
-    ((i : ℕ) → i < 8 → slice_index ys (n + i) ≡ bit_xor (slice_index bytes (k + n + i)) (reaching room (FRONT + k + n + i))) → IsLeft bytes room k (n + 8) ys
+    ((i : ℕ) → i < 32 → slice_index ys (n + i) ≡ bit_xor (slice_index bytes (k + n + i)) (reaching room (FRONT + k + n + i))) → IsLeft bytes room k (n + 32) ys
 left_more bytes room xs ys k n l before here i lt =
     elim (cases_lt i n) [
       | inl old ↦ before i old ∙ l i old
-      | inr new ↦ word (i - n) (omega (arith, new)) (omega (arith, lt))
+      | inr new ↦ block (i - n) (omega (arith, new)) (omega (arith, lt))
     ]
   where
-    word : (j : ℕ) → i ≡ n + j → j < 8 → slice_index ys i ≡ bit_xor (slice_index bytes (k + i)) (reaching room (FRONT + (k + i)))
-    word j is few =
+    block : (j : ℕ) → i ≡ n + j → j < 32 → slice_index ys i ≡ bit_xor (slice_index bytes (k + i)) (reaching room (FRONT + (k + i)))
+    block j is few =
         let first : k + n + j ≡ k + i = omega (arith, is) in
         let second : FRONT + k + n + j ≡ FRONT + (k + i) = omega (arith, is) in
         ap (slice_index ys) is ∙ (here j few ∙ rw (first, second) refl)

@@ -1,4 +1,4 @@
-//! CRC32c, by a register that takes sixteen bytes at a time, where a long run is folded before.
+//! CRC32c, by a register that takes sixteen bytes at a time, twice a turn, where a long run is folded before.
 
 ghost use Rattle.std.specs.Prelude.{◌≡◌, ◌↔◌, ℕ, ◌+◌, ◌*◌, ◌%◌, ◌<◌, ◌≤◌, ◌++◌, IsTrue, drop, take, length, replicate, bit_xor};
 ghost use Rattle.byteorder.specs.Endian.{little_number};
@@ -7,7 +7,7 @@ ghost use Rattle.sctp_packet.specs.PacketBytes.{IsChecked, without_sum};
 ghost use Rattle.sctp_packet.specs.Register.{register_after};
 ghost use Rattle.sctp_packet.specs.Tables.{steps, IsEntry};
 
-use crate::folding::{LEFT, MOST, ROOM, fold, leave};
+use crate::folding::{BLOCK, LEFT, MOST, ROOM, fold, leave};
 use crate::tables::TABLES;
 use byteorder::{ByteOrder, LittleEndian};
 
@@ -17,6 +17,8 @@ pub const HEADER: usize = 12;
 pub(crate) const SUM_AT: usize = 8;
 /// The bytes that are taken at once, a table for each.
 const PLACES: usize = 16;
+/// And in a turn.
+const TURN: usize = 32;
 /// And where there are fewer.
 const HALF: usize = 8;
 /// From so many bytes on a run is folded: then what is saved pays for what is left of it.
@@ -37,7 +39,8 @@ pub(crate) fn packet_sum(bytes: &[u8]) -> u32
     requires { 12 ≤ length bytes.now }
     ensures { result ≡ crc32c (without_sum bytes.now) }
 {
-    !after_all(after_header(bytes), &bytes[HEADER..])
+    let (header, chunks) = bytes.split_at(HEADER);
+    !after_all(after_header(header), chunks)
 }
 
 /// Whether the checksum's field of a packet holds the checksum.
@@ -56,24 +59,36 @@ fn after_header(bytes: &[u8]) -> u32
     left_by_eight(u32::MAX, bytes, HEADER - SUM_AT)
 }
 
-/// The register after the bytes, of which long runs are folded.
+/// The register after the bytes.
+#[inline(always)]
 fn after_all(register: u32, bytes: &[u8]) -> u32
+    ensures { bits 32 result ≡ register_after (drop 1 divisor) (bits 32 register) (message_bits bytes.now) }
+{
+    if bytes.len() < LONG {
+        return after_short(register, bytes);
+    }
+    after_runs(register, bytes)
+}
+
+/// The register after the bytes, of which long runs are folded.
+#[inline(never)]
+fn after_runs(register: u32, bytes: &[u8]) -> u32
     ensures { bits 32 result ≡ register_after (drop 1 divisor) (bits 32 register) (message_bits bytes.now) }
 {
     let mut stepped = register;
     let mut rest = bytes;
     while rest.len() >= LONG {
-        let most = rest.len().min(MOST) / HALF * HALF;
+        let most = rest.len().min(MOST) / BLOCK * BLOCK;
         stepped = after_long(stepped, &rest[..most]);
         rest = &rest[most..];
     }
     after_short(stepped, rest)
 }
 
-/// The register after a long run of whole words: what is left of it leaves the same where 0 was before.
+/// The register after a long run of whole blocks: what is left of it leaves the same where 0 was before.
 fn after_long(register: u32, bytes: &[u8]) -> u32
-    requires words { length bytes.now % 8 ≡ 0 }
-    requires long { 224 ≤ length bytes.now }
+    requires blocks { length bytes.now % 32 ≡ 0 }
+    requires long { 256 ≤ length bytes.now }
     requires few { length bytes.now ≤ 1_536 }
     ensures { bits 32 result ≡ register_after (drop 1 divisor) (bits 32 register) (message_bits bytes.now) }
 {
@@ -85,20 +100,33 @@ fn after_long(register: u32, bytes: &[u8]) -> u32
     after_short(0, &left)
 }
 
-/// The register after the bytes, sixteen at a time while there are so many.
+/// The register after the bytes, a turn at a time while there are so many.
+#[inline(always)]
 fn after_short(register: u32, bytes: &[u8]) -> u32
     ensures { bits 32 result ≡ register_after (drop 1 divisor) (bits 32 register) (message_bits bytes.now) }
 {
     let mut stepped = register;
     let mut rest = bytes;
-    while rest.len() >= PLACES {
-        stepped = after_sixteen(stepped, rest);
-        rest = &rest[PLACES..];
+    while rest.len() >= TURN {
+        let half = after_sixteen(stepped, rest);
+        stepped = after_sixteen(half, &rest[PLACES..]);
+        rest = &rest[TURN..];
     }
-    after_last(stepped, rest)
+    after_few(stepped, rest)
 }
 
-/// The register after fewer bytes, of which eight are taken at once, if there are so many.
+/// The register after fewer bytes, of which sixteen are taken at once, if there are so many.
+#[inline(always)]
+fn after_few(register: u32, bytes: &[u8]) -> u32
+    ensures { bits 32 result ≡ register_after (drop 1 divisor) (bits 32 register) (message_bits bytes.now) }
+{
+    if bytes.len() < PLACES {
+        return after_last(register, bytes);
+    }
+    after_last(after_sixteen(register, bytes), &bytes[PLACES..])
+}
+
+/// The register after still fewer, of which eight are taken at once, if there are so many.
 fn after_last(register: u32, bytes: &[u8]) -> u32
     ensures { bits 32 result ≡ register_after (drop 1 divisor) (bits 32 register) (message_bits bytes.now) }
 {

@@ -1,25 +1,25 @@
 //! Long runs of bytes, folded before the tables of the checksum take what is left of them: no table is asked for a byte that is folded.
 
-ghost use Rattle.std.specs.Prelude.{◌≡◌, ℕ, ◌+◌, ◌-◌, ◌*◌, ◌/◌, ◌%◌, ◌<◌, ◌≤◌, length, slice_index};
-ghost use Rattle.sctp_packet.specs.Folding.{byte_of, reaching, IsFolded, IsLeft};
+ghost use Rattle.std.specs.Prelude.{◌≡◌, ℕ, ◌+◌, ◌-◌, ◌*◌, ◌/◌, ◌%◌, ◌<◌, ◌≤◌, bit_xor, length, slice_index};
+ghost use Rattle.sctp_packet.specs.Folding.{byte_of, mixed_byte, reaching, IsFolded, IsLeft};
 
 use byteorder::{ByteOrder, LittleEndian};
 
-/// The bytes that are taken at once.
-const WORD: usize = 8;
+/// The bytes that are taken at once: four words, none of which reaches another.
+pub(crate) const BLOCK: usize = 32;
 /// The zeros in front: as many as the farthest that a byte reaches, 209, up to whole words.
 const FRONT: usize = 216;
-/// What is left of a run: the same number of bytes.
-pub(crate) const LEFT: usize = 216;
-/// The most bytes that are folded at once, whole words: a packet of the largest limit has fewer.
+/// What is left of a run, whole blocks: the same number of bytes.
+pub(crate) const LEFT: usize = 224;
+/// The most bytes of a run, whole blocks: a packet of the largest limit has fewer.
 pub(crate) const MOST: usize = 1_536;
 /// The room for them and the zeros in front.
 pub(crate) const ROOM: usize = 1_752;
 
-/// Folds the run's bytes before `ends`, a word at a time, into a room of zeros.
+/// Folds the run's bytes before `ends`, a block at a time, into a room of zeros.
 pub(crate) fn fold(register: u32, bytes: &[u8], ends: usize, room: &mut [u8])
-    requires words { ends % 8 ≡ 0 }
-    requires some { 8 ≤ ends }
+    requires blocks { ends % 32 ≡ 0 }
+    requires some { 32 ≤ ends }
     requires within { ends ≤ length bytes.now }
     requires room { 216 + ends ≤ length room.old }
     requires empty { (j : ℕ) → slice_index room.old j ≡ 0 }
@@ -27,35 +27,86 @@ pub(crate) fn fold(register: u32, bytes: &[u8], ends: usize, room: &mut [u8])
     ensures bytes { (j : ℕ) → slice_index room.new j < 256 }
     ensures folded { IsFolded register bytes.now ends room.new }
 {
-    put(room, FRONT, word(bytes, 0) ^ u64::from(register));
-    for turn in 1..ends / WORD {
-        let at = WORD * turn;
-        let value = word(bytes, at) ^ reaching(room, FRONT + at);
-        put(room, FRONT + at, value);
+    fold_block(register, bytes, 0, room);
+    for turn in 1..ends / BLOCK {
+        fold_block(0, bytes, BLOCK * turn, room);
     }
 }
 
-/// What is left of the run behind `ends`, a word at a time.
-pub(crate) fn leave(bytes: &[u8], room: &[u8], ends: usize, left: &mut [u8])
-    requires within { ends + 216 ≤ length bytes.now }
-    requires room { 216 + ends + 216 ≤ length room.now }
-    requires left { length left.old ≡ 216 }
-    ensures length { length left.new ≡ 216 }
-    ensures bytes { (j : ℕ) → slice_index left.new j < 256 }
-    ensures left { IsLeft bytes.now room.now ends 216 left.new }
+/// Folds the block at a place, with a register added to its first bytes.
+#[inline(always)]
+fn fold_block(register: u32, bytes: &[u8], at: usize, room: &mut [u8])
+    requires bytes { at + 32 ≤ length bytes.now }
+    requires room { 216 + at + 32 ≤ length room.old }
+    ensures length { length room.new ≡ length room.old }
+    ensures here { (k : ℕ) → k < 32 → slice_index room.new (216 + at + k)
+        ≡ bit_xor (bit_xor (slice_index bytes.now (at + k)) (byte_of register k)) (reaching room.old (216 + at + k)) }
+    ensures before { (j : ℕ) → j < 216 + at → slice_index room.new j ≡ slice_index room.old j }
+    ensures behind { (j : ℕ) → 216 + at + 32 ≤ j → slice_index room.new j ≡ slice_index room.old j }
 {
-    for turn in 0..LEFT / WORD {
-        let at = WORD * turn;
-        let value = word(bytes, ends + at) ^ reaching(room, FRONT + ends + at);
-        put(left, at, value);
+    let (before, behind) = room.split_at_mut(FRONT + at);
+    set_block(
+        register,
+        &bytes[at..at + BLOCK],
+        &before[at..],
+        &mut behind[..BLOCK],
+    );
+}
+
+/// What is left of the run behind `ends`, a block at a time.
+pub(crate) fn leave(bytes: &[u8], room: &[u8], ends: usize, left: &mut [u8])
+    requires within { ends + 224 ≤ length bytes.now }
+    requires room { 216 + ends + 224 ≤ length room.now }
+    requires left { length left.old ≡ 224 }
+    ensures length { length left.new ≡ 224 }
+    ensures bytes { (j : ℕ) → slice_index left.new j < 256 }
+    ensures left { IsLeft bytes.now room.now ends 224 left.new }
+{
+    for turn in 0..LEFT / BLOCK {
+        leave_block(bytes, room, ends + BLOCK * turn, BLOCK * turn, left);
     }
+}
+
+/// What is left at a place of the run, put at a place among what is left.
+#[inline(always)]
+fn leave_block(bytes: &[u8], room: &[u8], from: usize, at: usize, left: &mut [u8])
+    requires bytes { from + 32 ≤ length bytes.now }
+    requires room { 216 + from ≤ length room.now }
+    requires left { at + 32 ≤ length left.old }
+    ensures length { length left.new ≡ length left.old }
+    ensures here { (k : ℕ) → k < 32 → slice_index left.new (at + k)
+        ≡ bit_xor (slice_index bytes.now (from + k)) (reaching room.now (216 + from + k)) }
+    ensures before { (j : ℕ) → j < at → slice_index left.new j ≡ slice_index left.old j }
+{
+    let (taken, before) = (&bytes[from..from + BLOCK], &room[from..from + FRONT]);
+    set_block(0, taken, before, &mut left[at..at + BLOCK]);
+}
+
+/// A block: its bytes, with a register added to the first, and what reaches each from the bytes in front of the block. The parts' lengths are
+/// known, and all words are read before one is written, so that two at a time can be.
+#[inline(always)]
+fn set_block(register: u32, bytes: &[u8], before: &[u8], block: &mut [u8])
+    requires bytes { length bytes.now ≡ 32 }
+    requires before { length before.now ≡ 216 }
+    requires block { length block.old ≡ 32 }
+    ensures length { length block.new ≡ 32 }
+    ensures set { (k : ℕ) → k < 32 → slice_index block.new k ≡ bit_xor (mixed_byte register bytes.now k) (reaching before.now (216 + k)) }
+{
+    let first = word(bytes, 0) ^ u64::from(register) ^ reaching(before, FRONT);
+    let second = word(bytes, 8) ^ reaching(before, FRONT + 8);
+    let third = word(bytes, 16) ^ reaching(before, FRONT + 16);
+    let fourth = word(bytes, 24) ^ reaching(before, FRONT + 24);
+    put(block, 0, first);
+    put(block, 8, second);
+    put(block, 16, third);
+    put(block, 24, fourth);
 }
 
 /// What reaches the eight bytes at a place from those before them.
 #[inline(always)]
 fn reaching(room: &[u8], at: usize) -> u64
     requires far { 209 ≤ at }
-    requires within { at ≤ length room.now }
+    requires within { at ≤ length room.now + 57 }
     ensures { (k : ℕ) → k < 8 → byte_of result k ≡ reaching room.now (at + k) }
 {
     word(room, at - 65)

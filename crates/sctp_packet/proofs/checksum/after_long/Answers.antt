@@ -16,4 +16,4 @@ returns c =
     let room_ranged : (j : ℕ) → slice_index room j < 256 = c.fold.ensures.bytes in
     let left_ranged : (j : ℕ) → slice_index left j < 256 = c.leave.ensures.bytes in
     c.after_short.ensures
-    ∙ left_goes_on c.args.register bytes room left (length bytes - 216) 216 (omega arith) (omega (arith, c.requires.long)) c.fold.ensures.folded c.leave.ensures.left (omega arith) (omega (arith, c.requires.long)) c.leave.ensures.length ranged room_ranged left_ranged
+    ∙ left_goes_on c.args.register bytes room left (length bytes - 224) 224 (omega arith) (omega (arith, c.requires.long)) c.fold.ensures.folded c.leave.ensures.left (omega arith) (omega (arith, c.requires.long)) c.leave.ensures.length ranged room_ranged left_ranged

@@ -1,0 +1,92 @@
+-- A block of a run: its bytes and what reaches them, read and written in a part of a room.
+use Rattle.std.proofs.Common.{◌≡◌, ℕ, ◌+◌, ◌-◌, ◌<◌, ◌≤◌, ◌^◌, ◌++◌, inl, inr, List, bit_xor, length, take, drop, refl, sym, ap, ◌∙◌, arith}
+use Rattle.std.specs.Prelude.{slice_index}
+use borrow.Rule.Slice.PartMut.{put_mid}
+use Rattle.std.proofs.lemmas.Bool.{cases_lt}
+use Rattle.std.proofs.lemmas.List.{get_or-append_right, get_or_append_left, get_or-drop, get_or-take}
+use Rattle.std.proofs.lemmas.Slice.{between-put_mid}
+use Rattle.sctp_packet.specs.Folding.{byte_of, mixed_byte, reaching}
+use Rattle.sctp_packet.proofs.RoomLemmas.{byte_sum, mixed_plain}
+
+-- a byte of a part
+pub part_byte : (xs : List ℕ) (a n k : ℕ) → k < n → slice_index (take n (drop a xs)) k ≡ slice_index xs (a + k)
+part_byte xs a n k few = get_or-take n (drop a xs) k 0 few ∙ get_or-drop a xs k 0
+
+-- what reaches a place is the same wherever the bytes before it stand
+reaching_moved : (xs ws : List ℕ) (p q : ℕ) → ((d : ℕ) → 65 ≤ d → d ≤ 209 → slice_index ws (p - d) ≡ slice_index xs (q - d)) → reaching ws p ≡ reaching xs q
+reaching_moved xs ws p q same =
+    rw (same 65 (omega arith) (omega arith), same 155 (omega arith) (omega arith), same 170 (omega arith) (omega arith), same 195 (omega arith) (omega arith), same 209 (omega arith) (omega arith)) refl
+
+-- so that of a block, from the bytes in front of it
+pub part_reaching : (xs ws : List ℕ) (a k : ℕ) → k < 32 → ((j : ℕ) → j < 216 → slice_index ws j ≡ slice_index xs (a + j)) → reaching ws (216 + k) ≡ reaching xs (216 + a + k)
+part_reaching xs ws a k few same =
+    reaching_moved xs ws (216 + k) (216 + a + k) (λ d far near.
+    same (216 + k - d) (omega (arith, few, far)) ∙ ap (slice_index xs) (let e : a + (216 + k - d) ≡ 216 + a + k - d = omega (arith, near) in e))
+
+-- four words in a row are a block
+pub four_words : (zs : List ℕ) (f : ℕ → ℕ) → ((j : ℕ) → j < 8 → slice_index zs (0 + j) ≡ f (0 + j)) → ((j : ℕ) → j < 8 → slice_index zs (8 + j) ≡ f (8 + j)) →
+    ((j : ℕ) → j < 8 → slice_index zs (16 + j) ≡ f (16 + j)) → ((j : ℕ) → j < 8 → slice_index zs (24 + j) ≡ f (24 + j)) → (k : ℕ) → k < 32 → slice_index zs k ≡ f k
+four_words zs f first second third fourth k few =
+    elim (cases_lt k 8) [
+      | inl low ↦ at 0 first (omega arith) (omega (arith, low))
+      | inr beyond_8 ↦ elim (cases_lt k 16) [
+        | inl low ↦ at 8 second beyond_8 (omega (arith, low))
+        | inr beyond_16 ↦ elim (cases_lt k 24) [
+          | inl low ↦ at 16 third beyond_16 (omega (arith, low))
+          | inr beyond_24 ↦ at 24 fourth beyond_24 (omega (arith, few))
+        ]
+      ]
+    ]
+  where
+    at : (n : ℕ) → ((j : ℕ) → j < 8 → slice_index zs (n + j) ≡ f (n + j)) → n ≤ k → k < n + 8 → slice_index zs k ≡ f k
+    at n word high low =
+        let back : n + (k - n) ≡ k = omega (arith, high) in
+        ap (slice_index zs) (sym back) ∙ (word (k - n) (omega (arith, high, low)) ∙ ap f back)
+
+-- a byte of the first word, to which the register is added
+pub first_word : (register from : ℕ) (bytes room : List ℕ) (word reached j : ℕ) → from ≡ register → byte_of word j ≡ slice_index bytes (0 + j) → byte_of reached j ≡ reaching room (216 + j) →
+    byte_of (bit_xor (bit_xor word from) reached) j ≡ bit_xor (mixed_byte register bytes (0 + j)) (reaching room (216 + (0 + j)))
+first_word register from bytes room word reached j is w r =
+    let zero : j ≡ 0 + j = omega arith in
+    byte_sum (bit_xor word from) reached j
+    ∙ (ap (λ (x : ℕ). bit_xor x (byte_of reached j)) (byte_sum word from j)
+    ∙ (rw (w, r, is) refl ∙ ap (λ (i : ℕ). bit_xor (bit_xor (slice_index bytes (0 + j)) (byte_of register i)) (reaching room (216 + i))) zero))
+
+-- and of a later one
+pub later_word : (register : ℕ) (bytes room : List ℕ) (word reached n m j : ℕ) → register < 2 ^ 32 → 4 ≤ n → m ≡ 216 + n → byte_of word j ≡ slice_index bytes (n + j) → byte_of reached j ≡ reaching room (m + j) →
+    byte_of (bit_xor word reached) j ≡ bit_xor (mixed_byte register bytes (n + j)) (reaching room (216 + (n + j)))
+later_word register bytes room word reached n m j small high is w r =
+    let at : m + j ≡ 216 + (n + j) = omega (arith, is) in
+    byte_sum word reached j
+    ∙ (rw (w, r) refl
+    ∙ (ap (λ (x : ℕ). bit_xor x (reaching room (m + j))) (sym (mixed_plain register bytes (n + j) small (omega (arith, high))))
+    ∙ ap (λ (p : ℕ). bit_xor (mixed_byte register bytes (n + j)) (reaching room p)) at))
+
+-- so a block of a part is that of the whole
+pub block_of : (register : ℕ) (bytes room taken before : List ℕ) (at k : ℕ) → k < 32 → ((j : ℕ) → j < 32 → slice_index taken j ≡ slice_index bytes (at + j)) → ((j : ℕ) → j < 216 → slice_index before j ≡ slice_index room (at + j)) →
+    bit_xor (mixed_byte register taken k) (reaching before (216 + k)) ≡ bit_xor (bit_xor (slice_index bytes (at + k)) (byte_of register k)) (reaching room (216 + at + k))
+block_of register bytes room taken before at k few bytes_same room_same =
+    rw (bytes_same k few, part_reaching room before at k few room_same) refl
+
+-- ---- a block that is written
+
+-- between what stands before it and what stands behind it
+pub joined_here : (front block rest : List ℕ) (n k : ℕ) → length front ≡ n → length block ≡ 32 → k < 32 → slice_index (front ++ (block ++ rest)) (n + k) ≡ slice_index block k
+joined_here front block rest n k long whole few =
+    let back : n + k - n ≡ k = omega arith in
+    get_or-append_right front (block ++ rest) n (n + k) 0 long (omega arith)
+    ∙ (ap (slice_index (block ++ rest)) back ∙ get_or_append_left block rest 0 k (omega (arith, whole, few)))
+
+pub joined_behind : (front block behind room : List ℕ) (n j : ℕ) → length front ≡ n → length block ≡ 32 → ((k : ℕ) → slice_index behind k ≡ slice_index room (n + k)) → n + 32 ≤ j →
+    slice_index (front ++ (block ++ drop 32 behind)) j ≡ slice_index room j
+joined_behind front block behind room n j long whole same high =
+    let count : n + (32 + (j - n - 32)) ≡ j = omega (arith, high) in
+    get_or-append_right front (block ++ drop 32 behind) n j 0 long (omega (arith, high))
+    ∙ (get_or-append_right block (drop 32 behind) 32 (j - n) 0 whole (omega (arith, high))
+    ∙ (get_or-drop 32 behind (j - n - 32) 0 ∙ (same (32 + (j - n - 32)) ∙ ap (slice_index room) count)))
+
+-- in a part
+pub written_here : (a n k : ℕ) (xs ys : List ℕ) → a + 32 ≤ length xs → length ys ≡ 32 → k < 32 → slice_index (put_mid a n xs ys) (a + k) ≡ slice_index ys k
+written_here a n k xs ys within whole few =
+    let count : length ys ≡ a + 32 - a = omega (arith, whole) in
+    sym (part_byte (put_mid a n xs ys) a (a + 32 - a) k (omega (arith, few))) ∙ ap (λ (l : List ℕ). slice_index l k) (between-put_mid a n xs ys (a + 32) (omega (arith, within)) count)

@@ -1,0 +1,14 @@
+use Rattle.std.proofs.Common.{◌≡◌, ◌-◌, List, Bool, take, length, drop, arith, ◌∙◌, ap}
+use Rattle.std.proofs.lemmas.Grind.{common_steps}
+use Rattle.sctp_packet.specs.Checksum.{bits, divisor, message_bits}
+use Rattle.sctp_packet.specs.Register.{register_after}
+use Rattle.sctp_packet.proofs.ChecksumLaws.{register_after_parts}
+use Rattle.sctp_packet.proofs.checksum.after_few.Goals as goal
+
+pub returns : goal.returns
+returns c =
+    let bytes = c.args.bytes.now in
+    let all : take (length bytes - 16) (drop 16 bytes) ≡ drop 16 bytes = grind (arith, common_steps) in
+    let moved : register_after (drop 1 divisor) (bits 32 c.after_sixteen.result) (message_bits (drop 16 bytes)) ≡ register_after (drop 1 divisor) (bits 32 c.args.register) (message_bits bytes) =
+    ap (λ (x : List Bool). register_after (drop 1 divisor) x (message_bits (drop 16 bytes))) c.after_sixteen.ensures ∙ register_after_parts (bits 32 c.args.register) bytes 16 in
+    rw all at c.after_last-2.ensures ∙ moved
