@@ -5,6 +5,7 @@ use Rattle.sctp_model.specs.sender.Readers.{drained}
 use Rattle.sctp_model.specs.end.EndView.{EndView}
 use Rattle.sctp_model.specs.end.EndView as model
 use Rattle.sctp_model.specs.end.Closing.{hears, rested_in, rested}
+use Rattle.sctp_model.specs.end.UserCalls.{is_established}
 use Rattle.sctp_association.specs.StageMeans.{stage_meaning}
 use Rattle.sctp_association.specs.declared.stage.Stage.{Stage}
 use Rattle.sctp_association.specs.declared.stage.Stage.TheVariants as stage
@@ -30,6 +31,13 @@ rested_undrained v t g phase more =
 
 pub rested_as : (v : EndView) (t : model.Tags) (g : model.Stage) → v.phase ≡ model.Open t g → true ≡ drained v.sender → rested v ≡ rested_in (model.Open t g) true v
 rested_as v t g phase all = ap (λ (h : model.Phase). rested_in h (drained v.sender) v) phase ∙ ap (λ (b : Bool). rested_in (model.Open t g) b v) (sym all)
+
+pub rested_established : (v : EndView) (t : model.Tags) (g : Stage) → v.phase ≡ model.Open t (stage_meaning g) → is_established (stage_meaning g) ≡ true → rested v ≡ v
+rested_established v t stage.Established phase is = ap (λ (h : model.Phase). rested_in h (drained v.sender) v) phase
+rested_established v t stage.ShutdownPending phase is = absurd (false≢true is)
+rested_established v t stage.ShutdownSent phase is = absurd (false≢true is)
+rested_established v t stage.ShutdownReceived phase is = absurd (false≢true is)
+rested_established v t stage.ShutdownAckSent phase is = absurd (false≢true is)
 
 -- every other stage
 pub rests_else : (t : model.Tags) (g : Stage) (v : EndView) → (g ≡ stage.ShutdownPending → ⊥) → (g ≡ stage.ShutdownReceived → ⊥) → rested_in (model.Open t (stage_meaning g)) true v ≡ v

@@ -45,16 +45,28 @@ impl Machine {
     }
 
     /// An end that has nothing left to be acknowledged goes on with closing at once (RFC 9260, 9.2).
+    #[inline(always)]
     pub fn rest(&mut self)
         ensures { (v : EndView) → MachineStands self.old v → MachineStands self.new (rested v) }
     {
         let Some(opened) = self.opened() else {
             return;
         };
+        if opened.stage.is_established() {
+            return;
+        }
+        self.rest_in(opened.stage);
+    }
+
+    /// The same in this stage, in which the association is open.
+    #[inline(never)]
+    fn rest_in(&mut self, stage: Stage)
+        ensures { (v : EndView) (t : model.Tags) → MachineStands self.old v → v.phase ≡ model.Open t (stage_meaning stage) → MachineStands self.new (rested v) }
+    {
         if !self.is_drained() {
             return;
         }
-        match opened.stage {
+        match stage {
             Stage::ShutdownPending => {
                 self.turn(Stage::ShutdownSent);
                 self.due.shutdown = true;

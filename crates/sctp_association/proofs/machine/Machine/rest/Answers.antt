@@ -1,39 +1,18 @@
 use Rattle.std.proofs.Common.{◌∙◌, true, sym}
 use Rattle.sctp_model.specs.sender.Readers.{drained}
 use Rattle.sctp_association.specs.MachineStands.{MachineStands}
-use Rattle.sctp_association.proofs.MachineLemmas.{at_view, with_due, due_shutdown, due_shutdown_ack}
-use Rattle.sctp_association.proofs.RestLemmas.{rested_shut, rested_undrained, rested_as, rests_else}
+use Rattle.sctp_association.proofs.MachineLemmas.{at_view}
+use Rattle.sctp_association.proofs.RestLemmas.{rested_shut, rested_established}
 use Rattle.sctp_association.proofs.machine.Machine.rest.Goals as goal
 
 pub returns-in_default : goal.returns-in_default
 unfolding MachineStands
 returns-in_default c = λ v stands. at_view _ _ _ (rested_shut v.phase (drained v.sender) v (c.in_default.ensures v stands (λ g. true))) stands
 
-pub returns-then-not-is_drained : goal.returns-then-not-is_drained
+pub returns-then-is_established : goal.returns-then-is_established
 unfolding MachineStands
-returns-then-not-is_drained c = λ v stands.
-    let phase = c.in-Some.ensures v stands in
-    at_view _ _ _ (rested_undrained v _ _ phase (sym c.if-not-is_drained.true ∙ c.is_drained.ensures v stands)) stands
+returns-then-is_established c = λ v stands.
+    at_view _ _ _ (rested_established v _ _ (c.in-Some.ensures v stands) (sym c.is_established.ensures ∙ c.if-is_established.true)) stands
 
-pub returns-in-ShutdownPending : goal.returns-in-ShutdownPending
-unfolding MachineStands
-returns-in-ShutdownPending c = λ v stands.
-    let phase = rw c.in-ShutdownPending.is at c.in-Some.ensures v stands in
-    let now = c.turn.ensures v _ _ stands phase in
-    at_view _ _ _ (rested_as v _ _ phase (sym c.if-not-is_drained.false ∙ c.is_drained.ensures v stands))
-    (with_due _ _ _ _ now (due_shutdown _ _ now.due))
-
-pub returns-in-ShutdownReceived : goal.returns-in-ShutdownReceived
-unfolding MachineStands
-returns-in-ShutdownReceived c = λ v stands.
-    let phase = rw c.in-ShutdownReceived.is at c.in-Some.ensures v stands in
-    let now = c.turn-in-ShutdownReceived.ensures v _ _ stands phase in
-    at_view _ _ _ (rested_as v _ _ phase (sym c.if-not-is_drained.false ∙ c.is_drained.ensures v stands))
-    (with_due _ _ _ _ now (due_shutdown_ack _ _ now.due))
-
-pub returns-in_default-stage : goal.returns-in_default-stage
-unfolding MachineStands
-returns-in_default-stage c = λ v stands.
-    let phase = c.in-Some.ensures v stands in
-    at_view _ _ _ (rested_as v _ _ phase (sym c.if-not-is_drained.false ∙ c.is_drained.ensures v stands)
-    ∙ rests_else _ c.in-Some.opened.stage v c.in_default-stage.not-ShutdownPending c.in_default-stage.not-ShutdownReceived) stands
+pub returns : goal.returns
+returns c = λ v stands. c.rest_in.ensures v _ stands (c.in-Some.ensures v stands)
