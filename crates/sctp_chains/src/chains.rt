@@ -92,6 +92,9 @@ impl<F: Framing> Chains<F> {
         if !F::is_numbered(Kind::Unordered) {
             return false;
         }
+        if self.filed.chains.is_empty() {
+            return false;
+        }
         let rank = rank_at(number, F::place(0, piece.begin, piece.word));
         let at = place(&self.filed.chains, rank);
         at < self.filed.chains.len() && self.filed.chains.get(at).first() <= rank

@@ -42,6 +42,7 @@ impl Filed {
     ///
     /// # Errors
     /// Memory ran out, and nothing changed.
+    #[inline(always)]
     pub(crate) fn file(&mut self, alloc: Global, part: Part) -> Result<(), NoMemory>
         ensures few { OnOk result (length self.new.chains.items ≤ suc (length self.old.chains.items)) }
         ensures whole { OnOk result (self.new.whole ≤ suc self.old.whole) }

@@ -2,7 +2,7 @@
 
 ghost use Rattle.std.specs.Prelude.{◌≡◌, ◌≤◌, ◌<◌, ◌+◌, suc, nat_lt, length, get_or, map, OnOk, OnErr, IfOk};
 ghost use Rattle.sctp_chains.specs.Links.{chain_of, one_of, whole_in, AreChains};
-ghost use Rattle.sctp_chains.specs.inner.Filing.{IsPlace, IsLinkBefore, IsLinkBehind, IsLonger, IsJoined, IsWholeOfJoined, HasJointRoom, Gains, StaysOpen};
+ghost use Rattle.sctp_chains.specs.inner.Filing.{IsPlace, IsLinkBefore, IsLinkBehind, IsLonger, IsEarlier, IsJoined, IsWholeOfJoined, HasJointRoom, Gains, StaysOpen};
 
 use crate::chain::{Chain, Part, alone, nothing};
 use sctp_sequence::Sequence;
@@ -55,6 +55,7 @@ pub(crate) struct FiledIn {
 ///
 /// # Errors
 /// Memory ran out, and nothing changed.
+#[inline(always)]
 pub(crate) fn file(
     alloc: Global,
     chains: &mut Sequence<Chain>,
@@ -69,7 +70,7 @@ pub(crate) fn file(
 {
     let end = chains.len();
     if let Some(last) = linked_before(chains, end, &part) {
-        let whole = lengthen(alloc, chains, last, part)?;
+        let whole = lengthen(chains, last, part)?;
         return Ok(FiledIn { at: last, whole });
     }
     file_among(alloc, chains, part)
@@ -79,23 +80,31 @@ pub(crate) fn file(
 ///
 /// # Errors
 /// Memory ran out, and nothing changed.
-fn lengthen(
-    alloc: Global,
-    chains: &mut Sequence<Chain>,
-    at: usize,
-    part: Part,
-) -> Result<usize, NoMemory>
+#[inline(always)]
+fn lengthen(chains: &mut Sequence<Chain>, at: usize, part: Part) -> Result<usize, NoMemory>
     requires { at < length chains.old.items }
     ensures size { length chains.new.items ≡ length chains.old.items }
     ensures longer { IfOk result (λ n. IsLonger chains.old.items at part chains.new.items n) }
     ensures refused { OnErr result (map chain_of chains.new.items ≡ map chain_of chains.old.items) }
 {
-    let mut chain = chains.replace(at, nothing(alloc));
-    let pushed = chain.push_back(part);
-    let whole = chain.whole();
-    let _ = chains.replace(at, chain);
-    pushed?;
-    Ok(whole)
+    let chain = chains.get_mut(at);
+    chain.push_back(part)?;
+    Ok(chain.whole())
+}
+
+/// Puts a fragment before the chain at a place; it answers 1 where that is a whole message, else 0.
+///
+/// # Errors
+/// Memory ran out, and nothing changed.
+fn begin_earlier(chains: &mut Sequence<Chain>, at: usize, part: Part) -> Result<usize, NoMemory>
+    requires { at < length chains.old.items }
+    ensures size { length chains.new.items ≡ length chains.old.items }
+    ensures earlier { IfOk result (λ n. IsEarlier chains.old.items at part chains.new.items n) }
+    ensures refused { OnErr result (map chain_of chains.new.items ≡ map chain_of chains.old.items) }
+{
+    let chain = chains.get_mut(at);
+    chain.push_front(part)?;
+    Ok(chain.whole())
 }
 
 /// Files a fragment wherever it belongs.
@@ -121,15 +130,11 @@ fn file_among(alloc: Global, chains: &mut Sequence<Chain>, part: Part) -> Result
             Ok(FiledIn { at: left, whole })
         }
         (Some(left), None) => {
-            let whole = lengthen(alloc, chains, left, part)?;
+            let whole = lengthen(chains, left, part)?;
             Ok(FiledIn { at: left, whole })
         }
         (None, Some(right)) => {
-            let mut chain = chains.replace(right, nothing(alloc));
-            let pushed = chain.push_front(part);
-            let whole = chain.whole();
-            let _ = chains.replace(right, chain);
-            pushed?;
+            let whole = begin_earlier(chains, right, part)?;
             Ok(FiledIn { at: right, whole })
         }
         (None, None) => {

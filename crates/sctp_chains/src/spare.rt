@@ -1,6 +1,6 @@
 //! Blocks of memory that held the data of messages, and hold that of the next ones. Nothing here shows in what is kept or handed over.
 
-ghost use Rattle.std.specs.Prelude.{◌≡◌, IfOk};
+ghost use Rattle.std.specs.Prelude.{◌≡◌, IfOk, OnOk};
 
 use crate::whole::Fragments;
 use sctp_values::NoMemory;
@@ -44,8 +44,7 @@ impl Spare {
     {
         if let Some(mut block) = self.block() {
             if suits(block.capacity(), bytes.len()) {
-                block.clear();
-                block.extend_from_slice(bytes).map_err(|_| NoMemory)?;
+                refill(&mut block, bytes)?;
                 return Ok(block);
             }
         }
@@ -71,7 +70,7 @@ impl Spare {
     /// It takes no memory.
     pub fn give_back(&mut self, parts: Fragments, most_bytes: u32) {
         self.used = true;
-        let bytes = self.bytes.saturating_add(size_of_blocks(parts.all()));
+        let bytes = self.bytes.saturating_add(size_of(&parts));
         if bytes > most_bytes as usize || self.messages.len() >= self.most {
             return;
         }
@@ -97,7 +96,7 @@ impl Spare {
             Fragments::Many(mut blocks) => {
                 let block = blocks.pop()?;
                 if !blocks.is_empty() {
-                    let _ = self.messages.push(Fragments::Many(blocks));
+                    self.messages.push_reserved(Fragments::Many(blocks));
                 }
                 block
             }
@@ -107,9 +106,34 @@ impl Spare {
     }
 }
 
+/// Puts bytes in the place of those of a block, without a growth where there were as many.
+///
+/// # Errors
+/// Memory ran out.
+#[inline(always)]
+fn refill(block: &mut Vec<u8>, bytes: &[u8]) -> Result<(), NoMemory>
+    ensures { OnOk result (block.new.items ≡ bytes.now) }
+{
+    if bytes.len() <= block.len() {
+        block.truncate(bytes.len());
+        block.copy_from_slice(bytes);
+        return Ok(());
+    }
+    block.clear();
+    block.extend_from_slice(bytes).map_err(|_| NoMemory)
+}
+
 /// Whether so many bytes fit a block of so much room, and fill at least half of it.
 fn suits(room: usize, bytes: usize) -> bool {
     bytes <= room && room / 2 <= bytes
+}
+
+/// How many bytes the blocks of a message take, 2^64 - 1 where there are more.
+fn size_of(parts: &Fragments) -> usize {
+    match parts {
+        Fragments::One([block]) => block.capacity(),
+        Fragments::Many(blocks) => size_of_blocks(blocks),
+    }
 }
 
 /// How many bytes these blocks take, 2^64 - 1 where there are more.

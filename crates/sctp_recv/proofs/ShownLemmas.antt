@@ -46,6 +46,17 @@ shown_past ws old new s h long but past = record {
   ];
 }
 
+-- where a message waited on the one that changes, one waits, and where none did none does
+pub shown_still : (ws : List ℕ) (old new : List StreamKept) (s bit : ℕ) → AreShown ws old → length old ≡ length new → IsSameBut s old new
+    → min 1 (length (stream_at old s).waiting) ≡ bit → min 1 (length (stream_at new s).waiting) ≡ bit → AreShown ws new
+shown_still ws old new s bit h long but before after = record {
+  fits = omega (arith, h.fits, long);
+  each = λ q. elim (cases_eq q s) [
+    | inl same ↦ h.each q ∙ ap (λ (i : ℕ). min 1 (length (stream_at old i).waiting)) same ∙ before ∙ sym after ∙ ap (λ (i : ℕ). min 1 (length (stream_at new i).waiting)) (sym same)
+    | inr other ↦ h.each q ∙ ap (λ (hs : List Handed). min 1 (length hs)) (sym (but q other))
+  ];
+}
+
 -- one stream changes
 pub same_but : {F : Type 0} (xs : List (Stream F)) (i : ℕ) (y : Stream F) → IsSameBut i (map stream_of xs) (map stream_of (set xs i y))
 same_but xs i y = λ q apart. ap (λ (ss : List StreamKept). (stream_at ss q).waiting) (set_mapped xs i y) ∙ ap (λ (x : StreamKept). x.waiting) (stream_set_other (map stream_of xs) i q (stream_of y) apart)

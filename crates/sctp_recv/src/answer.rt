@@ -49,6 +49,10 @@ pub(crate) enum TsnPlace {
 pub(crate) fn place_of_tsn(initial: u32, cumulative: u64, tsn: u32) -> TsnPlace
     ensures { IsTsnPlace initial cumulative tsn result }
 {
+    let ahead = S32(tsn_of(initial, cumulative)).ahead(S32(tsn));
+    if ahead == 1 && cumulative < u64::MAX - 1 {
+        return TsnPlace::At(cumulative + 1);
+    }
     if !S32(tsn_of(initial, cumulative)).before(S32(tsn)) {
         return TsnPlace::Behind;
     }

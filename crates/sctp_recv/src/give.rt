@@ -37,6 +37,20 @@ fn wait(waiting: &mut VecDeque<Message>, message: Message) -> u32
     bytes
 }
 
+/// The same, where there is room.
+#[inline(always)]
+fn wait_reserved(waiting: &mut VecDeque<Message>, message: Message) -> u32
+    requires room { deque_len waiting.old < deque_capacity waiting.old }
+    ensures bytes { result ≡ sized (length (message_bytes message)) }
+    ensures waits { map handed_of waiting.new.items ≡ map handed_of waiting.old.items ++ handed_of message ∷ [] }
+    ensures len { deque_len waiting.new ≤ suc (deque_len waiting.old) }
+    ensures room { deque_capacity waiting.old ≤ deque_capacity waiting.new }
+{
+    let bytes = small_len(message.len());
+    waiting.push_back_reserved(message);
+    bytes
+}
+
 /// A number of bytes held, less those of a message that goes: 0 where it has more.
 pub(crate) fn less(held: u32, message: &Message) -> u32
     ensures { result ≡ held - length (message_bytes message.now) }
@@ -166,7 +180,7 @@ fn keep_ordered<F: Framing>(
     if is_next(number, next) {
         if let Some(whole) = inbound.ordered.alone(spare, piece, index, next)? {
             inbound.next = number_after(whole.number);
-            let bytes = wait(
+            let bytes = wait_reserved(
                 &mut inbound.waiting,
                 message_of(whole, piece.stream, Kind::Ordered),
             );
@@ -198,7 +212,7 @@ fn keep_unordered<F: Framing>(
     inbound.unordered.add(spare, piece, index, number)?;
     inbound.largest = larger(inbound.largest, number);
     match inbound.unordered.take_with(piece, index, number) {
-        Some(whole) => Ok(wait(
+        Some(whole) => Ok(wait_reserved(
             &mut inbound.waiting,
             message_of(whole, piece.stream, Kind::Unordered),
         )),

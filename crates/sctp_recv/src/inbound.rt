@@ -1,6 +1,6 @@
 //! What a receiver knows of a stream, once it knows something.
 
-ghost use Rattle.std.specs.Prelude.{◌≡◌, ℕ, ◌+◌, []};
+ghost use Rattle.std.specs.Prelude.{◌≡◌, ℕ, ◌+◌, [], min, length, if◌then◌else◌};
 ghost use Rattle.sctp_model.specs.messages.Format.{Lane};
 ghost use Rattle.sctp_model.specs.receiver.ReceiverView.{size_of_pieces};
 ghost use Rattle.sctp_model.specs.receiver.PieceTaken.{is_repeated};
@@ -85,6 +85,13 @@ impl<F: Framing> Inbound<F> {
             return self.unordered.is_held(piece, number);
         }
         self.ordered.is_held(piece, number)
+    }
+
+    /// Whether a message waits.
+    pub(crate) fn has_message(&self) -> bool
+        ensures { min 1 (length (inbound_of self.now).waiting) ≡ (if result then 1 else 0) }
+    {
+        self.waiting.len() > 0
     }
 
     /// The bytes of the chunks kept.

@@ -30,16 +30,13 @@ pub struct Message {
 
 impl Message {
     /// How many bytes it has, 2^64 - 1 where there are more.
-    #[tactic(auto, using(crate::proofs::PartLemmas::texts))]
     pub fn len(&self) -> usize
         ensures { result ≡ min (length (message_bytes self.now)) (2 ^ 64 - 1) }
     {
-        let parts = self.parts();
-        let mut sum: usize = 0;
-        for part in parts {
-            sum = sum.saturating_add(part.len());
+        match &self.parts {
+            Fragments::One([part]) => part.len(),
+            Fragments::Many(parts) => len_of(parts),
         }
-        sum
     }
 
     /// Its fragments' data, first to last, as they were recorded.
@@ -92,6 +89,18 @@ impl Message {
         }
         Ok(at)
     }
+}
+
+/// How many bytes these have, 2^64 - 1 where there are more.
+#[tactic(auto, using(crate::proofs::PartLemmas::texts))]
+fn len_of(parts: &[Vec<u8>]) -> usize
+    ensures { result ≡ min (length (text_of_parts parts.now)) (2 ^ 64 - 1) }
+{
+    let mut sum: usize = 0;
+    for part in parts {
+        sum = sum.saturating_add(part.len());
+    }
+    sum
 }
 
 /// Copies the data of a part to a place of a room that has it.

@@ -18,7 +18,7 @@ use crate::answer::{Answer, Row, TsnPlace, place_of_tsn};
 use crate::give::keep_in;
 use crate::inbound::Inbound;
 use crate::places::Lows;
-use crate::ready::show;
+use crate::ready::show_change;
 use crate::receiver::Receiver;
 use crate::stream::make;
 use sctp_framing::Framing;
@@ -118,7 +118,7 @@ impl<F: Framing> Receiver<F> {
         if stream >= self.streams.len() {
             return Ok(());
         }
-        self.seen.reserve()?;
+        self.seen.reserve(index)?;
         make(self.alloc, &mut self.streams[stream])?;
         let Some(made) = &mut self.streams[stream].inbound else {
             return Ok(());
@@ -126,8 +126,10 @@ impl<F: Framing> Receiver<F> {
         let inbound: &mut Inbound<F> = made;
         let before = inbound.kept_bytes();
         let waited = inbound.waiting.len();
+        let had_message = inbound.has_message();
         let given = keep_in(inbound, &mut self.spare, piece, index, number)?;
         let more = inbound.waiting.len().saturating_sub(waited);
+        let has_message = inbound.has_message();
         self.held = self
             .held
             .saturating_sub(before)
@@ -135,7 +137,13 @@ impl<F: Framing> Receiver<F> {
             .saturating_add(given);
         self.spare.waits(more);
         let _ = self.seen.add(index);
-        show(&mut self.ready, &self.streams, piece.stream);
+        show_change(
+            &mut self.ready,
+            &self.streams,
+            piece.stream,
+            had_message,
+            has_message,
+        );
         Ok(())
     }
 }

@@ -1,8 +1,8 @@
 //! On which streams a message waits: a bit for each, and one for each 64 of them, so that the next one is found without a look at the others.
 
-ghost use Rattle.std.specs.Prelude.{◌≡◌, ◌*◌, ◌<◌, ◌≤◌, ℕ, List, length, map, replicate, if◌then◌else◌, IfOk};
+ghost use Rattle.std.specs.Prelude.{◌≡◌, ◌*◌, ◌<◌, ◌≤◌, ℕ, min, List, length, map, replicate, if◌then◌else◌, IfOk};
 ghost use Rattle.sctp_recv.specs.Fields.{stream_of};
-ghost use Rattle.sctp_recv.specs.ReceiverKept.{StreamKept};
+ghost use Rattle.sctp_recv.specs.ReceiverKept.{StreamKept, stream_at};
 ghost use Rattle.sctp_recv.specs.inner.Bits.{bit_in, NextBit, AreTops, AreShown, IsSameBut};
 
 use crate::bits::{bit_from, next_bit, put_bit};
@@ -100,4 +100,22 @@ pub(crate) fn show<F: Framing>(ready: &mut Ready, streams: &Vec<Stream<F>>, stre
     }
     let waits = streams[at].has_message();
     ready.mark(stream, waits);
+}
+
+/// The same, where it is known whether one waited before and whether one waits now: at most chunks and messages taken there is nothing to mark.
+#[inline(always)]
+pub(crate) fn show_change<F: Framing>(
+    ready: &mut Ready,
+    streams: &Vec<Stream<F>>,
+    stream: u16,
+    waited: bool,
+    waits: bool,
+)
+    ensures { (old : List StreamKept) → AreShown ready.old.words.items old → length old ≡ length streams.now.items → IsSameBut stream old (map stream_of streams.now.items)
+        → min 1 (length (stream_at old stream).waiting) ≡ (if waited then 1 else 0) → min 1 (length (stream_at (map stream_of streams.now.items) stream).waiting) ≡ (if waits then 1 else 0)
+        → AreShown ready.new.words.items (map stream_of streams.now.items) }
+{
+    if waited != waits {
+        show(ready, streams, stream);
+    }
 }

@@ -18,7 +18,7 @@ use crate::duplicates::Duplicates;
 use crate::give::less;
 use crate::message::Message;
 use crate::places::Lows;
-use crate::ready::{Ready, show};
+use crate::ready::{Ready, show_change};
 use crate::sack::SackLists;
 use crate::seen::Seen;
 use crate::stream::{Stream, fresh_streams, take_first};
@@ -182,7 +182,8 @@ impl<F: Framing> Receiver<F> {
             Some(message) => {
                 self.held = less(self.held, &message);
                 self.spare.taken();
-                show(&mut self.ready, &self.streams, stream);
+                let waits = self.streams[at].has_message();
+                show_change(&mut self.ready, &self.streams, stream, true, waits);
                 Some(message)
             }
             None => None,

@@ -104,14 +104,18 @@ impl Seen {
         }
     }
 
-    /// Makes room for one run more.
+    /// Makes room for one run more, where an index makes one: the next one makes none.
     ///
     /// # Errors
     /// Memory ran out.
-    pub(crate) fn reserve(&mut self) -> Result<(), NoMemory>
+    #[inline(always)]
+    pub(crate) fn reserve(&mut self, index: u64) -> Result<(), NoMemory>
         ensures same { self.new.kept ≡ self.old.kept }
-        ensures room { OnOk result (self.new.room ≡ true) }
+        ensures room { OnOk result (suc self.new.kept.cumulative < index → self.new.room ≡ true) }
     {
+        if index.saturating_sub(self.cumulative) <= 1 {
+            return Ok(());
+        }
         self.runs.reserve()
     }
 
@@ -119,6 +123,7 @@ impl Seen {
     ///
     /// # Errors
     /// Memory ran out, and nothing changed.
+    #[inline(always)]
     pub(crate) fn add(&mut self, index: u64) -> Result<(), NoMemory>
         ensures recorded { OnOk result (is_reached self.old.kept index ≡ false → index ≤ self.old.kept.cumulative + WINDOW
             → Records self.old.kept self.new.kept index) }
@@ -161,6 +166,7 @@ fn block_above(index: u64, run: SeenRun) -> GapBlock
 }
 
 /// Moves the cumulative index up to an index, and on to the end of the run that it then touches or lies in. What it passes is dropped.
+#[inline(always)]
 fn advance(cumulative: &mut u64, runs: &mut Sequence<SeenRun>, index: u64)
     requires { AreSpaced runs.old.items }
     ensures { IsAdvanced index runs.old.items (seen_of cumulative.new runs.new.items) }
@@ -169,6 +175,15 @@ fn advance(cumulative: &mut u64, runs: &mut Sequence<SeenRun>, index: u64)
         *cumulative = index;
         return;
     }
+    pass(cumulative, runs, index);
+}
+
+/// The same where there are runs.
+#[inline(never)]
+fn pass(cumulative: &mut u64, runs: &mut Sequence<SeenRun>, index: u64)
+    requires { AreSpaced runs.old.items }
+    ensures { IsAdvanced index runs.old.items (seen_of cumulative.new runs.new.items) }
+{
     let passed = upto(runs, index);
     *cumulative = match passed {
         0 => index,

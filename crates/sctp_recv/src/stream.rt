@@ -7,7 +7,8 @@ ghost use Rattle.sctp_model.specs.receiver.PieceTaken.{is_repeated};
 ghost use Rattle.sctp_values.specs.Meanings.{kind_meaning};
 ghost use Rattle.sctp_wire.specs.ChunkTree.{piece_meaning};
 ghost use Rattle.sctp_chains.specs.Cells.{Kept, IsOf, IsLowestIndex, counted};
-ghost use Rattle.sctp_recv.specs.Fields.{inside, stream_of};
+ghost use Rattle.sctp_chains.specs.StandsFor as lane;
+ghost use Rattle.sctp_recv.specs.Fields.{inbound_of, inside, stream_of};
 ghost use Rattle.sctp_recv.specs.Filed.{Keeps, SameLanes, AreFiled};
 ghost use Rattle.sctp_recv.specs.HandedOf.{handed_of};
 ghost use Rattle.sctp_recv.specs.ReceiverKept.{FRESH, near_of, lowest_of, is_below_or_none};
@@ -103,7 +104,7 @@ impl<F: Framing> Stream<F> {
         let Some(inbound) = &self.inbound else {
             return false;
         };
-        inbound.waiting.len() > 0
+        inbound.has_message()
     }
 }
 
@@ -131,16 +132,29 @@ pub(crate) fn fresh_streams<F: Framing>(
 ///
 /// # Errors
 /// Memory ran out.
+#[inline(always)]
 pub(crate) fn make<F: Framing>(alloc: Global, stream: &mut Stream<F>) -> Result<(), NoMemory>
     ensures same { stream_of stream.new ≡ stream_of stream.old }
     ensures chunks { SameLanes F.format stream.old stream.new }
     ensures made { OnOk result (IsSome stream.new.inbound) }
 {
     if stream.inbound.is_none() {
-        let inbound = Box::new(alloc, Inbound::fresh(alloc)).map_err(|_| NoMemory)?;
-        stream.inbound = Some(inbound);
+        stream.inbound = Some(begin(alloc)?);
     }
     Ok(())
+}
+
+/// What is known of a stream to which nothing came. It runs once for a stream, and `make` for each chunk.
+///
+/// # Errors
+/// Memory ran out.
+#[inline(never)]
+fn begin<F: Framing>(alloc: Global) -> Result<Box<Inbound<F>>, NoMemory>
+    ensures known { IfOk result (λ made. inbound_of made.value ≡ FRESH) }
+    ensures ordered { IfOk result (λ made. (l : Lane) → lane.StandsFor F.format made.value.ordered l []) }
+    ensures unordered { IfOk result (λ made. (l : Lane) → lane.StandsFor F.format made.value.unordered l []) }
+{
+    Box::new(alloc, Inbound::fresh(alloc)).map_err(|_| NoMemory)
 }
 
 /// Takes the first message that waits, where one waits.

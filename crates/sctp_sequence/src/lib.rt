@@ -9,6 +9,7 @@ mod changing;
 mod coming;
 mod going;
 mod halving;
+mod lending;
 mod removing;
 mod searching;
 mod sequence;

@@ -38,6 +38,15 @@ pub record IsLonger (old : List Chain) (at : ℕ) (p : Part) (new : List Chain) 
   pub put : new ≡ set old at to
   pub whole : n ≡ one_if_whole (chain_of to)
 
+-- The same where the fragment comes before the chain.
+pub record IsEarlier (old : List Chain) (at : ℕ) (p : Part) (new : List Chain) (n : ℕ) : Type 0 where
+  pub from : Chain
+  pub to : Chain
+  pub here : from ≡ get_or old at from
+  pub joined : IsChain (chain_of from) → is_linked (one_of p) (chain_of from) ≡ true → chain_of to ≡ join (one_of p) (chain_of from)
+  pub put : new ≡ set old at to
+  pub whole : n ≡ one_if_whole (chain_of to)
+
 -- a chain is what a chain, the fragment behind it, and the chain behind that are together, if each continues the one before
 pub record IsOneOf (c a d m : ChainKept) : Type 0 where
   pub joined : IsChain c → IsChain d → is_linked c a ≡ true → is_linked a d ≡ true → m ≡ join (join c a) d

@@ -3,8 +3,7 @@ use Rattle.sctp_chains.specs.declared.chain.Chain.{Chain}
 use Rattle.sctp_chains.specs.Links.{chain_of, one_of, join, whole_in}
 use Rattle.sctp_chains.proofs.ListLemmas.{at_same}
 use Rattle.sctp_chains.specs.inner.Filing.{IsLinkBefore, IsLinkBehind, Gains, StaysOpen}
-use Rattle.sctp_chains.proofs.MemoryLemmas.{any_err, length_kept}
-use Rattle.sctp_chains.proofs.LiftedLemmas.{put_back, put_back_same}
+use Rattle.sctp_chains.proofs.MemoryLemmas.{length_kept}
 use Rattle.sctp_chains.proofs.JoiningLemmas.{filed_back, filed_front, filed_alone, filed_both}
 use Rattle.sctp_chains.proofs.WholeCounts.{once, counted_back, counted_front, counted_alone, counted_both}
 use Rattle.sctp_chains.proofs.OpenLemmas.{kept_set, kept_insert, kept_both}
@@ -70,42 +69,32 @@ returns-in_ok-whole-in-Some-None-clause-passed c =
 
 -- ---- before a chain
 
-pub returns-in_ok-pushed-in-None-Some-clause-filed : goal.returns-in_ok-pushed-in-None-Some-clause-filed
-returns-in_ok-pushed-in-None-Some-clause-filed c =
-    let less : c.in-None-Some.right < length c.args.chains.now.items = let l = c.in-None-Some.ensures.1 in let n = length_kept c.args.chains.now.items in omega (arith, l, n) in
-    let put = put_back c.args.chains.now.items c.in-None-Some.right c.nothing.result c.push_front-pushed.new.self c.replace-chain.new.self.items c.replace.new.self.items c.replace-chain.ensures.items c.replace.ensures.items in
+pub returns-in_ok-whole-in-None-Some-clause-filed : goal.returns-in_ok-whole-in-None-Some-clause-filed
+returns-in_ok-whole-in-None-Some-clause-filed c =
     let cs = c.args.chains.now.items in
-    subst (λ (xs : List Chain). Gains (one_of c.args.part) (map chain_of cs) (map chain_of xs)) (sym put)
-    (filed_front cs c.place-at.result c.args.part c.place-at.ensures.bound c.place-at.ensures.place c.in-None-Some.right c.replace-chain.result
-    c.push_front-pushed.new.self less c.replace-chain.ensures.value c.in_ok-pushed-in-None-Some.ensures.joined
+    let l = c.in_ok-whole-in-None-Some.ensures.earlier in
+    let less : c.in-None-Some.right < length cs = let e = c.in-None-Some.ensures.1 in let n = length_kept cs in omega (arith, e, n) in
+    subst (λ (xs : List Chain). Gains (one_of c.args.part) (map chain_of cs) (map chain_of xs)) (sym l.put)
+    (filed_front cs c.place-at.result c.args.part c.place-at.ensures.bound c.place-at.ensures.place c.in-None-Some.right l.from l.to less l.here l.joined
     (subst (λ (o : Option ℕ). IsLinkBefore (map chain_of cs) c.place-at.result (one_of c.args.part) o) c.in-None-Some.is-0 (c.linked_before.ensures c.place-at.ensures.bound)) c.in-None-Some.ensures)
 
-pub returns-in_ok-pushed-in-None-Some-clause-one : goal.returns-in_ok-pushed-in-None-Some-clause-one
-returns-in_ok-pushed-in-None-Some-clause-one c = once (chain_of c.push_front-pushed.new.self) c.whole-whole.result c.whole-whole.ensures
+pub returns-in_ok-whole-in-None-Some-clause-one : goal.returns-in_ok-whole-in-None-Some-clause-one
+returns-in_ok-whole-in-None-Some-clause-one c = let l = c.in_ok-whole-in-None-Some.ensures.earlier in once (chain_of l.to) c.in_ok-whole-in-None-Some.whole l.whole
 
-pub returns-in_ok-pushed-in-None-Some-clause-whole : goal.returns-in_ok-pushed-in-None-Some-clause-whole
-returns-in_ok-pushed-in-None-Some-clause-whole c =
-    let less : c.in-None-Some.right < length c.args.chains.now.items = let l = c.in-None-Some.ensures.1 in let n = length_kept c.args.chains.now.items in omega (arith, l, n) in
-    let put = put_back c.args.chains.now.items c.in-None-Some.right c.nothing.result c.push_front-pushed.new.self c.replace-chain.new.self.items c.replace.new.self.items c.replace-chain.ensures.items c.replace.ensures.items in
+pub returns-in_ok-whole-in-None-Some-clause-whole : goal.returns-in_ok-whole-in-None-Some-clause-whole
+returns-in_ok-whole-in-None-Some-clause-whole c =
     let cs = c.args.chains.now.items in
-    subst (λ (xs : List Chain). whole_in (map chain_of xs) ≤ whole_in (map chain_of cs) + c.whole-whole.result) (sym put)
-    (counted_front cs c.args.part c.replace-chain.result c.push_front-pushed.new.self c.whole-whole.result c.in-None-Some.right less c.replace-chain.ensures.value
-    c.whole-whole.ensures c.in-None-Some.ensures.2)
+    let l = c.in_ok-whole-in-None-Some.ensures.earlier in
+    let less : c.in-None-Some.right < length cs = let e = c.in-None-Some.ensures.1 in let n = length_kept cs in omega (arith, e, n) in
+    subst (λ (xs : List Chain). whole_in (map chain_of xs) ≤ whole_in (map chain_of cs) + c.in_ok-whole-in-None-Some.whole) (sym l.put)
+    (counted_front cs c.args.part l.from l.to c.in_ok-whole-in-None-Some.whole c.in-None-Some.right less l.here l.whole c.in-None-Some.ensures.2)
 
-pub returns-in_ok-pushed-in-None-Some-clause-passed : goal.returns-in_ok-pushed-in-None-Some-clause-passed
-returns-in_ok-pushed-in-None-Some-clause-passed c =
-    let put = put_back c.args.chains.now.items c.in-None-Some.right c.nothing.result c.push_front-pushed.new.self c.replace-chain.new.self.items c.replace.new.self.items c.replace-chain.ensures.items c.replace.ensures.items in
+pub returns-in_ok-whole-in-None-Some-clause-passed : goal.returns-in_ok-whole-in-None-Some-clause-passed
+returns-in_ok-whole-in-None-Some-clause-passed c =
     let cs = c.args.chains.now.items in
-    subst (λ (xs : List Chain). StaysOpen (map chain_of cs) (map chain_of xs) c.in-None-Some.right c.whole-whole.result) (sym put)
-    (kept_set cs c.in-None-Some.right c.push_front-pushed.new.self c.whole-whole.result c.whole-whole.ensures)
-
-pub returns-in_err-pushed-in-None-Some-clause-refused : goal.returns-in_err-pushed-in-None-Some-clause-refused
-returns-in_err-pushed-in-None-Some-clause-refused c =
-    let less : c.in-None-Some.right < length c.args.chains.now.items = let l = c.in-None-Some.ensures.1 in let n = length_kept c.args.chains.now.items in omega (arith, l, n) in
-    any_err c.from_residual-in_err-pushed-in-None-Some.result _
-    (put_back_same c.args.chains.now.items c.in-None-Some.right c.nothing.result c.replace-chain.result c.push_front-pushed.new.self c.replace-chain.new.self.items
-    c.replace.new.self.items less c.replace-chain.ensures.value c.replace-chain.ensures.items c.replace.ensures.items
-    c.in_err-pushed-in-None-Some.ensures.refused)
+    let l = c.in_ok-whole-in-None-Some.ensures.earlier in
+    subst (λ (xs : List Chain). StaysOpen (map chain_of cs) (map chain_of xs) c.in-None-Some.right c.in_ok-whole-in-None-Some.whole) (sym l.put)
+    (kept_set cs c.in-None-Some.right l.to c.in_ok-whole-in-None-Some.whole l.whole)
 
 -- ---- a chain of its own
 
@@ -117,13 +106,13 @@ returns-in_ok-insert-in-None-None-clause-filed c =
     (subst (λ (o : Option ℕ). IsLinkBefore (map chain_of cs) c.place-at.result (one_of c.args.part) o) c.in-None-None.is-0 (c.linked_before.ensures c.place-at.ensures.bound)) (subst (λ (o : Option ℕ). IsLinkBehind (map chain_of cs) c.place-at.result (one_of c.args.part) o) c.in-None-None.is-1 c.linked_behind.ensures))
 
 pub returns-in_ok-insert-in-None-None-clause-one : goal.returns-in_ok-insert-in-None-None-clause-one
-returns-in_ok-insert-in-None-None-clause-one c = once (chain_of c.in_ok-chain-in-None-None.chain) c.whole-whole-in-None-None.result c.whole-whole-in-None-None.ensures
+returns-in_ok-insert-in-None-None-clause-one c = once (chain_of c.in_ok-chain-in-None-None.chain) c.whole-whole.result c.whole-whole.ensures
 
 pub returns-in_ok-insert-in-None-None-clause-whole : goal.returns-in_ok-insert-in-None-None-clause-whole
 returns-in_ok-insert-in-None-None-clause-whole c =
-    counted_alone c.args.chains.now.items c.insert.new.self.items c.place-at.result c.in_ok-chain-in-None-None.chain c.whole-whole-in-None-None.result c.in_ok-insert-in-None-None.ensures.items c.whole-whole-in-None-None.ensures
+    counted_alone c.args.chains.now.items c.insert.new.self.items c.place-at.result c.in_ok-chain-in-None-None.chain c.whole-whole.result c.in_ok-insert-in-None-None.ensures.items c.whole-whole.ensures
 
 pub returns-in_ok-insert-in-None-None-clause-passed : goal.returns-in_ok-insert-in-None-None-clause-passed
 returns-in_ok-insert-in-None-None-clause-passed c =
-    kept_insert c.args.chains.now.items c.insert.new.self.items c.place-at.result c.in_ok-chain-in-None-None.chain c.whole-whole-in-None-None.result c.place-at.ensures.bound
-    c.in_ok-insert-in-None-None.ensures.items c.whole-whole-in-None-None.ensures
+    kept_insert c.args.chains.now.items c.insert.new.self.items c.place-at.result c.in_ok-chain-in-None-None.chain c.whole-whole.result c.place-at.ensures.bound
+    c.in_ok-insert-in-None-None.ensures.items c.whole-whole.ensures

@@ -1,6 +1,5 @@
 use Rattle.std.proofs.Common.{◌≡◌, suc, ◌<◌, ◌∷◌, inl, refl, sym, ap, subst, arith}
 use Rattle.std.specs.Prelude.{Option, Some, IfSome}
-use Rattle.std.specs.VecDeque.{deque_len, deque_capacity}
 use Rattle.sctp_model.specs.numbers.Serial.{COUNTS}
 use Rattle.sctp_model.specs.messages.Pieces.{Piece}
 use Rattle.sctp_chains.specs.StandsFor.{IsNew}
@@ -35,13 +34,12 @@ returns-in-Some-clause-given g c = λ kept stands new numbers.
     let number : suc n < COUNTS = counts t.head n (t.whole.1 t.head (inl refl)) t.whole.2.1 in
     let next : c.number_after-inbound.result ≡ suc n = c.number_after-inbound.ensures n t.number number in
     let room = c.in_ok-make_room.ensures.room in
-    let spare : deque_len mid.waiting < deque_capacity mid.waiting = omega (arith, room) in
     let gives : GivesDue f s mid.next (y ∷ kept) mid last c.give_on.result = c.give_on.ensures mid (y ∷ kept) counts (record {
       rest = from_number (suc n) (y ∷ kept);
-      handed = handed_more f s mid.next (y ∷ kept) (y ∷ kept) mid mid _ 0 c.wait-bytes.result c.wait-bytes.result (handed_none f s mid.next (y ∷ kept) mid) counts n mid.next mid.next c.in-Some.whole mid.ordered t refl (omega arith)
-          (handed_of c.message_of.result) (c.message_of.ensures f t.head t.rest t.made t.whole.2.0) next refl refl (c.wait-bytes.ensures.waits spare) (λ k ks there. there) c.wait-bytes.ensures.bytes (omega (arith, c.wait-bytes.ensures.bytes));
+      handed = handed_more f s mid.next (y ∷ kept) (y ∷ kept) mid mid _ 0 c.wait_reserved-bytes.result c.wait_reserved-bytes.result (handed_none f s mid.next (y ∷ kept) mid) counts n mid.next mid.next c.in-Some.whole mid.ordered t refl (omega arith)
+          (handed_of c.message_of.result) (c.message_of.ensures f t.head t.rest t.made t.whole.2.0) next refl refl (c.wait_reserved-bytes.ensures.waits) (λ k ks there. there) c.wait_reserved-bytes.ensures.bytes (omega (arith, c.wait_reserved-bytes.ensures.bytes));
       left = t.left;
-      room = omega (arith, room, c.wait-bytes.ensures.len, c.wait-bytes.ensures.room);
+      room = omega (arith, room, c.wait_reserved-bytes.ensures.len, c.wait_reserved-bytes.ensures.room);
     }) in
     subst (λ (z : Piece). GivesDue f s old.next (z ∷ kept) old last c.give_on.result) (sym same) (gives_from f s (y ∷ kept) mid old last c.give_on.result gives c.make_room.ensures.same c.make_room.ensures.chunks.1)
 

@@ -22,9 +22,9 @@ returns-in-Some-clause-given g c = λ kept stands new kind.
     let t = c.in-Some.ensures.taken l (x ∷ kept) added (inl refl) in
     let lane = sym (row_same f t.head t.rest x t.whole.0.1 t.whole.2).0 ∙ kind in
     let made : handed_of c.message_of.result ≡ message_of f t.head t.rest = c.message_of.ensures f t.head t.rest t.made lane in
-    let waits = c.wait.ensures.waits c.in_ok-make_one.ensures.room ∙ ap (λ (hs : List Handed). hs ++ handed_of c.message_of.result ∷ []) c.make_one.ensures.same
+    let waits = c.wait_reserved.ensures.waits ∙ ap (λ (hs : List Handed). hs ++ handed_of c.message_of.result ∷ []) c.make_one.ensures.same
     ∙ ap (λ (h : Handed). map handed_of start.waiting.items ++ h ∷ []) made in
-    let bytes : c.wait.result ≡ sized (length (text_of (t.head ∷ t.rest))) = c.wait.ensures.bytes ∙ ap (λ (h : Handed). sized (length h.bytes)) made in
+    let bytes : c.wait_reserved.result ≡ sized (length (text_of (t.head ∷ t.rest))) = c.wait_reserved.ensures.bytes ∙ ap (λ (h : Handed). sized (length h.bytes)) made in
     record {
       gives = inl (record { head = t.head; rest = t.rest; whole = t.whole; left = t.left; stream = λ i. record (inbound_of start) { largest = c.larger-inbound.ensures i; waiting = waits i }; bytes = bytes });
       others = λ m ks is. is;

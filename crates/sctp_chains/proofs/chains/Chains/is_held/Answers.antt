@@ -1,14 +1,22 @@
-use Rattle.std.proofs.Common.{◌<◌, ◌≤◌, nat_lt, nat_le, length, map, sym, ap, ◌∙◌, arith}
+use Rattle.std.proofs.Common.{◌≡◌, false, refl, ◌<◌, ◌≤◌, nat_lt, nat_le, length, map, sym, ap, ◌∙◌, arith}
 use Rattle.std.proofs.lemmas.Bool.Decides.{nat_tests}
 use Rattle.sctp_wire.specs.ChunkTree.{piece_meaning}
 use Rattle.sctp_chains.specs.Cells.{counted, rank_at}
 use Rattle.sctp_chains.specs.Links.{chain_of}
 use Rattle.sctp_chains.specs.StandsFor.{StandsFor}
 use Rattle.sctp_chains.proofs.MemoryLemmas.{at_kept, length_kept}
-use Rattle.sctp_chains.proofs.ListLemmas.{dropped_has}
+use Rattle.sctp_chains.proofs.ListLemmas.{dropped_has, none_dropped}
 use Rattle.sctp_chains.proofs.SearchLemmas.{stands_in}
 use Rattle.sctp_chains.proofs.HeldLemmas.{held_agrees, in_place, past_all}
 use Rattle.sctp_chains.proofs.chains.Chains.is_held.Goals as goal
+
+pub returns-then-is_empty : goal.returns-then-is_empty
+unfolding StandsFor
+returns-then-is_empty g c = λ i l kept stands of.
+    let ms = c.args.self.now.filed.chains.items in
+    let none : length (map chain_of ms) ≤ 0 = let is = c.is_empty.ensures in let so = c.if-is_empty.true in let all = length_kept ms in let no : length ms ≡ 0 = grind (arith, is, so, nat_tests) in omega (arith, no, all) in
+    held_agrees g.F.Framing.format l (map chain_of ms) c.args.self.now.held kept stands (sym c.is_numbered.ensures ∙ c.if-not-is_numbered.false) (counted i (piece_meaning c.args.piece.now) c.args.number) of _
+    refl false (λ e. absurd (cc)) (λ e d there. absurd (none_dropped (map chain_of ms) 0 d none there))
 
 pub returns-then-at-len : goal.returns-then-at-len
 unfolding StandsFor

@@ -1,4 +1,4 @@
-use Rattle.std.proofs.Common.{◌≡◌, ℕ, suc, ◌+◌, ◌-◌, ◌<◌, ◌≤◌, false, List, Option, Some, ◌∷◌, length, map, set, inl, inr, refl, sym, ◌∙◌, ap, subst, arith}
+use Rattle.std.proofs.Common.{◌≡◌, ℕ, min, suc, ◌+◌, ◌-◌, ◌<◌, ◌≤◌, false, List, Option, Some, ◌∷◌, length, map, set, inl, inr, refl, sym, ◌∙◌, ap, subst, arith}
 use Rattle.std.proofs.lemmas.Option.{slice_get_read}
 use Rattle.sctp_model.specs.numbers.Limits.{WINDOW}
 use Rattle.sctp_model.specs.numbers.Serial.{COUNTS}
@@ -11,9 +11,9 @@ use Rattle.sctp_chains.specs.StandsFor.{IsNew}
 use Rattle.sctp_wire.specs.ChunkTree.{piece_meaning}
 use Rattle.std.specs.Prelude.{slice_get}
 use Rattle.sctp_chains.specs.Cells.{IsOf}
-use Rattle.sctp_recv.specs.Fields.{inbound_of, stream_of}
+use Rattle.sctp_recv.specs.Fields.{inbound_of, known_of, unboxed, stream_of}
 use Rattle.sctp_recv.specs.declared.inbound.Inbound.{Inbound}
-use Rattle.sctp_recv.specs.ReceiverKept.{StreamKept}
+use Rattle.sctp_recv.specs.ReceiverKept.{StreamKept, stream_at}
 use Rattle.std.specs.Box.{with_value}
 use Rattle.std.proofs.lemmas.List.{length-map, length-set}
 use Rattle.sctp_chains.specs.StandsFor as lane
@@ -24,8 +24,8 @@ use Rattle.sctp_recv.specs.KeptOf.{kept_of}
 use Rattle.sctp_recv.specs.SeenKept.{SeenKept, is_reached}
 use Rattle.sctp_recv.specs.StandsFor.{StandsFor, KeepsView}
 use Rattle.sctp_recv.specs.inner.Giving.{sized, SameChunks, GivesBy, RecordsNew}
-use Rattle.sctp_recv.proofs.ResultLemmas.{if_err, ok_of}
-use Rattle.sctp_recv.proofs.StreamLemmas.{set_mapped, set_unchanged}
+use Rattle.sctp_recv.proofs.ResultLemmas.{if_err, ok_of, ok_either}
+use Rattle.sctp_recv.proofs.StreamLemmas.{stream_mapped, stream_set_same, set_mapped, set_unchanged}
 use Rattle.sctp_recv.proofs.FiledLemmas.{filed_same, same_lanes, stream_size}
 use Rattle.sctp_recv.proofs.ChunkLemmas.{lane_filed, chunk_new}
 use Rattle.sctp_recv.proofs.RecordedLemmas.{keeps_same, IsKeepable}
@@ -101,8 +101,8 @@ returns-clause-kept g c = λ v w want.
     let found = slice_get_read made (length made) at c.index_mut-2.result.now refl (omega (arith, l, size)) c.index_mut-2.ensures.value in
     let got = subst (λ (q : ℕ). slice_get made q ≡ Some (boxed old)) c.from-stream.ensures (found ∙ (λ j. Some (record { inbound = c.in-Some.is j }))) in
     let was : c.deref_mut-inbound.result.now ≡ old.value = c.deref_mut-inbound.ensures.value in
-    let recorded : RecordsNew k.seen seen c.args.index =
-    subst (λ (n : SeenKept). RecordsNew n seen c.args.index) c.reserve.ensures.same (ok_of c.add.result (c.add.ensures.memory c.in_ok-reserve.ensures.room) c.add.ensures.recorded) in
+    let is_ok = ok_either c.add.result (λ far. c.add.ensures.memory (c.in_ok-reserve.ensures.room far)) c.add.ensures.gap in
+    let recorded : RecordsNew k.seen seen c.args.index = subst (λ (n : SeenKept). RecordsNew n seen c.args.index) c.reserve.ensures.same (ok_of c.add.result is_ok c.add.ensures.recorded) in
     let able : IsKeepable f k v x seen = record {
       keeps = w.0;
       records = subst (λ (i : ℕ). RecordsNew k.seen seen i) index recorded;
@@ -142,6 +142,15 @@ returns-clause-kept g c = λ v w want.
     let but = subst (λ (q : ℕ). IsSameBut q k.streams (map stream_of (set made at (boxed new)))) c.from-stream.ensures but_made in
     let long = length-map items stream_of in
     let count = length-set made at (boxed new) in
-    let list = c.show.ensures k.streams (shown_list f ws k v w.0 w.1.1.1.1) (omega (arith, long, size, count)) but in
+    let x2 = c.index_mut-2.result.now in
+    let there_before : stream_at k.streams s ≡ inbound_of old.value =
+    ap (λ (ss : List StreamKept). stream_at ss s) (sym same) ∙ ap (λ (q : ℕ). stream_at (map stream_of made) q) (sym c.from-stream.ensures)
+    ∙ stream_mapped made at x2 (omega (arith, l, size)) c.index_mut-2.ensures.value ∙ (λ j. known_of (unboxed (c.in-Some.is j))) in
+    let waited = ap (λ (m : StreamKept). min 1 (length m.waiting)) (there_before ∙ sym (ap inbound_of was)) ∙ c.has_message-had_message.ensures in
+    let now : stream_at (map stream_of (set made at (boxed new))) s ≡ inbound_of new.value =
+    ap (λ (ss : List StreamKept). stream_at ss s) (set_mapped made at (boxed new)) ∙ ap (λ (q : ℕ). stream_at (set (map stream_of made) at (inbound_of new.value)) q) (sym c.from-stream.ensures)
+    ∙ stream_set_same (map stream_of made) at (inbound_of new.value) (let m = length-map made stream_of in omega (arith, l, size, m)) in
+    let waits = ap (λ (m : StreamKept). min 1 (length m.waiting)) now ∙ c.has_message-has_message.ensures in
+    let list = c.show_change.ensures k.streams (shown_list f ws k v w.0 w.1.1.1.1) (omega (arith, long, size, count)) but waited waits in
     let shown = shown_view f _ _ _ m.0 there put list in
     (m.0, m.1, (rw (set_mapped made at (boxed new) ∙ ap (λ (ss : List StreamKept). set ss at (inbound_of new.value)) same) there, files), shown)

@@ -1,4 +1,4 @@
-use Rattle.std.proofs.Common.{◌≡◌, ℕ, ◌<◌, ◌-◌, ◌∷◌, length, map, set, Some, refl, sym, ◌∙◌, ap, subst, arith}
+use Rattle.std.proofs.Common.{◌≡◌, ℕ, min, ◌<◌, ◌-◌, ◌∷◌, length, map, set, Some, refl, sym, ◌∙◌, ap, subst, arith}
 use Rattle.std.proofs.lemmas.List.{length-map, length-set}
 use Rattle.sctp_model.specs.receiver.SackMade.{first_taken, TakeLeaves}
 use Rattle.sctp_model.proofs.receiver.AtRest.{take_at_rest}
@@ -50,7 +50,13 @@ returns-in-Some g c = λ v w.
     let ws = c.args.self.now.ready.words.items in
     let but = subst (λ (i : ℕ). IsSameBut i old (map stream_of (set items c.from-at.result y))) c.from-at.ensures (same_but items c.from-at.result y) in
     let count = length-set items c.from-at.result y in
-    let list = c.show.ensures old (shown_list f ws (kept_of c.args.self.now) v w.0 w.1.1.1.1) (omega (arith, n, count)) but in
+    let waited : min 1 (length (stream_at old s).waiting) ≡ 1 = ap (λ (k : StreamKept). min 1 (length k.waiting)) there ∙ omega arith in
+    let z = c.index.result.now in
+    let last : c.from-at.result < length (set items c.from-at.result y) = omega (arith, l, count) in
+    let now : stream_at (map stream_of (set items c.from-at.result y)) s ≡ stream_of z =
+    ap (λ (i : ℕ). stream_at (map stream_of (set items c.from-at.result y)) i) (sym c.from-at.ensures) ∙ stream_mapped (set items c.from-at.result y) c.from-at.result z last c.index.ensures in
+    let waits = ap (λ (k : StreamKept). min 1 (length k.waiting)) now ∙ c.has_message-waits.ensures in
+    let list = c.show_change.ensures old (shown_list f ws (kept_of c.args.self.now) v w.0 w.1.1.1.1) (omega (arith, n, count)) but waited waits in
     let put = set_mapped items c.from-at.result y ∙ ap (λ (i : ℕ). set old i x) c.from-at.ensures in
     let shown = shown_view f _ _ _ (first_taken v s h x.waiting) done put list in
     (first_taken v s h x.waiting, leaves, (rw (set_mapped items c.from-at.result c.take_first.new.stream, c.from-at.ensures) done, (files, (take_at_rest g.F.Framing.format v s (Some h) (first_taken v s h x.waiting) w.1.1.0 leaves, (w.1.1.1.0, shown)))))

@@ -1,5 +1,5 @@
 use Rattle.std.proofs.Common.{◌≡◌, drop}
-use Rattle.sctp_recv.proofs.seen.advance.Given as goal
+use Rattle.sctp_recv.proofs.seen.pass.Given as goal
 
 abbrev pub invariant-loop : goal.invariant-loop
 invariant-loop l = record { left : l.runs.items ≡ drop l.counter l.initial.runs.items }
