@@ -14,10 +14,12 @@ take() {
     (cd "$here/../crates/$1" && tar -c --exclude=./out/incremental .) | tar -x -C "$work/crates/$1"
 }
 
-# a repository of its own: the crates that the program named first stands on, as they are, and the program; it is built
+# a repository of its own: the crates that the program named first stands on, as they are, and the program; it is built, once
 build() {
     program=$1
     shift
+    built=$work/crates/$program/out/$program
+    [ ! -x "$built" ] || return 0
     mkdir -p "$work/crates/$program/src"
     : > "$work/crates.txt"
     for crate in "$@"; do
@@ -28,7 +30,6 @@ build() {
     cp "$here/$program.rattle" "$work/crates/$program/src/main.rt"
     cp "$here/../HANDLES" "$work/HANDLES"
     (cd "$work/crates/$program" && rt run -- none 1 1 > "$work/log" 2>&1) || { cat "$work/log" >&2; exit 1; }
-    built=$work/crates/$program/out/$program
 }
 
 # the instructions of a run of these words, of one function where `within` names it
