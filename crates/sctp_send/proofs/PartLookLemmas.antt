@@ -1,5 +1,5 @@
 -- What the lists of the messages in part tell: the first stream from one on with such a message, and the stream of one by its ticket.
-use Rattle.std.proofs.Common.{◌≡◌, ℕ, ◌+◌, ◌*◌, ◌<◌, ◌≤◌, ◌^◌, List, length, get_or, Bool, true, false, Option, Some, None, refl, sym, ap, ◌∙◌, arith, subst}
+use Rattle.std.proofs.Common.{◌≡◌, ℕ, suc, ◌+◌, ◌*◌, ◌<◌, ◌≤◌, ◌^◌, List, length, get_or, Bool, true, false, Option, Some, None, refl, sym, ap, ◌∙◌, arith, subst}
 use Rattle.std.specs.Prelude.{nat_lt}
 use Rattle.std.proofs.lemmas.Bool.Decides.{nat_tests}
 use Rattle.sctp_send.specs.inner.Ordering.{key, before, AreOrdered}
@@ -76,6 +76,17 @@ with_none t at os lists on h is all j there =
     let less = comes_before key (t * 2 ^ 64 + 0) found.0 lists.by_ticket.items d (omega (arith, found.1, is, all)) in
     let same : key (get_or lists.by_ticket.items found.0 d) ≡ t * 2 ^ 64 + j = ap key found.2 in
     omega (arith, less, same)
+
+-- where none has a lower ticket than the next one, none is up to the last one
+pub none_upto : (last next at : ℕ) (os : List (Option ℕ)) (lists : PartLists) → lists.is_listed ≡ true → IsListed os lists → AreOrdered lists.by_ticket.items → next ≡ suc last → at ≡ before key (key (record { first = next; second = 0 })) lists.by_ticket.items → at ≡ 0
+    → (j t : ℕ) → t ≤ last → left_on j os ≡ Some t → ⊥
+none_upto last next at os lists on h o following is zeroed j t le there =
+    let d : Pair = pair_of 0 0 in
+    let found = ticket_listed j t os lists d on h there in
+    let behind = comes_behind key (next * 2 ^ 64 + 0) 0 found.0 lists.by_ticket.items d o.order (omega (arith, is, zeroed)) found.1 in
+    let same : key (get_or lists.by_ticket.items found.0 d) ≡ t * 2 ^ 64 + j = ap key found.2 in
+    let small : j < 2 ^ 64 = subst (λ (q : Pair). q.second < 2 ^ 64) found.2 (is_small found.0 lists.by_ticket.items d o.small found.1) in
+    omega (arith, behind, same, small, following, le)
 
 -- the first pair from a ticket on is of a message with this ticket
 pub with_found : (t at : ℕ) (os : List (Option ℕ)) (lists : PartLists) (p : Pair) → lists.is_listed ≡ true → IsListed os lists → at < length lists.by_ticket.items → p ≡ get_or lists.by_ticket.items at p → p.first ≡ t → left_on p.second os ≡ Some t

@@ -107,6 +107,17 @@ impl PartLists {
         }
     }
 
+    /// All messages in part have tickets behind this one.
+    pub(crate) fn are_behind(&self, last: u64) -> bool
+        requires { self.now.is_listed ≡ true }
+        ensures { (tickets : List (Option ℕ)) → IsListed tickets self.now → result ≡ true → (stream ticket : ℕ) → ticket ≤ last → left_on stream tickets ≡ Some ticket → ⊥ }
+    {
+        match last.checked_add(1) {
+            Some(next) => self.below(next) == 0,
+            None => false,
+        }
+    }
+
     /// A stream has another message in part than before, or none.
     pub(crate) fn change(&mut self, stream: u64, before: Option<u64>, now: Option<u64>)
         ensures { (tickets : List (Option ℕ)) → stream < length tickets → left_on stream tickets ≡ before → IsListed tickets self.old → IsListed (set tickets stream now) self.new }

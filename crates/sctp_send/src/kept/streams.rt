@@ -146,6 +146,9 @@ impl Streams {
         if self.parts == 0 {
             return true;
         }
+        if self.lists.is_listed() {
+            return self.lists.are_behind(last);
+        }
         are_past(&self.tracks, last)
     }
 

@@ -1,10 +1,12 @@
 use Rattle.std.proofs.Common.{◌≡◌, List, map, subst, false}
 use Rattle.sctp_send.specs.SenderFields.{track_meaning}
 use Rattle.sctp_send.specs.PartsKept.{StreamsKept}
+use Rattle.sctp_send.specs.inner.PartPairs.{tickets_left}
 use Rattle.sctp_send.specs.inner.Walks.{any_rest}
 use Rattle.sctp_send.specs.declared.kept.track.Track.{Track as TrackFields}
 use Rattle.sctp_send.proofs.NextLemmas.{none_with}
 use Rattle.sctp_send.proofs.OwedLemmas.{no_part}
+use Rattle.sctp_send.proofs.PartStreams.{none_goes_on_with}
 use Rattle.sctp_send.proofs.kept.streams.Streams.is_past.Goals as goal
 
 pub returns-then-self-eq0 : goal.returns-then-self-eq0
@@ -12,6 +14,12 @@ returns-then-self-eq0 c = λ size t on le.
     let w = c.self.inside in
     subst (λ (k : StreamsKept). any_rest t (map (track_meaning size) k.items) ≡ false) c.self.view_is
     (none_with t (map (track_meaning size) w.tracks.items) (no_part w.size size w.parts w.owed w.tracks.items c.self.invariant.counted c.if-self-eq0.true))
+
+pub returns-then-is_listed : goal.returns-then-is_listed
+returns-then-is_listed c = λ size t on le.
+    let w = c.self.inside in
+    let none = c.are_behind.ensures (tickets_left w.tracks.items) c.self.invariant.listed on in
+    subst (λ (k : StreamsKept). any_rest t (map (track_meaning size) k.items) ≡ false) c.self.view_is (none_goes_on_with size t w.tracks.items (λ j. none j t le))
 
 pub returns : goal.returns
 returns c = λ size t on le.
