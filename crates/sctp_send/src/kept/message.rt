@@ -63,10 +63,34 @@ pub(crate) fn placed(
 {
     if let Some(mut place) = spent.pop() {
         if let Some(gone) = Arc::get_mut(&mut place) {
-            *gone = message;
+            let Message {
+                ticket,
+                stream,
+                kind,
+                payload_id,
+                until,
+                bytes,
+            } = message;
+            gone.ticket = ticket;
+            gone.stream = stream;
+            gone.kind = kind;
+            gone.payload_id = payload_id;
+            gone.until = until;
+            gone.bytes = bytes;
             return Ok(place);
         }
     }
+    placed_anew(alloc, message)
+}
+
+/// A message takes a place of its own.
+///
+/// # Errors
+/// `NoMemory`.
+#[inline(never)]
+fn placed_anew(alloc: Global, message: Message) -> Result<Arc<Message>, NoMemory>
+    ensures { IfOk result (λ placed. placed.value ≡ message) }
+{
     Arc::new(alloc, message).map_err(|_| NoMemory)
 }
 

@@ -16,6 +16,7 @@ use std::mem;
 /// What lies in a block is covered, and nothing else; the runs are those of the blocks then. False where there are too many to keep.
 ///
 /// It costs the blocks, the runs, each once, and the entries that change; where the runs weren't known, all entries.
+#[inline(always)]
 pub(crate) fn cover_blocks(
     outstanding: &mut Outstanding,
     covered: &mut Vec<CoveredRun>,
@@ -31,6 +32,23 @@ pub(crate) fn cover_blocks(
     if is_known && covered.is_empty() && blocks.len() == 0 {
         return true;
     }
+    cover_some(outstanding, covered, spare, is_known, blocks)
+}
+
+/// The same, where something was covered or is. It stands apart, so that it costs little where nothing is.
+#[inline(never)]
+fn cover_some(
+    outstanding: &mut Outstanding,
+    covered: &mut Vec<CoveredRun>,
+    spare: &mut Vec<CoveredRun>,
+    is_known: bool,
+    blocks: &Blocks<'_>,
+) -> bool
+    requires { block_fault (length outstanding.old.items) blocks.now ≡ None }
+    ensures told { IsExact is_known covered.old.items outstanding.old.items → outstanding.new.items ≡ all_told (in_blocks 0 blocks.now) 1 outstanding.old.items }
+    ensures runs { result ≡ true → HoldsBlocks covered.new.items blocks.now }
+    ensures kept { IsSameRoom outstanding.old outstanding.new }
+{
     let fits = remember(spare, blocks);
     retell(outstanding, covered, spare, is_known && fits, blocks);
     mem::swap(covered, spare);

@@ -15,6 +15,7 @@ use sctp_wire::{Blocks, GapBlock};
 
 /// Where blocks may uncover an entry, so many entries further on than the runs that are covered, each outstanding message is looked at from
 /// its own moment on.
+#[inline(always)]
 pub(crate) fn wake_for(
     dues: &mut Dues,
     outstanding: &Outstanding,
@@ -33,6 +34,26 @@ pub(crate) fn wake_for(
     if !dues.is_asleep() {
         return;
     }
+    wake_where(dues, outstanding, covered, is_known, passed, blocks);
+}
+
+/// The same, where some moment doesn't count what is covered. It stands apart, so that it costs little where none is so.
+#[inline(never)]
+fn wake_where(
+    dues: &mut Dues,
+    outstanding: &Outstanding,
+    covered: &[CoveredRun],
+    is_known: bool,
+    passed: usize,
+    blocks: &Blocks<'_>,
+)
+    ensures passed { dues.new.passed ≡ dues.old.passed }
+    ensures long { length dues.new.moments ≡ length dues.old.moments }
+    ensures each { (t now : ℕ) → now < due_at dues.old.passed dues.new.moments t → now < due_at dues.old.passed dues.old.moments t }
+    ensures here { dues.old.asleep ≡ true → dues.new.asleep ≡ false → AreWoken dues.old.passed dues.new.moments outstanding.now.items (length outstanding.now.items) }
+    ensures known { dues.new.asleep ≡ true → is_known ≡ true }
+    ensures asleep { dues.new.asleep ≡ true → LieIn passed covered.now blocks.now }
+{
     if is_known && lie_in(covered, passed, blocks) {
         return;
     }
