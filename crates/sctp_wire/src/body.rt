@@ -1,6 +1,6 @@
 //! What stands behind a chunk's header: which layout is whose.
 
-ghost use Rattle.std.specs.Prelude.{◌≡◌, true};
+ghost use Rattle.std.specs.Prelude.{◌≡◌, ℕ, true};
 ghost use Rattle.sctp_wire.specs.ChunkTree.{chunk_meaning};
 ghost use Rattle.sctp_wire.specs.Layouts.{has_layout, has_list};
 ghost use Rattle.sctp_wire.specs.Reading.{body_at};
@@ -58,11 +58,23 @@ pub fn has_list(kind: u8, value: &[u8]) -> bool
     }
 }
 
-/// What a type, its flags and a value of its layout say.
+/// What a SACK says, in a value of its layout.
+#[inline(always)]
+#[tactic(auto, unfolding(crate::specs::Reading::body_at))]
+pub fn read_seen(value: &[u8]) -> Chunk<'_>
+    requires { has_layout SACK value.now ≡ true }
+    ensures { (flags : ℕ) → chunk_meaning result ≡ body_at SACK flags value.now }
+{
+    Chunk::Sack(read_sack(value))
+}
+
+/// What any other type, its flags and a value of its layout say.
+#[inline(never)]
 #[tactic(auto, unfolding(crate::specs::Reading::body_at))]
 pub fn read_value(kind: u8, flags: u8, value: &[u8]) -> Chunk<'_>
     requires layout { has_layout kind value.now ≡ true }
     requires list { has_list kind value.now ≡ true }
+    requires other { kind ≡ SACK → ⊥ }
     ensures { chunk_meaning result ≡ body_at kind flags value.now }
 {
     let reflected = is_set(flags, REFLECTED);
@@ -71,7 +83,6 @@ pub fn read_value(kind: u8, flags: u8, value: &[u8]) -> Chunk<'_>
         I_DATA => Chunk::IData(read_i_data(flags, value)),
         INIT => Chunk::Init(read_init(value)),
         INIT_ACK => Chunk::InitAck(read_init(value)),
-        SACK => Chunk::Sack(read_sack(value)),
         HEARTBEAT => Chunk::Heartbeat { info: value },
         HEARTBEAT_ACK => Chunk::HeartbeatAck { info: value },
         ABORT => {

@@ -45,6 +45,19 @@ pub fn append(out: &mut Vec<u8>, bytes: &[u8])
     }
 }
 
+/// The same of a list's bytes: most lists are empty, and then nothing is done.
+#[inline(always)]
+pub fn append_list(out: &mut Vec<u8>, bytes: &[u8])
+    requires { vec_len out.old + length bytes.now ≤ vec_capacity out.old }
+    ensures items { out.new.items ≡ out.old.items ++ bytes.now }
+    ensures len { vec_len out.new ≡ vec_len out.old + length bytes.now }
+    ensures room { vec_capacity out.old ≤ vec_capacity out.new }
+{
+    if !bytes.is_empty() {
+        append(out, bytes);
+    }
+}
+
 /// Appends a head, what stands behind it, and zeros up to a multiple of 4: all after one test of room.
 ///
 /// # Errors
@@ -61,11 +74,29 @@ pub fn write_padded(out: &mut Vec<u8>, head: &[u8], rest: &[u8]) -> Result<(), N
 {
     let size = head.len() + rest.len();
     let whole = padded(size);
-    out.reserve(whole).map_err(|_| NoMemory)?;
+    make_room(out, whole)?;
     append(out, head);
     append(out, rest);
     append_zeros(out, whole - size);
     Ok(())
+}
+
+/// Makes room for so many bytes more, where it isn't there.
+///
+/// # Errors
+/// `NoMemory` where there was no room and none was got.
+#[inline(always)]
+pub fn make_room(out: &mut Vec<u8>, size: usize) -> Result<(), NoMemory>
+    ensures items { out.new.items ≡ out.old.items }
+    ensures len { vec_len out.new ≡ vec_len out.old }
+    ensures ok { OnOk result (vec_len out.new + size ≤ vec_capacity out.new) }
+    ensures capacity { vec_capacity out.old ≤ vec_capacity out.new }
+    ensures succeeds { vec_len out.old + size ≤ vec_capacity out.old → IsOk result }
+{
+    if size <= out.capacity() - out.len() {
+        return Ok(());
+    }
+    out.reserve(size).map_err(|_| NoMemory)
 }
 
 /// Appends a number of 16 bits, for which there is room.

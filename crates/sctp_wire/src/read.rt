@@ -11,9 +11,10 @@ ghost use Rattle.sctp_wire.specs.FirstFault.{Faults};
 ghost use Rattle.sctp_wire.specs.Reads.{Reads};
 ghost use Rattle.sctp_wire.specs.Starts.{first_data, first_i_data, starts_with_init, starts_reflected};
 
-use crate::body::read_value;
+use crate::body::{read_seen, read_value};
 use crate::chunk::Chunk;
 use crate::chunks::piece::Piece;
+use crate::codes::SACK;
 use crate::fault::WireFault;
 use crate::first::{
     behind_first, parted, split_data, split_i_data, starts_reflected, starts_with_init,
@@ -110,9 +111,13 @@ impl<'a> Iterator for Chunks<'a> {
             return None;
         }
         let (value, behind) = parted(self.rest);
-        let chunk = read_value(self.rest[0], self.rest[1], value);
+        let (kind, flags) = (self.rest[0], self.rest[1]);
         self.rest = behind;
-        Some(chunk)
+        // These come again and again: they are read here, and the others apart.
+        if kind == SACK {
+            return Some(read_seen(value));
+        }
+        Some(read_value(kind, flags, value))
     }
 }
 

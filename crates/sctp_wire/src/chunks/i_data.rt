@@ -45,6 +45,8 @@ pub fn read_i_data(flags: u8, value: &[u8]) -> Piece<'_>
     requires { 16 ≤ length value.now }
     ensures { piece_meaning result ≡ i_data_at flags value.now }
 {
+    // First, so that this one test of the length is the only one.
+    let bytes = &value[16..];
     Piece {
         immediate: is_set(flags, IMMEDIATE),
         unordered: is_set(flags, UNORDERED),
@@ -54,7 +56,7 @@ pub fn read_i_data(flags: u8, value: &[u8]) -> Piece<'_>
         stream: read_u16(&value[4..]),
         number: read_u32(&value[8..]),
         word: read_u32(&value[12..]),
-        bytes: &value[16..],
+        bytes,
     }
 }
 

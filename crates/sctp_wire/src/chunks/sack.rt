@@ -10,7 +10,7 @@ ghost use Rattle.sctp_wire.specs.inner.AtOnce.{sack_head};
 
 use crate::codes::{LONGEST, SACK};
 use crate::lists::{Blocks, Tsns};
-use crate::numbers::{append, read_u16, read_u32};
+use crate::numbers::{append, append_list, make_room, read_u16, read_u32};
 use sctp_values::NoMemory;
 
 /// The bytes of a SACK in front of its lists, the chunk's own header among them.
@@ -64,8 +64,9 @@ pub fn read_sack(value: &[u8]) -> Sack<'_>
     requires { is_sack_value value.now ≡ true }
     ensures { sack_meaning result ≡ sack_at value.now }
 {
-    let blocks = usize::from(read_u16(&value[8..]));
-    let (blocks, duplicates) = value[12..].split_at(4 * blocks);
+    // First, so that this is the only test of the numbers' length.
+    let lists = &value[12..];
+    let (blocks, duplicates) = lists.split_at(4 * usize::from(read_u16(&value[8..])));
     Sack {
         cumulative: read_u32(value),
         rwnd: read_u32(&value[4..]),
@@ -86,10 +87,10 @@ pub fn write_sack(out: &mut Vec<u8>, sack: &Sack<'_>) -> Result<(), NoMemory>
     ensures capacity { vec_capacity out.old ≤ vec_capacity out.new }
 {
     let size = HEADER + 4 * (sack.blocks.len() + sack.duplicates.len());
-    out.reserve(size).map_err(|_| NoMemory)?;
+    make_room(out, size)?;
     append(out, &sack_head(sack));
-    append(out, sack.blocks.bytes());
-    append(out, sack.duplicates.bytes());
+    append_list(out, sack.blocks.bytes());
+    append_list(out, sack.duplicates.bytes());
     Ok(())
 }
 

@@ -43,6 +43,8 @@ pub fn read_data(flags: u8, value: &[u8]) -> Piece<'_>
     requires { 12 ≤ length value.now }
     ensures { piece_meaning result ≡ data_at flags value.now }
 {
+    // First, so that this one test of the length is the only one.
+    let bytes = &value[12..];
     Piece {
         immediate: is_set(flags, IMMEDIATE),
         unordered: is_set(flags, UNORDERED),
@@ -52,7 +54,7 @@ pub fn read_data(flags: u8, value: &[u8]) -> Piece<'_>
         stream: read_u16(&value[4..]),
         number: u32::from(read_u16(&value[6..])),
         word: read_u32(&value[8..]),
-        bytes: &value[12..],
+        bytes,
     }
 }
 
