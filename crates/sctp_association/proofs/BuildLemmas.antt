@@ -234,7 +234,7 @@ with_traffic_kept (Ok tickets) e p traffic packed stands = (e.sender, packed, st
 with_traffic_kept (Err failed) e p traffic packed stands = packed
 
 -- the end with its sender gone on
-on_traffic : (m : Machine) (a b : Association) (v : EndView) (x : SenderView) → m.life ≡ life.Joined a → KeepsMachine m v → b ≡ record a { traffic = b.traffic }
+pub on_traffic : (m : Machine) (a b : Association) (v : EndView) (x : SenderView) → m.life ≡ life.Joined a → KeepsMachine m v → b ≡ record a { traffic = b.traffic }
     → TrafficStands b.traffic (format_for v.terms.interleave) x v.receiver → KeepsMachine (record m { life = life.Joined b }) (record v { sender = x })
 on_traffic m a b v x is k kept stands =
     subst (λ (h : Association). KeepsMachine (record m { life = life.Joined h }) (record v { sender = x })) (sym kept) (with_traffic m a b.traffic v x v.receiver is k stands refl)

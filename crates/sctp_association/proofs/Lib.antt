@@ -12,5 +12,6 @@ pub mod StartLemmas
 pub mod RoomLemmas
 pub mod PutLemmas
 pub mod BuildLemmas
+pub mod PlainLemmas
 pub mod AbortLemmas
 mod SoundLemmas

@@ -1,5 +1,5 @@
 -- What an end's user is told of what both ends agreed on.
-use Rattle.std.specs.Prelude.{◌≡◌, ℕ, ◌+◌, ◌<◌, Option, None, Some}
+use Rattle.std.specs.Prelude.{◌≡◌, ◌+◌, ◌<◌, Option, None, Some}
 use Rattle.sctp_model.specs.end.EndView.{Terms}
 use Rattle.sctp_association.specs.declared.agreed.Agreed.{Agreed}
 

@@ -10,6 +10,7 @@ use Rattle.sctp_model.specs.receiver.SackMade.{sack_sent}
 use Rattle.sctp_model.specs.end.EndView.{Configuration, EndView, format_of}
 use Rattle.sctp_model.specs.end.EndView as model
 use Rattle.sctp_model.specs.end.Building.{Slot, Puts, Builds, tag_to}
+use Rattle.sctp_packet.specs.Draft.{Draft}
 use Rattle.sctp_values.specs.declared.ticket.Ticket.{Ticket}
 use Rattle.sctp_association.specs.StartsMean.{starts_at, started_from}
 use Rattle.sctp_association.specs.DueStands.{DueStands}
@@ -67,6 +68,14 @@ drafted m e = record e {
 }
 
 -- ---- the packet
+
+-- It is this end's, by its limit and its header, and nothing went in yet.
+pub record IsFresh (e : EndView) (w : Draft) : Type 0 where
+  pub limit : w.limit ≡ e.configuration.limit
+  pub source : w.source ≡ e.configuration.own_port
+  pub destination : w.destination ≡ e.configuration.peer_port
+  pub tag : w.tag ≡ tag_to e.phase
+  pub chunks : w.chunks ≡ []
 
 -- The packet is this end's, by its limit and its header, and only a SACK that was due is marked.
 pub record IsOf (e : EndView) (p : Packing) : Type 0 where

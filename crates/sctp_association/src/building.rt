@@ -24,12 +24,11 @@ use crate::due::Due;
 use crate::filling::fill_behind;
 use crate::life::{Association, Life, Progress, Unjoined};
 use crate::machine::Machine;
-use crate::packing::{Marks, Packing};
+use crate::packing::Packing;
 use crate::putting::{put_echoing, put_open};
 use crate::timer::Alarm;
 use crate::traffic::Traffic;
 use sctp_opening::put_init;
-use sctp_packet::PacketWriter;
 use sctp_terms::{Config, Draw};
 use sctp_values::{NoMemory, Ticket};
 use std::alloc::Global;
@@ -53,29 +52,24 @@ impl Machine {
         ensures memory { (v : EndView) → MachineStands self.old v → OnErr result (MachineStands self.new v) }
     {
         let moment = self.moment.max(now);
+        if self.is_plain() {
+            return self.build_plain(moment);
+        }
+        self.build_any(moment)
+    }
+
+    /// The same, whatever is due, once the moment is told.
+    ///
+    /// # Errors
+    /// `NoMemory` where a growth was refused; nothing changed then.
+    #[inline(never)]
+    fn build_any(&mut self, moment: u64) -> Result<Option<Built>, NoMemory>
+        ensures built { (v : EndView) → MachineStands self.old v → IfOk result (λ built. BuildAnswer (record v { moment = moment }) built self.new) }
+        ensures memory { (v : EndView) → MachineStands self.old v → OnErr result (MachineStands self.new v) }
+    {
         let mut packing = self.packing();
         let tickets = self.pack(&mut packing)?;
         Ok(self.sent(moment, packing, tickets))
-    }
-
-    /// An empty packet of this end, in the room that it keeps, and all that is due.
-    fn packing(&mut self) -> Packing
-        ensures empty { (v : EndView) (moment : ℕ) → MachineStands self.old v → IsEmpty (record v { moment = moment }) result }
-        ensures keeps { (v : EndView) → MachineStands self.old v → MachineStands self.new v }
-    {
-        let room = self.take_room();
-        let config = &self.config;
-        let tag = self.peer_tag().unwrap_or(0);
-        Packing {
-            writer: PacketWriter::in_room(
-                room,
-                config.limit(),
-                config.own_port(),
-                config.peer_port(),
-                tag,
-            ),
-            marks: Marks::of(&self.due),
-        }
     }
 
     /// All chunks of the next packet go in, by where the end stands in its life. Of the end only the sender changes.
@@ -118,7 +112,7 @@ impl Machine {
     }
 
     /// Once a SACK that was due went out, the duplicates that it told are forgotten, and none waits (RFC 9260, 6.2).
-    fn when_sack_sent(&mut self, was_due: bool, is_due: bool)
+    pub(crate) fn when_sack_sent(&mut self, was_due: bool, is_due: bool)
         ensures { (v : EndView) → MachineStands self.old v
             → MachineStands self.new (record v { delayed = delayed_left was_due is_due v.delayed; receiver = receiver_left was_due is_due v.receiver }) }
     {

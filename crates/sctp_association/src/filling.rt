@@ -50,6 +50,7 @@ impl Traffic {
     ///
     /// # Errors
     /// Memory ran out; nothing of the traffic changed.
+    #[inline(always)]
     pub fn fill(&mut self, packet: &mut PacketWriter) -> Result<Filled, NoMemory>
         ensures chunks { (f : Format) (s : SenderView) (r : ReceiverView) → TrafficStands self.old f s r
             → OnOk result (packet.new ≡ with_chunks packet.old (map (chunk_of f) (fill f (room_in packet.old) s).wishes)) }

@@ -21,6 +21,7 @@ mod opening;
 mod packing;
 mod parts;
 mod passing;
+mod plain;
 mod putting;
 mod readers;
 mod receiving;

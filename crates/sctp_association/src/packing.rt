@@ -1,15 +1,17 @@
 //! A packet in the making, and what it leaves at its end (RFC 9260, 6.10). Nothing of the end changes before the packet is whole, so that
 //! there is nothing to undo where memory runs out.
 
-ghost use Rattle.std.specs.Prelude.{◌≡◌, List, option_map};
+ghost use Rattle.std.specs.Prelude.{◌≡◌, ℕ, List, option_map};
 ghost use Rattle.sctp_model.specs.wire.Typed.{Typed, WritesTyped};
 ghost use Rattle.sctp_model.specs.end.EndView as model;
 ghost use Rattle.sctp_model.specs.end.EndView.{EndView};
 ghost use Rattle.sctp_association.specs.DueStands.{DueStands, info_bytes};
-ghost use Rattle.sctp_association.specs.Drafted.{value_left, causes_left, due_left, drafted};
+ghost use Rattle.sctp_association.specs.Drafted.{value_left, causes_left, due_left, drafted, IsFresh, IsEmpty};
+ghost use Rattle.sctp_association.specs.MachineStands.{MachineStands};
 
 use crate::carried::{HeartbeatInfo, WaitingCauses};
 use crate::due::Due;
+use crate::machine::Machine;
 use crate::starts::Starts;
 use sctp_packet::PacketWriter;
 use std::alloc::Global;
@@ -36,6 +38,40 @@ pub(crate) struct Marks {
 pub(crate) struct Packing {
     pub(crate) writer: PacketWriter,
     pub(crate) marks: Marks,
+}
+
+#[tactic(auto, unfolding(crate::specs::MachineStands::MachineStands))]
+impl Machine {
+    /// An empty packet of this end, in the room that it keeps, and all that is due.
+    pub(crate) fn packing(&mut self) -> Packing
+        ensures empty { (v : EndView) (moment : ℕ) → MachineStands self.old v → IsEmpty (record v { moment = moment }) result }
+        ensures keeps { (v : EndView) → MachineStands self.old v → MachineStands self.new v }
+    {
+        let writer = self.empty_packet();
+        Packing {
+            writer,
+            marks: Marks::of(&self.due),
+        }
+    }
+
+    /// An empty packet of this end, in the room that it keeps.
+    #[inline(always)]
+    pub(crate) fn empty_packet(&mut self) -> PacketWriter
+        ensures empty { (v : EndView) → MachineStands self.old v → IsFresh v result }
+        ensures keeps { (v : EndView) → MachineStands self.old v → MachineStands self.new v }
+        ensures kept { self.new.due ≡ self.old.due }
+    {
+        let room = self.take_room();
+        let config = &self.config;
+        let tag = self.peer_tag().unwrap_or(0);
+        PacketWriter::in_room(
+            room,
+            config.limit(),
+            config.own_port(),
+            config.peer_port(),
+            tag,
+        )
+    }
 }
 
 impl Marks {

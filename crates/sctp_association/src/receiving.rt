@@ -55,6 +55,7 @@ impl Traffic {
     ///
     /// # Errors
     /// Memory ran out.
+    #[inline(always)]
     pub fn sack(&self) -> Result<SackLists, NoMemory>
         ensures sack { (f : Format) (s : SenderView) (r : ReceiverView) → TrafficStands self.now f s r → IfOk result (λ l. IsSack r (lists_meaning l)) }
         ensures fits { IfOk result (λ l. Fits (Sack (lists_meaning l))) }

@@ -1,5 +1,6 @@
 //! Rooms that come back: what the user of an end is done with is used again, in place of new memory. None of it shows in what an end is or answers.
 
+ghost use Rattle.std.specs.Prelude.{◌≡◌};
 ghost use Rattle.sctp_model.specs.end.EndView.{EndView};
 ghost use Rattle.sctp_association.specs.MachineStands.{MachineStands};
 
@@ -37,7 +38,8 @@ impl Machine {
 
     /// The room that is kept, for the next packet: none is kept any more.
     pub(crate) fn take_room(&mut self) -> Vec<u8>
-        ensures { (v : EndView) → MachineStands self.old v → MachineStands self.new v }
+        ensures stands { (v : EndView) → MachineStands self.old v → MachineStands self.new v }
+        ensures due { self.new.due ≡ self.old.due }
     {
         replace(&mut self.room, Vec::new(self.alloc))
     }

@@ -6,6 +6,7 @@ ghost use Rattle.sctp_model.specs.end.Clock.{stopped, replaced};
 ghost use Rattle.sctp_model.specs.end.Moments.{earlier, earliest, all_alarms};
 ghost use Rattle.sctp_association.specs.TimersMean.{alarm_meaning, timer_meaning, timers_meaning, kept_if, open_timers, resting};
 ghost use Rattle.sctp_association.specs.StartsMean.{starts_at, started_from};
+ghost use Rattle.sctp_association.specs.PlainPacket.{fragments_alone};
 
 use crate::starts::Starts;
 use crate::timer::{Alarm, Timer};
@@ -82,6 +83,13 @@ impl Timers {
         self.fragments.start_if(starts.fragments, now);
         self.shutdown.start_if(starts.shutdown, now);
         self.shutdown_ack.start_if(starts.shutdown_ack, now);
+    }
+
+    /// Starts that of fragments, where it is to start and doesn't run, at this moment.
+    pub(crate) fn start_fragments(&mut self, starts: bool, now: u64)
+        ensures { timers_meaning self.new ≡ started_from (starts_at (fragments_alone starts)) now (timers_meaning self.old) }
+    {
+        self.fragments.start_if(starts, now);
     }
 
     /// Stops a timer.

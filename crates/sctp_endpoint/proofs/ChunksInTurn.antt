@@ -82,6 +82,11 @@ pub piece_left : (interleaved : Bool) (a : After) (v : EndView) (tag : ℕ) (p :
 piece_left true a v tag p m left = left
 piece_left false a v tag p m left = left
 
+pub piece_goes_on : (interleaved : Bool) (tag : ℕ) (t w : EndView) (k : Notes) (note : Note) (p : PieceMeaning)
+    → PieceActs (format_for interleaved) t p (GoesOn note w) → GoesOnBehind tag t k (data_chunk (format_for interleaved) p) (rested w) (noted note k)
+piece_goes_on true tag t w k note p acts = goes_on tag t w k note (data_chunk (format_for true) p) acts
+piece_goes_on false tag t w k note p acts = goes_on tag t w k note (data_chunk (format_for false) p) acts
+
 pub piece_tagged : (interleaved : Bool) (p : PieceMeaning) → HasTag (data_chunk (format_for interleaved) p)
 piece_tagged true p = tt
 piece_tagged false p = tt

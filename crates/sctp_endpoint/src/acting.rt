@@ -8,14 +8,14 @@ ghost use Rattle.sctp_model.specs.end.Acting.{Acts};
 ghost use Rattle.sctp_wire.specs.ChunkTree.{chunk_meaning, piece_meaning};
 ghost use Rattle.sctp_association.specs.MachineStands.{MachineStands};
 ghost use Rattle.sctp_endpoint.specs.Left.{Left};
-ghost use Rattle.sctp_endpoint.specs.inner.Acted.{HasTag, ActsOne, ActsAll};
+ghost use Rattle.sctp_endpoint.specs.inner.Acted.{HasTag, told_by, ActsOne, ActsAll};
 
 use crate::after::{After, Notes, Verdict};
 use crate::closing::{on_abort, on_complete, on_error, on_shutdown_ack};
 use crate::forwards::on_forward;
 use crate::opening::{on_cookie_ack, on_cookie_echo, on_init_ack};
-use crate::pieces::on_piece;
-use crate::sacks::on_sack;
+use crate::pieces::{asks_at_once, is_heard, on_piece};
+use crate::sacks::{counts, on_sack};
 use crate::shutdowns::on_shutdown;
 use crate::small::{on_heartbeat, on_unknown};
 use sctp_association::Machine;
@@ -53,87 +53,168 @@ fn act(machine: &mut Machine, tag: u32, chunk: &Chunk<'_>) -> Result<After, NoMe
     }
 }
 
-/// What a chunk left is noted, and an end that is drained goes on with closing at once. None where the packet goes on
-/// behind it.
-fn note(machine: &mut Machine, notes: &mut Notes, after: After) -> Option<Verdict>
+/// What a chunk left is noted, and an end that is drained goes on with closing at once. True where the packet ends with the chunk, and what is
+/// told of it then.
+fn note(machine: &mut Machine, notes: &mut Notes, told: &mut Verdict, after: After) -> bool
     ensures { (tag : ℕ) (v : EndView) (m : ChunkMeaning) → Left after v (Acts v tag m) machine.old
-        → ActsOne tag v notes.old m (Ok result) machine.new notes.new }
+        → ActsOne tag v notes.old m (told_by (Ok result) told.new) machine.new notes.new }
 {
     match after {
         After::GoesOn => {
             machine.rest();
             notes.listed = true;
-            None
+            false
         }
         After::Acknowledges { is_data, at_once } => {
             machine.rest();
             notes.acknowledge(is_data, at_once);
-            None
+            false
         }
-        After::PassedOver => None,
-        After::Ends => Some(Verdict::Taken),
-        After::Replies(packet) => Some(Verdict::Answer(packet)),
-        After::Drops(reason) => Some(Verdict::Dropped(reason)),
+        After::PassedOver => false,
+        After::Ends => {
+            *told = Verdict::Taken;
+            true
+        }
+        After::Replies(packet) => {
+            *told = Verdict::Answer(packet);
+            true
+        }
+        After::Drops(reason) => {
+            *told = Verdict::Dropped(reason);
+            true
+        }
     }
 }
 
-/// A DATA acts, or an I-DATA, and is noted. None where the packet goes on behind it.
+/// A DATA acts, or an I-DATA, and is noted. True where the packet ends with it. Most are taken, and of these nothing is told.
 ///
 /// # Errors
 /// Memory ran out, and nothing changed.
+#[inline(always)]
 fn go_on_piece(
     machine: &mut Machine,
     interleaved: bool,
     notes: &mut Notes,
+    told: &mut Verdict,
     piece: &Piece<'_>,
-) -> Result<Option<Verdict>, NoMemory>
+) -> Result<bool, NoMemory>
     ensures { (tag : ℕ) (v : EndView) → MachineStands machine.old v
-        → ActsOne tag v notes.old (data_chunk (format_for interleaved) (piece_meaning piece.now)) result machine.new notes.new }
+        → ActsOne tag v notes.old (data_chunk (format_for interleaved) (piece_meaning piece.now)) (told_by result told.new) machine.new notes.new }
 {
-    let after = on_piece(machine, interleaved, piece)?;
-    Ok(note(machine, notes, after))
+    if !is_heard(machine, interleaved, piece) {
+        return go_on_unheard(machine, interleaved, notes, told, piece);
+    }
+    let answer = machine.hear_piece(piece)?;
+    machine.rest();
+    notes.acknowledge(true, asks_at_once(piece.immediate, answer));
+    Ok(false)
 }
 
-/// A chunk acts, and is noted. None where the packet goes on behind it.
+/// The same, whether it is taken or not.
 ///
 /// # Errors
 /// Memory ran out, and nothing changed.
+#[inline(never)]
+fn go_on_unheard(
+    machine: &mut Machine,
+    interleaved: bool,
+    notes: &mut Notes,
+    told: &mut Verdict,
+    piece: &Piece<'_>,
+) -> Result<bool, NoMemory>
+    ensures { (tag : ℕ) (v : EndView) → MachineStands machine.old v
+        → ActsOne tag v notes.old (data_chunk (format_for interleaved) (piece_meaning piece.now)) (told_by result told.new) machine.new notes.new }
+{
+    let after = on_piece(machine, interleaved, piece)?;
+    Ok(note(machine, notes, told, after))
+}
+
+/// A chunk acts, and is noted. True where the packet ends with it.
+///
+/// # Errors
+/// Memory ran out, and nothing changed.
+#[inline(never)]
 fn go_on(
     machine: &mut Machine,
     tag: u32,
     notes: &mut Notes,
+    told: &mut Verdict,
     chunk: &Chunk<'_>,
-) -> Result<Option<Verdict>, NoMemory>
-    ensures { (v : EndView) → MachineStands machine.old v → ActsOne tag v notes.old (chunk_meaning chunk.now) result machine.new notes.new }
+) -> Result<bool, NoMemory>
+    ensures { (v : EndView) → MachineStands machine.old v → ActsOne tag v notes.old (chunk_meaning chunk.now) (told_by result told.new) machine.new notes.new }
 {
     let after = act(machine, tag, chunk)?;
-    Ok(note(machine, notes, after))
+    Ok(note(machine, notes, told, after))
 }
 
-/// The first chunk acts and is taken away: data, which most chunks are, as the piece that it is.
+/// The same, where most chunks are SACKs that count.
+///
+/// # Errors
+/// Memory ran out, and nothing changed.
+fn go_on_sack(
+    machine: &mut Machine,
+    tag: u32,
+    notes: &mut Notes,
+    told: &mut Verdict,
+    chunk: &Chunk<'_>,
+) -> Result<bool, NoMemory>
+    ensures { (v : EndView) → MachineStands machine.old v → ActsOne tag v notes.old (chunk_meaning chunk.now) (told_by result told.new) machine.new notes.new }
+{
+    if let Chunk::Sack(sack) = chunk {
+        if counts(machine, sack) {
+            machine.rest();
+            notes.listed = true;
+            return Ok(false);
+        }
+    }
+    go_on(machine, tag, notes, told, chunk)
+}
+
+/// The first chunk acts and is taken away.
 ///
 /// # Errors
 /// Memory ran out, and nothing changed but that the chunk is taken away.
+#[inline(never)]
+fn act_any(
+    machine: &mut Machine,
+    tag: u32,
+    notes: &mut Notes,
+    told: &mut Verdict,
+    chunks: &mut Chunks<'_>,
+) -> Result<bool, NoMemory>
+    ensures taken { (m : ChunkMeaning) (ms : List ChunkMeaning) → chunks.old ≡ m ∷ ms → chunks.new ≡ ms }
+    ensures step { (v : EndView) (m : ChunkMeaning) (ms : List ChunkMeaning) → chunks.old ≡ m ∷ ms
+        → MachineStands machine.old v → ActsOne tag v notes.old m (told_by result told.new) machine.new notes.new }
+{
+    match chunks.next() {
+        Some(chunk) => go_on_sack(machine, tag, notes, told, &chunk),
+        None => Ok(false),
+    }
+}
+
+/// The same; data, which most chunks are, acts as the piece that it is.
+///
+/// # Errors
+/// Memory ran out, and nothing changed but that the chunk is taken away.
+#[inline(always)]
 fn act_next(
     machine: &mut Machine,
     tag: u32,
     notes: &mut Notes,
+    told: &mut Verdict,
     chunks: &mut Chunks<'_>,
-) -> Result<Option<Verdict>, NoMemory>
+) -> Result<bool, NoMemory>
     ensures taken { (m : ChunkMeaning) (ms : List ChunkMeaning) → chunks.old ≡ m ∷ ms → chunks.new ≡ ms }
     ensures step { (v : EndView) (m : ChunkMeaning) (ms : List ChunkMeaning) → chunks.old ≡ m ∷ ms
-        → MachineStands machine.old v → ActsOne tag v notes.old m result machine.new notes.new }
+        → MachineStands machine.old v → ActsOne tag v notes.old m (told_by result told.new) machine.new notes.new }
 {
     if let Some(piece) = chunks.next_data() {
-        return go_on_piece(machine, false, notes, &piece);
+        return go_on_piece(machine, false, notes, told, &piece);
     }
     if let Some(piece) = chunks.next_i_data() {
-        return go_on_piece(machine, true, notes, &piece);
+        return go_on_piece(machine, true, notes, told, &piece);
     }
-    match chunks.next() {
-        Some(chunk) => go_on(machine, tag, notes, &chunk),
-        None => Ok(None),
-    }
+    act_any(machine, tag, notes, told, chunks)
 }
 
 /// Chunks act in their order, each on what the one before left, and are noted.
@@ -149,9 +230,10 @@ pub(crate) fn act_all(
     ensures { (v : EndView) → MachineStands machine.old v → ActsAll tag v notes.old chunks.entry result machine.new notes.new }
 {
     let mut rest = chunks;
+    let mut told = Verdict::Taken;
     while !rest.is_empty() {
-        if let Some(verdict) = act_next(machine, tag, notes, &mut rest)? {
-            return Ok(verdict);
+        if act_next(machine, tag, notes, &mut told, &mut rest)? {
+            return Ok(told);
         }
     }
     if notes.listed {

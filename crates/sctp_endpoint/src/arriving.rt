@@ -82,6 +82,7 @@ pub(crate) fn arrive(
 ///
 /// # Errors
 /// Memory ran out: the chunks before the one that wanted it have acted.
+#[inline(never)]
 fn arrive_outside(
     machine: &mut Machine,
     packet: Packet<'_>,

@@ -1,5 +1,5 @@
 -- What acted of a packet so far, in terms of a view, of the chunks and of the notes on them (RFC 9260, 6.2 and 6.10).
-use Rattle.std.specs.Prelude.{◌≡◌, ℕ, ◌<◌, List, ◌∷◌, ◌++◌, Option, Some, None, Result, Ok, Err}
+use Rattle.std.specs.Prelude.{◌≡◌, ℕ, ◌<◌, Bool, true, false, List, ◌∷◌, ◌++◌, Option, Some, None, Result, Ok, Err}
 use Rattle.sctp_model.specs.wire.Chunk.{ChunkMeaning, InitAck}
 use Rattle.sctp_model.specs.end.EndView.{EndView}
 use Rattle.sctp_model.specs.end.Strays as model
@@ -29,6 +29,12 @@ GoesOnBehind tag v k m t l =
 -- whatever follows a chunk, the packet ends with it
 abbrev pub EndsWith : ℕ → EndView → arriving.Notes → ChunkMeaning → EndView → model.Verdict → Type 0
 EndsWith tag v k m t x = (rest : List ChunkMeaning) → AllAct tag v k (m ∷ rest) t k x
+
+-- What a chunk that acted told: whether the packet ends with it, and then what of it.
+abbrev pub told_by : Result Bool NoMemory → Verdict → Result (Option Verdict) NoMemory
+told_by (Ok true) told = Ok (Some told)
+told_by (Ok false) told = Ok None
+told_by (Err why) told = Err why
 
 -- One chunk acted: the packet goes on behind it, or ends with it, and what answers it is within the limit. After want of memory nothing has acted.
 abbrev pub ActsOne : ℕ → EndView → Notes → ChunkMeaning → Result (Option Verdict) NoMemory → Machine → Notes → Type 0

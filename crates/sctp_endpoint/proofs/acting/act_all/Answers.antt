@@ -21,7 +21,7 @@ pub loop-rest-preserved : goal.loop-rest-preserved
 loop-rest-preserved c = λ v stands.
     let i = c.loop-rest.invariant v stands in
     let s = begins c.loop-rest.rest (grind (arith, common_steps)) in
-    let one = rw c.in_default.is at c.in_ok-verdict.ensures.step i.1 s.0 s.1 s.2 i.3 in (
+    let one = rw c.if-branch.false at c.in_ok-act_next.ensures.step i.1 s.0 s.1 s.2 i.3 in (
       i.0 ++ s.0 ∷ [],
       one.0,
       rw (append_assoc, c.act_next.ensures.taken s.0 s.1 s.2, ← s.2) i.2,
@@ -29,24 +29,24 @@ loop-rest-preserved c = λ v stands.
       behind_more c.args.tag v i.1 one.0 _ (notes_meaning c.loop-rest.notes) (notes_meaning c.act_next.new.notes) i.0 s.0 i.4 one.2,
     )
 
-pub returns-in-Some : goal.returns-in-Some
-returns-in-Some c = λ v stands.
+pub returns-then-branch : goal.returns-then-branch
+returns-then-branch c = λ v stands.
     let i = c.loop-rest.invariant v stands in
     let s = begins c.loop-rest.rest (grind (arith, common_steps)) in
-    let one = rw c.in-Some.is at c.in_ok-verdict.ensures.step i.1 s.0 s.1 s.2 i.3 in (
+    let one = rw c.if-branch.true at c.in_ok-act_next.ensures.step i.1 s.0 s.1 s.2 i.3 in (
       one.0,
       one.1,
       behind_end c.args.tag v i.1 one.0 _ c.loop-rest.notes c.act_next.new.notes _ i.0 s.1 s.0 one.1 one.2 (rw (← s.2) i.2) i.4 one.3,
       one.4,
-      subst (λ (k : Configuration). IsAnsweredWithin k.limit c.in-Some.verdict) (set_up_behind c.args.tag v i.1 _ (notes_meaning c.loop-rest.notes) i.0 i.4) one.5,
+      subst (λ (k : Configuration). IsAnsweredWithin k.limit c.act_next.new.told) (set_up_behind c.args.tag v i.1 _ (notes_meaning c.loop-rest.notes) i.0 i.4) one.5,
       one.6,
     )
 
-pub returns-in_err-verdict : goal.returns-in_err-verdict
-returns-in_err-verdict c = λ v stands.
+pub returns-in_err-act_next : goal.returns-in_err-act_next
+returns-in_err-act_next c = λ v stands.
     let i = c.loop-rest.invariant v stands in
     let s = begins c.loop-rest.rest (grind (arith, common_steps)) in
-    let one = c.in_err-verdict.ensures.step i.1 s.0 s.1 s.2 i.3 in
+    let one = c.in_err-act_next.ensures.step i.1 s.0 s.1 s.2 i.3 in
     let p = err_from_is_err_and c.from_residual.result c.from_residual.ensures.1 in
     rw p.1 (
       i.0,
@@ -65,8 +65,8 @@ returns-then-notes c = λ v stands.
     let none = ends c.loop-rest.rest (grind (arith, common_steps)) in
     (i.1, model.Taken, behind_all c.args.tag v i.1 _ (notes_meaning c.loop-rest.notes) true _ i.0 _ c.if-notes.true i.2 none i.4, refl, tt, i.3)
 
-pub returns-else-notes : goal.returns-else-notes
-returns-else-notes c = λ v stands.
+pub returns : goal.returns
+returns c = λ v stands.
     let i = c.loop-rest.invariant v stands in
     let none = ends c.loop-rest.rest (grind (arith, common_steps)) in
     (i.1, model.Dropped STATE, behind_all c.args.tag v i.1 _ (notes_meaning c.loop-rest.notes) false _ i.0 _ c.if-notes.false i.2 none i.4, refl, tt, i.3)

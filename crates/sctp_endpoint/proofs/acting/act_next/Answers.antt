@@ -1,6 +1,6 @@
 use Rattle.std.proofs.Common.{◌∙◌, subst}
 use Rattle.sctp_model.specs.wire.Chunk.{ChunkMeaning}
-use Rattle.sctp_endpoint.specs.inner.Acted.{ActsOne}
+use Rattle.sctp_endpoint.specs.inner.Acted.{told_by, ActsOne}
 use Rattle.sctp_endpoint.proofs.ChunksInTurn.{same_first, same_others}
 use Rattle.sctp_endpoint.proofs.acting.act_next.Goals as goal
 
@@ -9,7 +9,7 @@ returns-in-Some-clause-taken c = λ m ms e. same_others _ _ _ _ _ c.in-Some.ensu
 
 pub returns-in-Some-clause-step : goal.returns-in-Some-clause-step
 returns-in-Some-clause-step c = λ v m ms e stands.
-    subst (λ (x : ChunkMeaning). ActsOne c.args.tag v c.args.notes.now x c.go_on_piece.result c.go_on_piece.new.machine c.go_on_piece.new.notes)
+    subst (λ (x : ChunkMeaning). ActsOne c.args.tag v c.args.notes.now x (told_by c.go_on_piece.result c.go_on_piece.new.told) c.go_on_piece.new.machine c.go_on_piece.new.notes)
     (same_first _ _ _ _ _ c.in-Some.ensures e) (c.go_on_piece.ensures c.args.tag v stands)
 
 pub returns-in-Some-next_i_data-clause-taken : goal.returns-in-Some-next_i_data-clause-taken
@@ -17,14 +17,12 @@ returns-in-Some-next_i_data-clause-taken c = λ m ms e. same_others _ _ _ _ _ c.
 
 pub returns-in-Some-next_i_data-clause-step : goal.returns-in-Some-next_i_data-clause-step
 returns-in-Some-next_i_data-clause-step c = λ v m ms e stands.
-    subst (λ (x : ChunkMeaning). ActsOne c.args.tag v c.args.notes.now x c.go_on_piece-in-Some-next_i_data.result c.go_on_piece-in-Some-next_i_data.new.machine c.go_on_piece-in-Some-next_i_data.new.notes)
+    subst (λ (x : ChunkMeaning). ActsOne c.args.tag v c.args.notes.now x (told_by c.go_on_piece-in-Some-next_i_data.result c.go_on_piece-in-Some-next_i_data.new.told)
+    c.go_on_piece-in-Some-next_i_data.new.machine c.go_on_piece-in-Some-next_i_data.new.notes)
     (same_first _ _ _ _ _ c.in-Some-next_i_data.ensures (c.in_default.ensures.0 ∙ e)) (c.go_on_piece-in-Some-next_i_data.ensures c.args.tag v stands)
 
-pub returns-in-Some-next-clause-taken : goal.returns-in-Some-next-clause-taken
-returns-in-Some-next-clause-taken c = λ m ms e.
-    same_others _ _ _ _ _ c.in-Some-next.ensures.steps (c.in_default-next_i_data.ensures.0 ∙ c.in_default.ensures.0 ∙ e)
+pub returns-clause-taken : goal.returns-clause-taken
+returns-clause-taken c = λ m ms e. c.act_any.ensures.taken m ms (c.in_default-next_i_data.ensures.0 ∙ c.in_default.ensures.0 ∙ e)
 
-pub returns-in-Some-next-clause-step : goal.returns-in-Some-next-clause-step
-returns-in-Some-next-clause-step c = λ v m ms e stands.
-    subst (λ (x : ChunkMeaning). ActsOne c.args.tag v c.args.notes.now x c.go_on.result c.go_on.new.machine c.go_on.new.notes)
-    (same_first _ _ _ _ _ c.in-Some-next.ensures.steps (c.in_default-next_i_data.ensures.0 ∙ c.in_default.ensures.0 ∙ e)) (c.go_on.ensures v stands)
+pub returns-clause-step : goal.returns-clause-step
+returns-clause-step c = λ v m ms e stands. c.act_any.ensures.step v m ms (c.in_default-next_i_data.ensures.0 ∙ c.in_default.ensures.0 ∙ e) stands

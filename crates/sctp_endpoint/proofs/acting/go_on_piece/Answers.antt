@@ -1,17 +1,31 @@
-use Rattle.std.proofs.Common.{refl}
+use Rattle.std.proofs.Common.{true, refl}
 use Rattle.std.proofs.lemmas.Result.{err_from_is_err_and}
-use Rattle.sctp_model.specs.messages.Framing.{data_chunk}
-use Rattle.sctp_model.specs.end.EndView.{format_for}
+use Rattle.sctp_model.specs.end.EndView.{EndView}
+use Rattle.sctp_model.specs.end.Closing.{rested}
+use Rattle.sctp_model.specs.end.PeerFaults.{ToAcknowledge}
+use Rattle.sctp_model.specs.end.Reports.{with_causes}
+use Rattle.sctp_model.specs.end.Acting.{PieceComes, asks_at_once, piece_causes}
 use Rattle.sctp_wire.specs.ChunkTree.{piece_meaning}
-use Rattle.sctp_endpoint.proofs.ChunksInTurn.{piece_left, piece_tagged}
+use Rattle.sctp_recv.specs.AnswerOf.{answer_of}
+use Rattle.sctp_endpoint.specs.inner.Acted.{notes_meaning}
+use Rattle.sctp_endpoint.proofs.ChunksInTurn.{piece_goes_on, piece_tagged}
 use Rattle.sctp_endpoint.proofs.acting.go_on_piece.Goals as goal
 
 pub returns : goal.returns
 returns c = λ tag v stands.
+    let h = c.is_heard.ensures v stands c.if-not-is_heard.false in
     let p = piece_meaning c.args.piece.now in
-    c.note.ensures tag v (data_chunk (format_for c.args.interleaved) p) (piece_left c.args.interleaved _ v tag p _ (c.in_ok-after.ensures.step v stands))
+    let took = c.in_ok-answer.ensures.step v h.tags h.stage stands h.phase in
+    let a = answer_of c.in_ok-answer.answer in
+    let w : EndView = with_causes (piece_causes v p a) (record v { receiver = took.0 }) in (
+      rested w,
+      c.rest.ensures w took.2,
+      rw (c.acknowledge.ensures, c.asks_at_once.ensures p refl)
+          (piece_goes_on c.args.interleaved tag v w (notes_meaning c.args.notes.now) (ToAcknowledge true (asks_at_once p a)) p
+          (PieceComes h.tags h.stage a took.0 h.phase h.takes h.some h.same took.1)),
+    )
 
-pub returns-in_err-after : goal.returns-in_err-after
-returns-in_err-after c = λ tag v stands.
+pub returns-in_err-answer : goal.returns-in_err-answer
+returns-in_err-answer c = λ tag v stands.
     let p = err_from_is_err_and c.from_residual.result c.from_residual.ensures.1 in
-    rw p.1 (c.in_err-after.ensures.refused v stands, refl, piece_tagged c.args.interleaved (piece_meaning c.args.piece.now))
+    rw p.1 (c.in_err-answer.ensures.refused v stands, refl, piece_tagged c.args.interleaved (piece_meaning c.args.piece.now))

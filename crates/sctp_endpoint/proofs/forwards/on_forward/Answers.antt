@@ -1,4 +1,4 @@
-use Rattle.std.proofs.Common.{◌∙◌, true, false, sym}
+use Rattle.std.proofs.Common.{◌∙◌, false, sym}
 use Rattle.sctp_model.specs.end.EndView.{AbortedHere, EndView}
 use Rattle.sctp_model.specs.end.Clock.{closed}
 use Rattle.sctp_model.specs.end.Closing.{takes_data}

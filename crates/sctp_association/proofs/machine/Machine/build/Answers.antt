@@ -1,20 +1,21 @@
-use Rattle.std.proofs.Common.{◌≡◌, ◌∙◌, ℕ, ap, subst}
+use Rattle.std.proofs.Common.{◌≡◌, ◌∙◌, ℕ, IfOk, ap, subst}
 use Rattle.std.specs.Prelude.{max}
 use Rattle.sctp_association.specs.MachineStands.{MachineStands}
 use Rattle.sctp_association.specs.BuildAnswers.{BuildAnswer}
-use Rattle.sctp_association.proofs.BuildLemmas.{answered}
-use Rattle.sctp_association.proofs.ReportLemmas.{on_err}
 use Rattle.sctp_association.proofs.machine.Machine.build.Goals as goal
 
-pub returns-in_err-tickets-clause-memory : goal.returns-in_err-tickets-clause-memory
-returns-in_err-tickets-clause-memory c = λ v stands. on_err _ _ (c.in_err-tickets.ensures.memory v (c.packing-packing.ensures.keeps v stands))
+pub returns-then-is_plain-clause-built : goal.returns-then-is_plain-clause-built
+unfolding MachineStands
+returns-then-is_plain-clause-built c = λ v stands.
+    let n = c.max-moment.result in
+    let clock : n ≡ max v.moment c.args.now = c.max-moment.ensures ∙ ap (λ (m : ℕ). max m c.args.now) stands.clock in
+    let plain = c.is_plain.ensures v stands c.if-is_plain.true in
+    subst (λ (m : ℕ). IfOk c.build_plain.result (λ built. BuildAnswer (record v { moment = m }) built c.build_plain.new.self)) clock
+    (c.build_plain.ensures.built v plain.0 plain.1 stands plain.2 plain.3)
 
 pub returns-clause-built : goal.returns-clause-built
 unfolding MachineStands
 returns-clause-built c = λ v stands.
     let n = c.max-moment.result in
     let clock : n ≡ max v.moment c.args.now = c.max-moment.ensures ∙ ap (λ (m : ℕ). max m c.args.now) stands.clock in
-    let packed = c.in_ok-tickets.ensures.packed v n (c.packing-packing.ensures.keeps v stands) (c.packing-packing.ensures.empty v n stands) in
-    subst (λ (m : ℕ). BuildAnswer (record v { moment = m }) c.sent.result c.sent.new.self) clock
-    (answered (record v { moment = n }) packed.0 c.sent.result c.sent.new.self c.pack.new.packing c.in_ok-tickets.tickets packed.1
-    c.sent.ensures.packet c.sent.ensures.size c.sent.ensures.within c.sent.ensures.tickets (c.sent.ensures.stands (record v { sender = packed.0 }) packed.2))
+    subst (λ (m : ℕ). IfOk c.build_any.result (λ built. BuildAnswer (record v { moment = m }) built c.build_any.new.self)) clock (c.build_any.ensures.built v stands)

@@ -1,24 +1,20 @@
-use Rattle.std.proofs.Common.{◌∙◌, ℕ, ap, sym}
-use Rattle.std.specs.Prelude.{Option, unwrap_or}
-use Rattle.sctp_model.specs.end.EndView.{Configuration}
-use Rattle.sctp_packet.specs.Draft.{Draft}
+use Rattle.std.proofs.Common.{◌∙◌, sym}
 use Rattle.sctp_association.specs.MachineStands.{MachineStands}
-use Rattle.sctp_association.proofs.BuildLemmas.{tag_by}
 use Rattle.sctp_association.proofs.machine.Machine.packing.Goals as goal
 
 pub returns-clause-empty : goal.returns-clause-empty
 unfolding MachineStands
 returns-clause-empty c = λ v moment before.
-    let stands = c.take_room-room.ensures v before in
-    let d = c.in_room.ensures in
+    let stands = c.empty_packet-writer.ensures.keeps v before in
+    let fresh = c.empty_packet-writer.ensures.empty v before in
     record {
       packet = record {
-        limit = ap (λ (w : Draft). w.limit) d ∙ (c.limit.ensures.exact ∙ ap (λ (k : Configuration). k.limit) stands.configuration);
-        source = ap (λ (w : Draft). w.source) d ∙ (c.own_port.ensures.exact ∙ ap (λ (k : Configuration). k.own_port) stands.configuration);
-        destination = ap (λ (w : Draft). w.destination) d ∙ (c.peer_port.ensures.exact ∙ ap (λ (k : Configuration). k.peer_port) stands.configuration);
-        tag = ap (λ (w : Draft). w.tag) d ∙ (c.unwrap_or-tag.ensures ∙ (ap (λ (o : Option ℕ). unwrap_or o 0) (c.peer_tag.ensures v stands) ∙ tag_by v.phase));
+        limit = fresh.limit;
+        source = fresh.source;
+        destination = fresh.destination;
+        tag = fresh.tag;
         sack = λ still. sym stands.due.sack ∙ (sym c.of.ensures.sack ∙ still);
       };
-      chunks = ap (λ (w : Draft). w.chunks) d;
+      chunks = fresh.chunks;
       same = c.of.ensures.same (record v { moment = moment }) stands.due;
     }

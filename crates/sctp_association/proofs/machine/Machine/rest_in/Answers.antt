@@ -1,4 +1,4 @@
-use Rattle.std.proofs.Common.{◌∙◌, true, sym}
+use Rattle.std.proofs.Common.{◌∙◌, sym}
 use Rattle.sctp_association.specs.MachineStands.{MachineStands}
 use Rattle.sctp_association.proofs.MachineLemmas.{at_view, with_due, due_shutdown, due_shutdown_ack}
 use Rattle.sctp_association.proofs.RestLemmas.{rested_undrained, rested_as, rests_else}

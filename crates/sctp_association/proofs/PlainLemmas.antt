@@ -1,0 +1,140 @@
+-- A plain packet: no place but that of the SACK is due.
+use Rattle.std.proofs.Common.{◌≡◌, ◌∙◌, ℕ, Bool, true, false, ◌&&◌, [], ◌∷◌, Result, Ok, Err, IfOk, refl, ap, sym, subst}
+use Rattle.sctp_model.specs.sender.SenderView.{SenderView}
+use Rattle.sctp_model.specs.end.EndView as model
+use Rattle.sctp_model.specs.end.EndView.{EndView, Alarm, InitAlarm, CookieAlarm, DataAlarm, ShutdownAlarm, AckAlarm, format_of, format_for}
+use Rattle.sctp_model.specs.end.Clock.{is_point_past}
+use Rattle.sctp_model.specs.end.Building.{CookieAckSlot, HeartbeatSlot, ErrorSlot, SackSlot, ForwardSlot, ShutdownSlot, ShutdownAckSlot, open_slots}
+use Rattle.sctp_packet.specs.Draft.{Draft}
+use Rattle.sctp_values.specs.declared.no_memory.NoMemory.{NoMemory}
+use Rattle.sctp_association.specs.StartsMean.{starts_at, with_fragments}
+use Rattle.sctp_association.specs.DueStands.{DueStands}
+use Rattle.sctp_association.specs.PhaseMeans.{phase_unjoined}
+use Rattle.sctp_association.specs.TrafficStands.{TrafficStands}
+use Rattle.sctp_association.specs.MachineStands.{KeepsMachine}
+use Rattle.sctp_association.specs.Drafted.{due_left, IsFresh, IsOf, IsEmpty, PutsAt, IsPacked}
+use Rattle.sctp_association.specs.FillsBehind.{FillsBehind}
+use Rattle.sctp_association.specs.PlainPacket.{IsPlain, fragments_alone, plain_marks}
+use Rattle.sctp_association.specs.declared.due.Due.{Due}
+use Rattle.sctp_association.specs.declared.life.Unjoined.{Unjoined}
+use Rattle.sctp_association.specs.declared.life.Unjoined.TheVariants.{Idle, Listening, Calling, Failed}
+use Rattle.sctp_association.specs.declared.life.Association.{Association}
+use Rattle.sctp_association.specs.declared.life.Life.TheVariants as life
+use Rattle.sctp_association.specs.declared.traffic.Traffic.{Traffic}
+use Rattle.sctp_association.specs.declared.plain.Plain.{Plain}
+use Rattle.sctp_association.specs.declared.packing.Packing.{Packing}
+use Rattle.sctp_association.specs.declared.machine.Machine.{Machine}
+use Rattle.sctp_association.proofs.PutLemmas.{not_due, joined, cut}
+use Rattle.sctp_association.proofs.BuildLemmas.{due_same, drafted_same, fills_packet, on_traffic}
+
+-- a plain packet in the making
+abbrev pub plain_at : Due → Draft → (sack fragments : Bool) → Packing
+plain_at d w sack fragments = record { writer = w; marks = plain_marks d sack fragments }
+
+-- ---- the places
+
+module _ (e : EndView) (d : Due) (plain : IsPlain d e.due) where
+  front : (w : Draft) (s : Bool) → IsOf e (plain_at d w s false)
+      → PutsAt (CookieAckSlot ∷ HeartbeatSlot ∷ ErrorSlot ∷ []) e (plain_at d w s false) (plain_at d w s false) true
+  front w s packet =
+      let p = plain_at d w s false in
+      joined (CookieAckSlot ∷ []) (HeartbeatSlot ∷ ErrorSlot ∷ []) e p p p true true refl (not_due CookieAckSlot e p plain.cookie_ack packet)
+      (joined (HeartbeatSlot ∷ []) (ErrorSlot ∷ []) e p p p true true refl (not_due HeartbeatSlot e p plain.heartbeat packet) (not_due ErrorSlot e p plain.causes packet))
+
+  back : (w : Draft) (s : Bool) → IsOf e (plain_at d w s false)
+      → PutsAt (ForwardSlot ∷ ShutdownSlot ∷ ShutdownAckSlot ∷ []) e (plain_at d w s false) (plain_at d w s false) true
+  back w s packet =
+      let p = plain_at d w s false in
+      joined (ForwardSlot ∷ []) (ShutdownSlot ∷ ShutdownAckSlot ∷ []) e p p p true true refl
+      (not_due ForwardSlot e p (ap (λ (b : Bool). b && is_point_past e.sender) plain.forward) packet)
+      (joined (ShutdownSlot ∷ []) (ShutdownAckSlot ∷ []) e p p p true true refl (not_due ShutdownSlot e p plain.shutdown packet) (not_due ShutdownAckSlot e p plain.shutdown_ack packet))
+
+  -- what goes in at all places is what goes in at that of the SACK
+  pub all_slots : (old new : Draft) (s t room : Bool) → IsOf e (plain_at d old s false)
+      → PutsAt (SackSlot ∷ []) e (plain_at d old s false) (plain_at d new t false) room → PutsAt open_slots e (plain_at d old s false) (plain_at d new t false) room
+  all_slots old new s t true packet puts =
+      let p = plain_at d old s false in
+      let q = plain_at d new t false in
+      joined (CookieAckSlot ∷ HeartbeatSlot ∷ ErrorSlot ∷ []) (SackSlot ∷ ForwardSlot ∷ ShutdownSlot ∷ ShutdownAckSlot ∷ []) e p p q true true refl (front old s packet)
+      (joined (SackSlot ∷ []) (ForwardSlot ∷ ShutdownSlot ∷ ShutdownAckSlot ∷ []) e p q q true true refl puts (back new t puts.packet))
+  all_slots old new s t false packet puts =
+      let p = plain_at d old s false in
+      let q = plain_at d new t false in
+      joined (CookieAckSlot ∷ HeartbeatSlot ∷ ErrorSlot ∷ []) (SackSlot ∷ ForwardSlot ∷ ShutdownSlot ∷ ShutdownAckSlot ∷ []) e p p q true false refl (front old s packet)
+      (cut (SackSlot ∷ []) (ForwardSlot ∷ ShutdownSlot ∷ ShutdownAckSlot ∷ []) e p q false refl puts)
+
+-- fragments behind the SACK
+pub plain_fills : (r : Result Plain NoMemory) (e : EndView) (t : model.Tags) (g : model.Stage) (d : Due) (old mid new : Draft) (s : Bool) (traffic : Traffic) → e.phase ≡ model.Open t g
+    → IsEmpty e (plain_at d old s false) → PutsAt open_slots e (plain_at d old s false) (plain_at d mid false false) true
+    → IfOk r (λ p. (p.sack ≡ false) × FillsBehind e (plain_at d mid false false) (plain_at d new false p.fragments) traffic p.tickets)
+    → IfOk r (λ p. (x : SenderView) × IsPacked e x (plain_at d new p.sack p.fragments) p.tickets × TrafficStands traffic (format_of e) x e.receiver)
+plain_fills (Ok p) e t g d old mid new s traffic phase empty puts fills =
+    let went = fills_packet {E = NoMemory} (Ok p.tickets) e t g (plain_at d old s false) (plain_at d mid false false) (plain_at d new false p.fragments) true traffic phase empty refl puts fills.1 in
+    (went.0, subst (λ (b : Bool). IsPacked e went.0 (plain_at d new b p.fragments) p.tickets) (sym fills.0) went.1, went.2)
+plain_fills (Err failed) e t g d old mid new s traffic phase empty puts fills = fills
+
+-- no timer but that of fragments starts
+starts_alone_at : (b : Bool) (a : Alarm) → starts_at (fragments_alone b) a ≡ with_fragments b (starts_at (fragments_alone false)) a
+starts_alone_at true InitAlarm = refl
+starts_alone_at true CookieAlarm = refl
+starts_alone_at true DataAlarm = refl
+starts_alone_at true ShutdownAlarm = refl
+starts_alone_at true AckAlarm = refl
+starts_alone_at false a = refl
+
+pub starts_alone : (b : Bool) → starts_at (fragments_alone b) ≡ with_fragments b (starts_at (fragments_alone false))
+starts_alone b = λ i a. starts_alone_at b a i
+
+none_start_at : (a : Alarm) → starts_at (fragments_alone false) a ≡ false
+none_start_at InitAlarm = refl
+none_start_at CookieAlarm = refl
+none_start_at DataAlarm = refl
+none_start_at ShutdownAlarm = refl
+none_start_at AckAlarm = refl
+
+pub none_start : starts_at (fragments_alone false) ≡ (λ a. false)
+none_start = λ i a. none_start_at a i
+
+-- ---- the end
+
+-- one that never had an association isn't open
+pub never_open : (x : Unjoined) (t : model.Tags) (g : model.Stage) → phase_unjoined x ≡ model.Open t g → ⊥
+never_open Idle t g is = cc
+never_open Listening t g is = cc
+never_open (Calling d) t g is = cc
+never_open (Failed why) t g is = cc
+
+pub plain_sender : (r : Result Plain NoMemory) (e v : EndView) (d : Due) (w : Draft) (m : Machine) (a b : Association) → m.life ≡ life.Joined a → KeepsMachine m v
+    → b ≡ record a { traffic = b.traffic }
+    → IfOk r (λ p. (x : SenderView) × IsPacked e x (plain_at d w p.sack p.fragments) p.tickets × TrafficStands b.traffic (format_for v.terms.interleave) x v.receiver)
+    → IfOk r (λ p. (x : SenderView) × IsPacked e x (plain_at d w p.sack p.fragments) p.tickets × KeepsMachine (record m { life = life.Joined b }) (record v { sender = x }))
+plain_sender (Ok p) e v d w m a b is k kept packed = (packed.0, packed.1, on_traffic m a b v packed.0 is k kept packed.2)
+plain_sender (Err failed) e v d w m a b is k kept packed = packed
+
+-- what is due behind it
+pub due_plain : (d n : Due) (x : model.Due) (s f : Bool) → DueStands d x → DueStands n x → DueStands (record n { sack = s }) (due_left (plain_marks d s f) x)
+due_plain d n x s f was now = record {
+  init = now.init ∙ sym was.init;
+  cookie_echo = now.cookie_echo ∙ sym was.cookie_echo;
+  cookie_ack = now.cookie_ack ∙ sym was.cookie_ack;
+  heartbeat = now.heartbeat;
+  causes = now.causes;
+  sack = refl;
+  forward = now.forward ∙ sym was.forward;
+  shutdown = now.shutdown ∙ sym was.shutdown;
+  shutdown_ack = now.shutdown_ack ∙ sym was.shutdown_ack;
+}
+
+-- nothing went in yet
+pub plain_empty : (v : EndView) (moment : ℕ) (d : Due) (w : Draft) → IsFresh v w → DueStands d v.due → IsEmpty (record v { moment = moment }) (plain_at d w d.sack false)
+plain_empty v moment d w fresh due =
+    let m = plain_marks d d.sack false in
+    record {
+      packet = record { limit = fresh.limit; source = fresh.source; destination = fresh.destination; tag = fresh.tag; sack = λ still. sym due.sack ∙ still };
+      chunks = fresh.chunks;
+      same = drafted_same m (record v { moment = moment })
+          (due_same m v.due due.init due.cookie_echo due.cookie_ack refl refl due.sack due.forward due.shutdown due.shutdown_ack) due.sack none_start;
+    }
+
+pub still_plain : (d n : Due) (x : model.Due) → n ≡ d → IsPlain d x → IsPlain n x
+still_plain d n x same plain = subst (λ (y : Due). IsPlain y x) (sym same) plain
