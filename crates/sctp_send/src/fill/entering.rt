@@ -18,9 +18,9 @@ use crate::fill::pushing::{push_first, push_fragment, push_further};
 use crate::head::Head;
 use crate::kept::entry::Standing;
 use crate::kept::looking::goes_on_at;
-use crate::kept::message::{Message, fragments_of, shared};
+use crate::kept::message::Message;
 use crate::kept::streams::Streams;
-use crate::kept::track::{Rest, Track};
+use crate::kept::track::{Rest, Track, rest_from};
 use sctp_values::{Kind, NoMemory, Ticket};
 use std::alloc::Global;
 use std::sync::Arc;
@@ -32,7 +32,14 @@ impl Head {
     /// # Errors
     /// `NoMemory`: what is noted leads back to the parts as before.
     #[inline(always)]
-    pub(crate) fn begin(&self, draft: &mut Draft, next: Beginning) -> Result<(), NoMemory>
+    pub(crate) fn begin(
+        &self,
+        draft: &mut Draft,
+        next: Beginning,
+        rest: Option<Rest>,
+    ) -> Result<(), NoMemory>
+        requires rest { (m : Arc Message Global) (t : KeptTrack) → m ≡ slice_index_or draft.old.queue.items next.place m
+            → rests_meaning self.now.fragment t rest ≡ rest_from self.now.fragment m.value (latest_in (kind_meaning m.value.kind) t) next.count }
         requires some { 0 < next.count }
         requires few { next.count ≤ WINDOW + 1 }
         requires place { next.place < length draft.old.queue.items }
@@ -46,7 +53,7 @@ impl Head {
         ensures more { OnOk result (length draft.old.outstanding.items < length draft.new.outstanding.items) }
         ensures behind { IsBehind draft.old draft.new }
     {
-        let rest = self.room_to_begin(draft, next)?;
+        self.room_to_begin(draft, next.count)?;
         let Some(message) = draft.queue.remove(next.place) else {
             return Err(NoMemory);
         };
@@ -67,35 +74,26 @@ impl Head {
         push_further(&mut draft.outstanding, from, number, next.count)
     }
 
-    /// Room for what a message that begins comes to, and what is left of it then.
+    /// Room for what a message that begins with so many fragments comes to.
     ///
     /// # Errors
     /// `NoMemory`.
     #[inline(always)]
-    fn room_to_begin(&self, draft: &mut Draft, next: Beginning) -> Result<Option<Rest>, NoMemory>
-        requires some { 0 < self.now.fragment }
-        requires few { next.count ≤ WINDOW + 1 }
-        requires place { next.place < length draft.old.queue.items }
-        ensures rest { (m : Arc Message Global) (t : KeptTrack) → m ≡ slice_index_or draft.old.queue.items next.place m
-            → IfOk result (λ rest. rests_meaning self.now.fragment t rest ≡ rest_from self.now.fragment m.value (latest_in (kind_meaning m.value.kind) t) next.count) }
+    fn room_to_begin(&self, draft: &mut Draft, count: usize) -> Result<(), NoMemory>
+        requires { count ≤ WINDOW + 1 }
         ensures same { draft.new ≡ record draft.old { outstanding = draft.new.outstanding; tickets = draft.new.tickets; log = draft.new.log } }
         ensures size { draft.new.outstanding.size ≡ draft.old.outstanding.size }
         ensures items { draft.new.outstanding.items ≡ draft.old.outstanding.items }
         ensures capacity { draft.old.outstanding.capacity ≤ draft.new.outstanding.capacity }
-        ensures entries { OnOk result (self.now.streams + (length draft.new.outstanding.items + next.count) ≤ draft.new.outstanding.capacity) }
+        ensures entries { OnOk result (self.now.streams + (length draft.new.outstanding.items + count) ≤ draft.new.outstanding.capacity) }
         ensures tickets { draft.new.tickets.items ≡ draft.old.tickets.items }
         ensures told { OnOk result (vec_len draft.new.tickets < vec_capacity draft.new.tickets) }
         ensures log { draft.new.log.items ≡ draft.old.log.items }
         ensures noted { OnOk result (vec_len draft.new.log + 2 ≤ vec_capacity draft.new.log) }
     {
-        let message = draft.queue.get(next.place);
-        let rest = rest_from(message, next.count as u32, self.fragment)?;
         reserve_changes(&mut draft.log)?;
         reserve_tickets(&mut draft.tickets)?;
-        draft
-            .outstanding
-            .reserve(next.count + usize::from(self.streams))?;
-        Ok(rest)
+        draft.outstanding.reserve(count + usize::from(self.streams))
     }
 
     /// The message in part of a stream takes its next index.
@@ -140,20 +138,6 @@ impl Head {
         draft.turn = stream_after(stream, self.streams);
         Ok(())
     }
-}
-
-/// What is left of a message from a fragment on.
-fn rest_from(message: &Arc<Message>, next: u32, size: u16) -> Result<Option<Rest>, NoMemory>
-    requires { 0 < size }
-    ensures { (t : KeptTrack) → IfOk result (λ rest. rests_meaning size t rest ≡ rest_from size message.now.value (latest_in (kind_meaning message.now.value.kind) t) next) }
-{
-    if next as usize >= fragments_of(size, &message.bytes) {
-        return Ok(None);
-    }
-    Ok(Some(Rest {
-        message: shared(message)?,
-        fragment: next,
-    }))
 }
 
 /// The number that the next message of this kind takes on a stream.

@@ -16,6 +16,7 @@ use crate::head::Head;
 use crate::kept::entry::Place;
 use crate::kept::message::{Message, fragments_of};
 use crate::kept::pieces::{bytes_of, fits};
+use crate::kept::track::rest_where;
 use crate::kept::wishes::may_flow;
 use sctp_framing::Framing;
 use sctp_packet::PacketWriter;
@@ -101,8 +102,9 @@ impl Head {
         if !self.is_let_in::<F>(message, 0, flying, packet) {
             return Ok(false);
         }
+        let rest = rest_where(more, message, next.count as u32)?;
         let at = draft.outstanding.len();
-        self.begin(draft, next)?;
+        self.begin(draft, next, rest)?;
         self.put_at::<F>(draft, at, packet)
     }
 

@@ -1,11 +1,15 @@
 //! What is kept of a stream, and what is left of its message in part.
 
-ghost use Rattle.std.specs.Prelude.{◌≡◌, ℕ, ◌<◌, ◌%◌, ◌^◌};
-ghost use Rattle.sctp_send.specs.SenderFields.{track_meaning, endings_meaning};
+ghost use Rattle.std.specs.Prelude.{◌≡◌, ℕ, ◌<◌, ◌%◌, ◌^◌, nat_lt, length, IfOk};
+ghost use Rattle.sctp_model.specs.sender.Queueing.{cut};
+ghost use Rattle.sctp_values.specs.Meanings.{kind_meaning};
+ghost use Rattle.sctp_send.specs.SenderKept.{Track as KeptTrack};
+ghost use Rattle.sctp_send.specs.SenderFields.{latest_in, track_meaning, rests_meaning, endings_meaning};
+ghost use Rattle.sctp_send.specs.inner.Drafting.{rest_from};
 ghost use Rattle.sctp_send.specs.inner.Walks.{rest_owes};
 
-use crate::kept::message::{Message, fragments_of, owed};
-use sctp_values::Kind;
+use crate::kept::message::{Message, fragments_of, owed, shared};
+use sctp_values::{Kind, NoMemory};
 use std::sync::Arc;
 
 /// What is left of a message in part: the fragment that it takes next. Its number is the latest that its kind took on its stream.
@@ -58,4 +62,41 @@ pub(crate) fn owed_by_track(track: &Track, size: u16) -> u64
         }
         None => 0,
     }
+}
+
+/// What is left of a message from a fragment on.
+pub(crate) fn rest_from(
+    message: &Arc<Message>,
+    next: u32,
+    size: u16,
+) -> Result<Option<Rest>, NoMemory>
+    requires { 0 < size }
+    ensures { (t : KeptTrack) → IfOk result (λ rest. rests_meaning size t rest ≡ rest_from size message.now.value (latest_in (kind_meaning message.now.value.kind) t) next) }
+{
+    if next as usize >= fragments_of(size, &message.bytes) {
+        return Ok(None);
+    }
+    Ok(Some(Rest {
+        message: shared(message)?,
+        fragment: next,
+    }))
+}
+
+/// What is left of a message from a fragment on, where it has such a one.
+#[inline(always)]
+pub(crate) fn rest_where(
+    more: bool,
+    message: &Arc<Message>,
+    next: u32,
+) -> Result<Option<Rest>, NoMemory>
+    ensures { (size : ℕ) (t : KeptTrack) → more ≡ nat_lt next (length (cut size message.now.value.bytes.items))
+        → IfOk result (λ rest. rests_meaning size t rest ≡ rest_from size message.now.value (latest_in (kind_meaning message.now.value.kind) t) next) }
+{
+    if !more {
+        return Ok(None);
+    }
+    Ok(Some(Rest {
+        message: shared(message)?,
+        fragment: next,
+    }))
 }

@@ -60,8 +60,8 @@ returns-clause-kept c = λ m is small.
     rw (c.deref.ensures, c.deref-2.ensures, tracks) at (c.number_one-number.ensures.number size) in
     let few : suc (number_on (map (track_meaning size) old.tracks.items) (lane_meaning x.value)) < 2 ^ 64 =
     subst (λ (y : Arc MessageFields Global). suc (number_on (map (track_meaning size) old.tracks.items) (lane_meaning y.value)) < 2 ^ 64) own small in
-    let left = rests_meaning size (counted_in k t) c.in_ok-rest.rest in
-    let rest : left ≡ rest_from size x.value n count = c.in_ok-rest.ensures.rest x (counted_in k t) read ∙ ap (λ (j : ℕ). rest_from size x.value j count) (latest_counted k t ∙ sym number) in
+    let left = rests_meaning size (counted_in k t) c.args.rest in
+    let rest : left ≡ rest_from size x.value n count = c.requires.rest x (counted_in k t) read ∙ ap (λ (j : ℕ). rest_from size x.value j count) (latest_counted k t ∙ sym number) in
     let told : numbers_of c.tell.new.tickets.items ≡ numbers_of old.tickets.items ++ x.value.ticket ∷ [] =
     c.tell.ensures ∙ ap (λ (ns : List ℕ). ns ++ c.deref-3.result.now.ticket ∷ []) (ap numbers_of c.room_to_begin.ensures.tickets) ∙ ap (λ (y : MessageFields). numbers_of old.tickets.items ++ y.ticket ∷ []) c.deref-3.ensures in
     let e = fragment_entry x n 0 Sent in
@@ -75,7 +75,7 @@ returns-clause-kept c = λ m is small.
     ap (λ (w : QueueKept). map (queued_by size) w.items) (c.remove.ensures.some lowR) ∙ taken_out size place room.queue.items ∙ ap (λ (w : QueueKept). without_place place (map (queued_by size) w.items)) queue in
     let counted : c.number_one-number.new.tracks.items ≡ at_place (counted_to c.deref-2.result.now.kind many) c.deref.result.now.stream old.tracks.items =
     ap (λ (w : StreamsKept). w.items) c.number_one-number.ensures.counted ∙ ap (λ (w : StreamsKept). at_place (counted_to c.deref-2.result.now.kind many) c.deref.result.now.stream w.items) tracks in
-    let streams = entered_tracks size n many x.value c.deref.result.now c.deref-2.result.now old.tracks.items c.number_one-number.new.tracks.items c.leave_rest.new.tracks.items c.in_ok-rest.rest c.deref.ensures c.deref-2.ensures
+    let streams = entered_tracks size n many x.value c.deref.result.now c.deref-2.result.now old.tracks.items c.number_one-number.new.tracks.items c.leave_rest.new.tracks.items c.args.rest c.deref.ensures c.deref-2.ensures
     (c.requires.stream x read) counted (omega (arith, few, number)) number (c.leave_rest.ensures.items size) in
     let d : Draft = record { outstanding = c.push_further.new.outstanding; queue = c.remove.new.self; tracks = c.leave_rest.new.tracks; turn = c.args.next.turn; tickets = c.tell.new.tickets; log = c.leave_rest.new.log } in
     subst (λ (y : Arc MessageFields Global). OnOk c.push_further.result (drafted s d ≡ begun (drafted s old) (queued_meaning size y.value) place count c.args.next.turn c.push_further.new.outstanding.capacity)) (sym own)

@@ -1,12 +1,13 @@
-use Rattle.std.proofs.Common.{ℕ, suc, ◌+◌, length, map, true, false, Some, refl, sym, ap, ◌∙◌, arith}
+use Rattle.std.proofs.Common.{ℕ, suc, ◌+◌, length, map, true, false, Some, refl, sym, ap, subst, ◌≡◌, ◌∙◌, arith}
 use Rattle.std.specs.Prelude.{nat_lt}
 use Rattle.std.specs.declared.sync.Arc.{Arc}
 use Rattle.std.specs.declared.alloc.Global.{Global}
 use Rattle.sctp_model.specs.messages.Plan.{Part}
 use Rattle.sctp_send.specs.OutstandingFields.{lane_meaning, message_meaning}
-use Rattle.sctp_send.specs.SenderFields.{track_meaning}
+use Rattle.sctp_values.specs.Meanings.{kind_meaning}
+use Rattle.sctp_send.specs.SenderFields.{latest_in, rests_meaning, track_meaning}
 use Rattle.sctp_send.specs.inner.Newcomers.{number_on}
-use Rattle.sctp_send.specs.inner.Drafting.{bare, drafted, let_in, IsRefused}
+use Rattle.sctp_send.specs.inner.Drafting.{bare, drafted, let_in, rest_from, IsRefused}
 use Rattle.sctp_send.specs.declared.kept.message.Message.{Message as MessageFields}
 use Rattle.sctp_send.proofs.SeatLemmas.{any_default}
 use Rattle.sctp_send.proofs.NewMayLemmas.{left_over, of_ok, on_err, of_err, no_item}
@@ -62,6 +63,30 @@ returns-then-not-is_let_in-clause-put g c = λ v k stands next flying.
     let i = suc (s.cum + length d.outstanding.items) in
     let on = sym (c.is_let_in.ensures number i ∙ ap (λ (n : ℕ). let_in f n s i p (Part (lane_meaning m) number 0) (Some (message_meaning s.fragment m))) flying) ∙ c.if-not-is_let_in.true in
     begun_held f s v d m c.args.next.place c.args.next.count c.args.next.turn number k stands next mine refl p p _ on refl refl refl
+
+pub begin-requires-clause-rest : goal.begin-requires-clause-rest
+begin-requires-clause-rest g c = λ m t read.
+    let size = c.args.self.now.fragment in
+    let x = c.get-message.result.now in
+    let same = read ∙ any_default c.args.draft.now.queue.items c.args.next.place m x c.requires.place ∙ sym c.get-message.ensures in
+    let more = left_over c.args.next.count size size c.fragments_of.result c.deref-3.result.now x.value c.deref-2.result.now c.fragments_of.ensures refl c.deref-3.ensures.value c.deref-2.ensures in
+    subst (λ (y : Arc MessageFields Global). rests_meaning size t c.in_ok-rest.rest ≡ rest_from size y.value (latest_in (kind_meaning y.value.kind) t) c.args.next.count) (sym same) (c.in_ok-rest.ensures size t more)
+
+pub returns-in_err-rest-clause-refused : goal.returns-in_err-rest-clause-refused
+returns-in_err-rest-clause-refused g c = λ v k stands next flying.
+    let f = g.F.Framing.format in
+    let s = bare c.args.self.now in
+    let d = c.args.draft.now in
+    let p = c.args.packet.now in
+    let m = c.get-message.result.now.value in
+    let number = number_on (drafted s d).tracks (lane_meaning m) in
+    let mine = begun_message f s v d c.args.next.place c.args.next.count c.args.next.turn c.get-message.result.now k next c.get-message.ensures in
+    let more = left_over c.args.next.count c.args.self.now.fragment s.fragment c.fragments_of.result c.deref-3.result.now m c.deref-2.result.now c.fragments_of.ensures refl c.deref-3.ensures.value c.deref-2.ensures in
+    let left = nat_lt c.args.next.count c.fragments_of.result in
+    let window = window_read _ (map (track_meaning s.fragment) d.tracks.items) m c.deref-4.result.now c.has_window.result true c.deref-4.ensures (c.has_window.ensures.fits s.fragment (sym c.requires.sized.tracks)) c.if-not-has_window.false in
+    let i = suc (s.cum + length d.outstanding.items) in
+    let on = sym (c.is_let_in.ensures number i ∙ ap (λ (n : ℕ). let_in f n s i p (Part (lane_meaning m) number 0) (Some (message_meaning s.fragment m))) flying) ∙ c.if-not-is_let_in.false in
+    on_err (IsRefused f v p p) _ (begun_refused f s v d m c.args.next.place c.args.next.count c.args.next.turn number k stands next mine refl p p left more window on refl)
 
 pub returns-in_err-begin-clause-refused : goal.returns-in_err-begin-clause-refused
 returns-in_err-begin-clause-refused g c = λ v k stands next flying.
