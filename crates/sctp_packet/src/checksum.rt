@@ -126,8 +126,20 @@ fn after_few(register: u32, bytes: &[u8]) -> u32
     after_last(after_sixteen(register, bytes), &bytes[PLACES..])
 }
 
-/// The register after still fewer, of which eight are taken at once, if there are so many.
+/// The register after still fewer: mostly none.
+#[inline(always)]
 fn after_last(register: u32, bytes: &[u8]) -> u32
+    ensures { bits 32 result ≡ register_after (drop 1 divisor) (bits 32 register) (message_bits bytes.now) }
+{
+    if bytes.is_empty() {
+        return register;
+    }
+    after_end(register, bytes)
+}
+
+/// The register after some, of which eight are taken at once, if there are so many.
+#[inline(never)]
+fn after_end(register: u32, bytes: &[u8]) -> u32
     ensures { bits 32 result ≡ register_after (drop 1 divisor) (bits 32 register) (message_bits bytes.now) }
 {
     if bytes.len() < HALF {

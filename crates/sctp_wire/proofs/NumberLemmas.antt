@@ -23,6 +23,15 @@ pub length-u32 : (n : ℕ) → length (u32_bytes n) ≡ 4
 unfolding u32_bytes
 length-u32 n = refl
 
+-- the second number of four bytes, read in these alone
+pub u16_in_four : (xs : List ℕ) → u16_at (take 2 (drop 2 (take 4 xs))) ≡ u16_at (drop 2 xs)
+unfolding u16_at
+u16_in_four [] = refl
+u16_in_four (a ∷ []) = refl
+u16_in_four (a ∷ b ∷ []) = refl
+u16_in_four (a ∷ b ∷ c ∷ []) = refl
+u16_in_four (a ∷ b ∷ c ∷ d ∷ rest) = refl
+
 -- what stands behind a number
 pub drop-u16 : (n : ℕ) (rest : List ℕ) → drop 2 (u16_bytes n ++ rest) ≡ rest
 unfolding u16_bytes

@@ -1,6 +1,6 @@
 //! The first chunk of bytes: what is tested of it, and how it is parted from what follows (RFC 9260, 3.2).
 
-ghost use Rattle.std.specs.Prelude.{◌≡◌, ◌==◌, ◌||◌, ◌<◌, ◌^◌, ◌∷◌, length, MatchOption, MatchResult, IfOk, None, Ok, Err};
+ghost use Rattle.std.specs.Prelude.{◌≡◌, ◌==◌, ◌||◌, ◌<◌, ◌≤◌, ◌^◌, ◌∷◌, length, MatchOption, MatchResult, IfOk, None, Ok, Err};
 ghost use Rattle.sctp_model.specs.wire.Chunk as meaning;
 ghost use Rattle.sctp_wire.specs.ChunkTree.{piece_meaning};
 ghost use Rattle.sctp_wire.specs.FirstFault.{stated_length};
@@ -41,8 +41,18 @@ pub fn parted(chunks: &[u8]) -> (&[u8], &[u8])
     requires chunks { AreChunks chunks.now }
     ensures { IsParted chunks.now result.0.now result.1.now }
 {
-    let size = usize::from(read_u16(&chunks[2..]));
+    let size = stated_length(chunks);
     (&chunks[4..size], &chunks[padded(size)..])
+}
+
+/// The length field of the first chunk, whose header is tested once.
+#[inline(always)]
+fn stated_length(bytes: &[u8]) -> usize
+    requires { 4 ≤ length bytes.now }
+    ensures exact { result ≡ stated_length bytes.now }
+    ensures small { result < 2 ^ 16 }
+{
+    usize::from(read_u16(&bytes[..4][2..4]))
 }
 
 /// Whether the first of whole chunks is an INIT.

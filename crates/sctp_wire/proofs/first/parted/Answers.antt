@@ -6,17 +6,9 @@ use Rattle.sctp_wire.specs.FirstFault.{stated_length}
 use Rattle.sctp_wire.proofs.StandingLemmas.{whole_first, parted_is}
 use Rattle.sctp_wire.proofs.first.parted.Goals as goal
 
-pub slice_bounds-read_u16-count : goal.slice_bounds-read_u16-count
-slice_bounds-read_u16-count c =
+pub stated_length-size-requires : goal.stated_length-size-requires
+stated_length-size-requires c =
     let whole = whole_first c.args.chunks.now c.requires.some c.requires.chunks in omega arith
-
-pub slice_bounds-read_u16-start : goal.slice_bounds-read_u16-start
-slice_bounds-read_u16-start c =
-    let whole = whole_first c.args.chunks.now c.requires.some c.requires.chunks in omega arith
-
-pub read_u16-requires : goal.read_u16-requires
-read_u16-requires c =
-    let whole = whole_first c.args.chunks.now c.requires.some c.requires.chunks in grind (arith, common_steps)
 
 pub slice_bounds-result-count : goal.slice_bounds-result-count
 slice_bounds-result-count c =
@@ -29,7 +21,7 @@ slice_bounds-result-start c =
 pub returns : goal.returns
 returns c =
     let here : c.padded.result ≡ padded (stated_length c.args.chunks.now) = grind (arith, common_steps) in
-    let size : c.from-size.result ≡ stated_length c.args.chunks.now = grind (arith, common_steps) in
+    let size : c.stated_length-size.result ≡ stated_length c.args.chunks.now = c.stated_length-size.ensures.exact in
     rw (take_rest c.args.chunks.now c.padded.result, here, size) (parted_is c.args.chunks.now c.requires.some c.requires.chunks)
 
 pub slice_bounds-result-end : goal.slice_bounds-result-end

@@ -3,7 +3,7 @@ use Rattle.std.proofs.lemmas.Grind.{common_steps}
 use Rattle.sctp_packet.specs.Checksum.{bits, divisor, message_bits}
 use Rattle.sctp_packet.specs.Register.{register_after}
 use Rattle.sctp_packet.proofs.ChecksumLaws.{register_after_parts}
-use Rattle.sctp_packet.proofs.checksum.after_last.Goals as goal
+use Rattle.sctp_packet.proofs.checksum.after_end.Goals as goal
 
 pub returns : goal.returns
 returns c =
