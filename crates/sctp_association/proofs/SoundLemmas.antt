@@ -8,19 +8,22 @@ use Rattle.sctp_model.specs.sender.Entries.{entry_lane, entry_number}
 use Rattle.sctp_model.specs.sender.Reached.{IsReached}
 use Rattle.sctp_model.specs.receiver.ReceiverView.{ReceiverView}
 use Rattle.sctp_model.specs.end.EndView.{EndView}
+use Rattle.sctp_model.specs.end.EndView as model
 use Rattle.sctp_model.proofs.sender.PlanLaws.{AllNamed}
 use Rattle.sctp_model.proofs.sender.CountLaws.{is_named}
+use Rattle.sctp_outcomes.specs.Few.{IsFilling}
 use Rattle.sctp_outcomes.specs.Kept.{is_before, IsSound}
-use Rattle.sctp_association.specs.PhaseMeans.{phase_in}
+use Rattle.sctp_association.specs.PhaseMeans.{phase_in, phase_unjoined}
 use Rattle.sctp_association.specs.MachineStands.{KeepsMachine}
 use Rattle.sctp_association.specs.declared.stage.Tags.{Tags}
 use Rattle.sctp_association.specs.declared.life.Unjoined.{Unjoined}
+use Rattle.sctp_association.specs.declared.life.Unjoined.TheVariants.{Idle, Listening, Calling, Failed}
 use Rattle.sctp_association.specs.declared.life.Progress.{Progress}
 use Rattle.sctp_association.specs.declared.life.Progress.TheVariants.{Echoing, Open, Over}
 use Rattle.sctp_association.specs.declared.life.Association.{Association}
 use Rattle.sctp_association.specs.declared.life.Life.TheVariants as life
 use Rattle.sctp_association.specs.declared.machine.Machine.{Machine}
-use Rattle.sctp_association.proofs.MachineLemmas.{joined, unjoined, phase_joined}
+use Rattle.sctp_association.proofs.MachineLemmas.{joined, unjoined, phase_joined, phase_unjoined_at}
 
 -- without an association nothing stands in its sender and its receiver
 pub sound_unjoined : (m : Machine) (x : Unjoined) (v : EndView) → m.life ≡ life.Unjoined x → KeepsMachine m v → IsSound v
@@ -48,3 +51,13 @@ sound_joined m a v f is k reached = record {
   buffer = (joined m a v is k).buffer;
   named = λ e there. has_number v.sender.streams v.sender.plan v.sender.plan.entries e (is_named f v.sender reached) there;
 }
+
+-- without an association nothing is filled
+never_open : (x : Unjoined) (t : model.Tags) (g : model.Stage) → phase_unjoined x ≡ model.Open t g → ⊥
+never_open Idle t g is = cc
+never_open Listening t g is = cc
+never_open (Calling d) t g is = cc
+never_open (Failed why) t g is = cc
+
+pub filling_unjoined : (m : Machine) (x : Unjoined) (v : EndView) → m.life ≡ life.Unjoined x → KeepsMachine m v → IsFilling v
+filling_unjoined m x v is k = λ t g filled. absurd (never_open x t g (phase_unjoined_at m x v is k ∙ filled))

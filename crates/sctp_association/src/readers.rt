@@ -7,6 +7,7 @@ ghost use Rattle.sctp_model.specs.end.EndView.{EndView, InStage, state_of, ended
 ghost use Rattle.sctp_terms.specs.Meanings.{end_meaning, state_meaning};
 ghost use Rattle.sctp_send.specs.SenderAnswers.{next_late};
 ghost use Rattle.sctp_recv.specs.HandedOf.{handed_of};
+ghost use Rattle.sctp_outcomes.specs.Few.{BeginsFew};
 ghost use Rattle.sctp_outcomes.specs.Kept.{IsSound, numbered};
 ghost use Rattle.sctp_outcomes.specs.ToldOnce.{NoTicketTwice};
 ghost use Rattle.sctp_association.specs.StageMeans.{stage_meaning};
@@ -103,6 +104,17 @@ impl Machine {
     /// In no view that it stands for do two messages that have numbers have one ticket. It does nothing, and has this as its contract.
     pub fn tickets_are_apart(&self)
         ensures { (v : EndView) → MachineStands self.now v → NoTicketTwice (numbered v) }
+    {
+        match &self.life {
+            Life::Unjoined(_) => {}
+            Life::Joined(association) => association.traffic.reached(),
+        }
+    }
+
+    /// A packet that is built from any view that it stands for begins a message for each 20 bytes behind its header at most. It does nothing,
+    /// and has this as its contract.
+    pub fn packets_begin_few(&self)
+        ensures { (v : EndView) → MachineStands self.now v → BeginsFew v }
     {
         match &self.life {
             Life::Unjoined(_) => {}

@@ -3,11 +3,13 @@
 ghost use Rattle.std.specs.Prelude.{◌≡◌, ◌-◌, ◌^◌, ◌<◌, ◌≤◌, ◌⊎◌, ◌++◌, min, length, drop, None, Some, MatchOption, slice_get};
 ghost use Rattle.sctp_model.specs.receiver.ReceiverView.{Handed};
 ghost use Rattle.sctp_model.specs.end.EndView.{EndView};
+ghost use Rattle.sctp_model.specs.end.UserCalls.{UserTakes};
+ghost use Rattle.sctp_outcomes.specs.Kept.{AddsTaken};
 ghost use Rattle.sctp_recv.specs.HandedOf.{handed_of, message_bytes};
 ghost use Rattle.sctp_recv.specs.Readable.{ReadableAnswer};
 ghost use Rattle.sctp_endpoint.specs.EndpointStands.{EndpointStands};
 ghost use Rattle.sctp_c.specs.Holds.{Holds};
-ghost use Rattle.sctp_c.specs.Told.{IsHead, Takes};
+ghost use Rattle.sctp_c.specs.Told.{IsHead, IsTold, Takes};
 
 use crate::codes::{MISUSE, NEEDS_ROOM, NOTHING, OK};
 use crate::crossing::SctpMessage;
@@ -15,12 +17,12 @@ use crate::handle::SctpEndpoint;
 use sctp_endpoint::{Endpoint, Message};
 use std::alloc::Global;
 
-/// What C is told of a message beside its bytes.
-fn head_of(message: &Message) -> SctpMessage
-    ensures { IsHead result (handed_of message.now) }
+/// What C is told of a message beside its bytes, of which there are so many.
+fn head_of(message: &Message, many: usize) -> SctpMessage
+    ensures { many ≡ min (length (message_bytes message.now)) (2 ^ 64 - 1) → IsHead result (handed_of message.now) }
 {
     SctpMessage {
-        length: message.len(),
+        length: many,
         number: message.number.unwrap_or(0),
         payload_id: message.payload_id,
         stream: message.stream,
@@ -36,40 +38,67 @@ fn next_head(end: &Endpoint, stream: u16) -> Option<SctpMessage>
         (λ m. (h : Handed) × (slice_get (v.receiver.waiting stream) 0 ≡ Some h) × IsHead m h) }
 {
     match end.waiting(stream, 0) {
-        Some(message) => Some(head_of(message)),
+        Some(message) => Some(head_of(message, message.len())),
         None => None,
     }
 }
 
-/// What C is told of a message beside its bytes, and this answer; or that none waits.
-fn tell_head(head: Option<SctpMessage>, message: &mut SctpMessage, answer: u32) -> u32
-    ensures { MatchOption head ((result ≡ NOTHING) × (message.new ≡ message.old)) (λ m. (result ≡ answer) × (message.new ≡ m)) }
+/// What C is told of a message beside its bytes, and that this went well; or that none waits.
+fn tell_head(head: Option<SctpMessage>, message: &mut SctpMessage) -> u32
+    ensures { MatchOption head ((result ≡ NOTHING) × (message.new ≡ message.old)) (λ m. (result ≡ OK) × (message.new ≡ m)) }
 {
     match head {
         Some(head) => {
             *message = head;
-            answer
+            OK
         }
         None => NOTHING,
     }
 }
 
-/// How many bytes the message has that is taken next from a stream, 2^64 - 1 where there are more.
-fn next_length(end: &Endpoint, stream: u16) -> Option<usize>
-    ensures { (v : EndView) → EndpointStands end.now v → MatchOption result (slice_get (v.receiver.waiting stream) 0 ≡ None)
-        (λ n. (h : Handed) × (slice_get (v.receiver.waiting stream) 0 ≡ Some h) × (n ≡ min (length h.bytes) (2 ^ 64 - 1))) }
+/// A message's bytes go to the beginning of a room that has place for them, and what C is told beside them to `message`.
+fn tell_whole(whole: &Message, message: &mut SctpMessage, room: &mut [u8]) -> u32
+    ensures head { IsHead message.new (handed_of whole.now) }
+    ensures answer { (result ≡ OK) ⊎ (result ≡ NEEDS_ROOM) }
+    ensures narrow { length room.old < length (message_bytes whole.now) → result ≡ NEEDS_ROOM }
+    ensures put { length (message_bytes whole.now) ≤ length room.old
+        → (result ≡ OK) × (room.new ≡ message_bytes whole.now ++ drop (length (message_bytes whole.now)) room.old) }
+    ensures untold { ((result ≡ OK) → ⊥) → room.new ≡ room.old }
+{
+    let (many, answer) = match whole.copy_into(room) {
+        Ok(many) => (many, OK),
+        Err(many) => (many, NEEDS_ROOM),
+    };
+    *message = head_of(whole, many);
+    answer
+}
+
+/// The same of what waits next on a stream, which goes on waiting.
+fn tell_next(end: &Endpoint, stream: u16, message: &mut SctpMessage, room: &mut [u8]) -> u32
+    ensures untold { ((result ≡ OK) → ⊥) → room.new ≡ room.old }
+    ensures unheaded { ((result ≡ OK) → ⊥) → ((result ≡ NEEDS_ROOM) → ⊥) → message.new ≡ message.old }
+    ensures none { (v : EndView) → EndpointStands end.now v → slice_get (v.receiver.waiting stream) 0 ≡ None → result ≡ NOTHING }
+    ensures narrow { (v : EndView) (h : Handed) → EndpointStands end.now v → slice_get (v.receiver.waiting stream) 0 ≡ Some h
+        → length room.old < length h.bytes → (result ≡ NEEDS_ROOM) × IsHead message.new h }
+    ensures told { (v : EndView) (h : Handed) → EndpointStands end.now v → slice_get (v.receiver.waiting stream) 0 ≡ Some h
+        → length h.bytes ≤ length room.old → (result ≡ OK) × IsTold message.new room.old room.new h }
 {
     match end.waiting(stream, 0) {
-        Some(message) => Some(message.len()),
-        None => None,
+        Some(whole) => tell_whole(whole, message, room),
+        None => NOTHING,
     }
 }
 
-/// A message's bytes go to the beginning of a room that has place for them.
-fn put_message(message: &Message, room: &mut [u8])
-    ensures { length (message_bytes message.now) ≤ length room.old → room.new ≡ message_bytes message.now ++ drop (length (message_bytes message.now)) room.old }
+/// What waits next on a stream is taken and handed back.
+fn drop_next(end: &mut Endpoint, stream: u16)
+    ensures step { (v : EndView) (h : Handed) → EndpointStands end.old v → slice_get (v.receiver.waiting stream) 0 ≡ Some h
+        → (t : EndView) × UserTakes v stream (Some h) t × EndpointStands end.new t }
+    ensures notes { (v : EndView) (h : Handed) → EndpointStands end.old v → slice_get (v.receiver.waiting stream) 0 ≡ Some h
+        → (t : EndView) × AddsTaken v stream h t × EndpointStands end.new t }
 {
-    let _ = message.copy_into(room);
+    if let Some(message) = end.take(stream) {
+        end.give_back(message);
+    }
 }
 
 /// The first stream from `from` on, on which a message waits, goes to `stream`. Who asks again behind each answer, and from 0 where none
@@ -122,7 +151,7 @@ pub extern "C" fn sctp_endpoint_peek(
     };
     let head = next_head(&end, stream);
     handle.put(end);
-    tell_head(head, message, OK)
+    tell_head(head, message)
 }
 
 /// Takes what waits next on a stream: its bytes go to `room`. Where that is too small it goes on waiting, and the head says its length.
@@ -147,26 +176,12 @@ pub extern "C" fn sctp_endpoint_take(
     let Some(mut end) = handle.take(alloc) else {
         return MISUSE;
     };
-    let Some(length) = next_length(&end, stream) else {
+    let answer = tell_next(&end, stream, message, room);
+    if answer != OK {
         handle.put(end);
-        return NOTHING;
-    };
-    if room.len() < length {
-        let head = next_head(&end, stream);
-        handle.put(end);
-        return tell_head(head, message, NEEDS_ROOM);
+        return answer;
     }
-    match end.take(stream) {
-        Some(whole) => {
-            *message = head_of(&whole);
-            put_message(&whole, room);
-            end.give_back(whole);
-            handle.put(end);
-            OK
-        }
-        None => {
-            handle.put(end);
-            NOTHING
-        }
-    }
+    drop_next(&mut end, stream);
+    handle.put(end);
+    OK
 }

@@ -4,6 +4,7 @@ ghost use Rattle.std.specs.Prelude.{◌≡◌, ℕ, ◌<◌, ◌≤◌, length, 
 ghost use Rattle.sctp_model.specs.wire.Packet as meaning;
 ghost use Rattle.sctp_model.specs.end.EndView.{EndView};
 ghost use Rattle.sctp_endpoint.specs.EndpointStands.{EndpointStands};
+ghost use Rattle.sctp_endpoint.specs.Transmitted.{TellsFew, MOST_TICKETS};
 ghost use Rattle.sctp_endpoint.specs.Handled.{IsRead, IsAnsweredWithin};
 ghost use Rattle.sctp_c.specs.Asked.{drawn};
 ghost use Rattle.sctp_c.specs.Holds.{Holds, KeepsNotes};
@@ -52,6 +53,7 @@ fn tell_poll(
 ) -> u32
     ensures told { IfOk answer (λ o. IfSome o (λ s. length s.packet.items ≤ length room.old)) → PollTold answer result sent.new room.old room.new tickets.old tickets.new }
     ensures untold { ((result ≡ OK) → ⊥) → (room.new ≡ room.old) × (tickets.new ≡ tickets.old) }
+    ensures few { IfOk answer (λ sent. TellsFew sent) → sent.new.tickets ≤ MOST_TICKETS }
     ensures keeps { (v : EndView) → EndpointStands end.old v → EndpointStands end.new v }
 {
     *sent = SctpSent {
@@ -85,6 +87,7 @@ pub extern "C" fn sctp_endpoint_poll_transmit(
     ensures narrow { (v : EndView) → Holds handle.old.slot.endpoint v → length room.old < v.configuration.limit
         → (result ≡ NEEDS_ROOM) × (sent.new.length ≡ v.configuration.limit) × (sent.new.tickets ≡ 0) × (handle.new.slot.endpoint ≡ handle.old.slot.endpoint) }
     ensures untold { ((result ≡ OK) → ⊥) → (room.new ≡ room.old) × (tickets.new ≡ tickets.old) }
+    ensures few { (v : EndView) → Holds handle.old.slot.endpoint v → sent.new.tickets ≤ MOST_TICKETS }
     ensures did { (v : EndView) → Holds handle.old.slot.endpoint v → v.configuration.limit ≤ length room.old
         → Polled v now handle.new.slot.endpoint result sent.new room.old room.new tickets.old tickets.new }
 {

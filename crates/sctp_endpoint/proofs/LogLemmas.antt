@@ -1,9 +1,11 @@
 -- What is noted after each call, by what it leaves.
-use Rattle.std.proofs.Common.{◌≡◌, ℕ, List, Option, Some, None, sym, subst}
+use Rattle.std.proofs.Common.{◌≡◌, ℕ, ◌-◌, ◌*◌, ◌≤◌, List, length, map, Option, Some, None, sym, subst, ap, arith}
+use Rattle.std.proofs.lemmas.List.{length-map}
 use Rattle.std.specs.Prelude.{Result, Ok, Err, option_map}
 use Rattle.std.specs.declared.vec.Vec.{Vec}
 use Rattle.std.specs.declared.alloc.Global.{Global}
-use Rattle.sctp_model.specs.wire.Packet.{Packet}
+use Rattle.sctp_model.specs.numbers.Limits.{GREATEST_PACKET}
+use Rattle.sctp_model.specs.wire.Packet.{HEADER_ROOM, Packet}
 use Rattle.sctp_model.specs.world.Calls.{Call}
 use Rattle.sctp_model.specs.end.EndView.{Draw, EndView}
 use Rattle.sctp_model.specs.end.Clock.{at_moment}
@@ -25,7 +27,7 @@ use Rattle.sctp_outcomes.proofs.logs.Called.{connect_keeps_logs, abort_keeps_log
 use Rattle.sctp_outcomes.proofs.logs.Built.{empty_builds_keep_logs}
 use Rattle.sctp_endpoint.specs.EndpointStands.{EndpointStands}
 use Rattle.sctp_endpoint.specs.Handled.{Handled}
-use Rattle.sctp_endpoint.specs.Transmitted.{Transmits}
+use Rattle.sctp_endpoint.specs.Transmitted.{Transmits, MOST_TICKETS}
 use Rattle.sctp_endpoint.specs.Logs.{LeavesLogs, GivesLogs, TakesLogs}
 use Rattle.sctp_endpoint.specs.declared.after.Verdict.{Verdict}
 use Rattle.sctp_endpoint.specs.declared.endpoint.Endpoint.{Endpoint}
@@ -60,3 +62,10 @@ take_logs (Some m) v stream t e s takes stands = (t, take_takes_one v stream (So
 
 pub no_packet_logs : (v : EndView) (now : ℕ) (e : Endpoint) → IsSound v → Transmits (at_moment v now) None e → LeavesLogs v e
 no_packet_logs v now e s t = (t.0, empty_builds_keep_logs v now t.0 s t.1, t.2)
+
+-- So few tickets are told where so few messages begin in a packet of this limit.
+pub few_told : (ts : List Ticket) (ns : List ℕ) (limit : ℕ) → map (λ t. t.0) ts ≡ ns → 20 * length ns ≤ limit - HEADER_ROOM → limit ≤ GREATEST_PACKET → length ts ≤ MOST_TICKETS
+few_told ts ns limit are few within =
+    let long = length-map ts (λ (t : Ticket). t.0) in
+    let same = ap (λ (xs : List ℕ). length xs) are in
+    omega (arith, long, same, few, within)

@@ -1,5 +1,5 @@
 -- What an end sends next, in terms of a view (RFC 9260, 6.10).
-use Rattle.std.specs.Prelude.{◌≡◌, ◌≤◌, List, [], length, map, Option, Some, None}
+use Rattle.std.specs.Prelude.{◌≡◌, ℕ, ◌≤◌, List, [], length, map, Option, Some, None}
 use Rattle.sctp_model.specs.wire.Chunk.{ChunkMeaning}
 use Rattle.sctp_model.specs.wire.Packet.{size_of_packet}
 use Rattle.sctp_model.specs.sender.Filling.{newly_numbered}
@@ -26,3 +26,12 @@ pub record IsSent (v : EndView) (s : Sent) (e : Endpoint) : Type 0 where
 abbrev pub Transmits : EndView → Option Sent → Endpoint → Type 0
 Transmits v None e = (after : EndView) × Builds v [] after × EndpointStands e after
 Transmits v (Some s) e = IsSent v s e
+
+-- no packet begins more messages: 1,500 bytes less the common header, 20 for each (RFC 9260, 3 and 3.3.1)
+abbrev pub MOST_TICKETS : ℕ
+MOST_TICKETS = 74
+
+-- It tells no more tickets.
+abbrev pub TellsFew : Option Sent → Type 0
+TellsFew None = Unit {0}
+TellsFew (Some s) = length s.tickets.items ≤ MOST_TICKETS

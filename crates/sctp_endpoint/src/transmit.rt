@@ -6,7 +6,7 @@ ghost use Rattle.sctp_model.specs.end.Clock.{at_moment};
 ghost use Rattle.sctp_association.specs.AbortAnswers.{AbortAnswers, aborted_view};
 ghost use Rattle.sctp_endpoint.specs.EndpointStands.{EndpointStands};
 ghost use Rattle.sctp_endpoint.specs.Logs.{LeavesLogs, SendsLogs, TellsAnew};
-ghost use Rattle.sctp_endpoint.specs.Transmitted.{Transmits};
+ghost use Rattle.sctp_endpoint.specs.Transmitted.{Transmits, TellsFew};
 
 use crate::endpoint::Endpoint;
 use sctp_terms::AbortFault;
@@ -28,7 +28,7 @@ impl Endpoint {
     /// what it holds isn't built again unless one of them expires.
     ///
     /// A ticket is told once in the life of an end, with the packet that gives its message the first TSN: it is none of those told before, and no
-    /// later packet tells it again, whatever happens (`sctp_outcomes::tickets_are_told_once`).
+    /// later packet tells it again, whatever happens (`sctp_outcomes::tickets_are_told_once`). A packet tells 74 tickets at most.
     ///
     /// # Errors
     /// `NoMemory` where a growth was refused: nothing changed, not even the moment.
@@ -37,9 +37,13 @@ impl Endpoint {
         ensures refused { (v : EndView) → EndpointStands self.old v → OnErr result (EndpointStands self.new v) }
         ensures logs { (v : EndView) → EndpointStands self.old v → IfOk result (λ sent. SendsLogs v sent self.new) }
         ensures anew { (v : EndView) → EndpointStands self.old v → IfOk result (λ sent. TellsAnew v sent) }
+        ensures few { (v : EndView) → EndpointStands self.old v → IfOk result (λ sent. TellsFew sent) }
     {
         // It does nothing: its contract is that the end is sound.
         self.machine.sound();
+        // Nor do these: their contracts are that a packet begins few messages, and how long it may be.
+        self.machine.packets_begin_few();
+        let _ = self.machine.config().limit();
         match self.machine.build(now)? {
             Some(built) => {
                 // Nor does this: its contract is that no ticket is told twice.

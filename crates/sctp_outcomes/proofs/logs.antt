@@ -1,5 +1,6 @@
 pub mod Senders
 pub mod Filled
+pub mod Few
 pub mod Ends
 pub mod Heard
 pub mod Passed

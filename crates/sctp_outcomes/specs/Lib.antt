@@ -9,3 +9,4 @@ pub mod Kept
 pub mod Untouched
 pub mod SetUp
 pub mod ToldOnce
+pub mod Few

@@ -2,6 +2,7 @@
 //!
 //! No function here does anything: each carries laws as its contract.
 
+ghost use Rattle.sctp_outcomes.specs.Few.{BuildsBeginFew};
 ghost use Rattle.sctp_outcomes.specs.Kept.{AbandonKeepsLogs, AbortKeepsLogs, BuildsAddNumbers, ConnectKeepsLogs, CutPacketsKeepLogs, EmptyBuildsKeepLogs, FreshHasNoLogs, MomentsKeepLogs, OpenedHasNoLogs, PacketsKeepLogs, SendGivesTickets, ShutdownKeepsLogs, TakeTakesOne};
 ghost use Rattle.sctp_outcomes.specs.ToldOnce.{BuildsTellAnew, RunsTellAnew};
 
@@ -32,6 +33,11 @@ pub fn calls_note_their_own()
 /// A packet that is built notes the tickets of the messages that it newly numbers, behind all before them, and nothing else (RFC 9260, 6.9).
 pub fn packets_note_their_numbers()
     ensures { BuildsAddNumbers }
+{}
+
+/// It begins a message for each 20 bytes behind its header at most (RFC 9260, 3.3.1 and 6.9).
+pub fn packets_begin_few_messages()
+    ensures { BuildsBeginFew }
 {}
 
 /// Where there is no packet to build, asking for it notes nothing.

@@ -17,7 +17,8 @@ pub use examples::{
 };
 pub use kept::{
     calls_note_their_own, new_ends_have_no_logs, no_packet_notes_nothing,
-    packets_note_their_numbers, tickets_are_told_once, what_comes_keeps_logs,
+    packets_begin_few_messages, packets_note_their_numbers, tickets_are_told_once,
+    what_comes_keeps_logs,
 };
 pub use outcomes::{every_event_has_an_outcome, every_event_has_one_outcome};
 pub use receiver_steps::{

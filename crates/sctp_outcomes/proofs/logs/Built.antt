@@ -1,15 +1,19 @@
 -- A packet that is built notes what it newly numbers, and nothing else.
-use Rattle.std.proofs.Common.{◌≡◌, Bool, true, false, List, [], ◌∷◌, ◌++◌, refl, sym, subst, ap, ◌∙◌}
-use Rattle.std.specs.Prelude.{◌-◌, map}
+use Rattle.std.proofs.Common.{◌≡◌, Bool, true, false, List, [], ◌∷◌, ◌++◌, refl, sym, subst, ap, ◌∙◌, arith}
+use Rattle.std.specs.Prelude.{◌-◌, ◌*◌, ◌≤◌, length, map}
 use Rattle.sctp_model.specs.wire.Chunk.{ChunkMeaning}
-use Rattle.sctp_model.specs.wire.Packet.{size_of_packet}
+use Rattle.sctp_model.specs.wire.Packet.{HEADER_ROOM, size_of_packet}
+use Rattle.sctp_model.specs.messages.Format.{Format}
 use Rattle.sctp_model.specs.sender.SenderView.{SenderView}
+use Rattle.sctp_model.specs.sender.Reached.{IsReached}
 use Rattle.sctp_model.specs.end.EndView.{Configuration, EndView, format_of}
 use Rattle.sctp_model.specs.end.Clock.{at_moment}
 use Rattle.sctp_model.specs.end.Building.{Slot, Puts, NoMore, NotDue, Put, IsFull, Builds, Sleeps, Waits, Calls, Echoes, EndsFull, Fills, EchoSlot, CookieAckSlot, HeartbeatSlot, ErrorSlot, SackSlot, ForwardSlot, ShutdownSlot, ShutdownAckSlot, once_built, sent, filled_behind, fragments}
-use Rattle.sctp_model.specs.sender.Filling.{Wish}
+use Rattle.sctp_model.specs.sender.Filling.{Wish, newly_numbered}
 use Rattle.sctp_model.specs.sender.SentChunks.{chunk_of}
 use Rattle.sctp_outcomes.specs.Kept.{is_before, IsNamed, IsSound, KeepsLogs, AddsNumbers, BuildsAddNumbers, EmptyBuildsKeepLogs}
+use Rattle.sctp_outcomes.specs.Few.{IsFilling, BuildsBeginFew}
+use Rattle.sctp_outcomes.proofs.logs.Few.{few_filled, none_newly}
 use Rattle.sctp_outcomes.proofs.logs.Filled.{Grows, grows_not, grows_filled, numbers_grow, nothing_filled}
 use Rattle.sctp_outcomes.proofs.logs.Ends.{never, IsSameToUser, keeps_itself, same_keeps, joined_keeps}
 use Rattle.sctp_outcomes.proofs.logs.Heard.{moment_keeps}
@@ -22,9 +26,10 @@ record IsPut (e t : EndView) : Type 0 where
   same : IsSameToUser e.receiver t.receiver
   configuration : t.configuration ≡ e.configuration
   phase : t.phase ≡ e.phase
+  format : format_of t ≡ format_of e
 
 put_not : (e : EndView) → IsPut e e
-put_not e = record { sender = refl; same = record { taken = refl; buffer = refl }; configuration = refl; phase = refl }
+put_not e = record { sender = refl; same = record { taken = refl; buffer = refl }; configuration = refl; phase = refl; format = refl }
 
 put_on : (e t u : EndView) → IsPut e t → IsPut t u → IsPut e u
 put_on e t u a b = record {
@@ -32,17 +37,18 @@ put_on e t u a b = record {
   same = record { taken = b.same.taken ∙ a.same.taken; buffer = b.same.buffer ∙ a.same.buffer };
   configuration = b.configuration ∙ a.configuration;
   phase = b.phase ∙ a.phase;
+  format = b.format ∙ a.format;
 }
 
 once_put : (s : Slot) (e : EndView) → IsPut e (once_built s e)
-once_put EchoSlot e = record { sender = refl; same = record { taken = refl; buffer = refl }; configuration = refl; phase = refl }
-once_put CookieAckSlot e = record { sender = refl; same = record { taken = refl; buffer = refl }; configuration = refl; phase = refl }
-once_put HeartbeatSlot e = record { sender = refl; same = record { taken = refl; buffer = refl }; configuration = refl; phase = refl }
-once_put ErrorSlot e = record { sender = refl; same = record { taken = refl; buffer = refl }; configuration = refl; phase = refl }
-once_put SackSlot e = record { sender = refl; same = record { taken = refl; buffer = refl }; configuration = refl; phase = refl }
-once_put ForwardSlot e = record { sender = refl; same = record { taken = refl; buffer = refl }; configuration = refl; phase = refl }
-once_put ShutdownSlot e = record { sender = refl; same = record { taken = refl; buffer = refl }; configuration = refl; phase = refl }
-once_put ShutdownAckSlot e = record { sender = refl; same = record { taken = refl; buffer = refl }; configuration = refl; phase = refl }
+once_put EchoSlot e = record { sender = refl; same = record { taken = refl; buffer = refl }; configuration = refl; phase = refl; format = refl }
+once_put CookieAckSlot e = record { sender = refl; same = record { taken = refl; buffer = refl }; configuration = refl; phase = refl; format = refl }
+once_put HeartbeatSlot e = record { sender = refl; same = record { taken = refl; buffer = refl }; configuration = refl; phase = refl; format = refl }
+once_put ErrorSlot e = record { sender = refl; same = record { taken = refl; buffer = refl }; configuration = refl; phase = refl; format = refl }
+once_put SackSlot e = record { sender = refl; same = record { taken = refl; buffer = refl }; configuration = refl; phase = refl; format = refl }
+once_put ForwardSlot e = record { sender = refl; same = record { taken = refl; buffer = refl }; configuration = refl; phase = refl; format = refl }
+once_put ShutdownSlot e = record { sender = refl; same = record { taken = refl; buffer = refl }; configuration = refl; phase = refl; format = refl }
+once_put ShutdownAckSlot e = record { sender = refl; same = record { taken = refl; buffer = refl }; configuration = refl; phase = refl; format = refl }
 
 all_put : (ss : List Slot) (e : EndView) (xs zs : List ChunkMeaning) (full : Bool) (t : EndView) → Puts ss e xs zs full t → IsPut e t
 all_put ss e xs zs full t (NoMore _ _) = put_not e
@@ -113,6 +119,7 @@ unsent e x zs p none = record {
   same = record { taken = p.same.taken; buffer = p.same.buffer };
   configuration = p.configuration;
   phase = p.phase;
+  format = p.format;
 }
 
 empty_keeps : (e t : EndView) (xs : List ChunkMeaning) → IsSound e → xs ≡ [] → Builds e xs t → KeepsLogs e t
@@ -125,3 +132,28 @@ empty_keeps e t xs s none (Fills _ _ zs x is puts) = put_keeps e (sent x zs) (un
 
 pub empty_builds_keep_logs : EmptyBuildsKeepLogs
 empty_builds_keep_logs e now t s builds = let k = empty_keeps (at_moment e now) t [] (moment_keeps e now s).sound refl builds in record { sound = k.sound; numbers = k.numbers; tickets = k.tickets; taken = k.taken }
+
+-- ---- few messages begin
+
+none_begun : (e t : EndView) → t.sender ≡ e.sender → 20 * length (newly_numbered e.sender t.sender) ≤ e.configuration.limit - HEADER_ROOM
+none_begun e t same = rw (none_newly e.sender t.sender same) (omega arith)
+
+few_sent : (e x : EndView) (zs : List ChunkMeaning) → IsPut e x → IsNamed e.sender.plan → IsReached (format_of e) e.sender
+    → 20 * length (newly_numbered e.sender (sent x zs).sender) ≤ e.configuration.limit - HEADER_ROOM
+few_sent e x zs p named reached =
+    let few : 20 * length (newly_numbered x.sender (filled_behind x zs).view) ≤ x.configuration.limit - size_of_packet zs =
+    few_filled (format_of x) (x.configuration.limit - size_of_packet zs) x.sender (subst (λ (v : SenderView). IsNamed v.plan) (sym p.sender) named)
+    (subst (λ (f : Format). IsReached f x.sender) (sym p.format) (subst (λ (v : SenderView). IsReached (format_of e) v) (sym p.sender) reached)) in
+    let limit = ap (λ (c : Configuration). c.limit) p.configuration in
+    subst (λ (v : SenderView). 20 * length (newly_numbered v (filled_behind x zs).view) ≤ e.configuration.limit - HEADER_ROOM) p.sender (omega (arith, few, limit))
+
+few_built : (e t : EndView) (xs : List ChunkMeaning) → IsSound e → IsFilling e → Builds e xs t → 20 * length (newly_numbered e.sender t.sender) ≤ e.configuration.limit - HEADER_ROOM
+few_built e t xs s reached (Sleeps _) = none_begun e e refl
+few_built e t xs s reached (Waits _ _ _) = none_begun e e refl
+few_built e t xs s reached (Calls _ _ _) = none_begun e t refl
+few_built e t xs s reached (Echoes _ _ _ full _ is puts) = none_begun e t (all_put _ e [] _ full t puts).sender
+few_built e t xs s reached (EndsFull _ _ _ _ is puts) = none_begun e t (all_put _ e [] _ true t puts).sender
+few_built e t xs s reached (Fills g h zs x is puts) = few_sent e x zs (all_put _ e [] zs false x puts) s.named (reached g h is)
+
+pub builds_begin_few : BuildsBeginFew
+builds_begin_few e s reached now xs t builds = few_built (at_moment e now) t xs (moment_keeps e now s).sound reached builds

@@ -108,7 +108,7 @@ next_named p s x named is = go (latest s p.entries) refl is
 
 -- ---- one wish, and many
 
-grows_assigned : (f : Format) (v u : SenderView) → IsNamed v.plan → IsAssigned v f u → Grows v u
+pub grows_assigned : (f : Format) (v u : SenderView) → IsNamed v.plan → IsAssigned v f u → Grows v u
 grows_assigned _ v _ named (Whole q rest is) = record {
   more = parts_from q.lane (length (v.plan.messages q.lane)) 0 (length q.message.fragments);
   entries = refl;
@@ -134,7 +134,7 @@ grows_assigned _ v _ named (Continued s x lt on) = record {
   tickets = refl;
 }
 
-grows_gone : (f : Format) (v : SenderView) (w : Wish) → IsNamed v.plan → next_wish f v ≡ Some w → Grows v (gone w)
+pub grows_gone : (f : Format) (v : SenderView) (w : Wish) → IsNamed v.plan → next_wish f v ≡ Some w → Grows v (gone w)
 grows_gone f v w named next =
     after_wish (Grows v) f v w (grows_not v v refl refl named) (λ u is. grows_assigned f v u named is)
     (λ u i g. record { more = g.more; entries = g.entries; messages = g.messages; counts = g.counts; named = g.named; tickets = g.tickets }) next
@@ -174,7 +174,7 @@ tickets_stay p r (e ∷ es) same =
     let here : begun_ticket r e ≡ begun_ticket p e = ap (λ (o : Option Message). option_and_then (λ m. when (is_first e) m.ticket) o) (same e (inl refl)) in
     rw (here, tickets_stay p r es (λ x has. same x (inr has))) refl
 
-drop_behind : (es ds : List Entry) → drop (length es) (es ++ ds) ≡ ds
+pub drop_behind : (es ds : List Entry) → drop (length es) (es ++ ds) ≡ ds
 drop_behind [] ds = refl
 drop_behind (e ∷ es) ds = drop_behind es ds
 

@@ -3,7 +3,7 @@ use Rattle.sctp_outcomes.specs.Kept.{numbered}
 use Rattle.sctp_outcomes.specs.ToldOnce.{NoTicketTwice}
 use Rattle.sctp_outcomes.proofs.logs.Built.{builds_add_numbers}
 use Rattle.sctp_endpoint.specs.EndpointStands.{EndpointStands}
-use Rattle.sctp_endpoint.proofs.LogLemmas.{no_packet_logs}
+use Rattle.sctp_endpoint.proofs.LogLemmas.{no_packet_logs, few_told}
 use Rattle.sctp_endpoint.proofs.endpoint.Endpoint.poll_transmit.Goals as goal
 
 pub returns-in-Some-clause-step : goal.returns-in-Some-clause-step
@@ -36,3 +36,12 @@ returns-in-None-clause-anew c = λ v stands. tt
 pub returns-in-None-clause-logs : goal.returns-in-None-clause-logs
 unfolding EndpointStands
 returns-in-None-clause-logs c = λ v stands. no_packet_logs v c.args.now _ (c.sound.ensures v stands) (rw c.in-None.is at c.in_ok-built.ensures.built v stands)
+
+pub returns-in-Some-clause-few : goal.returns-in-Some-clause-few
+unfolding EndpointStands
+returns-in-Some-clause-few c = λ v stands.
+    let b = rw c.in-Some.is at c.in_ok-built.ensures.built v stands in
+    few_told _ _ v.configuration.limit b.tickets (c.packets_begin_few.ensures v stands c.args.now b.chunks b.after b.builds) (rw (c.config.ensures v stands) at c.limit.ensures.configured).limit.1
+
+pub returns-in-None-clause-few : goal.returns-in-None-clause-few
+returns-in-None-clause-few c = λ v stands. tt
