@@ -78,11 +78,22 @@ fn next_in_turn(draft: &Draft, streams: u16) -> Option<Next>
     if let Some(next) = next_between(draft, turn, streams, streams) {
         return Some(next);
     }
-    next_between(draft, 0, turn.min(streams), streams)
+    next_around(draft, turn.min(streams), streams)
+}
+
+/// What the first stream below another does. It stands apart, so that the first search of a turn stays small.
+#[inline(never)]
+fn next_around(draft: &Draft, below: u16, streams: u16) -> Option<Next>
+    requires { below ≤ streams }
+    ensures does { (s : Kept) (v : SenderView) → s.streams ≡ streams → Keeps Interleaved (drafted s draft.now) v → FirstTurnAnswer v 0 below result }
+    ensures within { IsNextWithin draft.now streams result }
+{
+    next_between(draft, 0, below, streams)
 }
 
 /// What the first stream from one on, below another, that has something to send does: it goes on with its message in part, or else begins the
 /// message that has waited longest on it.
+#[inline(always)]
 fn next_between(draft: &Draft, from: u16, below: u16, streams: u16) -> Option<Next>
     requires { below ≤ streams }
     ensures does { (s : Kept) (v : SenderView) → s.streams ≡ streams → Keeps Interleaved (drafted s draft.now) v → FirstTurnAnswer v from below result }
@@ -105,6 +116,7 @@ fn next_between(draft: &Draft, from: u16, below: u16, streams: u16) -> Option<Ne
 }
 
 /// The same where no message waits on any of these streams.
+#[inline(never)]
 fn part_between(draft: &Draft, from: u16, below: u16, streams: u16) -> Option<Next>
     requires { below ≤ streams }
     ensures does { (s : Kept) (v : SenderView) → s.streams ≡ streams → Keeps Interleaved (drafted s draft.now) v → ((j : ℕ) → from ≤ j → j < below → first_on j v.queue ≡ None) → FirstTurnAnswer v from below result }

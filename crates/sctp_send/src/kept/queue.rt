@@ -191,6 +191,7 @@ impl Queue {
     }
 
     /// The first stream from one on, below another, on which a message waits, and the place of the message that has waited longest on it.
+    #[inline(always)]
     pub(crate) fn next_on(&self, from: u16, below: u16) -> Option<Found>
         ensures next { (size : ℕ) → NextOnAnswer from below (map (queued_by size) self.now.items) result }
         ensures within { IfSome result (λ found. found.place < length self.now.items) }

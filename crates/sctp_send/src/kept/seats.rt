@@ -49,6 +49,7 @@ pub(crate) fn fits_at(
 }
 
 /// How many of the first messages have lower tickets, by halves, where tickets rise; else none.
+#[inline(always)]
 pub(crate) fn first_from(messages: &VecDeque<Arc<Message>>, rises: bool, ticket: u64) -> usize
     requires { rises ≡ true → DoTicketsRise 0 messages.now.items }
     ensures place { result ≡ (if rises then before ticket_in ticket messages.now.items else 0) }
@@ -61,6 +62,17 @@ pub(crate) fn first_from(messages: &VecDeque<Arc<Message>>, rises: bool, ticket:
     if messages[0].ticket >= ticket {
         return 0;
     }
+    first_by_halves(messages, ticket)
+}
+
+/// The same, where tickets rise and the first one is lower. It stands apart, since the first one is asked for most often.
+#[inline(never)]
+fn first_by_halves(messages: &VecDeque<Arc<Message>>, ticket: u64) -> usize
+    requires rise { DoTicketsRise 0 messages.now.items }
+    requires lower { 0 < before ticket_in ticket messages.now.items }
+    ensures place { result ≡ before ticket_in ticket messages.now.items }
+    ensures within { result ≤ length messages.now.items }
+{
     let mut low = 1;
     let mut high = messages.len();
     while low < high {
@@ -162,6 +174,7 @@ fn first_on(messages: &VecDeque<Arc<Message>>, stream: u16) -> Option<usize>
 }
 
 /// The message in front of all is of a stream, which is below another.
+#[inline(always)]
 pub(crate) fn is_in_front(messages: &VecDeque<Arc<Message>>, stream: u16, below: u16) -> bool
     ensures first { (size : ℕ) → result ≡ true → IsFirstOn stream 0 (map (queued_by size) messages.now.items) }
     ensures low { result ≡ true → stream < below }
@@ -178,6 +191,7 @@ pub(crate) fn is_in_front(messages: &VecDeque<Arc<Message>>, stream: u16, below:
 }
 
 /// The first stream from one on, below another, on which a message waits, and where, by looking through all messages for each.
+#[inline(never)]
 pub(crate) fn next_by_looking(
     messages: &VecDeque<Arc<Message>>,
     from: u16,

@@ -9,4 +9,4 @@ returns-in-Some-clause-next c = λ s v streams keeps.
 
 pub returns-clause-next : goal.returns-clause-next
 returns-clause-next c = λ s v streams keeps.
-    turn_kept_on (drafted s c.args.draft.now) v c.args.streams c.args.draft.now.turn c.min.result c.next_between-2.result keeps streams refl c.min.ensures (c.in_default.ensures.does s v streams keeps) (c.next_between-2.ensures.does s v streams keeps)
+    turn_kept_on (drafted s c.args.draft.now) v c.args.streams c.args.draft.now.turn c.min.result c.next_around.result keeps streams refl c.min.ensures (c.in_default.ensures.does s v streams keeps) (c.next_around.ensures.does s v streams keeps)

@@ -1,7 +1,7 @@
 use Rattle.std.proofs.Common.{◌≤◌, ◌-◌, length}
 use Rattle.sctp_send.specs.inner.Ordering.{before}
 use Rattle.sctp_send.specs.inner.Seating.{ticket_in}
-use Rattle.sctp_send.proofs.kept.seats.first_from.Given as goal
+use Rattle.sctp_send.proofs.kept.seats.first_by_halves.Given as goal
 
 abbrev pub invariant-loop-low : goal.invariant-loop-low
 invariant-loop-low l = record {
