@@ -58,7 +58,7 @@ impl DueTable {
         }
     }
 
-    /// Takes room for a ticket more.
+    /// Takes room for a ticket more; there are fewer tickets than numbers.
     ///
     /// # Errors
     /// `NoMemory`.
@@ -68,7 +68,6 @@ impl DueTable {
         ensures asleep { self.new.asleep ≡ self.old.asleep }
         ensures room { OnOk result (length self.new.moments < self.new.capacity) }
     {
-        // There are fewer tickets than numbers.
         if self.passed.saturating_add(self.moments.len() as u64) >= u64::MAX - 1 {
             return Err(NoMemory);
         }

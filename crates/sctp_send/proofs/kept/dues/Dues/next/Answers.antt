@@ -1,4 +1,4 @@
-use Rattle.std.proofs.Common.{◌≡◌, ℕ, ◌+◌, ◌-◌, ◌^◌, ◌<◌, ◌≤◌, ◌++◌, subst, sym, arith}
+use Rattle.std.proofs.Common.{◌≡◌, ℕ, ◌+◌, ◌-◌, ◌<◌, ◌≤◌, subst, sym, arith}
 use Rattle.sctp_send.specs.PartsKept.{DuesKept}
 use Rattle.sctp_send.specs.inner.Dues.{due_at}
 use Rattle.sctp_send.proofs.MomentLemmas.{run_due, some_more, none_more}
