@@ -154,9 +154,9 @@ keeps_awake f s v size es ms b k are long each woken = record {
 
 -- ---- passed
 
-pub keeps_passed : (f : Format) (s : Kept) (v : SenderView) (last : ℕ) → Keeps f s v → last ≡ s.passed + 64 → 64 ≤ length s.moments → ((t : ℕ) → t ≤ last → waits t s.queue ≡ false)
-    → ((t : ℕ) → t ≤ last → any_rest t s.tracks ≡ false) → ((t : ℕ) → t ≤ last → any_item t s.items ≡ false) → Keeps f (record s { passed = s.passed + 64; moments = drop 64 s.moments }) v
-keeps_passed f s v last k end most queue rests items = record {
+pub keeps_passed : (f : Format) (s : Kept) (v : SenderView) (n last : ℕ) → Keeps f s v → last ≡ s.passed + n → n ≤ length s.moments → ((t : ℕ) → t ≤ last → waits t s.queue ≡ false)
+    → ((t : ℕ) → t ≤ last → any_rest t s.tracks ≡ false) → ((t : ℕ) → t ≤ last → any_item t s.items ≡ false) → Keeps f (record s { passed = s.passed + n; moments = drop n s.moments }) v
+keeps_passed f s v n last k end most queue rests items = record {
   holds = record {
     initial = k.holds.initial;
     streams = k.holds.streams;
@@ -180,10 +180,10 @@ keeps_passed f s v last k end most queue rests items = record {
     ];
   };
   due = record {
-    many = let many = k.due.many in let long = length-drop 64 s.moments in omega (arith, many, long, most);
+    many = let many = k.due.many in let long = length-drop n s.moments in omega (arith, many, long, most);
     each = λ t now lt. elim (cases_lt last t) [
-      | inl past ↦ let i = k.due.each t now (due_behind s.passed s.moments t now most (omega (arith, past, end)) lt) in record { queue = i.queue; items = i.items; tracks = i.tracks }
-      | inr within ↦ over_idle (record s { passed = s.passed + 64; moments = drop 64 s.moments }) now t (record { queue = queue t within; tracks = rests t within; items = items t within })
+      | inl past ↦ let i = k.due.each t now (due_behind s.passed s.moments n t now most (omega (arith, past, end)) lt) in record { queue = i.queue; items = i.items; tracks = i.tracks }
+      | inr within ↦ over_idle (record s { passed = s.passed + n; moments = drop n s.moments }) now t (record { queue = queue t within; tracks = rests t within; items = items t within })
     ];
   };
   reached = k.reached;

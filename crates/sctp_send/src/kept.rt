@@ -6,6 +6,7 @@ pub mod by_message;
 pub mod by_ticket;
 pub mod counts;
 pub mod due_pages;
+pub mod due_table;
 pub mod dues;
 pub mod entry;
 pub mod fates;

@@ -1,5 +1,5 @@
 -- From which moment on the message of a ticket may be past its time: ticket by ticket, and in pages of 64.
-use Rattle.std.specs.Prelude.{◌≡◌, ℕ, suc, ◌+◌, ◌-◌, ◌/◌, ◌^◌, ◌<◌, ◌≤◌, nat_le, ◌==◌, ◌&&◌, ◌||◌, not, ◌⊎◌, Bool, true, false, if◌then◌else◌, List, map, length, slice_index_or, slice_get, Option, None, Some, unwrap_or, option_and_then}
+use Rattle.std.specs.Prelude.{◌≡◌, ℕ, suc, ◌+◌, ◌-◌, ◌/◌, ◌^◌, ◌<◌, ◌≤◌, min, nat_le, ◌==◌, ◌&&◌, ◌||◌, not, ◌⊎◌, Bool, true, false, if◌then◌else◌, List, map, length, slice_index_or, slice_get, Option, None, Some, unwrap_or, option_and_then}
 use Rattle.std.specs.List.{list_any}
 use Rattle.std.specs.declared.sync.Arc.{Arc}
 use Rattle.std.specs.declared.alloc.Global.{Global}
@@ -39,6 +39,10 @@ pub record AreDues (passed : ℕ) (ms leasts : List ℕ) (earliest : ℕ) : Type
   pub few : passed + length ms < 2 ^ 64
   pub pages : AreLeast ms leasts
   pub first : IsEarliest earliest leasts
+
+-- How many of the first tickets are passed together: of those with one moment up to 64; where there is none, a page.
+abbrev pub front_of : (alike : ℕ) → ℕ
+front_of n = if n == 0 then 64 else min n 64
 
 -- ---- who is late
 

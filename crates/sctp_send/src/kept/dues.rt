@@ -3,44 +3,36 @@
 
 ghost use Rattle.std.specs.Prelude.{◌≡◌, ℕ, ◌+◌, ◌^◌, ◌<◌, ◌≤◌, ◌++◌, ◌∷◌, ◌⊎◌, [], true, false, drop, length, unwrap_or, OnOk, IfSome, IfNone};
 ghost use Rattle.sctp_model.specs.numbers.Limits.{LAST_MOMENT};
-ghost use Rattle.sctp_send.specs.inner.Dues.{due_at};
+ghost use Rattle.sctp_send.specs.inner.Dues.{due_at, front_of};
 
-use crate::kept::due_pages::{
-    PAGE, drop_first, drop_page, first_due, look_at, lower_at, lower_page, moment_in,
-};
+use crate::kept::due_pages::{PAGE, moment_in};
+use crate::kept::due_table::DueTable;
 use sctp_values::NoMemory;
 use std::alloc::Global;
-use std::collections::VecDeque;
 use std::marker::Model;
 
 /// The moments by ticket: before its own, no message has to be looked at.
+///
+/// As long as no message has one, none is kept one by one.
 #[derive(Drop)]
 pub struct Dues {
-    // so many of the first tickets are passed: none of them is late any more
-    passed: u64,
-    // those of the tickets behind, one by one
-    moments: VecDeque<u64>,
-    // of each page of them, one that is no later
-    leasts: Vec<u64>,
-    // no later than any of these
-    earliest: u64,
-    // a message was found late and not to be abandoned as it stood, so that its ticket has the last moment
-    asleep: bool,
+    // so many of the tickets behind those that are passed have one moment
+    alike: u64,
+    // this one
+    common: u64,
+    // the tickets behind these
+    behind: DueTable,
 }
 
 impl Model for Dues {
-    ghost use Rattle.std.specs.Prelude.{◌-◌, ◌*◌, ◌^◌, min};
-    ghost use Rattle.std.specs.Vec.{vec_capacity};
-    ghost use Rattle.std.specs.VecDeque.{deque_capacity};
+    ghost use Rattle.std.specs.Prelude.{◌+◌, ◌-◌, ◌≤◌, ◌++◌, replicate};
     ghost use Rattle.sctp_send.specs.PartsKept.{DuesKept};
 
     ghost Value = { DuesKept };
 
-    ghost use Rattle.sctp_send.specs.inner.Dues.{AreDues};
+    ghost view = { λ w. record { passed = w.behind.passed - w.alike; alike = w.alike; moments = replicate w.alike w.common ++ w.behind.moments; asleep = w.behind.asleep; capacity = w.alike + w.behind.capacity } };
 
-    ghost view = { λ w. record { passed = w.passed; moments = w.moments.items; asleep = w.asleep; capacity = min (2 ^ 64 - 1 - w.passed) (min (deque_capacity w.moments) (64 * vec_capacity w.leasts)) } };
-
-    ghost invariant = { λ w. AreDues w.passed w.moments.items w.leasts.items w.earliest };
+    ghost invariant = { λ w. w.alike ≤ w.behind.passed };
 }
 
 impl Dues {
@@ -51,11 +43,9 @@ impl Dues {
         ensures asleep { result.asleep ≡ false }
     {
         Dues {
-            passed: 0,
-            moments: VecDeque::new(alloc),
-            leasts: Vec::new(alloc),
-            earliest: u64::MAX,
-            asleep: false,
+            alike: 0,
+            common: u64::MAX,
+            behind: DueTable::new(alloc),
         }
     }
 
@@ -69,17 +59,7 @@ impl Dues {
         ensures asleep { self.new.asleep ≡ self.old.asleep }
         ensures room { OnOk result (length self.new.moments < self.new.capacity) }
     {
-        // There are fewer tickets than numbers.
-        if self.passed.saturating_add(self.moments.len() as u64) >= u64::MAX - 1 {
-            return Err(NoMemory);
-        }
-        if self.moments.reserve(1).is_err() {
-            return Err(NoMemory);
-        }
-        if self.leasts.reserve(1).is_err() {
-            return Err(NoMemory);
-        }
-        Ok(())
+        self.behind.reserve()
     }
 
     /// A ticket comes behind the others. Its moment is the one that its message has, or the last.
@@ -92,17 +72,12 @@ impl Dues {
         ensures asleep { self.new.asleep ≡ self.old.asleep }
     {
         let moment = moment_in(until);
-        let many = self.moments.len();
-        let page = many / PAGE;
-        if many % PAGE == 0 {
-            self.leasts.push_reserved(moment);
-            self.earliest = self.earliest.min(moment);
-        } else if moment < self.leasts[page] {
-            // Else the page's moment is no later, and so the earliest isn't.
-            self.leasts[page] = moment;
-            self.earliest = self.earliest.min(moment);
+        if moment == self.common && self.behind.is_empty() {
+            self.behind.skip();
+            self.alike += 1;
+            return;
         }
-        self.moments.push_back_reserved(moment);
+        self.behind.push(until);
     }
 
     /// The first ticket above the last one whose moment has come.
@@ -113,30 +88,27 @@ impl Dues {
         ensures before { IfSome result (λ ticket. (t : ℕ) → last < t → t < ticket → now < due_at self.now.passed self.now.moments t) }
         ensures none { IfNone result ((t : ℕ) → last < t → now < due_at self.now.passed self.now.moments t) }
     {
-        if now < self.earliest {
-            return None;
+        if now < self.common {
+            return self.behind.next(last, now);
         }
-        let from = last.saturating_sub(self.passed) as usize;
-        let at = first_due(&self.moments, &self.leasts, from, now);
-        if at < self.moments.len() {
-            return Some(self.passed + 1 + at as u64);
+        if let Some(ticket) = self.next_alike(last) {
+            return Some(ticket);
         }
-        None
+        self.behind.next(last, now)
     }
 
-    /// The moment of a ticket is this one from now on.
-    fn set(&mut self, ticket: u64, moment: u64)
-        ensures passed { self.new.passed ≡ self.old.passed }
-        ensures long { length self.new.moments ≡ length self.old.moments }
-        ensures here { (now : ℕ) → now < due_at self.old.passed self.new.moments ticket → now < moment ⊎ (now < due_at self.old.passed self.old.moments ticket) }
-        ensures others { (t : ℕ) → (t ≡ ticket → ⊥) → due_at self.old.passed self.new.moments t ≡ due_at self.old.passed self.old.moments t }
-        ensures asleep { self.new.asleep ≡ self.old.asleep }
+    /// The first ticket above the last one of those that have one moment.
+    fn next_alike(&self, last: u64) -> Option<u64>
+        ensures above { IfSome result (λ ticket. last < ticket) }
+        ensures upto { IfSome result (λ ticket. ticket ≤ self.now.passed + self.now.alike) }
+        ensures before { IfSome result (λ ticket. (t : ℕ) → last < t → t < ticket → t ≤ self.now.passed) }
+        ensures none { IfNone result ((t : ℕ) → last < t → self.now.passed < t → self.now.passed + self.now.alike < t) }
     {
-        if let Some(at) = self.place(ticket) {
-            lower_page(&mut self.leasts, at / PAGE, moment);
-            self.earliest = self.earliest.min(moment);
-            self.moments[at] = moment;
+        let first = self.behind.passed();
+        if self.alike == 0 || first <= last {
+            return None;
         }
+        Some(last.max(first - self.alike) + 1)
     }
 
     /// The moment of a ticket is told anew: from then on its message may be abandoned, as it stands; or it may not.
@@ -147,8 +119,7 @@ impl Dues {
         ensures others { (t : ℕ) → (t ≡ ticket → ⊥) → due_at self.old.passed self.new.moments t ≡ due_at self.old.passed self.old.moments t }
         ensures asleep { self.new.asleep ≡ true }
     {
-        self.set(ticket, moment_in(until));
-        self.asleep = true;
+        self.behind.tell(ticket, until);
     }
 
     /// The moment of a ticket is no later than this one from now on.
@@ -159,23 +130,11 @@ impl Dues {
         ensures here { ticket ≤ self.old.passed + length self.old.moments → self.old.passed < ticket → due_at self.old.passed self.new.moments ticket ≤ moment }
         ensures asleep { self.new.asleep ≡ self.old.asleep }
     {
-        if let Some(at) = self.place(ticket) {
-            lower_page(&mut self.leasts, at / PAGE, moment);
-            self.earliest = self.earliest.min(moment);
-            lower_at(&mut self.moments, at, moment);
+        if ticket <= self.behind.passed() {
+            self.common = self.common.min(moment);
+            return;
         }
-    }
-
-    /// Where the moment of a ticket stands, if it does.
-    fn place(&self, ticket: u64) -> Option<usize>
-        ensures some { IfSome result (λ at. (at < length self.now.moments) × (ticket ≡ self.now.passed + 1 + at)) }
-        ensures none { IfNone result ((ticket ≤ self.now.passed) ⊎ (self.now.passed + length self.now.moments < ticket)) }
-    {
-        let at = ticket.checked_sub(self.passed)?.checked_sub(1)? as usize;
-        if at < self.moments.len() {
-            return Some(at);
-        }
-        None
+        self.behind.lower(ticket, moment);
     }
 
     /// Pages of which a moment may have come are looked at anew. It changes no moment.
@@ -183,46 +142,56 @@ impl Dues {
     pub(crate) fn look_again(&mut self, now: u64)
         ensures { self.new ≡ self.old }
     {
-        if now < self.earliest {
-            return;
-        }
-        self.earliest = look_at(&self.moments, &mut self.leasts, now);
+        self.behind.look_again(now);
     }
 
     /// Some moment doesn't count what is covered.
     pub(crate) fn is_asleep(&self) -> bool
         ensures { result ≡ self.now.asleep }
     {
-        self.asleep
+        self.behind.is_asleep()
     }
 
     /// All moments count what is covered.
     pub(crate) fn awake(&mut self)
         ensures { self.new ≡ record self.old { asleep = false } }
     {
-        self.asleep = false;
+        self.behind.awake();
     }
 
-    /// The last ticket of the first page, where a page was begun behind it and it is time to look.
-    pub(crate) fn first_page(&self) -> Option<u64>
-        ensures { IfSome result (λ last. (last ≡ self.now.passed + 64) × (64 ≤ length self.now.moments)) }
+    /// How many of the first tickets are passed together.
+    fn front(&self) -> u64
+        ensures { result ≡ front_of self.now.alike }
     {
-        let many = self.moments.len();
-        if many > PAGE && many % PAGE == 1 {
-            return Some(self.passed + PAGE as u64);
+        if self.alike == 0 {
+            return PAGE as u64;
+        }
+        self.alike.min(PAGE as u64)
+    }
+
+    /// The last of the tickets that are passed together, where a page was begun behind it and it is time to look.
+    pub(crate) fn first_page(&self) -> Option<u64>
+        ensures { IfSome result (λ last. (last ≡ self.now.passed + front_of self.now.alike) × (front_of self.now.alike ≤ length self.now.moments)) }
+    {
+        let passed = self.behind.passed() - self.alike;
+        let many = self.behind.given() - passed;
+        if many > PAGE as u64 && many % PAGE as u64 == 1 {
+            return Some(passed + self.front());
         }
         None
     }
 
-    /// The tickets of the first page are passed.
+    /// The first tickets are passed.
     pub(crate) fn pass_page(&mut self)
-        requires { 64 ≤ length self.old.moments }
-        ensures passed { self.new.passed ≡ self.old.passed + 64 }
-        ensures moments { self.new.moments ≡ drop 64 self.old.moments }
+        requires { front_of self.old.alike ≤ length self.old.moments }
+        ensures passed { self.new.passed ≡ self.old.passed + front_of self.old.alike }
+        ensures moments { self.new.moments ≡ drop (front_of self.old.alike) self.old.moments }
         ensures asleep { self.new.asleep ≡ self.old.asleep }
     {
-        drop_first(&mut self.moments, PAGE);
-        drop_page(&mut self.leasts);
-        self.passed += PAGE as u64;
+        if self.alike == 0 {
+            self.behind.pass_page();
+            return;
+        }
+        self.alike -= self.alike.min(PAGE as u64);
     }
 }

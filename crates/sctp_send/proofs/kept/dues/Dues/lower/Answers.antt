@@ -1,28 +1,55 @@
-use Rattle.std.proofs.Common.{ℕ, ◌≡◌, ◌+◌, ◌<◌, List, length, subst, sym, ap, arith}
+use Rattle.std.proofs.Common.{◌≡◌, ℕ, ◌+◌, ◌-◌, ◌<◌, ◌≤◌, ◌++◌, length, subst, arith}
+use Rattle.std.proofs.lemmas.List.{length-append, length-replicate}
+use Rattle.std.specs.Prelude.{replicate}
 use Rattle.sctp_send.specs.PartsKept.{DuesKept}
-use Rattle.sctp_send.specs.inner.Dues.{due_at, AreDues}
-use Rattle.sctp_send.proofs.MomentLemmas.{dues_lowered, due_lowered, due_here}
+use Rattle.sctp_send.specs.inner.Dues.{due_at}
+use Rattle.sctp_send.proofs.MomentLemmas.{due_alike, due_after, run_less}
 use Rattle.sctp_send.proofs.kept.dues.Dues.lower.Goals as goal
 
-pub invariant_of-self : goal.invariant_of-self
-invariant_of-self c =
+pub returns-then-ticket-passed-clause-each : goal.returns-then-ticket-passed-clause-each
+returns-then-ticket-passed-clause-each c = λ t now lt.
     let s = c.self.inside in
-    let one = c.lower_at.ensures in
-    let page = c.lower_page.ensures in
-    let here = subst (λ (w : DuesKept). (c.in-Some.at < length w.moments) × (c.args.ticket ≡ w.passed + 1 + c.in-Some.at)) (sym c.self.view_is) c.in-Some.ensures.some in
-    subst (λ (e : ℕ). AreDues s.passed c.lower_at.new.moments.items c.lower_page.new.leasts.items e) (sym c.min-self-inside.ensures)
-    (dues_lowered s.passed s.moments.items c.lower_at.new.moments.items s.leasts.items c.lower_page.new.leasts.items s.earliest c.args.moment c.in-Some.at c.self.invariant here.0
-    (record { long = one.long; each = one.each; above = one.above; here = one.here; others = one.others }) (record { long = page.long; each = page.each; above = page.above; here = page.here; others = page.others }))
+    let p = s.behind.passed - s.alike in
+    let first : s.behind.passed ≡ p + s.alike = omega (arith, c.self.invariant) in
+    let low = c.min-self-inside.result in
+    subst (λ (w : DuesKept). now < due_at w.passed (replicate s.alike low ++ s.behind.moments) t → now < due_at w.passed w.moments t) c.self.view_is
+    (run_less p s.alike s.common low s.behind.moments s.behind.moments now t (omega (arith, c.min-self-inside.ensures)) (λ after less. less)) lt
 
-pub returns-in-Some-clause-each : goal.returns-in-Some-clause-each
-returns-in-Some-clause-each c = λ t now lt.
+pub returns-then-ticket-passed-clause-here : goal.returns-then-ticket-passed-clause-here
+returns-then-ticket-passed-clause-here c =
     let s = c.self.inside in
-    subst (λ (ms : List ℕ). now < due_at c.args.self.now.passed ms t) (ap (λ (w : DuesKept). w.moments) c.self.view_is)
-    (due_lowered c.args.self.now.passed s.moments.items c.lower_at.new.moments.items t now c.lower_at.ensures.each lt)
+    let p = s.behind.passed - s.alike in
+    let first : s.behind.passed ≡ p + s.alike = omega (arith, c.self.invariant) in
+    let low = c.min-self-inside.result in
+    let t = c.args.ticket in
+    subst (λ (w : DuesKept). t ≤ w.passed + length w.moments → w.passed < t → due_at w.passed (replicate s.alike low ++ s.behind.moments) t ≤ c.args.moment) c.self.view_is
+    (λ given past. let is = due_alike p s.alike low s.behind.moments t past (omega (arith, first, c.if-ticket-passed.true, c.passed.ensures)) in omega (arith, is, c.min-self-inside.ensures))
 
-pub returns-in-Some-clause-here : goal.returns-in-Some-clause-here
-returns-in-Some-clause-here c = λ given past.
-    let some = c.in-Some.ensures.some in
-    let long = c.lower_at.ensures.long in
-    let same = ap (λ (w : DuesKept). length w.moments) c.self.view_is in
-    due_here c.args.self.now.passed c.lower_at.new.moments.items c.in-Some.at c.args.moment c.args.ticket some.1 c.lower_at.ensures.here (omega (arith, long, same, some.0))
+pub returns-clause-each : goal.returns-clause-each
+returns-clause-each c = λ t now lt.
+    let s = c.self.inside in
+    let p = s.behind.passed - s.alike in
+    let first : s.behind.passed ≡ p + s.alike = omega (arith, c.self.invariant) in
+    let ms = s.behind.moments in
+    let ns = c.lower.new.self.moments in
+    let behind = subst (λ (x : ℕ). now < due_at x ns t → now < due_at x ms t) first (c.lower.ensures.each t now) in
+    subst (λ (w : DuesKept). now < due_at w.passed (replicate s.alike s.common ++ ns) t → now < due_at w.passed w.moments t) c.self.view_is
+    (run_less p s.alike s.common s.common ms ns now t (omega arith) (λ after. behind)) lt
+
+pub returns-clause-here : goal.returns-clause-here
+returns-clause-here c =
+    let s = c.self.inside in
+    let p = s.behind.passed - s.alike in
+    let first : s.behind.passed ≡ p + s.alike = omega (arith, c.self.invariant) in
+    let t = c.args.ticket in
+    let ms = s.behind.moments in
+    let ns = c.lower.new.self.moments in
+    let after : p + s.alike < t = omega (arith, first, c.if-ticket-passed.false, c.passed.ensures) in
+    let behind = subst (λ (x : ℕ). t ≤ x + length ms → x < t → due_at x ns t ≤ c.args.moment) first c.lower.ensures.here in
+    subst (λ (w : DuesKept). t ≤ w.passed + length w.moments → w.passed < t → due_at w.passed (replicate s.alike s.common ++ ns) t ≤ c.args.moment) c.self.view_is
+    (λ given past.
+    let long = length-append (replicate s.alike s.common) ms in
+    let same = length-replicate s.alike s.common in
+    let is = due_after p s.alike s.common ns t after in
+    let low = behind (omega (arith, given, long, same)) after in
+    omega (arith, is, low))

@@ -1,14 +1,14 @@
 use Rattle.std.proofs.Common.{ℕ, List, inl, length, sym, ◌∙◌, ap, arith}
-use Rattle.sctp_send.specs.PartsKept.{DuesKept}
+use Rattle.sctp_send.specs.PartsKept.{DueTableKept}
 use Rattle.sctp_send.specs.inner.Dues.{due_at}
 use Rattle.sctp_send.proofs.MomentLemmas.{due_set_same, due_set_other}
-use Rattle.sctp_send.proofs.kept.dues.Dues.set.Goals as goal
+use Rattle.sctp_send.proofs.kept.due_table.DueTable.set.Goals as goal
 
 pub returns-in-Some-clause-here : goal.returns-in-Some-clause-here
 returns-in-Some-clause-here c = λ now lt.
     let s = c.self.inside in
     let some = c.in-Some.ensures.some in
-    let same = ap (λ (w : DuesKept). length w.moments) c.self.view_is in
+    let same = ap (λ (w : DueTableKept). length w.moments) c.self.view_is in
     let is = due_set_same c.args.self.now.passed s.moments.items c.in-Some.at c.args.moment c.args.ticket some.1 (omega (arith, same, some.0)) in
     inl (omega (arith, is, lt))
 
@@ -16,4 +16,4 @@ pub returns-in-Some-clause-others : goal.returns-in-Some-clause-others
 returns-in-Some-clause-others c = λ t other.
     let s = c.self.inside in
     due_set_other c.args.self.now.passed s.moments.items c.in-Some.at c.args.moment t (λ same. other (same ∙ sym c.in-Some.ensures.some.1))
-    ∙ ap (λ (ms : List ℕ). due_at c.args.self.now.passed ms t) (ap (λ (w : DuesKept). w.moments) c.self.view_is)
+    ∙ ap (λ (ms : List ℕ). due_at c.args.self.now.passed ms t) (ap (λ (w : DueTableKept). w.moments) c.self.view_is)

@@ -1,0 +1,249 @@
+//! From which moment on the message of each ticket may be past its time (RFC 3758, 3.5), one by one, in pages.
+
+ghost use Rattle.std.specs.Prelude.{◌≡◌, ℕ, ◌+◌, ◌^◌, ◌<◌, ◌≤◌, ◌++◌, ◌∷◌, ◌⊎◌, [], true, false, drop, length, unwrap_or, OnOk, IfSome, IfNone};
+ghost use Rattle.sctp_model.specs.numbers.Limits.{LAST_MOMENT};
+ghost use Rattle.sctp_send.specs.inner.Dues.{due_at};
+
+use crate::kept::due_pages::{
+    PAGE, drop_first, drop_page, first_due, look_at, lower_at, lower_page, moment_in,
+};
+use sctp_values::NoMemory;
+use std::alloc::Global;
+use std::collections::VecDeque;
+use std::marker::Model;
+
+/// The moments of the tickets behind those that are passed: before its own, no message has to be looked at.
+#[derive(Drop)]
+pub(crate) struct DueTable {
+    // so many of the first tickets are passed: none of them is late any more
+    passed: u64,
+    // those of the tickets behind, one by one
+    moments: VecDeque<u64>,
+    // of each page of them, one that is no later
+    leasts: Vec<u64>,
+    // no later than any of these
+    earliest: u64,
+    // a message was found late and not to be abandoned as it stood, so that its ticket has the last moment
+    asleep: bool,
+}
+
+impl Model for DueTable {
+    ghost use Rattle.std.specs.Prelude.{◌-◌, ◌*◌, ◌^◌, min};
+    ghost use Rattle.std.specs.Vec.{vec_capacity};
+    ghost use Rattle.std.specs.VecDeque.{deque_capacity};
+    ghost use Rattle.sctp_send.specs.PartsKept.{DueTableKept};
+
+    ghost Value = { DueTableKept };
+
+    ghost use Rattle.sctp_send.specs.inner.Dues.{AreDues};
+
+    ghost view = { λ w. record { passed = w.passed; moments = w.moments.items; asleep = w.asleep; capacity = min (2 ^ 64 - 1 - w.passed) (min (deque_capacity w.moments) (64 * vec_capacity w.leasts)) } };
+
+    ghost invariant = { λ w. AreDues w.passed w.moments.items w.leasts.items w.earliest };
+}
+
+impl DueTable {
+    /// Those of no ticket.
+    pub(crate) fn new(alloc: Global) -> DueTable
+        ensures passed { result.passed ≡ 0 }
+        ensures moments { result.moments ≡ [] }
+        ensures asleep { result.asleep ≡ false }
+    {
+        DueTable {
+            passed: 0,
+            moments: VecDeque::new(alloc),
+            leasts: Vec::new(alloc),
+            earliest: u64::MAX,
+            asleep: false,
+        }
+    }
+
+    /// Takes room for a ticket more; there are fewer tickets than numbers.
+    ///
+    /// # Errors
+    /// `NoMemory`.
+    pub(crate) fn reserve(&mut self) -> Result<(), NoMemory>
+        ensures passed { self.new.passed ≡ self.old.passed }
+        ensures moments { self.new.moments ≡ self.old.moments }
+        ensures asleep { self.new.asleep ≡ self.old.asleep }
+        ensures room { OnOk result (length self.new.moments < self.new.capacity) }
+    {
+        if self.passed.saturating_add(self.moments.len() as u64) >= u64::MAX - 1 {
+            return Err(NoMemory);
+        }
+        if self.moments.reserve(1).is_err() {
+            return Err(NoMemory);
+        }
+        if self.moments.len() / PAGE >= self.leasts.capacity() && self.leasts.reserve(1).is_err() {
+            return Err(NoMemory);
+        }
+        Ok(())
+    }
+
+    /// A ticket comes behind the others. Its moment is the one that its message has, or the last.
+    #[inline(always)]
+    pub(crate) fn push(&mut self, until: Option<u64>)
+        requires { length self.old.moments < self.old.capacity }
+        ensures passed { self.new.passed ≡ self.old.passed }
+        ensures moments { self.new.moments ≡ self.old.moments ++ unwrap_or until LAST_MOMENT ∷ [] }
+        ensures small { unwrap_or until LAST_MOMENT < 2 ^ 64 }
+        ensures asleep { self.new.asleep ≡ self.old.asleep }
+    {
+        let moment = moment_in(until);
+        let many = self.moments.len();
+        let page = many / PAGE;
+        if many % PAGE == 0 {
+            self.leasts.push_reserved(moment);
+            self.earliest = self.earliest.min(moment);
+        } else if moment < self.leasts[page] {
+            // Else the page's moment is no later, and so the earliest isn't.
+            self.leasts[page] = moment;
+            self.earliest = self.earliest.min(moment);
+        }
+        self.moments.push_back_reserved(moment);
+    }
+
+    /// The first ticket above the last one whose moment has come.
+    #[inline(always)]
+    pub(crate) fn next(&self, last: u64, now: u64) -> Option<u64>
+        ensures above { IfSome result (λ ticket. last < ticket) }
+        ensures given { IfSome result (λ ticket. ticket ≤ self.now.passed + length self.now.moments) }
+        ensures before { IfSome result (λ ticket. (t : ℕ) → last < t → t < ticket → now < due_at self.now.passed self.now.moments t) }
+        ensures none { IfNone result ((t : ℕ) → last < t → now < due_at self.now.passed self.now.moments t) }
+    {
+        if now < self.earliest {
+            return None;
+        }
+        let from = last.saturating_sub(self.passed) as usize;
+        let at = first_due(&self.moments, &self.leasts, from, now);
+        if at < self.moments.len() {
+            return Some(self.passed + 1 + at as u64);
+        }
+        None
+    }
+
+    /// The moment of a ticket is this one from now on.
+    fn set(&mut self, ticket: u64, moment: u64)
+        ensures passed { self.new.passed ≡ self.old.passed }
+        ensures long { length self.new.moments ≡ length self.old.moments }
+        ensures here { (now : ℕ) → now < due_at self.old.passed self.new.moments ticket → now < moment ⊎ (now < due_at self.old.passed self.old.moments ticket) }
+        ensures others { (t : ℕ) → (t ≡ ticket → ⊥) → due_at self.old.passed self.new.moments t ≡ due_at self.old.passed self.old.moments t }
+        ensures asleep { self.new.asleep ≡ self.old.asleep }
+    {
+        if let Some(at) = self.place(ticket) {
+            lower_page(&mut self.leasts, at / PAGE, moment);
+            self.earliest = self.earliest.min(moment);
+            self.moments[at] = moment;
+        }
+    }
+
+    /// The moment of a ticket is told anew: from then on its message may be abandoned, as it stands; or it may not.
+    pub(crate) fn tell(&mut self, ticket: u64, until: Option<u64>)
+        ensures passed { self.new.passed ≡ self.old.passed }
+        ensures long { length self.new.moments ≡ length self.old.moments }
+        ensures here { (now : ℕ) → now < due_at self.old.passed self.new.moments ticket → now < unwrap_or until LAST_MOMENT ⊎ (now < due_at self.old.passed self.old.moments ticket) }
+        ensures others { (t : ℕ) → (t ≡ ticket → ⊥) → due_at self.old.passed self.new.moments t ≡ due_at self.old.passed self.old.moments t }
+        ensures asleep { self.new.asleep ≡ true }
+    {
+        self.set(ticket, moment_in(until));
+        self.asleep = true;
+    }
+
+    /// The moment of a ticket is no later than this one from now on.
+    pub(crate) fn lower(&mut self, ticket: u64, moment: u64)
+        ensures passed { self.new.passed ≡ self.old.passed }
+        ensures long { length self.new.moments ≡ length self.old.moments }
+        ensures each { (t now : ℕ) → now < due_at self.old.passed self.new.moments t → now < due_at self.old.passed self.old.moments t }
+        ensures here { ticket ≤ self.old.passed + length self.old.moments → self.old.passed < ticket → due_at self.old.passed self.new.moments ticket ≤ moment }
+        ensures asleep { self.new.asleep ≡ self.old.asleep }
+    {
+        if let Some(at) = self.place(ticket) {
+            lower_page(&mut self.leasts, at / PAGE, moment);
+            self.earliest = self.earliest.min(moment);
+            lower_at(&mut self.moments, at, moment);
+        }
+    }
+
+    /// Where the moment of a ticket stands, if it does.
+    fn place(&self, ticket: u64) -> Option<usize>
+        ensures some { IfSome result (λ at. (at < length self.now.moments) × (ticket ≡ self.now.passed + 1 + at)) }
+        ensures none { IfNone result ((ticket ≤ self.now.passed) ⊎ (self.now.passed + length self.now.moments < ticket)) }
+    {
+        let at = ticket.checked_sub(self.passed)?.checked_sub(1)? as usize;
+        if at < self.moments.len() {
+            return Some(at);
+        }
+        None
+    }
+
+    /// Pages of which a moment may have come are looked at anew. It changes no moment.
+    #[inline(always)]
+    pub(crate) fn look_again(&mut self, now: u64)
+        ensures { self.new ≡ self.old }
+    {
+        if now < self.earliest {
+            return;
+        }
+        self.earliest = look_at(&self.moments, &mut self.leasts, now);
+    }
+
+    /// Some moment doesn't count what is covered.
+    pub(crate) fn is_asleep(&self) -> bool
+        ensures { result ≡ self.now.asleep }
+    {
+        self.asleep
+    }
+
+    /// All moments count what is covered.
+    pub(crate) fn awake(&mut self)
+        ensures { self.new ≡ record self.old { asleep = false } }
+    {
+        self.asleep = false;
+    }
+
+    /// How many of the first tickets are passed.
+    pub(crate) fn passed(&self) -> u64
+        ensures { result ≡ self.now.passed }
+    {
+        self.passed
+    }
+
+    /// There is none behind.
+    pub(crate) fn is_empty(&self) -> bool
+        ensures { result ≡ true → self.now.moments ≡ [] }
+    {
+        self.moments.is_empty()
+    }
+
+    /// How many tickets there are, with those that are passed.
+    pub(crate) fn given(&self) -> u64
+        ensures { result ≡ self.now.passed + length self.now.moments }
+    {
+        self.passed + self.moments.len() as u64
+    }
+
+    /// One ticket more is passed, where there is none behind.
+    #[inline(always)]
+    pub(crate) fn skip(&mut self)
+        requires room { length self.old.moments < self.old.capacity }
+        requires none { self.old.moments ≡ [] }
+        ensures passed { self.new.passed ≡ self.old.passed + 1 }
+        ensures small { self.new.passed < 2 ^ 64 }
+        ensures moments { self.new.moments ≡ [] }
+        ensures asleep { self.new.asleep ≡ self.old.asleep }
+    {
+        self.passed += 1;
+    }
+
+    /// The tickets of the first page are passed.
+    pub(crate) fn pass_page(&mut self)
+        requires { 64 ≤ length self.old.moments }
+        ensures passed { self.new.passed ≡ self.old.passed + 64 }
+        ensures moments { self.new.moments ≡ drop 64 self.old.moments }
+        ensures asleep { self.new.asleep ≡ self.old.asleep }
+    {
+        drop_first(&mut self.moments, PAGE);
+        drop_page(&mut self.leasts);
+        self.passed += PAGE as u64;
+    }
+}
