@@ -32,6 +32,7 @@ impl Machine {
     ///
     /// # Errors
     /// `NoMemory` where a growth was refused; nothing changed then.
+    #[inline(always)]
     pub fn hear_piece(&mut self, piece: &Piece<'_>) -> Result<Answer, NoMemory>
         ensures step { (v : EndView) (t : model.Tags) (g : model.Stage) → MachineStands self.old v → v.phase ≡ model.Open t g
             → IfOk result (λ a. (r : ReceiverView) × PieceTaken (format_of v) v.receiver (piece_meaning piece.now) (answer_of a) r
@@ -47,6 +48,7 @@ impl Machine {
     ///
     /// # Errors
     /// `NoMemory` where a growth was refused; nothing changed then.
+    #[inline(always)]
     fn take_piece(&mut self, piece: &Piece<'_>) -> Result<Answer, NoMemory>
         ensures step { (v : EndView) (t : model.Tags) (g : model.Stage) → MachineStands self.old v → v.phase ≡ model.Open t g
             → IfOk result (λ a. (r : ReceiverView) × PieceTaken (format_of v) v.receiver (piece_meaning piece.now) (answer_of a) r
@@ -93,6 +95,7 @@ impl Machine {
     ///
     /// # Errors
     /// The first fault that it has; nothing changed then.
+    #[inline(always)]
     pub fn hear_sack(&mut self, sack: &Sack<'_>) -> Result<(), SackFault>
         ensures answer { (v : EndView) (t : model.Tags) (g : model.Stage) → MachineStands self.old v → v.phase ≡ model.Open t g
             → reason_meaning result ≡ sack_fault v.sender (sack_meaning sack.now) }
@@ -118,6 +121,7 @@ impl Machine {
     ///
     /// # Errors
     /// The first fault that it has; nothing changed then.
+    #[inline(always)]
     fn take_sack(&mut self, sack: &Sack<'_>) -> Result<(), SackFault>
         ensures answer { (v : EndView) (t : model.Tags) (g : model.Stage) → MachineStands self.old v → v.phase ≡ model.Open t g
             → reason_meaning result ≡ sack_fault v.sender (sack_meaning sack.now) }

@@ -33,10 +33,14 @@ impl WaitingCauses {
     ///
     /// # Errors
     /// `NoMemory` where a growth was refused; nothing changed then.
+    #[inline(always)]
     pub fn make_room(&mut self) -> Result<(), NoMemory>
         ensures same { self.new.bytes.items ≡ self.old.bytes.items }
         ensures room { OnOk result (length self.new.bytes.items + 11 ≤ vec_capacity self.new.bytes) }
     {
+        if self.bytes.len() + SHORT_CAUSE <= self.bytes.capacity() {
+            return Ok(());
+        }
         self.bytes.reserve(SHORT_CAUSE).map_err(|_| NoMemory)
     }
 
@@ -99,6 +103,7 @@ fn are_bytes(bytes: &[u8])
 #[tactic(auto, unfolding(crate::specs::MachineStands::MachineStands))]
 impl Machine {
     /// A stream that isn't there is reported (RFC 9260, 3.3.10.1). There is room for it.
+    #[inline(never)]
     pub(crate) fn report_stream(&mut self, stream: u16)
         requires { length self.old.due.causes.bytes.items + 11 ≤ vec_capacity self.old.due.causes.bytes }
         ensures { (v : EndView) → MachineStands self.old v → MachineStands self.new (with_causes (causes_with v (item INVALID_STREAM (u16_bytes stream ++ 0 ∷ 0 ∷ []))) v) }
