@@ -43,12 +43,6 @@ removed_again (x ∷ xs) (suc j) b = ap (λ (ys : List _). x ∷ ys) (removed_ag
 pub put_back : (cs : List Chain) (i : ℕ) (b y : Chain) (mid new : List Chain) → mid ≡ set cs i b → new ≡ set mid i y → new ≡ set cs i y
 put_back cs i b y mid new lifted back = back ∙ ap (λ (xs : List Chain). set xs i y) lifted ∙ set_again cs i b y
 
--- a chain is put back as it was
-pub put_back_same : (cs : List Chain) (i : ℕ) (b x y : Chain) (mid new : List Chain) → i < length cs → x ≡ get_or cs i x → mid ≡ set cs i b → new ≡ set mid i y → chain_of y ≡ chain_of x →
-    map chain_of new ≡ map chain_of cs
-put_back_same cs i b x y mid new less at lifted back same =
-    ap (map chain_of) (put_back cs i b y mid new lifted back) ∙ set_same cs i x y less at same
-
 -- ---- two chains
 
 module _ (cs one two : List Chain) (i j : ℕ) (b d low high low2 high2 : Chain) (order : i < j) (less : j < length cs) (first : high ≡ get_or cs j high) (lifted : one ≡ set cs j b)

@@ -37,9 +37,9 @@ pub(crate) struct Chain {
 #[derive(Drop)]
 pub(crate) struct Part {
     pub(crate) rank: u128,
+    pub(crate) data: Vec<u8>,
     pub(crate) head: Option<Head>,
     pub(crate) end: bool,
-    pub(crate) data: Vec<u8>,
 }
 
 impl Chain {
@@ -89,11 +89,13 @@ impl Chain {
     ///
     /// # Errors
     /// Memory ran out, and nothing changed.
+    #[inline(always)]
     pub(crate) fn push_back(&mut self, part: Part) -> Result<(), NoMemory>
         ensures joined { IsChain (chain_of self.old) → is_linked (chain_of self.old) (one_of part) ≡ true → OnOk result (chain_of self.new ≡ join (chain_of self.old) (one_of part)) }
         ensures refused { OnErr result (chain_of self.new ≡ chain_of self.old) }
     {
-        self.parts.push_back(part.data).map_err(|_| NoMemory)?;
+        self.parts.reserve(1).map_err(|_| NoMemory)?;
+        self.parts.push_back_reserved(part.data);
         self.ends = part.end;
         Ok(())
     }

@@ -62,8 +62,7 @@ impl<F: Framing> Chains<F> {
         self.filed.whole
     }
 
-    /// Whether there is nothing to be taken from a number on, nor to be let go below it, in a lane that is numbered, so far as can be told without a
-    /// search.
+    /// Whether nothing is to be taken from a number on, nor let go below it, in a lane that is numbered, so far as can be told without a search.
     #[inline(always)]
     pub fn is_resting(&self, number: u64) -> bool
         ensures { (l : Lane) (kept : Kept) → StandsFor F.format self.now l kept → is_numbered F.format l.kind ≡ true → result ≡ true → IsResting F.format l kept number }

@@ -71,12 +71,14 @@ impl Spare {
     pub fn give_back(&mut self, parts: Fragments, most_bytes: u32) {
         self.used = true;
         let bytes = self.bytes.saturating_add(size_of(&parts));
-        if bytes > most_bytes as usize || self.messages.len() >= self.most {
-            return;
+        let most = self.most.min(self.messages.capacity());
+        if bytes > most_bytes as usize || self.messages.len() >= most {
+            return let_go(parts);
         }
-        if self.messages.len() < self.messages.capacity() {
-            self.bytes = bytes;
-            self.messages.push_reserved(in_turn(parts));
+        self.bytes = bytes;
+        match parts {
+            Fragments::One(one) => self.messages.push_reserved(Fragments::One(one)),
+            Fragments::Many(blocks) => self.messages.push_reserved(in_turn(blocks)),
         }
     }
 
@@ -146,12 +148,14 @@ fn size_of_blocks(blocks: &[Vec<u8>]) -> usize {
 }
 
 /// A message's data so that its first fragment's block is used first.
-fn in_turn(parts: Fragments) -> Fragments {
-    match parts {
-        Fragments::Many(mut blocks) => {
-            blocks.reverse();
-            Fragments::Many(blocks)
-        }
-        one => one,
-    }
+#[inline(never)]
+fn in_turn(mut blocks: Vec<Vec<u8>>) -> Fragments {
+    blocks.reverse();
+    Fragments::Many(blocks)
+}
+
+/// Lets go of a message's blocks. It stands by itself so that a message that is kept pays nothing for it.
+#[inline(never)]
+fn let_go(parts: Fragments) {
+    let _ = parts;
 }

@@ -1,5 +1,5 @@
 -- Runs in order: where an index belongs among them, and what they hold.
-use Rattle.std.proofs.Common.{◌≡◌, ℕ, zero, suc, ◌<◌, ◌≤◌, Bool, true, false, List, [], ◌∷◌, ◌++◌, length, get_or, set, take, drop, inl, inr, refl, sym, ◌∙◌, ap, subst, arith}
+use Rattle.std.proofs.Common.{◌≡◌, ◌==◌, ℕ, zero, suc, ◌<◌, ◌≤◌, Bool, true, false, List, [], ◌∷◌, ◌++◌, length, get_or, set, take, drop, inl, inr, refl, sym, ◌∙◌, ap, subst, arith}
 use Rattle.std.specs.Prelude.{◌||◌}
 use Rattle.std.specs.List.{remove}
 use Rattle.std.specs.List.Sorted.{IsPartitionPoint, IsPartitionedBy}
@@ -134,3 +134,8 @@ held_at rs i k r h l at place = ap (λ (xs : List SeenRun). in_runs xs i) (sym w
 
 pub held_nowhere : (rs : List SeenRun) (i : ℕ) → IsPlace (begins_by i) rs 0 → in_runs rs i ≡ false
 held_nowhere rs i place = in_none rs i (λ q there. let late = place.back q there in grind (arith, late, nat_tests))
+
+-- no list without length has an item
+pub nothing_there : (rs : List SeenRun) → (length rs == 0) ≡ true → rs ≡ []
+nothing_there [] h = refl
+nothing_there (r ∷ rs) h = absurd (grind (arith, h, nat_tests))

@@ -32,9 +32,10 @@ fn wait(waiting: &mut VecDeque<Message>, message: Message) -> u32
     ensures len { deque_len waiting.new ≤ suc (deque_len waiting.old) }
     ensures room { deque_capacity waiting.old ≤ deque_capacity waiting.new }
 {
-    let bytes = small_len(message.len());
-    let _ = waiting.push_back(message);
-    bytes
+    if waiting.len() < waiting.capacity() {
+        return wait_reserved(waiting, message);
+    }
+    small_len(message.len())
 }
 
 /// The same, where there is room.

@@ -74,7 +74,25 @@ impl Seen {
     ///
     /// # Errors
     /// Memory ran out.
+    #[inline(always)]
     pub(crate) fn put_blocks(&self, list: &mut Vec<u8>) -> Result<(), NoMemory>
+        requires { list.old.items ≡ [] }
+        ensures blocks { OnOk result (blocks_in list.new.items ≡ map (block_of_run self.now.kept.cumulative) (take BLOCK_LIMIT self.now.kept.runs)) }
+        ensures in_range { OnOk result (AllByRecursion IsBlock (blocks_in list.new.items)) }
+        ensures few { OnOk result (length (blocks_in list.new.items) ≤ BLOCK_LIMIT) }
+        ensures whole { length list.new.items % 4 ≡ 0 }
+    {
+        if self.runs.is_empty() {
+            return Ok(());
+        }
+        self.put_runs(list)
+    }
+
+    /// The same, where there are some.
+    ///
+    /// # Errors
+    /// Memory ran out.
+    fn put_runs(&self, list: &mut Vec<u8>) -> Result<(), NoMemory>
         requires { list.old.items ≡ [] }
         ensures blocks { OnOk result (blocks_in list.new.items ≡ map (block_of_run self.now.kept.cumulative) (take BLOCK_LIMIT self.now.kept.runs)) }
         ensures in_range { OnOk result (AllByRecursion IsBlock (blocks_in list.new.items)) }

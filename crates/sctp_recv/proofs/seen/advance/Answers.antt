@@ -1,14 +1,9 @@
-use Rattle.std.proofs.Common.{◌≡◌, ◌==◌, true, List, [], ◌∷◌, length, refl, sym, ◌∙◌, subst, arith}
-use Rattle.std.proofs.lemmas.Bool.Decides.{nat_tests}
+use Rattle.std.proofs.Common.{◌≡◌, List, [], sym, ◌∙◌, subst}
 use Rattle.sctp_recv.specs.declared.runs.SeenRun.{SeenRun}
 use Rattle.sctp_recv.specs.Runs.{IsPlace, begins_by}
 use Rattle.sctp_recv.proofs.RunBounds.{advanced_none}
+use Rattle.sctp_recv.proofs.RunLemmas.{nothing_there}
 use Rattle.sctp_recv.proofs.seen.advance.Goals as goal
-
--- no list without length has an item
-nothing_there : (rs : List SeenRun) → (length rs == 0) ≡ true → rs ≡ []
-nothing_there [] h = refl
-nothing_there (r ∷ rs) h = absurd (grind (arith, h, nat_tests))
 
 pub returns-then-is_empty : goal.returns-then-is_empty
 returns-then-is_empty c =

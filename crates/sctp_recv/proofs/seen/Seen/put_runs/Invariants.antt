@@ -1,7 +1,7 @@
 use Rattle.std.proofs.Common.{◌≡◌, ◌%◌, length, map, take}
 use Rattle.sctp_wire.specs.Items.{blocks_in}
 use Rattle.sctp_recv.specs.Blocks.{block_of_run}
-use Rattle.sctp_recv.proofs.seen.Seen.put_blocks.Given as goal
+use Rattle.sctp_recv.proofs.seen.Seen.put_runs.Given as goal
 
 abbrev pub invariant-loop-i : goal.invariant-loop-i
 invariant-loop-i l = record {
