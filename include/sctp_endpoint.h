@@ -68,10 +68,10 @@ enum sctp_endpoint_result {
 
 /* What a caller keeps of an endpoint, anywhere: 16 bytes, zero where there is none. */
 struct sctp_endpoint {
-    bool full; /* neither is the caller's to read */
+    size_t full; /* neither is the caller's to read */
     void *at;
 };
-#define SCTP_ENDPOINT_INIT { false, NULL }
+#define SCTP_ENDPOINT_INIT { 0, NULL }
 
 struct sctp_endpoint_config {
     uint16_t own_port, peer_port; /* of SCTP, not of UDP; not 0 */

@@ -71,7 +71,8 @@ if there valgrind "valgrind"; then
     each "64 bytes, 9.5 to a packet" 19 64
     each "the same as I-DATA" 19 64 i
     each "64 bytes, one to a packet" 1 64
-    each "16 KiB" 1 16384
+    each "16 KiB, with the making of its bytes" 1 16384
+    each "of it the making of its bytes" 1 16384 b
     unset GLIBC_TUNABLES
 fi
 

@@ -85,7 +85,7 @@ class Reason(enum.IntEnum):
 
 
 class _Handle(Structure):
-    _fields_ = [("full", c_bool), ("at", c_void_p)]
+    _fields_ = [("full", c_size_t), ("at", c_void_p)]
 
 
 class Config(Structure):

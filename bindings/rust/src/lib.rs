@@ -257,7 +257,7 @@ impl fmt::Debug for Endpoint {
 impl Endpoint {
     fn made(make: impl FnOnce(*mut raw::Handle) -> u32) -> Result<Endpoint, Error> {
         assert_eq!(unsafe { raw::sctp_endpoint_abi() }, 1, "this library is for another version");
-        let mut end = Endpoint(raw::Handle { full: false, at: std::ptr::null_mut() });
+        let mut end = Endpoint(raw::Handle { full: 0, at: std::ptr::null_mut() });
         checked(make(&mut end.0))?;
         Ok(end)
     }

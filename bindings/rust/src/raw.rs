@@ -4,7 +4,7 @@ use core::ffi::c_void;
 
 #[repr(C)]
 pub struct Handle {
-    pub full: bool,
+    pub full: usize,
     pub at: *mut c_void,
 }
 

@@ -1,6 +1,6 @@
 //! What C keeps of an endpoint, and how a call takes the endpoint out of it and puts it back.
 
-ghost use Rattle.std.specs.Prelude.{◌≡◌, Some, None, MatchOption};
+ghost use Rattle.std.specs.Prelude.{◌≡◌, nat_lt, Some, None, MatchOption};
 ghost use Rattle.sctp_c.specs.Slot.{is_full};
 
 use crate::slot::Slot;
@@ -11,9 +11,9 @@ use std::alloc::Global;
 #[repr(C)]
 #[derive(Drop)]
 pub struct SctpEndpoint {
-    full: bool,
+    full: usize,
     pub(crate) slot: Slot,
-    ghost tells: { full ≡ is_full slot.endpoint },
+    ghost tells: { nat_lt 0 full ≡ is_full slot.endpoint },
 }
 
 impl SctpEndpoint {
@@ -22,7 +22,7 @@ impl SctpEndpoint {
         ensures { result.slot.endpoint ≡ None }
     {
         SctpEndpoint {
-            full: false,
+            full: 0,
             slot: Slot::empty(alloc),
         }
     }
@@ -31,7 +31,7 @@ impl SctpEndpoint {
     pub(crate) fn is_full(&self) -> bool
         ensures { result ≡ is_full self.now.slot.endpoint }
     {
-        self.full
+        self.full > 0
     }
 
     /// Keeps an endpoint, where there was none.
@@ -40,7 +40,7 @@ impl SctpEndpoint {
         ensures { self.new.slot.endpoint ≡ Some endpoint.value }
     {
         *self = SctpEndpoint {
-            full: true,
+            full: 1,
             slot: Slot::of_box(endpoint),
         };
     }
@@ -50,7 +50,7 @@ impl SctpEndpoint {
         ensures taken { MatchOption result (self.old.slot.endpoint ≡ None) (λ endpoint. self.old.slot.endpoint ≡ Some endpoint.value) }
         ensures left { self.new.slot.endpoint ≡ None }
     {
-        if !self.full {
+        if self.full == 0 {
             return None;
         }
         let SctpEndpoint { slot, .. } = std::mem::replace(self, SctpEndpoint::empty(alloc));

@@ -1,6 +1,6 @@
 //! Messages that wait, and how C takes them (RFC 9260, 11.1.6).
 
-ghost use Rattle.std.specs.Prelude.{◌≡◌, ◌-◌, ◌^◌, ◌<◌, ◌≤◌, ◌⊎◌, ◌++◌, min, length, drop, None, Some, MatchOption, slice_get};
+ghost use Rattle.std.specs.Prelude.{◌≡◌, ◌-◌, ◌^◌, ◌<◌, ◌≤◌, ◌⊎◌, ◌++◌, min, length, drop, None, Some, MatchOption, IfOk, IfErr, OnErr, slice_get};
 ghost use Rattle.sctp_model.specs.receiver.ReceiverView.{Handed};
 ghost use Rattle.sctp_model.specs.end.EndView.{EndView};
 ghost use Rattle.sctp_model.specs.end.UserCalls.{UserTakes};
@@ -14,6 +14,7 @@ ghost use Rattle.sctp_c.specs.Told.{IsHead, IsTold, Takes};
 use crate::codes::{MISUSE, NEEDS_ROOM, NOTHING, OK};
 use crate::crossing::SctpMessage;
 use crate::handle::SctpEndpoint;
+use crate::packets::put_bytes;
 use sctp_endpoint::{Endpoint, Message};
 use std::alloc::Global;
 
@@ -56,6 +57,20 @@ fn tell_head(head: Option<SctpMessage>, message: &mut SctpMessage) -> u32
     }
 }
 
+/// A message's bytes go to the beginning of a room that has place for them: `Message::copy_into`, which most messages, of one fragment, do without.
+fn copy_whole(whole: &Message, room: &mut [u8]) -> Result<usize, usize>
+    ensures copied { IfOk result (λ many. (many ≡ length (message_bytes whole.now)) × (room.new ≡ message_bytes whole.now ++ drop many room.old)) }
+    ensures wanted { IfErr result (λ many. (many ≡ min (length (message_bytes whole.now)) (2 ^ 64 - 1)) × (length room.old < many)) }
+    ensures refused { OnErr result (room.new ≡ room.old) }
+{
+    if let [part] = whole.parts() {
+        if part.len() <= room.len() {
+            return Ok(put_bytes(part, room));
+        }
+    }
+    whole.copy_into(room)
+}
+
 /// A message's bytes go to the beginning of a room that has place for them, and what C is told beside them to `message`.
 fn tell_whole(whole: &Message, message: &mut SctpMessage, room: &mut [u8]) -> u32
     ensures head { IsHead message.new (handed_of whole.now) }
@@ -65,7 +80,7 @@ fn tell_whole(whole: &Message, message: &mut SctpMessage, room: &mut [u8]) -> u3
         → (result ≡ OK) × (room.new ≡ message_bytes whole.now ++ drop (length (message_bytes whole.now)) room.old) }
     ensures untold { ((result ≡ OK) → ⊥) → room.new ≡ room.old }
 {
-    let (many, answer) = match whole.copy_into(room) {
+    let (many, answer) = match copy_whole(whole, room) {
         Ok(many) => (many, OK),
         Err(many) => (many, NEEDS_ROOM),
     };

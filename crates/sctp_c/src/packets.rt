@@ -24,7 +24,7 @@ fn limit_of(end: &Endpoint) -> usize
 }
 
 /// Bytes go to the beginning of a room, as far as it goes.
-fn put_bytes(bytes: &[u8], room: &mut [u8]) -> usize
+pub(crate) fn put_bytes(bytes: &[u8], room: &mut [u8]) -> usize
     ensures { length bytes.now ≤ length room.old → IsPut bytes.now result room.old room.new }
 {
     let count = bytes.len().min(room.len());
@@ -36,11 +36,24 @@ fn put_bytes(bytes: &[u8], room: &mut [u8]) -> usize
 fn put_tickets(tickets: &[Ticket], room: &mut [u64]) -> u64
     ensures { AreTold tickets.now result room.old room.new }
 {
+    if tickets.is_empty() {
+        return 0;
+    }
     let count = tickets.len().min(room.len());
     for place in 0..count {
         room[place] = tickets[place].0;
     }
     tickets.len() as u64
+}
+
+/// What C is told where there is no packet.
+fn no_packet() -> SctpSent
+    ensures { (result.length ≡ 0) × (result.tickets ≡ 0) }
+{
+    SctpSent {
+        length: 0,
+        tickets: 0,
+    }
 }
 
 /// What C is told of the next packet. Once that lies in C's room, its own is handed back to the end.
@@ -56,16 +69,20 @@ fn tell_poll(
     ensures few { IfOk answer (λ sent. TellsFew sent) → sent.new.tickets ≤ MOST_TICKETS }
     ensures keeps { (v : EndView) → EndpointStands end.old v → EndpointStands end.new v }
 {
-    *sent = SctpSent {
-        length: 0,
-        tickets: 0,
-    };
     match answer {
-        Err(_) => NO_MEMORY,
-        Ok(None) => OK,
+        Err(_) => {
+            *sent = no_packet();
+            NO_MEMORY
+        }
+        Ok(None) => {
+            *sent = no_packet();
+            OK
+        }
         Ok(Some(packet)) => {
-            sent.length = put_bytes(&packet.packet, room);
-            sent.tickets = put_tickets(&packet.tickets, tickets);
+            *sent = SctpSent {
+                length: put_bytes(&packet.packet, room),
+                tickets: put_tickets(&packet.tickets, tickets),
+            };
             end.recycle(packet.packet);
             OK
         }
@@ -157,7 +174,8 @@ pub extern "C" fn sctp_endpoint_handle_packet(
     ensures notes { (v : EndView) → Holds handle.old.slot.endpoint v → 0 < draw.now.tag → v.configuration.limit ≤ length room.old
         → KeepsNotes v handle.new.slot.endpoint }
 {
-    let Some(draw) = Draw::new(draw.tag, draw.tsn) else {
+    let SctpDraw { tag, tsn } = *draw;
+    let Some(draw) = Draw::new(tag, tsn) else {
         return BAD_DRAW;
     };
     let Some(mut end) = handle.take(alloc) else {

@@ -26,3 +26,9 @@ returns-clause-taken c = λ v h holds waits large.
         told = told.1;
       },
     )
+
+pub returns-then-answer-ne-OK-clause-narrow : goal.returns-then-answer-ne-OK-clause-narrow
+returns-then-answer-ne-OK-clause-narrow c = λ v h holds waits small.
+    let stands : EndpointStands c.deref.result.now v = rw c.deref.ensures (rw c.in-Some.ensures.taken at holds) in
+    let told = c.tell_next-answer.ensures.narrow v h stands waits small in
+    (told.0, told.1, rw c.put.ensures (rw c.in-Some.ensures.taken at holds))
