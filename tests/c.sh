@@ -18,7 +18,7 @@ there() { command -v "$1" > /dev/null || { say "left out, no $1: $2"; return 1; 
 
 # ---- the header's calls are the library's, and nothing else is seen of it
 grep -o 'sctp_endpoint_[a-z_]*(' "$prefix/include/sctp_endpoint.h" | tr -d '(' | sort -u > "$at/header"
-nm -g --defined-only "$prefix/lib/libsctp_endpoint.a" | awk '$2 == "T" && $3 ~ /^sctp_endpoint_/ { print $3 }' | sort -u > "$at/static"
+nm -g --defined-only "$prefix/lib/libsctp_endpoint.a" | awk 'NF == 3 { print $3 }' | sort -u > "$at/static"
 nm -D --defined-only "$prefix/lib/libsctp_endpoint.so.0" | awk '{ print $3 }' | sort -u > "$at/shared"
 diff "$at/header" "$at/static"
 diff "$at/header" "$at/shared"
@@ -67,12 +67,18 @@ if there valgrind "valgrind"; then
     # a long copy by `rep movsb` would count as an instruction a byte
     export GLIBC_TUNABLES=glibc.cpu.x86_rep_movsb_threshold=1000000000:glibc.cpu.x86_rep_stosb_threshold=1000000000
     count() { valgrind --tool=callgrind --callgrind-out-file=/dev/null "$at/cost" "$@" 2>&1 | sed -n 's/.*Collected : \([0-9]*\).*/\1/p'; }
-    each() { say "$1: $((($(count "$2" "$3" 300 ${4:+"$4"}) - $(count "$2" "$3" 100 ${4:+"$4"})) / 200 / $2)) instructions a message"; }
-    each "64 bytes, 9.5 to a packet" 19 64
-    each "the same as I-DATA" 19 64 i
-    each "64 bytes, one to a packet" 1 64
-    each "16 KiB, with the making of its bytes" 1 16384
-    each "of it the making of its bytes" 1 16384 b
+    cost() { echo $((($(count "$1" "$2" 300 ${3:+"$3"}) - $(count "$1" "$2" 100 ${3:+"$3"})) / 200 / $1)); }
+    # what bench/README.md has of two endpoints that are called directly: the first figure here in the row that begins so
+    direct() { awk -F'|' -v row="| $1" 'index($0, row) == 1 { split($5, here, ", "); gsub(/[ ,]/, "", here[1]); print here[1]; exit }' bench/README.md; }
+    compare() { # ROW, its figure over two handles, how much more it may be than over two endpoints
+        more=$(($2 - $(direct "$1")))
+        say "$1: $2 instructions a message, $more more than over two endpoints called directly; $3 more are wanted at most"
+        [ "$more" -le "$3" ]
+    }
+    compare "64 bytes, 9.5 to a packet" "$(cost 19 64)" 200
+    compare "the same as I-DATA" "$(cost 19 64 i)" 260
+    compare "64 bytes, one to a packet" "$(cost 1 64)" 380
+    compare "16 KiB" "$(($(cost 1 16384) - $(cost 1 16384 b)))" 8500
     unset GLIBC_TUNABLES
 fi
 

@@ -48,8 +48,7 @@ static struct sctp_endpoint_draw draw(void) {
 }
 
 static struct sctp_endpoint_status status(void) {
-    struct sctp_endpoint_status s;
-    memset(&s, 0, sizeof s);
+    struct sctp_endpoint_status s = { 0 };
     sctp_endpoint_status(&end, &s);
     return s;
 }
@@ -88,16 +87,12 @@ static void receive(void) {
 
 /* Prints what came on the streams. */
 static void take(void) {
-    struct sctp_endpoint_message told;
-    memset(&told, 0, sizeof told);
+    struct sctp_endpoint_message told = { 0 };
     uint16_t stream = 0;
     while (sctp_endpoint_readable(&end, 0, &stream) == SCTP_EP_OK && sctp_endpoint_peek(&end, stream, &told) == SCTP_EP_OK) {
         uint8_t *room = malloc(told.length);
         if (!room) return; /* it goes on waiting */
-        if (sctp_endpoint_take(&end, stream, &told, room, told.length) == SCTP_EP_OK) {
-            fwrite(room, 1, told.length, stdout);
-            putchar('\n');
-        }
+        if (sctp_endpoint_take(&end, stream, &told, room, told.length) == SCTP_EP_OK) fwrite(room, 1, told.length, stdout), putchar('\n');
         free(room);
     }
     fflush(stdout);
@@ -119,8 +114,7 @@ static void start(int argc, char **argv) {
     struct sctp_endpoint_draw d = draw();
     struct sctp_endpoint_key key;
     fill(&key, sizeof key);
-    input_ended = argc == 3;
-    if (input_ended) {
+    if ((input_ended = argc == 3)) {
         if (sctp_endpoint_listener(&end, &config, &key) != SCTP_EP_OK) exit(1);
         return;
     }
@@ -142,11 +136,7 @@ int main(int argc, char **argv) {
     for (;;) {
         bool more = transmit();
         struct sctp_endpoint_status s = status();
-        if (s.ended) {
-            fprintf(stderr, "ended %u\n", s.ended);
-            sctp_endpoint_free(&end);
-            return s.ended != SCTP_EP_COMPLETED;
-        }
+        if (s.ended) return fprintf(stderr, "ended %u\n", s.ended), sctp_endpoint_free(&end), s.ended != SCTP_EP_COMPLETED;
         bool reads = s.state == SCTP_EP_ESTABLISHED && !input_ended && line_length == 0;
         uint64_t t = now(), wait = s.next_moment > t ? s.next_moment - t : 0;
         struct pollfd polled[2] = { { .fd = udp, .events = POLLIN }, { .fd = reads ? 0 : -1, .events = POLLIN } };
