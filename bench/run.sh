@@ -3,6 +3,8 @@
 # receiver and a sender take for a message; what an endpoint adds to that; what an end takes at rest; what calls of a receiver and of a sender take that keep much; and what one packet
 # of each chunk costs an end at the most. `./run.sh` runs all, `./run.sh crc32c`, `./run.sh receiver`, `./run.sh sender`, `./run.sh endpoint`, `./run.sh rest`, `./run.sh growth`
 # `./run.sh groups` and `./run.sh packets` one of them. Needs rt, valgrind and cc.
+# `./run.sh usrsctp` counts the endpoint's messages over two ends of usrsctp: of Debian's library, libusrsctp-dev, and where USRSCTP_SOURCE names the folder of
+# its source package's sources (`apt-get source libusrsctp`), of these at -O2. It needs no rt, and `./run.sh` leaves it out.
 set -e
 here=$(cd "$(dirname "$0")" && pwd)
 work=$(mktemp -d)
@@ -123,6 +125,32 @@ as-I-DATA interleaved 19 64 100 300
 one-to-a-packet ends 1 64 1000 3000
 16-KiB ends 1 16384 50 150
 CASES
+}
+
+# a message over two ends of usrsctp, built so: NAME PROGRAM
+usrsctp_messages() {
+    each "$1: a message of 64 bytes, 9.5 to a packet" 100 300 19 "$2" 19 64
+    each "$1: the same as I-DATA" 100 300 19 "$2" i 19 64
+    each "$1: a message of 64 bytes, one to a packet" 1000 3000 1 "$2" 1 64
+    each "$1: the same, every second packet acknowledged" 1000 3000 1 "$2" d 1 64
+    each "$1: a message of 16,384 bytes in 12 fragments" 50 150 1 "$2" 1 16384
+    each "$1: the same, every second packet acknowledged" 50 150 1 "$2" d 1 16384
+}
+
+# the same work over usrsctp; its sources with what its own build defines
+usrsctp() {
+    # a long copy by `rep movsb` would count as an instruction a byte
+    export GLIBC_TUNABLES=glibc.cpu.x86_rep_movsb_threshold=1000000000:glibc.cpu.x86_rep_stosb_threshold=1000000000
+    cc -std=c99 -D_DEFAULT_SOURCE -O2 -o "$work/usrsctp" "$here/usrsctp.c" -lusrsctp
+    usrsctp_messages 'as Debian builds it' "$work/usrsctp"
+    if [ -n "$USRSCTP_SOURCE" ]; then
+        sources=$USRSCTP_SOURCE/usrsctplib
+        cc -std=c99 -pthread -O2 -Wno-address-of-packed-member -D__Userspace__ -DSCTP_PROCESS_LEVEL_LOCKS -DSCTP_SIMPLE_ALLOCATOR -DSCTP_DEBUG -DINET -DINET6 \
+            -D_GNU_SOURCE -DHAVE_STDATOMIC_H -DHAVE_SYS_QUEUE_H -DHAVE_LINUX_IF_ADDR_H -DHAVE_LINUX_RTNETLINK_H -DHAVE_NETINET_IP_ICMP_H -I"$sources" \
+            -o "$work/usrsctp_o2" "$here/usrsctp.c" "$sources"/*.c "$sources"/netinet/*.c "$sources"/netinet6/*.c
+        usrsctp_messages 'at -O2' "$work/usrsctp_o2"
+    fi
+    unset GLIBC_TUNABLES
 }
 
 # the bytes of an end at rest: half of what two take at most that were opened and carried nothing
