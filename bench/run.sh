@@ -1,8 +1,8 @@
 #!/bin/sh
 # Counts instructions by callgrind, of programs that `rt run` proves and builds: what a byte of crc32c takes (beside the same loop in C at -O2), and what a
 # receiver and a sender take for a message; what an endpoint adds to that; what an end takes at rest; what calls of a receiver and of a sender take that keep much; and what one packet
-# of each chunk costs an end at the most. `./run.sh` runs all, `./run.sh crc32c`, `./run.sh receiver`, `./run.sh sender`, `./run.sh endpoint`, `./run.sh rest`, `./run.sh growth`
-# `./run.sh groups` and `./run.sh packets` one of them. Needs rt, valgrind and cc.
+# of each chunk costs an end at the most. `./run.sh` runs all, `./run.sh crc32c`, `./run.sh receiver`, `./run.sh sender`, `./run.sh endpoint`, `./run.sh rest`, `./run.sh growth`,
+# `./run.sh groups` and `./run.sh packets` one of them. Needs rt, valgrind, cc and python3.
 # `./run.sh usrsctp` counts the endpoint's messages over two ends of usrsctp: of Debian's library, libusrsctp-dev, and where USRSCTP_SOURCE names the folder of
 # its source package's sources (`apt-get source libusrsctp`), of these at -O2. It needs no rt, and `./run.sh` leaves it out.
 set -e
