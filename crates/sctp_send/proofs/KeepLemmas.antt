@@ -22,9 +22,9 @@ use Rattle.sctp_send.specs.SenderStands.{item_here, items_from, Keeps}
 use Rattle.sctp_send.specs.inner.Acknowledging.{IsPassing}
 use Rattle.sctp_send.specs.inner.Dues.{is_late, some_late, standing_message, standing_messages}
 use Rattle.sctp_send.proofs.TableLemmas.{table-replicate}
-use Rattle.sctp_send.proofs.ItemLemmas.{timed_item}
-use Rattle.sctp_send.proofs.RunLemmas.{AreOfBlocks, covered_behind}
-use Rattle.sctp_send.proofs.CoverLemmas.{item_told, items_told, count_items_told}
+use Rattle.sctp_send.proofs.kept.ItemLemmas.{timed_item}
+use Rattle.sctp_send.proofs.sack.RunLemmas.{AreOfBlocks, covered_behind}
+use Rattle.sctp_send.proofs.sack.CoverLemmas.{item_told, items_told, count_items_told}
 use Rattle.sctp_send.proofs.OverLemmas.{neither, no_item_behind, same_items, same_told, no_rests}
 use Rattle.sctp_send.proofs.DueLemmas.{both_off, late_behind, late_told, late_same, late_no_rests}
 

@@ -4,10 +4,10 @@ use Rattle.sctp_send.specs.PartsKept.{OutstandingKept}
 use Rattle.sctp_send.specs.inner.TicketOrder.{IsOrderOf, ticket_of, tickets_of}
 use Rattle.sctp_send.specs.declared.kept.message.Message.{Message as MessageFields}
 use Rattle.sctp_send.specs.declared.kept.entry.Entry.{Entry as EntryFields}
-use Rattle.sctp_send.proofs.CountLemmas.{counts_pushed}
-use Rattle.sctp_send.proofs.TicketWalks.{long_tickets}
+use Rattle.sctp_send.proofs.kept.CountLemmas.{counts_pushed}
+use Rattle.sctp_send.proofs.kept.TicketWalks.{long_tickets}
 use Rattle.sctp_send.specs.inner.Stretching.{index_at, AreKnown}
-use Rattle.sctp_send.proofs.KnownLemmas.{SayTheSame, SayNothing, known_less, known_pushed}
+use Rattle.sctp_send.proofs.kept.KnownLemmas.{SayTheSame, SayNothing, known_less, known_pushed}
 use Rattle.sctp_send.proofs.kept.outstanding.Outstanding.put.Goals as goal
 
 pub push-requires : goal.push-requires

@@ -1,0 +1,4 @@
+pub mod LaneLemmas
+pub mod LaneWalks
+pub mod ForwardLemmas
+pub mod ReachLemmas
