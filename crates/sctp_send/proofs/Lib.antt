@@ -3,6 +3,7 @@ pub mod HeldLemmas
 pub mod OverLemmas
 pub mod DueLemmas
 pub mod KeepLemmas
+pub mod TimerLemmas
 pub mod QueueLemmas
 pub mod ReaderLemmas
 pub mod WalkLemmas

@@ -16,6 +16,7 @@ pub mod SeatedLemmas
 pub mod TrackCounts
 pub mod ListParts
 pub mod OrderLemmas
+pub mod OrderShortened
 pub mod TicketWalks
 pub mod PartSeatLemmas
 pub mod PartLookLemmas

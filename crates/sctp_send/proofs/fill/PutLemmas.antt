@@ -178,12 +178,12 @@ entry_put f s v before after old new at x put k premise low read tried went stay
 
 -- the draft in which an entry went out
 pub sent_draft : (s : Kept) (old : Draft) (w : OutstandingKept) (at : ℕ) (x : EntryFields) → x ≡ get_or old.outstanding.items at x → w ≡ changed went_out at old.outstanding → drafted s (record old { outstanding = w }) ≡ with_gone s old at x
-sent_draft s old w at x read is = ap (λ (y : OutstandingKept). drafted s (record old { outstanding = y })) is ∙ ap (λ (xs : List Item). record (drafted s old) { items = xs }) (placed at old.outstanding.items read)
+sent_draft s old w at x read is = ap (λ (y : OutstandingKept). drafted s (record old { outstanding = y })) is ∙ ap (λ (xs : List Item). record (drafted s old) { items = xs }) (goes_out at old.outstanding.items read)
   where
-    placed : (n : ℕ) (es : List EntryFields) → x ≡ get_or es n x → map (item_meaning s.fragment) (changed_at went_out n es) ≡ set (map (item_meaning s.fragment) es) n (item_meaning s.fragment (went_out x))
-    placed n [] here = refl
-    placed zero (e ∷ es) here = ap (λ (y : EntryFields). item_meaning s.fragment (went_out y) ∷ map (item_meaning s.fragment) es) (sym here)
-    placed (suc n) (e ∷ es) here = ap (λ (xs : List Item). item_meaning s.fragment e ∷ xs) (placed n es here)
+    goes_out : (n : ℕ) (es : List EntryFields) → x ≡ get_or es n x → map (item_meaning s.fragment) (changed_at went_out n es) ≡ set (map (item_meaning s.fragment) es) n (item_meaning s.fragment (went_out x))
+    goes_out n [] here = refl
+    goes_out zero (e ∷ es) here = ap (λ (y : EntryFields). item_meaning s.fragment (went_out y) ∷ map (item_meaning s.fragment) es) (sym here)
+    goes_out (suc n) (e ∷ es) here = ap (λ (xs : List Item). item_meaning s.fragment e ∷ xs) (goes_out n es here)
 
 -- ---- an entry that never went out
 

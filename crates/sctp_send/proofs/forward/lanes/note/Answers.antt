@@ -4,7 +4,7 @@ use Rattle.std.proofs.lemmas.List.{get_or_default, length-set}
 use Rattle.sctp_values.specs.declared.kind.Kind.TheVariants.{Ordered}
 use Rattle.sctp_send.specs.inner.Lanes.{lane_key, passed_meaning, before, noted}
 use Rattle.sctp_send.specs.declared.forward.lanes.Passed.{Passed}
-use Rattle.sctp_send.proofs.forward.LaneWalks.{raised, put_in, one_more, put_back}
+use Rattle.sctp_send.proofs.forward.LaneBytes.{raised, put_in, one_more, put_back}
 use Rattle.sctp_send.proofs.forward.lanes.note.Goals as goal
 use Rattle.sctp_send.proofs.forward.lanes.note.Goals.{then-rank-len+else-key_of-key, else-rank-len}
 

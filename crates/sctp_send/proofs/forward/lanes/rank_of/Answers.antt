@@ -3,7 +3,8 @@ use Rattle.std.proofs.lemmas.List.{length-map}
 use Rattle.sctp_values.specs.declared.kind.Kind.TheVariants.{Ordered}
 use Rattle.sctp_send.specs.declared.forward.lanes.Passed.{Passed}
 use Rattle.sctp_send.specs.inner.Lanes.{lane_key, passed_meaning}
-use Rattle.sctp_send.proofs.forward.LaneWalks.{before_within, half_above, half_below}
+use Rattle.sctp_send.proofs.forward.LaneWalks.{before_within}
+use Rattle.sctp_send.proofs.forward.LaneBytes.{half_above, half_below}
 use Rattle.sctp_send.proofs.forward.lanes.rank_of.Goals as goal
 
 pub loop-low-init : goal.loop-low-init

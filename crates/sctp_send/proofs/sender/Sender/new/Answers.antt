@@ -4,7 +4,7 @@ use Rattle.sctp_send.specs.SenderKept.{Track}
 use Rattle.sctp_send.specs.SenderFields.{track_meaning}
 use Rattle.sctp_send.specs.SenderStands.{StandsFor}
 use Rattle.sctp_send.specs.declared.kept.track.Track.{Track as TrackFields}
-use Rattle.sctp_send.proofs.KeepLemmas.{keeps_fresh}
+use Rattle.sctp_send.proofs.TimerLemmas.{keeps_fresh}
 use Rattle.sctp_send.proofs.sender.Sender.new.Goals as goal
 
 map-replicate : (size n : ℕ) (t : TrackFields) → map (track_meaning size) (replicate n t) ≡ replicate n (track_meaning size t)

@@ -2,7 +2,8 @@ use Rattle.std.proofs.Common.{◌≡◌, ◌+◌, ◌%◌, ◌^◌, ◌++◌, �
 use Rattle.std.proofs.lemmas.List.Edits.{insert_end}
 use Rattle.sctp_send.specs.declared.kept.by_ticket.Spot.{Spot}
 use Rattle.sctp_send.specs.inner.TicketOrder.{IsOrderOf, AreUpTo}
-use Rattle.sctp_send.proofs.kept.OrderLemmas.{ordered_pushed, rank_last, upto_inserted, fresh_offset}
+use Rattle.sctp_send.proofs.kept.OrderLemmas.{ordered_pushed, rank_last, upto_inserted}
+use Rattle.sctp_send.proofs.kept.OrderShortened.{fresh_offset}
 use Rattle.sctp_send.proofs.kept.by_ticket.ByTicket.push.Goals as goal
 
 pub returns-then-self-ticket-clause-order : goal.returns-then-self-ticket-clause-order

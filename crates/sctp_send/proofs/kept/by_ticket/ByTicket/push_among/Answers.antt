@@ -1,7 +1,8 @@
 use Rattle.std.proofs.Common.{◌≡◌, ◌+◌, ◌%◌, ◌^◌, ◌++◌, ◌∷◌, [], ℕ, List, length, arith, sym, ◌∙◌, subst}
 use Rattle.sctp_send.specs.declared.kept.by_ticket.Spot.{Spot}
 use Rattle.sctp_send.specs.inner.TicketOrder.{IsOrderOf, IsRankOf, AreUpTo}
-use Rattle.sctp_send.proofs.kept.OrderLemmas.{ordered_pushed, upto_inserted, fresh_offset, when_ok}
+use Rattle.sctp_send.proofs.kept.OrderLemmas.{ordered_pushed, upto_inserted}
+use Rattle.sctp_send.proofs.kept.OrderShortened.{fresh_offset, when_ok}
 use Rattle.sctp_send.proofs.kept.by_ticket.ByTicket.push_among.Goals as goal
 
 pub returns-clause-order : goal.returns-clause-order

@@ -2,7 +2,8 @@ use Rattle.std.proofs.Common.{List, sym, subst, ap, arith}
 use Rattle.std.specs.VecDeque.{deque_items}
 use Rattle.sctp_send.specs.declared.kept.by_ticket.Spot.{Spot}
 use Rattle.sctp_send.specs.inner.TicketOrder.{IsGone}
-use Rattle.sctp_send.proofs.kept.OrderLemmas.{found_gone, when_some, upto_removed, unchanged_items}
+use Rattle.sctp_send.proofs.kept.OrderLemmas.{upto_removed}
+use Rattle.sctp_send.proofs.kept.OrderShortened.{found_gone, when_some, unchanged_items}
 use Rattle.sctp_send.proofs.kept.by_ticket.ByTicket.remove.Goals as goal
 
 pub returns-clause-gone : goal.returns-clause-gone

@@ -4,7 +4,7 @@ use Rattle.std.proofs.lemmas.List.Edits.{insert_end}
 use Rattle.std.specs.VecDeque.{deque_capacity}
 use Rattle.sctp_send.specs.inner.Ordering.{OrderedKept, key, before, AreOrdered}
 use Rattle.sctp_send.specs.declared.kept.ordered.Seat.{Seat}
-use Rattle.sctp_send.proofs.kept.OrderLemmas.{when_ok}
+use Rattle.sctp_send.proofs.kept.OrderShortened.{when_ok}
 use Rattle.sctp_send.proofs.kept.OrderedLemmas.{before_within, ordered_inserted}
 use Rattle.sctp_send.proofs.kept.ordered.Ordered.insert.Goals as goal
 
