@@ -135,6 +135,7 @@ impl Outstanding {
         self.entries.reserve(more).map_err(|_| NoMemory)?;
         self.by_ticket.reserve(more)?;
         self.reserve_runs()?;
+        self.keep_stretches();
         self.room = self
             .entries
             .capacity()
@@ -145,6 +146,13 @@ impl Outstanding {
         } else {
             Err(NoMemory)
         }
+    }
+
+    /// It is kept from now on what is known of stretches, where many entries are outstanding and there is memory for it.
+    fn keep_stretches(&mut self)
+        ensures { self.new ≡ self.old }
+    {
+        keep_stretches(&mut self.stretches, self.entries.len());
     }
 
     /// One entry more, behind the others.
@@ -172,7 +180,6 @@ impl Outstanding {
         let others = self.entries.len();
         self.counts.enter(&entry, self.size);
         self.counts.reach(others, &entry);
-        keep_stretches(&mut self.stretches, others);
         forget_stretch(&mut self.stretches, self.by_ticket.index(others));
         self.by_ticket.push(entry.message.ticket);
         self.entries.push_back_reserved(entry);

@@ -20,8 +20,8 @@ const SLOTS: usize = 512;
 /// Among so many entries no two whole stretches share a slot.
 pub(crate) const MOST_KNOWN: usize = 32_768;
 
-/// It is kept what is known of stretches once so many entries are outstanding.
-const FEW: usize = 512;
+/// It is kept what is known of stretches once room for entries is taken while so many are outstanding.
+const FEW: usize = 256;
 
 /// What is known of a stretch, which is 64 entries in a row.
 #[derive(Clone, Copy)]
@@ -82,11 +82,11 @@ pub(crate) fn forget_stretch(stretches: &mut Vec<Stretch>, index: u32)
     put_stretch(stretches, index, UNKNOWN);
 }
 
-/// It is kept from now on what is known, where so many entries are outstanding and there is memory for it.
+/// It is kept from now on what is known, where many entries are outstanding and there is memory for it.
 pub(crate) fn keep_stretches(stretches: &mut Vec<Stretch>, entries: usize)
     ensures { (k : ℕ) (s : Stretch) → slice_get stretches.new.items k ≡ Some s → s.is_known ≡ true → slice_get stretches.old.items k ≡ Some s }
 {
-    if entries == FEW && stretches.is_empty() {
+    if entries >= FEW && stretches.is_empty() {
         let _kept = stretches.resize(SLOTS, UNKNOWN);
     }
 }
