@@ -67,7 +67,7 @@ impl OneSide {
     }
 }
 
-/// Puts a packet into a bag that has room for it. It keeps no more memory than its bytes take: an end takes a whole packet's beforehand.
+/// Puts a packet into a bag that has room for it. It keeps no more memory than its bytes take: an end takes a whole packet's with the second chunk.
 pub(crate) fn put_packet(bag: &mut Vec<Vec<u8>>, packet: Vec<u8>)
     requires { length bag.old.items < vec_capacity bag.old }
     ensures packets { (ps : List Packet) (p : Packet) → ArePackets bag.old.items ps → Carries packet.items p → ArePackets bag.new.items (ps ++ p ∷ []) }

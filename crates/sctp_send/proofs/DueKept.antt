@@ -23,10 +23,11 @@ use Rattle.sctp_send.specs.inner.Seating.{ticket_in, DoTicketsRise}
 use Rattle.sctp_send.specs.inner.Dues.{due_at, is_late, some_late, standing_message, standing_messages, AreWoken, IsIdle}
 use Rattle.sctp_send.specs.declared.kept.message.Message.{Message as MessageFields}
 use Rattle.sctp_send.specs.declared.kept.entry.Entry.{Entry as EntryFields}
+use Rattle.sctp_send.proofs.HeldLemmas.{still_held}
 use Rattle.sctp_send.proofs.DueLemmas.{late_before, late_other_items, over_idle}
-use Rattle.sctp_send.proofs.MomentLemmas.{due_behind}
-use Rattle.sctp_send.proofs.MomentKept.{has_come}
-use Rattle.sctp_send.proofs.ExpireKept.{fewer_late, stays_idle}
+use Rattle.sctp_send.proofs.kept.MomentPages.{due_behind}
+use Rattle.sctp_send.proofs.abandon.MomentKept.{has_come}
+use Rattle.sctp_send.proofs.abandon.ExpireKept.{fewer_late, stays_idle}
 
 clash : {b : Bool} → b ≡ true → b ≡ false → ⊥
 clash on off = cc
@@ -48,21 +49,7 @@ pub keeps_told : (f : Format) (s : Kept) (v : SenderView) (t : ℕ) (r : Option 
     → ((now : ℕ) → now < due_at s.passed ms t → (now < unwrap_or r LAST_MOMENT) ⊎ (now < due_at s.passed s.moments t)) → ((u : ℕ) → (u ≡ t → ⊥) → due_at s.passed ms u ≡ due_at s.passed s.moments u)
     → Keeps f (record s { moments = ms; asleep = true }) v
 keeps_told f s v t r ms k told long here others = record {
-  holds = record {
-    initial = k.holds.initial;
-    streams = k.holds.streams;
-    fragment = k.holds.fragment;
-    partial = k.holds.partial;
-    cum = k.holds.cum;
-    rwnd = k.holds.rwnd;
-    turn = k.holds.turn;
-    items = k.holds.items;
-    queue = k.holds.queue;
-    tracks = k.holds.tracks;
-    fates = k.holds.fates;
-    covered = k.holds.covered;
-    room = k.holds.room;
-  };
+  holds = still_held s v s.ended s.passed ms true k.holds;
   over = record { within = k.over.within; each = λ u le. let o = k.over.each u le in record { queue = o.queue; tracks = o.tracks; items = o.items } };
   due = record {
     many = let many = k.due.many in omega (arith, many, long);
@@ -95,30 +82,16 @@ none_given v t i (e ∷ es) own lt = both_off (has_ticket t (entry_message v.pla
 all_idle : (now t size : ℕ) (es : List EntryFields) → ((k : ℕ) (d : EntryFields) → k < length es → is_late now t (Some (message_meaning size (get_or es k d).message.value)) ≡ false) → some_late now t (standing_messages false (map (item_meaning size) es)) ≡ false
 all_idle now t size [] off = refl
 all_idle now t size (e ∷ es) off =
-    both_off (is_late now t (standing_message false (item_meaning size e))) (some_late now t (standing_messages false (map (item_meaning size) es))) (by_given e.abandoned (off 0 e (omega arith))) (all_idle now t size es (λ k d lt. off (suc k) d (omega (arith, lt))))
+    both_off (is_late now t (standing_message false (item_meaning size e))) (some_late now t (standing_messages false (map (item_meaning size) es))) (by_abandoned e.abandoned (off 0 e (omega arith))) (all_idle now t size es (λ k d lt. off (suc k) d (omega (arith, lt))))
   where
-    by_given : (b : Bool) → is_late now t (Some (message_meaning size e.message.value)) ≡ false → is_late now t (if b then None else Some (message_meaning size e.message.value)) ≡ false
-    by_given true off = refl
-    by_given false off = off
+    by_abandoned : (b : Bool) → is_late now t (Some (message_meaning size e.message.value)) ≡ false → is_late now t (if b then None else Some (message_meaning size e.message.value)) ≡ false
+    by_abandoned true off = refl
+    by_abandoned false off = off
 
 pub keeps_awake : (f : Format) (s : Kept) (v : SenderView) (size : ℕ) (es : List EntryFields) (ms : List ℕ) (b : Bool) → Keeps f s v → s.items ≡ map (item_meaning size) es → length ms ≡ length s.moments
     → ((t now : ℕ) → now < due_at s.passed ms t → now < due_at s.passed s.moments t) → (s.asleep ≡ true → b ≡ false → AreWoken s.passed ms es (length es)) → Keeps f (record s { moments = ms; asleep = b }) v
 keeps_awake f s v size es ms b k are long each woken = record {
-  holds = record {
-    initial = k.holds.initial;
-    streams = k.holds.streams;
-    fragment = k.holds.fragment;
-    partial = k.holds.partial;
-    cum = k.holds.cum;
-    rwnd = k.holds.rwnd;
-    turn = k.holds.turn;
-    items = k.holds.items;
-    queue = k.holds.queue;
-    tracks = k.holds.tracks;
-    fates = k.holds.fates;
-    covered = k.holds.covered;
-    room = k.holds.room;
-  };
+  holds = still_held s v s.ended s.passed ms b k.holds;
   over = record { within = k.over.within; each = λ u le. let o = k.over.each u le in record { queue = o.queue; tracks = o.tracks; items = o.items } };
   due = record {
     many = let many = k.due.many in omega (arith, many, long);
@@ -129,8 +102,8 @@ keeps_awake f s v size es ms b k are long each woken = record {
   reached = k.reached;
 }
   where
-    by_place : (t now : ℕ) → now < due_at s.passed ms t → s.asleep ≡ true → b ≡ false → some_late now t (standing_messages false s.items) ≡ false
-    by_place t now lt is off = elim (cases_lt s.passed t) [
+    by_at : (t now : ℕ) → now < due_at s.passed ms t → s.asleep ≡ true → b ≡ false → some_late now t (standing_messages false s.items) ≡ false
+    by_at t now lt is off = elim (cases_lt s.passed t) [
       | inr le ↦ late_other_items now t false s.items (k.over.each t (omega (arith, le))).items
       | inl past ↦ elim (cases_lt v.tickets t) [
         | inl beyond ↦
@@ -147,7 +120,7 @@ keeps_awake f s v size es ms b k are long each woken = record {
     ]
 
     by_sleep : (t now : ℕ) → now < due_at s.passed ms t → (was is : Bool) → s.asleep ≡ was → b ≡ is → some_late now t (standing_messages was s.items) ≡ false → some_late now t (standing_messages is s.items) ≡ false
-    by_sleep t now lt true false asleep awake none = by_place t now lt asleep awake
+    by_sleep t now lt true false asleep awake none = by_at t now lt asleep awake
     by_sleep t now lt true true asleep awake none = none
     by_sleep t now lt false false asleep awake none = none
     by_sleep t now lt false true asleep awake none = fewer_late now t false s.items none
@@ -157,21 +130,7 @@ keeps_awake f s v size es ms b k are long each woken = record {
 pub keeps_passed : (f : Format) (s : Kept) (v : SenderView) (n last : ℕ) → Keeps f s v → last ≡ s.passed + n → n ≤ length s.moments → ((t : ℕ) → t ≤ last → waits t s.queue ≡ false)
     → ((t : ℕ) → t ≤ last → any_rest t s.tracks ≡ false) → ((t : ℕ) → t ≤ last → any_item t s.items ≡ false) → Keeps f (record s { passed = s.passed + n; moments = drop n s.moments }) v
 keeps_passed f s v n last k end most queue rests items = record {
-  holds = record {
-    initial = k.holds.initial;
-    streams = k.holds.streams;
-    fragment = k.holds.fragment;
-    partial = k.holds.partial;
-    cum = k.holds.cum;
-    rwnd = k.holds.rwnd;
-    turn = k.holds.turn;
-    items = k.holds.items;
-    queue = k.holds.queue;
-    tracks = k.holds.tracks;
-    fates = k.holds.fates;
-    covered = k.holds.covered;
-    room = k.holds.room;
-  };
+  holds = still_held s v s.ended (s.passed + n) (drop n s.moments) s.asleep k.holds;
   over = record {
     within = k.over.within;
     each = λ t le. elim (cases_lt last t) [

@@ -15,8 +15,8 @@ use Rattle.sctp_send.specs.inner.Expiring.{queue_messages, rest_message, rest_me
 use Rattle.sctp_send.specs.inner.Walks.{any_item, any_rest, rest_has, end_item}
 use Rattle.sctp_send.specs.inner.Dues.{is_late, some_late, standing_message, standing_messages, IsIdle}
 use Rattle.sctp_send.specs.inner.Newcomers.{gone_item, new_item, new_items, begun_items, begun_track, rest_after, number_in, without_place}
-use Rattle.sctp_send.proofs.CoverLemmas.{items_told}
-use Rattle.sctp_send.proofs.GivenLemmas.{given_item}
+use Rattle.sctp_send.proofs.sack.CoverLemmas.{items_told}
+use Rattle.sctp_send.proofs.abandon.AbandonedLemmas.{abandoned_item}
 use Rattle.sctp_send.proofs.OverLemmas.{neither}
 
 pub both_off : (a b : Bool) → a ≡ false → b ≡ false → (a || b) ≡ false
@@ -64,8 +64,8 @@ late_told now t test i [] = refl
 late_told now t test i (x ∷ xs) = ap (λ (c : Bool). is_late now t (standing_message false x) || c) (late_told now t test (suc i) xs)
 
 -- an entry that is given up counts no more
-given_late : (now t u : ℕ) (b : Bool) (x : Item) → is_late now t (standing_message b x) ≡ false → is_late now t (standing_message b (given_item u x)) ≡ false
-given_late now t u b x off = by_ticket (has_ticket u x.message)
+abandoned_late : (now t u : ℕ) (b : Bool) (x : Item) → is_late now t (standing_message b x) ≡ false → is_late now t (standing_message b (abandoned_item u x)) ≡ false
+abandoned_late now t u b x off = by_ticket (has_ticket u x.message)
   where
     by_either : (c : Bool) → is_late now t (if c || true then None else x.message) ≡ false
     by_either true = refl
@@ -75,11 +75,11 @@ given_late now t u b x off = by_ticket (has_ticket u x.message)
     by_ticket true = by_either (b && x.covered)
     by_ticket false = off
 
-pub late_given : (now t u : ℕ) (b : Bool) (xs : List Item) → some_late now t (standing_messages b xs) ≡ false → some_late now t (standing_messages b (map (given_item u) xs)) ≡ false
-late_given now t u b [] none = refl
-late_given now t u b (x ∷ xs) none =
+pub late_abandoned : (now t u : ℕ) (b : Bool) (xs : List Item) → some_late now t (standing_messages b xs) ≡ false → some_late now t (standing_messages b (map (abandoned_item u) xs)) ≡ false
+late_abandoned now t u b [] none = refl
+late_abandoned now t u b (x ∷ xs) none =
     let parts = neither (is_late now t (standing_message b x)) (some_late now t (standing_messages b xs)) none in
-    both_off (is_late now t (standing_message b (given_item u x))) (some_late now t (standing_messages b (map (given_item u) xs))) (given_late now t u b x parts.0) (late_given now t u b xs parts.1)
+    both_off (is_late now t (standing_message b (abandoned_item u x))) (some_late now t (standing_messages b (map (abandoned_item u) xs))) (abandoned_late now t u b x parts.0) (late_abandoned now t u b xs parts.1)
 
 -- one entry more
 standing_late : (now t : ℕ) (b : Bool) (x : Item) → is_late now t x.message ≡ false → is_late now t (standing_message b x) ≡ false

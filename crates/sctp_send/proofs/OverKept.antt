@@ -18,6 +18,7 @@ use Rattle.sctp_send.specs.inner.Walks.{any_item, any_rest, any_uncovered, is_qu
 use Rattle.sctp_send.specs.inner.Drafting.{AreOpen}
 use Rattle.sctp_send.specs.declared.kept.message.Fate.{Fate}
 use Rattle.sctp_send.specs.declared.kept.message.Fate.TheVariants.{Queued as StillQueued}
+use Rattle.sctp_send.proofs.HeldLemmas.{still_held}
 use Rattle.sctp_send.proofs.KeepLemmas.{items_beyond}
 use Rattle.sctp_send.proofs.QueueLemmas.{fates_given}
 use Rattle.sctp_send.proofs.ReaderLemmas.{fate_at}
@@ -40,22 +41,8 @@ not_waiting f s v t d k lt off = by_test (waits (suc t) v.queue) refl
 
 pub keeps_over : (f : Format) (s : Kept) (v : SenderView) (n last : ℕ) (d : Fate) → Keeps f s v → n ≤ length s.fates → n ≤ last → ((at : ℕ) → s.ended ≤ at → at < n → is_queued_fate (get_or s.fates at d) ≡ false)
     → ((t : ℕ) → t ≤ last → any_rest t s.tracks ≡ false) → ((t : ℕ) → t ≤ last → any_item t s.items ≡ false) → Keeps f (record s { ended = n }) v
-keeps_over f s v n last d k given low settled rests items = record {
-  holds = record {
-    initial = k.holds.initial;
-    streams = k.holds.streams;
-    fragment = k.holds.fragment;
-    partial = k.holds.partial;
-    cum = k.holds.cum;
-    rwnd = k.holds.rwnd;
-    turn = k.holds.turn;
-    items = k.holds.items;
-    queue = k.holds.queue;
-    tracks = k.holds.tracks;
-    fates = k.holds.fates;
-    covered = k.holds.covered;
-    room = k.holds.room;
-  };
+keeps_over f s v n last d k given low moved rests items = record {
+  holds = still_held s v n s.passed s.moments s.asleep k.holds;
   over = record {
     within = let all = fates_given f s v k in omega (arith, all, given);
     each = λ t le. elim (cases_lt n t) [
@@ -72,7 +59,7 @@ keeps_over f s v n last d k given low settled rests items = record {
       | inl lt ↦
           let there : t - 1 < length s.fates = omega (arith, given, le, lt) in
           let back : suc (t - 1) ≡ t = omega (arith, lt) in
-          let off = not_waiting f s v (t - 1) d k there (settled (t - 1) (omega (arith, lt)) (omega (arith, le, lt))) in
+          let off = not_waiting f s v (t - 1) d k there (moved (t - 1) (omega (arith, lt)) (omega (arith, le, lt))) in
           ap (waits t) k.holds.queue ∙ subst (λ (x : ℕ). waits x v.queue ≡ false) back off
       | inr ge ↦ (k.over.each t (omega (arith, ge))).queue
     ]

@@ -11,7 +11,7 @@ use Rattle.sctp_model.proofs.sender.QueueLaws.{IsTaken, fewer_without, waits_pus
 use Rattle.sctp_send.specs.SenderKept.{Item, Rest, Track}
 use Rattle.sctp_send.specs.inner.Walks.{any_item, any_rest, rest_has}
 use Rattle.sctp_send.specs.inner.Newcomers.{gone_item, new_items, begun_items, begun_track, rest_after}
-use Rattle.sctp_send.proofs.CoverLemmas.{items_told}
+use Rattle.sctp_send.proofs.sack.CoverLemmas.{items_told}
 
 -- ---- tests
 

@@ -32,7 +32,7 @@ use Rattle.sctp_send.specs.declared.kept.message.Fate.TheVariants.{Queued as Sti
 use Rattle.sctp_send.proofs.TableLemmas.{table-push, table-same, length-table}
 use Rattle.sctp_send.proofs.OverLemmas.{not_waiting_more}
 use Rattle.sctp_send.proofs.DueLemmas.{late_queue_more, late_before}
-use Rattle.sctp_send.proofs.MomentLemmas.{due_push}
+use Rattle.sctp_send.proofs.kept.MomentLemmas.{due_push}
 use Rattle.sctp_send.proofs.KeepLemmas.{kept_length}
 
 -- ---- fragments

@@ -22,7 +22,7 @@ use Rattle.sctp_send.specs.declared.kept.message.Fate.TheVariants.{Queued as Sti
 use Rattle.sctp_send.specs.declared.kept.entry.Entry.{Entry as EntryFields}
 use Rattle.sctp_send.specs.declared.kept.track.Track.{Track as TrackFields}
 use Rattle.sctp_send.proofs.TableLemmas.{table-push}
-use Rattle.sctp_send.proofs.ItemLemmas.{item_read}
+use Rattle.sctp_send.proofs.kept.ItemLemmas.{item_read}
 use Rattle.sctp_send.proofs.ReaderLemmas.{fate_at}
 use Rattle.sctp_send.proofs.WalkLemmas.{none_behind, track_read}
 use Rattle.sctp_send.proofs.QueueLemmas.{fates_given}

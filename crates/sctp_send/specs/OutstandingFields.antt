@@ -1,4 +1,4 @@
--- What an entry above CUM says: its message, its place, how far it came.
+-- What an entry above CUM says: its message, what its index has, how far it came.
 use Rattle.std.specs.Prelude.{ℕ, Bool, true, false, List, map, Some}
 use Rattle.sctp_model.specs.messages.Format.{Lane}
 use Rattle.sctp_model.specs.messages.Plan.{Message, Entry, Part, End}
@@ -10,8 +10,8 @@ use Rattle.sctp_send.specs.SenderKept.{Item}
 use Rattle.sctp_send.specs.declared.kept.message.Message.{Message as MessageFields}
 use Rattle.sctp_send.specs.declared.kept.entry.Standing.{Standing}
 use Rattle.sctp_send.specs.declared.kept.entry.Standing.TheVariants.{Unsent, Sent, Marked}
-use Rattle.sctp_send.specs.declared.kept.entry.Place.{Place}
-use Rattle.sctp_send.specs.declared.kept.entry.Place.TheVariants.{Fragment, EndMark}
+use Rattle.sctp_send.specs.declared.kept.entry.Content.{Content}
+use Rattle.sctp_send.specs.declared.kept.entry.Content.TheVariants.{Fragment, EndMark}
 use Rattle.sctp_send.specs.declared.kept.entry.Entry.{Entry as EntryFields}
 
 -- the entry went out at least once
@@ -38,15 +38,15 @@ message_meaning size m = record { ticket = m.ticket; payload = m.payload_id; fra
 abbrev pub queued_meaning : ℕ → MessageFields → Queued
 queued_meaning size m = record { lane = lane_meaning m; message = message_meaning size m }
 
--- what stands at an index: a fragment, or an end mark
-abbrev pub entry_meaning : Lane → ℕ → Place → Entry
+-- what an index has: a fragment, or an end mark
+abbrev pub entry_meaning : Lane → ℕ → Content → Entry
 entry_meaning l n (Fragment k) = Part l n k
 entry_meaning l n EndMark = End l n
 
 -- all that an entry says
 abbrev pub item_meaning : ℕ → EntryFields → Item
 item_meaning size e = record {
-  entry = entry_meaning (lane_meaning e.message.value) e.number e.place;
+  entry = entry_meaning (lane_meaning e.message.value) e.number e.content;
   message = Some (message_meaning size e.message.value);
   sent = was_sent e.standing;
   marked = is_marked e.standing;

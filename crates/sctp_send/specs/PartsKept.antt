@@ -46,15 +46,15 @@ pub record DuesKept : Type 0 where
   pub asleep : Bool
   pub capacity : ℕ
 
--- a list in which the element at a place is changed
-abbrev pub at_place : {A : Type 0} → (A → A) → ℕ → List A → List A
-at_place f n [] = []
-at_place f zero (x ∷ xs) = f x ∷ xs
-at_place f (suc n) (x ∷ xs) = x ∷ at_place f n xs
+-- a list in which the n-th element is changed, counted from 0
+abbrev pub changed_at : {A : Type 0} → (A → A) → ℕ → List A → List A
+changed_at f n [] = []
+changed_at f zero (x ∷ xs) = f x ∷ xs
+changed_at f (suc n) (x ∷ xs) = x ∷ changed_at f n xs
 
 -- the entry at an offset is changed
 abbrev pub changed : (EntryFields → EntryFields) → (at : ℕ) → OutstandingKept → OutstandingKept
-changed f at w = record w { items = at_place f at w.items }
+changed f at w = record w { items = changed_at f at w.items }
 
 -- fragments are as long as before, and there is as much room
 pub record IsSameRoom (old new : OutstandingKept) : Type 0 where

@@ -11,7 +11,7 @@ pub mod Seating
 pub mod Undoing
 pub mod Lanes
 pub mod TicketOrder
-pub mod PartPairs
+pub mod PartSeats
 pub mod FateBlocks
 pub mod Stretching
 pub mod Dues

@@ -13,7 +13,7 @@ ghost use Rattle.sctp_send.specs.SenderStands.{StandsFor, fate_here};
 ghost use Rattle.sctp_send.specs.inner.Walks.{is_numbered_fate, any_rest, end_item, EndsAt};
 ghost use Rattle.sctp_send.specs.SenderAnswers.{answer_meaning, answer_code};
 
-use crate::kept::entry::{Entry, Place, Standing};
+use crate::kept::entry::{Content, Entry, Standing};
 use crate::kept::message::Fate;
 use crate::kept::outstanding::Outstanding;
 use crate::kept::queue::Queue;
@@ -66,10 +66,10 @@ impl<F: Framing> Sender<F> {
         if at == 0 {
             return Abandoned::Unknown;
         }
-        if at > self.head.fates.len() {
+        if at > self.told.fates.len() {
             return Abandoned::Unknown;
         }
-        match self.head.fates.get(at - 1) {
+        match self.told.fates.get(at - 1) {
             Fate::Withdrawn => Abandoned::Withdrawn,
             Fate::Abandoned => Abandoned::Abandoned,
             Fate::Queued => {
@@ -87,10 +87,10 @@ impl<F: Framing> Sender<F> {
         ensures answer { (v : SenderView) → StandsFor F.format self.old v → is_numbered_fate (fate_here v ticket) ≡ true → answer_meaning result ≡ abandon_answer v ticket }
         ensures step { (v : SenderView) → StandsFor F.format self.old v → is_numbered_fate (fate_here v ticket) ≡ true → StandsFor F.format self.new (abandon_after v ticket) }
     {
-        if is_all_covered(&self.parts.tracks, &self.parts.outstanding, ticket) {
+        if is_all_covered(&self.parts.streams, &self.parts.outstanding, ticket) {
             return Abandoned::Acknowledged;
         }
-        if !self.head.partial {
+        if !self.told.partial {
             return Abandoned::Reliable;
         }
         self.give_up(ticket);
@@ -105,10 +105,10 @@ impl<F: Framing> Sender<F> {
         if at == 0 {
             return;
         }
-        if at > self.head.fates.len() {
+        if at > self.told.fates.len() {
             return;
         }
-        match self.head.fates.get(at - 1) {
+        match self.told.fates.get(at - 1) {
             Fate::Withdrawn => {}
             Fate::Abandoned => {}
             Fate::Queued => self.take_back(ticket),
@@ -123,7 +123,7 @@ impl<F: Framing> Sender<F> {
         ensures { (v : SenderView) → StandsFor F.format self.old v → waits ticket v.queue ≡ true → StandsFor F.format self.new (abandon_after v ticket) }
     {
         withdraw(&mut self.parts.queue, ticket);
-        self.head.fates.set(ticket as usize - 1, Fate::Withdrawn);
+        self.told.fates.set(ticket as usize - 1, Fate::Withdrawn);
     }
 
     /// Abandons the message with this ticket, which has a number and may be abandoned.
@@ -132,9 +132,9 @@ impl<F: Framing> Sender<F> {
         requires given { ticket ≤ length self.old.fates }
         ensures { (v : SenderView) → StandsFor F.format self.old v → is_numbered_fate (fate_here v ticket) ≡ true → may_abandon v ticket ≡ true → StandsFor F.format self.new (abandon_after v ticket) }
     {
-        self.head.fates.set(ticket as usize - 1, Fate::Abandoned);
+        self.told.fates.set(ticket as usize - 1, Fate::Abandoned);
         self.parts.outstanding.abandon(ticket);
-        if let Some(ending) = end(&mut self.parts.tracks, ticket) {
+        if let Some(ending) = end(&mut self.parts.streams, ticket) {
             push_end(&mut self.parts.outstanding, ending);
         }
     }
@@ -164,20 +164,20 @@ fn withdraw(queue: &mut Queue, ticket: u64)
 }
 
 /// The stream that goes on with the message with this ticket goes on with nothing; what was left of the message, where there is such a stream.
-fn end(tracks: &mut Streams, ticket: u64) -> Option<Ending>
-    ensures size { tracks.new.size ≡ tracks.old.size }
-    ensures none { (size : ℕ) → IfNone result (any_rest ticket (map (track_meaning size) tracks.old.items) ≡ false) }
-    ensures same { IfNone result (tracks.new.items ≡ tracks.old.items) }
-    ensures some { (size : ℕ) → IfSome result (λ ending. EndsAt ticket (ending_meaning size ending) (map (track_meaning size) tracks.old.items) (map (track_meaning size) tracks.new.items)) }
+fn end(streams: &mut Streams, ticket: u64) -> Option<Ending>
+    ensures size { streams.new.size ≡ streams.old.size }
+    ensures none { (size : ℕ) → IfNone result (any_rest ticket (map (track_meaning size) streams.old.items) ≡ false) }
+    ensures same { IfNone result (streams.new.items ≡ streams.old.items) }
+    ensures some { (size : ℕ) → IfSome result (λ ending. EndsAt ticket (ending_meaning size ending) (map (track_meaning size) streams.old.items) (map (track_meaning size) streams.new.items)) }
 {
-    let at = tracks.stream_of(ticket)?;
-    let track = &tracks.tracks()[at];
+    let at = streams.stream_of(ticket)?;
+    let track = &streams.tracks()[at];
     let next = Track {
         ordered: track.ordered,
         unordered: track.unordered,
         rest: None,
     };
-    ending_of(tracks.replace(at, next))
+    ending_of(streams.replace(at, next))
 }
 
 /// The end mark of a message stands behind the other entries. There is room for it since the message took its number.
@@ -197,7 +197,7 @@ fn end_mark(ending: Ending) -> Entry
     Entry {
         message: ending.rest.message,
         number: ending.number,
-        place: Place::EndMark,
+        content: Content::EndMark,
         standing: Standing::Unsent,
         covered: false,
         abandoned: true,

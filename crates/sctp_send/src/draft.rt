@@ -2,7 +2,7 @@
 
 ghost use Rattle.std.specs.Prelude.{◌≡◌, ℕ, ◌<◌, ◌≤◌, ◌+◌, ◌++◌, ◌∷◌, [], set, length, OnOk};
 ghost use Rattle.std.specs.Vec.{vec_len, vec_capacity};
-ghost use Rattle.sctp_send.specs.PartsKept.{at_place, changed};
+ghost use Rattle.sctp_send.specs.PartsKept.{changed_at, changed};
 ghost use Rattle.sctp_send.specs.inner.Undoing.{parts_of, undone, origin, stands_so, waits_again, counted_to, IsKeptRoom};
 ghost use Rattle.sctp_send.specs.declared.draft.Change.TheVariants.{Begun};
 
@@ -21,7 +21,7 @@ use std::sync::Arc;
 pub(crate) struct Draft {
     pub(crate) outstanding: Outstanding,
     pub(crate) queue: Queue,
-    pub(crate) tracks: Streams,
+    pub(crate) streams: Streams,
     pub(crate) turn: u16,
     pub(crate) tickets: Vec<Ticket>,
     pub(crate) log: Vec<Change>,
@@ -147,14 +147,14 @@ fn undo(draft: &mut Draft, change: Change)
     match change {
         Change::Out { at, standing } => stand_again(&mut draft.outstanding, at, standing),
         Change::Begun { place, from, turn } => wait_again(draft, place, from, turn),
-        Change::Left { stream, track } => go_on_again(&mut draft.tracks, stream, track),
+        Change::Left { stream, track } => go_on_again(&mut draft.streams, stream, track),
         Change::Continued {
             stream,
             track,
             turn,
         } => {
             let _last = draft.outstanding.pop_back();
-            go_on_again(&mut draft.tracks, stream, track);
+            go_on_again(&mut draft.streams, stream, track);
             draft.turn = turn;
         }
     }
@@ -190,19 +190,19 @@ fn wait_again(draft: &mut Draft, place: usize, from: usize, turn: u16)
             number,
             ..
         } = entry;
-        number_again(&mut draft.tracks, message.stream, message.kind, number);
+        number_again(&mut draft.streams, message.stream, message.kind, number);
         queue_again(&mut draft.queue, place, message);
         draft.turn = turn;
     }
 }
 
 /// So many messages of a kind have a number on a stream, where there is such a one.
-fn number_again(tracks: &mut Streams, stream: u16, kind: Kind, many: u64)
-    ensures { tracks.new ≡ record tracks.old { items = at_place (counted_to kind many) stream tracks.old.items } }
+fn number_again(streams: &mut Streams, stream: u16, kind: Kind, many: u64)
+    ensures { streams.new ≡ record streams.old { items = changed_at (counted_to kind many) stream streams.old.items } }
 {
     let at = usize::from(stream);
-    if at < tracks.tracks().len() {
-        tracks.count_to(at, kind, many);
+    if at < streams.tracks().len() {
+        streams.count_to(at, kind, many);
     }
 }
 
@@ -219,11 +219,11 @@ fn queue_again(queue: &mut Queue, place: usize, message: Arc<Message>)
 }
 
 /// A stream, where there is such a one, goes on as before.
-fn go_on_again(tracks: &mut Streams, stream: u16, track: Track)
-    ensures { tracks.new ≡ record tracks.old { items = set tracks.old.items stream track } }
+fn go_on_again(streams: &mut Streams, stream: u16, track: Track)
+    ensures { streams.new ≡ record streams.old { items = set streams.old.items stream track } }
 {
     let at = usize::from(stream);
-    if at < tracks.tracks().len() {
-        let _later = tracks.replace(at, track);
+    if at < streams.tracks().len() {
+        let _later = streams.replace(at, track);
     }
 }

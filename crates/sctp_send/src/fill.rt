@@ -15,10 +15,10 @@ ghost use Rattle.sctp_send.specs.inner.Drafting.{bare, numbers_of, all_numbered,
 ghost use Rattle.sctp_send.specs.inner.Undoing.{IsSized, IsBehind};
 
 use crate::draft::{Draft, begin_anew, forget_changes, undo_all};
-use crate::head::Head;
 use crate::kept::fates::Fates;
 use crate::kept::message::Fate;
 use crate::sender::Sender;
+use crate::told::Told;
 use sctp_framing::Framing;
 use sctp_packet::PacketWriter;
 use sctp_values::{NoMemory, Ticket};
@@ -44,7 +44,7 @@ impl<F: Framing> Sender<F> {
         ensures some { (v : SenderView) → StandsFor F.format self.old v → OnErr result (PutSomeOf F.format v packet.old packet.new) }
     {
         if self.is_at_rest() {
-            let tickets = Vec::new(self.head.alloc);
+            let tickets = Vec::new(self.told.alloc);
             return Ok(Filled { tickets });
         }
         self.fill_on(packet)
@@ -55,14 +55,14 @@ impl<F: Framing> Sender<F> {
     fn is_at_rest(&self) -> bool
         ensures { (v : SenderView) → StandsFor F.format self.now v → result ≡ true → next_wish F.format v ≡ None }
     {
-        let streams = self.head.streams;
+        let streams = self.told.streams;
         if self.parts.queue.len() > 0 {
             return false;
         }
         if !self.parts.outstanding.is_all_out() {
             return false;
         }
-        if self.parts.tracks.next_part(0, streams) < streams {
+        if self.parts.streams.next_part(0, streams) < streams {
             return false;
         }
         true
@@ -76,11 +76,11 @@ impl<F: Framing> Sender<F> {
         ensures some { (v : SenderView) → StandsFor F.format self.old v → OnErr result (PutSomeOf F.format v packet.old packet.new) }
     {
         begin_anew(&mut self.parts);
-        match self.head.put_all::<F>(&mut self.parts, packet) {
+        match self.told.put_all::<F>(&mut self.parts, packet) {
             Ok(()) => {
                 forget_changes(&mut self.parts.log);
-                let tickets = mem::replace(&mut self.parts.tickets, Vec::new(self.head.alloc));
-                number_all(&mut self.head.fates, &tickets);
+                let tickets = mem::replace(&mut self.parts.tickets, Vec::new(self.told.alloc));
+                number_all(&mut self.told.fates, &tickets);
                 Ok(Filled { tickets })
             }
             Err(failed) => {
@@ -91,7 +91,7 @@ impl<F: Framing> Sender<F> {
     }
 }
 
-impl Head {
+impl Told {
     /// Puts one wish after the other, until none may go.
     fn put_all<F: Framing>(
         &self,

@@ -60,15 +60,15 @@ impl<F: Framing> Sender<F> {
         let passed = note_within::<F>(
             &mut lanes,
             &self.parts.outstanding,
-            self.head.streams,
+            self.told.streams,
             limit,
         );
         if passed == 0 {
             return Ok(false);
         }
-        let end = self.head.cum.wrapping_add(u64::from(passed));
-        let cumulative = tsn_of(self.head.initial, end);
-        put_lanes::<F>(self.head.alloc, cumulative, lanes.as_slice(), packet)
+        let end = self.told.cum.wrapping_add(u64::from(passed));
+        let cumulative = tsn_of(self.told.initial, end);
+        put_lanes::<F>(self.told.alloc, cumulative, lanes.as_slice(), packet)
     }
 }
 

@@ -6,13 +6,13 @@ mod abandon;
 mod draft;
 mod fill;
 mod forward;
-mod head;
 mod kept;
 mod laws;
 mod queueing;
 mod readers;
 mod sack;
 mod sender;
+mod told;
 
 pub use abandon::Abandoned;
 pub use fill::Filled;

@@ -1,18 +1,19 @@
 //! Messages handed in: refused for the first reason that holds, or queued (RFC 9260, 6.9).
 
-ghost use Rattle.std.specs.Prelude.{◌≡◌, ℕ, ◌<◌, ◌≤◌, ◌++◌, ◌∷◌, [], true, false, map, length, OnOk, OnErr, IfErr};
+ghost use Rattle.std.specs.Prelude.{◌≡◌, ℕ, ◌<◌, ◌≤◌, ◌++◌, ◌∷◌, [], true, false, map, length, None, OnOk, OnErr, IfErr, IfSome, IfNone};
+ghost use Rattle.sctp_model.specs.numbers.Limits.{TICKET_LIMIT};
 ghost use Rattle.sctp_model.specs.sender.SenderView.{SenderView};
-ghost use Rattle.sctp_model.specs.sender.Queueing.{promised};
+ghost use Rattle.sctp_model.specs.sender.Queueing.{promised, refusal};
 ghost use Rattle.sctp_send.specs.OutstandingFields.{item_meaning, queued_meaning};
 ghost use Rattle.sctp_send.specs.SenderFields.{queued_by, track_meaning};
 ghost use Rattle.sctp_send.specs.inner.Walks.{any_item, any_rest};
 ghost use Rattle.sctp_send.specs.declared.queueing.SendFault.TheVariants.{NoMemory as FaultNoMemory};
 ghost use Rattle.sctp_send.specs.SenderStands.{StandsFor};
-ghost use Rattle.sctp_send.specs.SenderAnswers.{QueueAnswer, queue_after, lane_for};
+ghost use Rattle.sctp_send.specs.SenderAnswers.{QueueAnswer, queue_after, lane_for, refused_with};
 
 use crate::kept::dues::Dues;
 use crate::kept::fates::Fates;
-use crate::kept::message::{Fate, Message, fragments_of, owed, placed};
+use crate::kept::message::{Fate, Message, fragments_of, in_shell, owed};
 use crate::kept::outstanding::Outstanding;
 use crate::kept::queue::Queue;
 use crate::kept::streams::Streams;
@@ -88,28 +89,11 @@ impl<F: Framing> Sender<F> {
         ensures step { (v : SenderView) → StandsFor F.format self.old v
             → StandsFor F.format self.new (queue_after v (lane_for stream ordered) payload_id bytes.items until result) }
     {
-        if stream >= self.head.streams {
-            return Err(SendFault::NoSuchStream);
+        if let Some(fault) = self.refusal(stream, &bytes) {
+            return Err(fault);
         }
-        if bytes.len() == 0 {
-            return Err(SendFault::Empty);
-        }
-        if bytes.len() > LONGEST_MESSAGE {
-            return Err(SendFault::TooLong);
-        }
-        if self.parts.queue.len() >= QUEUE_LIMIT {
-            return Err(SendFault::QueueFull);
-        }
-        let promised = self.promised();
-        let more = owed(fragments_of(self.head.fragment, &bytes));
-        let given = self.head.fates.len();
-        if given >= TICKET_LIMIT as usize {
-            return Err(SendFault::Spent);
-        }
-        if promised.wrapping_add(more) > TSN_LIMIT {
-            return Err(SendFault::Spent);
-        }
-        match reserve_ticket(&mut self.head.fates, &mut self.head.dues) {
+        let given = self.told.fates.len();
+        match reserve_ticket(&mut self.told.fates, &mut self.told.dues) {
             Ok(()) => {}
             Err(_) => return Err(SendFault::NoMemory),
         }
@@ -124,54 +108,85 @@ impl<F: Framing> Sender<F> {
         };
         enqueue(
             &mut self.parts.queue,
-            &mut self.head.spent,
-            self.head.alloc,
+            &mut self.told.shells,
+            self.told.alloc,
             message,
         )?;
         // There is room for it.
-        self.head.fates.push(Fate::Queued);
-        self.head.dues.push(until);
+        self.told.fates.push(Fate::Queued);
+        self.told.dues.push(until);
         Ok(Ticket(ticket))
+    }
+
+    /// The first reason for which a message with these bytes is refused on a stream, whatever memory there is.
+    fn refusal(&self, stream: u16, bytes: &[u8]) -> Option<SendFault>
+        ensures none { (v : SenderView) → StandsFor F.format self.now v → IfNone result (refusal v stream bytes.now ≡ None) }
+        ensures some { (v : SenderView) → StandsFor F.format self.now v → IfSome result (λ fault. refused_with (refusal v stream bytes.now) fault) }
+        ensures told { IfSome result (λ fault. fault ≡ FaultNoMemory → ⊥) }
+        ensures few { IfNone result (length self.now.fates < TICKET_LIMIT) }
+    {
+        if stream >= self.told.streams {
+            return Some(SendFault::NoSuchStream);
+        }
+        if bytes.len() == 0 {
+            return Some(SendFault::Empty);
+        }
+        if bytes.len() > LONGEST_MESSAGE {
+            return Some(SendFault::TooLong);
+        }
+        if self.parts.queue.len() >= QUEUE_LIMIT {
+            return Some(SendFault::QueueFull);
+        }
+        let promised = self.promised();
+        let more = owed(fragments_of(self.told.fragment, bytes));
+        let given = self.told.fates.len();
+        if given >= TICKET_LIMIT as usize {
+            return Some(SendFault::Spent);
+        }
+        if promised.wrapping_add(more) > TSN_LIMIT {
+            return Some(SendFault::Spent);
+        }
+        None
     }
 
     /// Where nothing is kept of a block of tickets but their fates, these stand for good, and take less room where they are alike.
     fn end_tickets(&mut self)
         ensures { (v : SenderView) → StandsFor F.format self.old v → StandsFor F.format self.new v }
     {
-        let Some(last) = self.head.fates.next_end() else {
+        let Some(last) = self.told.fates.next_end() else {
             return;
         };
-        if !is_past(&self.parts.tracks, &self.parts.outstanding, last) {
+        if !is_past(&self.parts.streams, &self.parts.outstanding, last) {
             return;
         }
-        self.head.fates.end_block();
+        self.told.fates.end_block();
     }
 
     /// Where nothing is kept of the messages of a page of tickets, these are passed: they are never late.
     fn pass_tickets(&mut self)
         ensures { (v : SenderView) → StandsFor F.format self.old v → StandsFor F.format self.new v }
     {
-        let Some(last) = self.head.dues.first_page() else {
+        let Some(last) = self.told.dues.first_page() else {
             return;
         };
-        if !is_past(&self.parts.tracks, &self.parts.outstanding, last) {
+        if !is_past(&self.parts.streams, &self.parts.outstanding, last) {
             return;
         }
         if !self.parts.queue.is_past(last) {
             return;
         }
-        self.head.dues.pass_page();
+        self.told.dues.pass_page();
     }
 
     /// The TSNs assigned, and those that the accepted messages may still take.
     fn promised(&self) -> u64
         ensures { (v : SenderView) → StandsFor F.format self.now v → result ≡ promised v }
     {
-        self.head
+        self.told
             .cum
             .wrapping_add(self.parts.outstanding.len() as u64)
             .wrapping_add(self.parts.queue.owed())
-            .wrapping_add(self.parts.tracks.owed())
+            .wrapping_add(self.parts.streams.owed())
     }
 }
 
@@ -183,7 +198,7 @@ fn reserve_ticket(fates: &mut Fates, dues: &mut Dues) -> Result<(), NoMemory>
     ensures moments { dues.new.moments ≡ dues.old.moments }
     ensures asleep { dues.new.asleep ≡ dues.old.asleep }
     ensures room { OnOk result (length fates.new.items < fates.new.capacity) }
-    ensures place { OnOk result (length dues.new.moments < dues.new.capacity) }
+    ensures moment { OnOk result (length dues.new.moments < dues.new.capacity) }
 {
     fates.reserve()?;
     dues.reserve()
@@ -193,7 +208,7 @@ fn reserve_ticket(fates: &mut Fates, dues: &mut Dues) -> Result<(), NoMemory>
 #[inline(always)]
 fn enqueue(
     queue: &mut Queue,
-    spent: &mut Vec<Arc<Message>>,
+    shells: &mut Vec<Arc<Message>>,
     alloc: Global,
     message: Message,
 ) -> Result<(), SendFault>
@@ -202,7 +217,7 @@ fn enqueue(
     ensures unchanged { OnErr result (queue.new.items ≡ queue.old.items) }
     ensures memory { IfErr result (λ fault. fault ≡ FaultNoMemory) }
 {
-    let message = match placed(spent, alloc, message) {
+    let message = match in_shell(shells, alloc, message) {
         Ok(message) => message,
         Err(_) => return Err(SendFault::NoMemory),
     };
@@ -213,9 +228,9 @@ fn enqueue(
 }
 
 /// No message up to this ticket is in part, or has an entry above CUM.
-fn is_past(tracks: &Streams, outstanding: &Outstanding, last: u64) -> bool
-    ensures tracks { (size t : ℕ) → result ≡ true → t ≤ last → any_rest t (map (track_meaning size) tracks.now.items) ≡ false }
+fn is_past(streams: &Streams, outstanding: &Outstanding, last: u64) -> bool
+    ensures tracks { (size t : ℕ) → result ≡ true → t ≤ last → any_rest t (map (track_meaning size) streams.now.items) ≡ false }
     ensures items { (size t : ℕ) → result ≡ true → t ≤ last → any_item t (map (item_meaning size) outstanding.now.items) ≡ false }
 {
-    outstanding.is_past(last) && tracks.is_past(last)
+    outstanding.is_past(last) && streams.is_past(last)
 }

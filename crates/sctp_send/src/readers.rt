@@ -23,14 +23,14 @@ impl<F: Framing> Sender<F> {
     pub fn cum(&self) -> u64
         ensures { (v : SenderView) → StandsFor F.format self.now v → result ≡ v.cum }
     {
-        self.head.cum
+        self.told.cum
     }
 
     /// The point: the largest index from CUM on, up to which all beyond CUM is of abandoned messages (RFC 3758, 3.5).
     pub fn point(&self) -> u64
         ensures { (v : SenderView) → StandsFor F.format self.now v → result ≡ point v }
     {
-        self.head
+        self.told
             .cum
             .wrapping_add(u64::from(abandoned_run(&self.parts.outstanding)))
     }
@@ -51,7 +51,7 @@ impl<F: Framing> Sender<F> {
         ensures count { (v : SenderView) → StandsFor F.format self.now v → result ≡ outstanding v }
         ensures bound { (v : SenderView) → StandsFor F.format self.now v → result ≤ WINDOW }
     {
-        count_of(&self.parts.outstanding).wrapping_add(self.parts.tracks.in_part())
+        count_of(&self.parts.outstanding).wrapping_add(self.parts.streams.in_part())
     }
 
     /// Whether nothing waits, nothing is in part, and all that has an index is acknowledged (RFC 9260, 9.2).
@@ -61,7 +61,7 @@ impl<F: Framing> Sender<F> {
         if self.parts.queue.len() > 0 {
             return false;
         }
-        if self.parts.tracks.in_part() > 0 {
+        if self.parts.streams.in_part() > 0 {
             return false;
         }
         self.parts.outstanding.len() == 0
@@ -87,14 +87,14 @@ impl<F: Framing> Sender<F> {
     pub fn peer_window(&self) -> u32
         ensures { (v : SenderView) → StandsFor F.format self.now v → result ≡ v.rwnd }
     {
-        self.head.rwnd
+        self.told.rwnd
     }
 
     /// How many tickets were given: the calls of `queue` that were accepted. They are 1 to this number.
     pub fn tickets(&self) -> u64
         ensures { (v : SenderView) → StandsFor F.format self.now v → result ≡ v.tickets }
     {
-        self.head.fates.len() as u64
+        self.told.fates.len() as u64
     }
 
     /// Whether the message with this ticket is acknowledged whole: its last fragment is assigned, all its indexes are covered, and it was
@@ -106,14 +106,14 @@ impl<F: Framing> Sender<F> {
         if at == 0 {
             return false;
         }
-        if at > self.head.fates.len() {
+        if at > self.told.fates.len() {
             return false;
         }
-        let fate = self.head.fates.get(at - 1);
+        let fate = self.told.fates.get(at - 1);
         if !is_numbered(fate) {
             return false;
         }
-        is_all_covered(&self.parts.tracks, &self.parts.outstanding, ticket.0)
+        is_all_covered(&self.parts.streams, &self.parts.outstanding, ticket.0)
     }
 
     /// Whether the message with this ticket has a number and was abandoned. False for a ticket that was never given.
@@ -124,10 +124,10 @@ impl<F: Framing> Sender<F> {
         if at == 0 {
             return false;
         }
-        if at > self.head.fates.len() {
+        if at > self.told.fates.len() {
             return false;
         }
-        let fate = self.head.fates.get(at - 1);
+        let fate = self.told.fates.get(at - 1);
         was_abandoned(fate)
     }
 }
@@ -153,18 +153,18 @@ fn is_numbered(fate: Fate) -> bool
 }
 
 /// All of the message with this ticket is assigned and covered.
-pub(crate) fn is_all_covered(tracks: &Streams, outstanding: &Outstanding, ticket: u64) -> bool
+pub(crate) fn is_all_covered(streams: &Streams, outstanding: &Outstanding, ticket: u64) -> bool
     ensures { (size : ℕ) → result
-        ≡ (not (any_rest ticket (map (track_meaning size) tracks.now.items)) && not (any_uncovered ticket (map (item_meaning size) outstanding.now.items))) }
+        ≡ (not (any_rest ticket (map (track_meaning size) streams.now.items)) && not (any_uncovered ticket (map (item_meaning size) outstanding.now.items))) }
 {
-    !is_in_part(tracks, ticket) && !outstanding.some_uncovered(ticket)
+    !is_in_part(streams, ticket) && !outstanding.some_uncovered(ticket)
 }
 
 /// The message with this ticket is in part.
-fn is_in_part(tracks: &Streams, ticket: u64) -> bool
-    ensures { (size : ℕ) → result ≡ any_rest ticket (map (track_meaning size) tracks.now.items) }
+fn is_in_part(streams: &Streams, ticket: u64) -> bool
+    ensures { (size : ℕ) → result ≡ any_rest ticket (map (track_meaning size) streams.now.items) }
 {
-    match tracks.stream_of(ticket) {
+    match streams.stream_of(ticket) {
         Some(_) => true,
         None => false,
     }

@@ -1,7 +1,7 @@
 //! SACKs and SHUTDOWNs that come (RFC 9260, 6.2.1 and 9.2).
 
 pub mod covered;
-pub mod settling;
+pub mod entries;
 pub mod telling;
 pub mod waking;
 
@@ -15,7 +15,7 @@ ghost use Rattle.sctp_send.specs.SenderAnswers.{reason_meaning};
 ghost use Rattle.sctp_send.specs.inner.Acknowledging.{PassingAnswer};
 
 use crate::sack::covered::cover_blocks;
-use crate::sack::settling::{forget, mark_unsettled, move_on};
+use crate::sack::entries::{forget, mark_unsettled, move_on};
 use crate::sack::waking::wake_for;
 use crate::sender::Sender;
 use sctp_framing::Framing;
@@ -56,34 +56,34 @@ impl<F: Framing> Sender<F> {
         if are_disordered(&sack.blocks) {
             return Err(SackFault::BadBlock);
         }
-        let is_known = self.head.is_known;
+        let is_known = self.told.is_known;
         wake_for(
-            &mut self.head.dues,
+            &mut self.told.dues,
             &self.parts.outstanding,
-            &self.head.covered,
+            &self.told.covered,
             is_known,
             passed as usize,
             &sack.blocks,
         );
         self.parts
             .outstanding
-            .lend_runs(&mut self.head.covered, &mut self.head.spare);
+            .lend_runs(&mut self.told.covered, &mut self.told.spare);
         forget(
             &mut self.parts.outstanding,
-            &mut self.head.spent,
-            self.head.alloc,
+            &mut self.told.shells,
+            self.told.alloc,
             passed as usize,
         );
-        move_on(&mut self.head.covered, passed as usize);
-        self.head.is_known = cover_blocks(
+        move_on(&mut self.told.covered, passed as usize);
+        self.told.is_known = cover_blocks(
             &mut self.parts.outstanding,
-            &mut self.head.covered,
-            &mut self.head.spare,
-            self.head.is_known,
+            &mut self.told.covered,
+            &mut self.told.spare,
+            self.told.is_known,
             &sack.blocks,
         );
-        self.head.cum = self.head.cum.wrapping_add(u64::from(passed));
-        self.head.rwnd = sack.rwnd;
+        self.told.cum = self.told.cum.wrapping_add(u64::from(passed));
+        self.told.rwnd = sack.rwnd;
         Ok(())
     }
 
@@ -99,13 +99,13 @@ impl<F: Framing> Sender<F> {
         let passed = self.passed_by(tsn)?;
         forget(
             &mut self.parts.outstanding,
-            &mut self.head.spent,
-            self.head.alloc,
+            &mut self.told.shells,
+            self.told.alloc,
             passed as usize,
         );
         let gone = passed as usize;
-        move_on(&mut self.head.covered, gone);
-        self.head.cum = self.head.cum.wrapping_add(u64::from(passed));
+        move_on(&mut self.told.covered, gone);
+        self.told.cum = self.told.cum.wrapping_add(u64::from(passed));
         Ok(())
     }
 
@@ -122,7 +122,7 @@ impl<F: Framing> Sender<F> {
         ensures answer { (v : SenderView) → StandsFor F.format self.now v → PassingAnswer v wire result }
         ensures within { IfOk result (λ passed. passed ≤ length self.now.items) }
     {
-        let known = S32(tsn_of(self.head.initial, self.head.cum));
+        let known = S32(tsn_of(self.told.initial, self.told.cum));
         let told = S32(wire);
         if told.before(known) {
             return Err(SackFault::Stale);

@@ -7,13 +7,13 @@ ghost use Rattle.sctp_model.specs.sender.SenderView.{SenderView, fresh_sender};
 ghost use Rattle.sctp_send.specs.SenderStands.{StandsFor};
 
 use crate::draft::Draft;
-use crate::head::Head;
 use crate::kept::dues::Dues;
 use crate::kept::fates::Fates;
-use crate::kept::message::SPENT;
+use crate::kept::message::MOST_SHELLS;
 use crate::kept::outstanding::Outstanding;
 use crate::kept::queue::Queue;
 use crate::kept::streams::Streams;
+use crate::told::Told;
 use sctp_framing::Framing;
 use sctp_values::NoMemory;
 use std::alloc::Global;
@@ -22,7 +22,7 @@ use std::marker::{Model, PhantomData};
 /// One end's sending half: what it was given, what has a TSN, and what its peer told.
 #[derive(Drop)]
 pub struct Sender<F: Framing> {
-    pub(crate) head: Head,
+    pub(crate) told: Told,
     pub(crate) parts: Draft,
     pub(crate) format: PhantomData<F>,
 }
@@ -39,26 +39,26 @@ impl<F: Framing> Model for Sender<F> {
     ghost use Rattle.sctp_send.specs.inner.Undoing.{IsSized};
 
     ghost view = { λ s. record {
-      initial = s.head.initial;
-      streams = s.head.streams;
-      fragment = s.head.fragment;
-      partial = s.head.partial;
-      cum = s.head.cum;
-      rwnd = s.head.rwnd;
+      initial = s.told.initial;
+      streams = s.told.streams;
+      fragment = s.told.fragment;
+      partial = s.told.partial;
+      cum = s.told.cum;
+      rwnd = s.told.rwnd;
       turn = s.parts.turn;
-      items = map (item_meaning s.head.fragment) s.parts.outstanding.items;
-      queue = map (queued_by s.head.fragment) s.parts.queue.items;
-      tracks = map (track_meaning s.head.fragment) s.parts.tracks.items;
-      fates = s.head.fates.items;
-      ended = s.head.fates.ended;
-      runs = when s.head.is_known s.head.covered.items;
+      items = map (item_meaning s.told.fragment) s.parts.outstanding.items;
+      queue = map (queued_by s.told.fragment) s.parts.queue.items;
+      tracks = map (track_meaning s.told.fragment) s.parts.streams.items;
+      fates = s.told.fates.items;
+      ended = s.told.fates.ended;
+      runs = when s.told.is_known s.told.covered.items;
       capacity = s.parts.outstanding.capacity;
-      passed = s.head.dues.passed;
-      moments = s.head.dues.moments;
-      asleep = s.head.dues.asleep;
+      passed = s.told.dues.passed;
+      moments = s.told.dues.moments;
+      asleep = s.told.dues.asleep;
     } };
 
-    ghost invariant = { λ s. IsSized s.head.fragment s.parts };
+    ghost invariant = { λ s. IsSized s.told.fragment s.parts };
 }
 
 #[tactic(auto, unfolding(crate::specs::SenderStands::StandsFor))]
@@ -81,11 +81,11 @@ impl<F: Framing> Sender<F> {
         requires short { fragment ≤ GREATEST_FRAGMENT }
         ensures { IfOk result (λ sender. StandsFor F.format sender (fresh_sender initial_tsn streams fragment peer_rwnd partial)) }
     {
-        let tracks = Streams::new(alloc, streams, fragment, F::takes_turns())?;
-        let mut spent = Vec::new(alloc);
-        spent.reserve(SPENT).map_err(|_| NoMemory)?;
+        let all_streams = Streams::new(alloc, streams, fragment, F::takes_turns())?;
+        let mut shells = Vec::new(alloc);
+        shells.reserve(MOST_SHELLS).map_err(|_| NoMemory)?;
         Ok(Sender {
-            head: Head {
+            told: Told {
                 alloc,
                 initial: initial_tsn,
                 streams,
@@ -98,13 +98,13 @@ impl<F: Framing> Sender<F> {
                 covered: Vec::new(alloc),
                 is_known: true,
                 spare: Vec::new(alloc),
-                spent,
+                shells,
             },
             parts: Draft {
                 // what is outstanding, by offset from CUM + 1
                 outstanding: Outstanding::new(alloc, fragment),
                 queue: Queue::new(alloc, fragment, F::takes_turns()),
-                tracks,
+                streams: all_streams,
                 turn: 0,
                 tickets: Vec::new(alloc),
                 log: Vec::new(alloc),

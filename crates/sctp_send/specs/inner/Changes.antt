@@ -81,9 +81,9 @@ all_timed es = map timed es
 -- ---- abandoned (RFC 3758, 3.5)
 
 -- an entry of the message with this ticket is abandoned, and its mark ends
-abbrev pub given : ℕ → EntryFields → EntryFields
-given t e = if e.message.value.ticket == t then record e { abandoned = true; standing = unmarked e.standing } else e
+abbrev pub as_abandoned : ℕ → EntryFields → EntryFields
+as_abandoned t e = if e.message.value.ticket == t then record e { abandoned = true; standing = unmarked e.standing } else e
 
 -- each entry of that message is abandoned
-abbrev pub all_given : ℕ → List EntryFields → List EntryFields
-all_given t es = map (given t) es
+abbrev pub all_abandoned : ℕ → List EntryFields → List EntryFields
+all_abandoned t es = map (as_abandoned t) es

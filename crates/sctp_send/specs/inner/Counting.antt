@@ -8,7 +8,7 @@ use Rattle.sctp_model.specs.sender.Queueing.{owed_by_queue}
 use Rattle.sctp_send.specs.SenderKept.{Item}
 use Rattle.sctp_send.specs.OutstandingFields.{item_meaning}
 use Rattle.sctp_send.specs.SenderFields.{queued_by, track_meaning}
-use Rattle.sctp_send.specs.inner.Wishing.{first_place, is_item_marked, is_item_unsent, item_weight, item_flight}
+use Rattle.sctp_send.specs.inner.Wishing.{first_offset, is_item_marked, is_item_unsent, item_weight, item_flight}
 use Rattle.sctp_send.specs.inner.Walks.{total, one_if_rest, rest_owes, abandoned_items, is_item_unsettled}
 use Rattle.sctp_send.specs.inner.Newcomers.{one_if}
 use Rattle.sctp_send.specs.declared.kept.counts.Counts.{Counts}
@@ -67,9 +67,9 @@ reached at x c = record c {
 pub record IsCounted (size : ℕ) (es : List EntryFields) (c : Counts) : Type 0 where
   pub some : 0 < size
   pub small : size < 2 ^ 16
-  pub marked : first_place is_item_marked (take c.marked (map (item_meaning size) es)) ≡ None
+  pub marked : first_offset is_item_marked (take c.marked (map (item_meaning size) es)) ≡ None
   pub marked_within : c.marked ≤ length es
-  pub unsent : first_place is_item_unsent (take c.unsent (map (item_meaning size) es)) ≡ None
+  pub unsent : first_offset is_item_unsent (take c.unsent (map (item_meaning size) es)) ≡ None
   pub unsent_within : c.unsent ≤ length es
   pub flight : c.flight ≡ item_flight (map (item_meaning size) es) % 2 ^ 64
   pub unsettled : c.unsettled ≡ count_unsettled (map (item_meaning size) es) % 2 ^ 64

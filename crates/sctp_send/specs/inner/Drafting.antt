@@ -22,12 +22,12 @@ use Rattle.sctp_send.specs.inner.Newcomers.{counted_in, IsBegun, IsContinued, Is
 use Rattle.sctp_send.specs.declared.fill.assigning.Next.{Next}
 use Rattle.sctp_send.specs.declared.fill.assigning.Next.TheVariants.{Begins, Continues}
 use Rattle.sctp_send.specs.declared.draft.Draft.{Draft}
-use Rattle.sctp_send.specs.declared.head.Head.{Head}
+use Rattle.sctp_send.specs.declared.told.Told.{Told}
 use Rattle.sctp_send.specs.declared.kept.message.Fate.{Fate}
 use Rattle.sctp_send.specs.declared.kept.message.Fate.TheVariants.{Numbered}
 use Rattle.sctp_values.specs.declared.ticket.Ticket.{Ticket}
 use Rattle.sctp_send.specs.declared.kept.message.Message.{Message as MessageFields}
-use Rattle.sctp_send.specs.declared.kept.entry.Place.{Place}
+use Rattle.sctp_send.specs.declared.kept.entry.Content.{Content}
 use Rattle.sctp_send.specs.declared.kept.entry.Standing.{Standing}
 use Rattle.sctp_send.specs.declared.kept.entry.Standing.TheVariants.{Sent}
 use Rattle.sctp_send.specs.declared.kept.entry.Entry.{Entry as EntryFields}
@@ -48,8 +48,8 @@ abbrev pub AreOpen : (ended : ℕ) → List ℕ → Type 0
 AreOpen n [] = Unit {0}
 AreOpen n (t ∷ ts) = (n < t) × AreOpen n ts
 
--- what a sender keeps with this head, whose parts have nothing in them
-abbrev pub bare : Head → Kept
+-- what a sender keeps beside its parts, where these have nothing in them
+abbrev pub bare : Told → Kept
 bare h = record {
   initial = h.initial;
   streams = h.streams;
@@ -70,13 +70,13 @@ bare h = record {
   asleep = h.dues.asleep;
 }
 
--- what a sender keeps, with a draft's parts in place of its own
+-- what a sender keeps, with a draft's parts instead of its own
 abbrev pub drafted : Kept → Draft → Kept
 drafted s d = record s {
   turn = d.turn;
   items = map (item_meaning s.fragment) d.outstanding.items;
   queue = map (queued_by s.fragment) d.queue.items;
-  tracks = map (track_meaning s.fragment) d.tracks.items;
+  tracks = map (track_meaning s.fragment) d.streams.items;
   fates = all_numbered s.fates (numbers_of d.tickets.items);
   capacity = d.outstanding.capacity;
 }
@@ -92,8 +92,8 @@ abbrev pub item_chunk : Format → (initial i : ℕ) → Item → ChunkMeaning
 item_chunk f initial i x = said_chunk f initial i x.entry x.message
 
 -- the same of a fragment
-abbrev pub fragment_chunk : Format → (size initial i : ℕ) → MessageFields → (number : ℕ) → Place → ChunkMeaning
-fragment_chunk f size initial i m n place = said_chunk f initial i (entry_meaning (lane_meaning m) n place) (Some (message_meaning size m))
+abbrev pub fragment_chunk : Format → (size initial i : ℕ) → MessageFields → (number : ℕ) → Content → ChunkMeaning
+fragment_chunk f size initial i m n content = said_chunk f initial i (entry_meaning (lane_meaning m) n content) (Some (message_meaning size m))
 
 -- the item of a fragment
 abbrev pub fragment_item : (size : ℕ) → MessageFields → (number fragment : ℕ) → Standing → Item

@@ -49,4 +49,4 @@ pub record IsEnded (blocks after : List Block) (mixed more recent left : List Fa
   pub push : after ≡ blocks ++ block ∷ []
   pub is : IsBlock block (take 4096 recent) mixed more
   pub rest : left ≡ drop 4096 recent
-  pub settled : any_queued (take 4096 recent) ≡ false
+  pub none_queued : any_queued (take 4096 recent) ≡ false

@@ -51,11 +51,11 @@ turned_counts n false c = record c { flight = (c.flight + n) % 2 ^ 64; unsettled
 abbrev pub index_at : (first offset : ℕ) → ℕ
 index_at first n = (first + n) % 2 ^ 32
 
--- the place of the stretch with an index: those that lie 512 apart share one
-abbrev pub place_at : (index : ℕ) → ℕ
-place_at i = i / 64 % 512
+-- the slot of the stretch with an index: those that lie 512 apart share one
+abbrev pub slot_at : (index : ℕ) → ℕ
+slot_at i = i / 64 % 512
 
 -- What is known of each whole stretch is so.
 abbrev pub AreKnown : (size first : ℕ) → List Stretch → List EntryFields → Type 0
-AreKnown size first ss es = (n : ℕ) (s : Stretch) → n + 64 ≤ length es → index_at first n % 64 ≡ 0 → slice_get ss (place_at (index_at first n)) ≡ Some s → s.is_known ≡ true
+AreKnown size first ss es = (n : ℕ) (s : Stretch) → n + 64 ≤ length es → index_at first n % 64 ≡ 0 → slice_get ss (slot_at (index_at first n)) ≡ Some s → s.is_known ≡ true
     → AreAlike size s.covered s.bytes n 64 es

@@ -36,9 +36,9 @@ abbrev pub AreUpTo : (highest : ℕ) → List Spot → Type 0
 AreUpTo t spots = (s : Spot) → Has spots s → s.ticket ≤ t
 
 -- So many spots in front lie before an entry of this ticket at this offset, and the others don't.
-pub record IsPlaceOf (first ticket offset : ℕ) (spots : List Spot) (place : ℕ) : Type 0 where
-  pub front : (s : Spot) → Has (take place spots) s → comes_before first ticket offset s ≡ true
-  pub back : (s : Spot) → Has (drop place spots) s → comes_before first ticket offset s ≡ true → ⊥
+pub record IsRankOf (first ticket offset : ℕ) (spots : List Spot) (rank : ℕ) : Type 0 where
+  pub front : (s : Spot) → Has (take rank spots) s → comes_before first ticket offset s ≡ true
+  pub back : (s : Spot) → Has (drop rank spots) s → comes_before first ticket offset s ≡ true → ⊥
 
 -- The spot of the entry at this offset went, and no other.
 pub record IsGone (first offset : ℕ) (before after : List Spot) : Type 0 where

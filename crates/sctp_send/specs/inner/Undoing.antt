@@ -3,14 +3,14 @@ use Rattle.std.specs.Prelude.{◌≡◌, ℕ, ◌-◌, ◌<◌, ◌≤◌, nat_l
 use Rattle.std.specs.declared.sync.Arc.{Arc}
 use Rattle.std.specs.declared.alloc.Global.{Global}
 use Rattle.sctp_model.specs.numbers.Limits.{GREATEST_FRAGMENT}
-use Rattle.sctp_send.specs.PartsKept.{at_place}
+use Rattle.sctp_send.specs.PartsKept.{changed_at}
 use Rattle.sctp_send.specs.declared.draft.Change.{Change}
 use Rattle.sctp_send.specs.declared.draft.Change.TheVariants.{Out, Begun, Left, Continued}
 use Rattle.sctp_send.specs.declared.draft.Draft.{Draft}
 use Rattle.sctp_send.specs.declared.kept.message.Message.{Message}
 use Rattle.sctp_send.specs.declared.kept.entry.Entry.{Entry as EntryFields}
 use Rattle.sctp_send.specs.declared.kept.entry.Standing.{Standing}
-use Rattle.sctp_send.specs.declared.kept.entry.Place.TheVariants.{Fragment}
+use Rattle.sctp_send.specs.declared.kept.entry.Content.TheVariants.{Fragment}
 use Rattle.sctp_values.specs.declared.kind.Kind.{Kind}
 use Rattle.sctp_values.specs.declared.kind.Kind.TheVariants.{Ordered, Unordered}
 use Rattle.sctp_send.specs.declared.kept.track.Track.{Track}
@@ -24,7 +24,7 @@ pub record Parts : Type 0 where
 
 -- the parts of a draft
 abbrev pub parts_of : Draft → Parts
-parts_of d = record { items = d.outstanding.items; queue = d.queue.items; tracks = d.tracks.items; turn = d.turn }
+parts_of d = record { items = d.outstanding.items; queue = d.queue.items; tracks = d.streams.items; turn = d.turn }
 
 -- an entry with this standing
 abbrev pub stands_so : Standing → EntryFields → EntryFields
@@ -36,7 +36,7 @@ waits_again place m ms = if nat_le place (length ms) then insert ms place m else
 
 -- the entry of a fragment
 abbrev pub fragment_entry : Arc Message Global → (number fragment : ℕ) → Standing → EntryFields
-fragment_entry m n k standing = record { message = m; number = n; place = Fragment k; standing = standing; covered = false; abandoned = false }
+fragment_entry m n k standing = record { message = m; number = n; content = Fragment k; standing = standing; covered = false; abandoned = false }
 
 -- how many messages of a kind have a number on a stream
 abbrev pub count_of : Kind → Track → ℕ
@@ -54,13 +54,13 @@ waiting_again place from turn None p = p
 waiting_again place from turn (Some e) p = record {
   items = take from p.items;
   queue = waits_again place e.message p.queue;
-  tracks = at_place (counted_to e.message.value.kind e.number) e.message.value.stream p.tracks;
+  tracks = changed_at (counted_to e.message.value.kind e.number) e.message.value.stream p.tracks;
   turn = turn;
 }
 
 -- the parts before a change
 abbrev pub undone : Change → Parts → Parts
-undone (Out at standing) p = record p { items = at_place (stands_so standing) at p.items }
+undone (Out at standing) p = record p { items = changed_at (stands_so standing) at p.items }
 undone (Begun place from turn) p = waiting_again place from turn (slice_get p.items from) p
 undone (Left stream track) p = record p { tracks = set p.tracks stream track }
 undone (Continued stream track turn) p = record p { items = take (length p.items - 1) p.items; tracks = set p.tracks stream track; turn = turn }
@@ -80,13 +80,13 @@ pub record IsSized (size : ℕ) (d : Draft) : Type 0 where
   pub short : size ≤ GREATEST_FRAGMENT
   pub window : d.outstanding.size ≡ size
   pub queue : d.queue.size ≡ size
-  pub tracks : d.tracks.size ≡ size
+  pub tracks : d.streams.size ≡ size
 
 -- the sizes stay, and no room is lost
 pub record IsKeptRoom (old new : Draft) : Type 0 where
   pub window : new.outstanding.size ≡ old.outstanding.size
   pub queue : new.queue.size ≡ old.queue.size
-  pub tracks : new.tracks.size ≡ old.tracks.size
+  pub tracks : new.streams.size ≡ old.streams.size
   pub entries : old.outstanding.capacity ≤ new.outstanding.capacity
   pub messages : old.queue.capacity ≤ new.queue.capacity
 

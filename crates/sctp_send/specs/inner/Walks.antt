@@ -88,7 +88,7 @@ abbrev pub any_rest : ℕ → List Track → Bool
 any_rest t [] = false
 any_rest t (x ∷ xs) = rest_has t x.rest || any_rest t xs
 
--- the stream at this place goes on with the message with this ticket
+-- the stream with this number goes on with the message with this ticket
 pub record GoesOnAt (t at : ℕ) (tracks : List Track) : Type 0 where
   pub track : Track
   pub there : slice_get tracks at ≡ Some track

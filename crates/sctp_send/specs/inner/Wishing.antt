@@ -5,10 +5,10 @@ use Rattle.sctp_send.specs.SenderKept.{Item}
 
 -- ---- searches
 
--- the first place at which an item passes
-abbrev pub first_place : (Item → Bool) → List Item → Option ℕ
-first_place test [] = None
-first_place test (x ∷ xs) = if test x then Some 0 else option_map suc (first_place test xs)
+-- the first offset at which an item passes
+abbrev pub first_offset : (Item → Bool) → List Item → Option ℕ
+first_offset test [] = None
+first_offset test (x ∷ xs) = if test x then Some 0 else option_map suc (first_offset test xs)
 
 -- it is marked for repeating
 abbrev pub is_item_marked : Item → Bool

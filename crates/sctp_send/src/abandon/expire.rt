@@ -19,7 +19,7 @@ impl<F: Framing> Sender<F> {
         ensures { (v : SenderView) → StandsFor F.format self.old v → StandsFor F.format self.new (expired v now) }
     {
         self.expire_all(now);
-        self.head.dues.look_again(now);
+        self.told.dues.look_again(now);
     }
 
     /// The same, one ticket after the other.
@@ -27,7 +27,7 @@ impl<F: Framing> Sender<F> {
         ensures { (v : SenderView) → StandsFor F.format self.old v → StandsFor F.format self.new (expired v now) }
     {
         let mut last = 0;
-        for _ in 0..self.head.fates.len() {
+        for _ in 0..self.told.fates.len() {
             match self.next_due(last, now) {
                 Some(ticket) => {
                     self.expire_one(ticket, now);
@@ -60,7 +60,7 @@ impl<F: Framing> Sender<F> {
         ensures { (v : SenderView) → StandsFor F.format self.old v → StandsFor F.format self.new v }
     {
         let until = self.moment(ticket);
-        self.head.dues.tell(ticket, until);
+        self.told.dues.tell(ticket, until);
     }
 
     /// The first ticket above the last one whose moment has come.
@@ -70,7 +70,7 @@ impl<F: Framing> Sender<F> {
         ensures before { IfSome result (λ ticket. (t : ℕ) → last < t → t < ticket → now < due_at self.now.passed self.now.moments t) }
         ensures none { IfNone result ((t : ℕ) → last < t → now < due_at self.now.passed self.now.moments t) }
     {
-        self.head.dues.next(last, now)
+        self.told.dues.next(last, now)
     }
 
     /// Whether some message that may be abandoned is past its time: where none is, `expire` changes nothing at that moment, which is in
@@ -102,7 +102,7 @@ impl<F: Framing> Sender<F> {
         ensures { (v : SenderView) → StandsFor F.format self.now v → NextLateAnswer v last now result }
     {
         let mut last = last;
-        for _ in 0..self.head.fates.len() {
+        for _ in 0..self.told.fates.len() {
             match self.next_due(last, now) {
                 Some(ticket) => {
                     if self.is_late(ticket, now) {

@@ -28,10 +28,10 @@ impl<F: Framing> Sender<F> {
         if at == 0 {
             return None;
         }
-        if at > self.head.fates.len() {
+        if at > self.told.fates.len() {
             return None;
         }
-        match self.head.fates.get(at - 1) {
+        match self.told.fates.get(at - 1) {
             Fate::Withdrawn => None,
             Fate::Abandoned => None,
             Fate::Queued => until_waiting(&self.parts.queue, ticket),
@@ -43,10 +43,10 @@ impl<F: Framing> Sender<F> {
     fn moment_numbered(&self, ticket: u64) -> Option<u64>
         ensures { (v : SenderView) → StandsFor F.format self.now v → is_numbered_fate (fate_here v ticket) ≡ true → (now : ℕ) → is_to_expire v now ticket ≡ some_passes (λ until. nat_le until now) result }
     {
-        if !self.head.partial {
+        if !self.told.partial {
             return None;
         }
-        until_open(&self.parts.tracks, &self.parts.outstanding, ticket)
+        until_open(&self.parts.streams, &self.parts.outstanding, ticket)
     }
 }
 
@@ -64,22 +64,22 @@ fn until_waiting(queue: &Queue, ticket: u64) -> Option<u64>
 }
 
 /// The moment of a message that has an entry above CUM that is not covered, or is in part; none where all of it is assigned and covered.
-fn until_open(tracks: &Streams, outstanding: &Outstanding, ticket: u64) -> Option<u64>
-    ensures { (size : ℕ) → IsOpenUntil ticket result (map (item_meaning size) outstanding.now.items) (map (track_meaning size) tracks.now.items) }
+fn until_open(streams: &Streams, outstanding: &Outstanding, ticket: u64) -> Option<u64>
+    ensures { (size : ℕ) → IsOpenUntil ticket result (map (item_meaning size) outstanding.now.items) (map (track_meaning size) streams.now.items) }
 {
     match outstanding.uncovered_until(ticket) {
         Some(until) => until,
-        None => until_in_part(tracks, ticket),
+        None => until_in_part(streams, ticket),
     }
 }
 
 /// The moment of the message in part with this ticket.
-fn until_in_part(tracks: &Streams, ticket: u64) -> Option<u64>
-    ensures { (size : ℕ) → IsLeftUntil ticket result (map (track_meaning size) tracks.now.items) }
+fn until_in_part(streams: &Streams, ticket: u64) -> Option<u64>
+    ensures { (size : ℕ) → IsLeftUntil ticket result (map (track_meaning size) streams.now.items) }
 {
-    match tracks.stream_of(ticket) {
+    match streams.stream_of(ticket) {
         Some(at) => {
-            let track = &tracks.tracks()[at];
+            let track = &streams.tracks()[at];
             until_left(track)
         }
         None => None,

@@ -104,7 +104,7 @@ fn next_between(draft: &Draft, from: u16, below: u16, streams: u16) -> Option<Ne
     };
     let stream = found.stream;
     let behind = stream_after(stream, streams);
-    let part = draft.tracks.next_part(from, stream + 1);
+    let part = draft.streams.next_part(from, stream + 1);
     if part <= stream {
         return Some(Next::Continues(part));
     }
@@ -122,7 +122,7 @@ fn part_between(draft: &Draft, from: u16, below: u16, streams: u16) -> Option<Ne
     ensures does { (s : Kept) (v : SenderView) → s.streams ≡ streams → Keeps Interleaved (drafted s draft.now) v → ((j : ℕ) → from ≤ j → j < below → first_on j v.queue ≡ None) → FirstTurnAnswer v from below result }
     ensures within { IsNextWithin draft.now streams result }
 {
-    let part = draft.tracks.next_part(from, below);
+    let part = draft.streams.next_part(from, below);
     if part < below {
         return Some(Next::Continues(part));
     }
@@ -162,14 +162,14 @@ pub(crate) fn copied(rest: &Rest) -> Result<Rest, NoMemory>
 /// So many indexes more keep within the window, where the stream then has a message in part or not.
 pub(crate) fn has_window(
     entries: &Outstanding,
-    tracks: &Streams,
+    streams: &Streams,
     stream: u16,
     count: usize,
     more: bool,
 ) -> bool
     requires { 0 < count }
-    ensures fits { (size : ℕ) → size ≡ tracks.now.size → result ≡ nat_le (length entries.now.items + count + (total (λ t. one_if_rest t.rest) (map (track_meaning size) tracks.now.items) % 2 ^ 32 + one_if more))
-        (WINDOW + one_if (has_rest (rest_at (map (track_meaning size) tracks.now.items) stream))) }
+    ensures fits { (size : ℕ) → size ≡ streams.now.size → result ≡ nat_le (length entries.now.items + count + (total (λ t. one_if_rest t.rest) (map (track_meaning size) streams.now.items) % 2 ^ 32 + one_if more))
+        (WINDOW + one_if (has_rest (rest_at (map (track_meaning size) streams.now.items) stream))) }
     ensures few { result ≡ true → count ≤ WINDOW + 1 }
 {
     let window = WINDOW as usize;
@@ -177,7 +177,7 @@ pub(crate) fn has_window(
     if outstanding > window || count > window + 1 {
         return false;
     }
-    let parts = tracks.in_part() as usize + usize::from(more);
-    let had = usize::from(goes_on_at(tracks.tracks(), stream));
+    let parts = streams.in_part() as usize + usize::from(more);
+    let had = usize::from(goes_on_at(streams.tracks(), stream));
     outstanding + count + parts <= window + had
 }

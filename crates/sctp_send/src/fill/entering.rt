@@ -6,7 +6,7 @@ ghost use Rattle.sctp_model.specs.numbers.Limits.{WINDOW};
 ghost use Rattle.sctp_values.specs.Meanings.{kind_meaning};
 ghost use Rattle.sctp_send.specs.OutstandingFields.{lane_meaning, queued_meaning};
 ghost use Rattle.sctp_send.specs.SenderKept.{Track as KeptTrack};
-ghost use Rattle.sctp_send.specs.PartsKept.{at_place};
+ghost use Rattle.sctp_send.specs.PartsKept.{changed_at};
 ghost use Rattle.sctp_send.specs.SenderFields.{latest_in, track_meaning, rest_meaning, rests_meaning};
 ghost use Rattle.sctp_send.specs.inner.Newcomers.{number_in, number_on, track_of, begun, gone_on};
 ghost use Rattle.sctp_send.specs.inner.Drafting.{bare, numbers_of, drafted, rest_from, left_track};
@@ -15,17 +15,17 @@ ghost use Rattle.sctp_send.specs.inner.Undoing.{Parts, before_all, counted_to, I
 use crate::draft::{Change, Draft, note, reserve_changes, reserve_tickets};
 use crate::fill::assigning::{Beginning, stream_after};
 use crate::fill::pushing::{push_first, push_fragment, push_further};
-use crate::head::Head;
 use crate::kept::entry::Standing;
 use crate::kept::looking::goes_on_at;
 use crate::kept::message::Message;
 use crate::kept::streams::Streams;
 use crate::kept::track::{Rest, Track, rest_from};
+use crate::told::Told;
 use sctp_values::{Kind, NoMemory, Ticket};
 use std::alloc::Global;
 use std::sync::Arc;
 
-impl Head {
+impl Told {
     /// The message at a place of the queue takes its number, and so many of its fragments their indexes. All memory is taken first, but for what
     /// fragments behind the first one may want.
     ///
@@ -43,7 +43,7 @@ impl Head {
         requires some { 0 < next.count }
         requires few { next.count ≤ WINDOW + 1 }
         requires place { next.place < length draft.old.queue.items }
-        requires stream { (m : Arc Message Global) → m ≡ slice_index_or draft.old.queue.items next.place m → m.value.stream < length draft.old.tracks.items }
+        requires stream { (m : Arc Message Global) → m ≡ slice_index_or draft.old.queue.items next.place m → m.value.stream < length draft.old.streams.items }
         requires sized { IsSized self.now.fragment draft.old }
         ensures kept { (m : Arc Message Global) → m ≡ slice_index_or draft.old.queue.items next.place m → suc (number_on (drafted (bare self.now) draft.old).tracks (lane_meaning m.value)) < 2 ^ 64
             → OnOk result (drafted (bare self.now) draft.new
@@ -61,7 +61,7 @@ impl Head {
         let kind = message.kind;
         let from = draft.outstanding.len();
         tell(&mut draft.tickets, message.ticket);
-        let number = number_one(&mut draft.tracks, stream, kind);
+        let number = number_one(&mut draft.streams, stream, kind);
         push_first(&mut draft.outstanding, message, number);
         let change = Change::Begun {
             place: next.place,
@@ -69,7 +69,7 @@ impl Head {
             turn: draft.turn,
         };
         note(&mut draft.log, change);
-        leave_rest(&mut draft.tracks, &mut draft.log, stream, rest);
+        leave_rest(&mut draft.streams, &mut draft.log, stream, rest);
         draft.turn = next.turn;
         push_further(&mut draft.outstanding, from, number, next.count)
     }
@@ -102,7 +102,7 @@ impl Head {
     /// `NoMemory`: the draft has its parts as before.
     pub(crate) fn go_on(&self, draft: &mut Draft, stream: u16, rest: &Rest) -> Result<(), NoMemory>
         requires within { stream < self.now.streams }
-        requires stream { stream < length draft.old.tracks.items }
+        requires stream { stream < length draft.old.streams.items }
         requires sized { IsSized self.now.fragment draft.old }
         ensures kept { suc rest.now.fragment < 2 ^ 32
             → OnOk result (drafted (bare self.now) draft.new
@@ -114,7 +114,7 @@ impl Head {
     {
         let left = rest_from(&rest.message, rest.fragment.wrapping_add(1), self.fragment)?;
         let number = number_latest(
-            &draft.tracks.tracks()[usize::from(stream)],
+            &draft.streams.tracks()[usize::from(stream)],
             rest.message.kind,
         );
         draft.log.reserve(1).map_err(|_| NoMemory)?;
@@ -128,7 +128,7 @@ impl Head {
             rest.fragment,
             Standing::Sent,
         )?;
-        let track = leave_on(&mut draft.tracks, stream, left);
+        let track = leave_on(&mut draft.streams, stream, left);
         let change = Change::Continued {
             stream,
             track,
@@ -162,51 +162,51 @@ pub(crate) fn number_latest(track: &Track, kind: Kind) -> u64
 
 /// The next message of a kind takes its number on a stream.
 #[inline(always)]
-fn number_one(tracks: &mut Streams, stream: u16, kind: Kind) -> u64
-    requires { stream < length tracks.old.items }
-    ensures number { (size : ℕ) → result ≡ number_in (kind_meaning kind) (track_of (map (track_meaning size) tracks.old.items) stream) }
-    ensures counted { tracks.new ≡ record tracks.old { items = at_place (counted_to kind ((result + 1) % 2 ^ 64)) stream tracks.old.items } }
-    ensures before { at_place (counted_to kind result) stream tracks.new.items ≡ tracks.old.items }
+fn number_one(streams: &mut Streams, stream: u16, kind: Kind) -> u64
+    requires { stream < length streams.old.items }
+    ensures number { (size : ℕ) → result ≡ number_in (kind_meaning kind) (track_of (map (track_meaning size) streams.old.items) stream) }
+    ensures counted { streams.new ≡ record streams.old { items = changed_at (counted_to kind ((result + 1) % 2 ^ 64)) stream streams.old.items } }
+    ensures before { changed_at (counted_to kind result) stream streams.new.items ≡ streams.old.items }
 {
     let at = usize::from(stream);
-    let number = number_next(&tracks.tracks()[at], kind);
-    tracks.count_to(at, kind, number.wrapping_add(1));
+    let number = number_next(&streams.tracks()[at], kind);
+    streams.count_to(at, kind, number.wrapping_add(1));
     number
 }
 
 /// So much is left of the message that took the latest number on a stream; where that changes what is left there, it is noted.
 #[inline(always)]
-fn leave_rest(tracks: &mut Streams, log: &mut Vec<Change>, stream: u16, rest: Option<Rest>)
-    requires stream { stream < length tracks.old.items }
+fn leave_rest(streams: &mut Streams, log: &mut Vec<Change>, stream: u16, rest: Option<Rest>)
+    requires stream { stream < length streams.old.items }
     requires room { vec_len log.old < vec_capacity log.old }
-    ensures size { tracks.new.size ≡ tracks.old.size }
-    ensures items { (size : ℕ) → map (track_meaning size) tracks.new.items
-        ≡ slice_set (map (track_meaning size) tracks.old.items) stream (left_track (rests_meaning size (track_of (map (track_meaning size) tracks.old.items) stream) rest) (track_of (map (track_meaning size) tracks.old.items) stream)) }
-    ensures back { (p : Parts) → p.tracks ≡ tracks.new.items → before_all log.new.items p ≡ before_all log.old.items (record p { tracks = tracks.old.items }) }
+    ensures size { streams.new.size ≡ streams.old.size }
+    ensures items { (size : ℕ) → map (track_meaning size) streams.new.items
+        ≡ slice_set (map (track_meaning size) streams.old.items) stream (left_track (rests_meaning size (track_of (map (track_meaning size) streams.old.items) stream) rest) (track_of (map (track_meaning size) streams.old.items) stream)) }
+    ensures back { (p : Parts) → p.tracks ≡ streams.new.items → before_all log.new.items p ≡ before_all log.old.items (record p { tracks = streams.old.items }) }
 {
-    if rest.is_none() && !goes_on_at(tracks.tracks(), stream) {
+    if rest.is_none() && !goes_on_at(streams.tracks(), stream) {
         return;
     }
-    let track = leave_on(tracks, stream, rest);
+    let track = leave_on(streams, stream, rest);
     note(log, Change::Left { stream, track });
 }
 
 /// So much is left of the message in part of a stream. It answers how the stream was.
-fn leave_on(tracks: &mut Streams, stream: u16, rest: Option<Rest>) -> Track
-    requires { stream < length tracks.old.items }
-    ensures size { tracks.new.size ≡ tracks.old.size }
-    ensures items { (size : ℕ) → map (track_meaning size) tracks.new.items
-        ≡ slice_set (map (track_meaning size) tracks.old.items) stream (left_track (rests_meaning size (track_of (map (track_meaning size) tracks.old.items) stream) rest) (track_of (map (track_meaning size) tracks.old.items) stream)) }
-    ensures before { set tracks.new.items stream result ≡ tracks.old.items }
+fn leave_on(streams: &mut Streams, stream: u16, rest: Option<Rest>) -> Track
+    requires { stream < length streams.old.items }
+    ensures size { streams.new.size ≡ streams.old.size }
+    ensures items { (size : ℕ) → map (track_meaning size) streams.new.items
+        ≡ slice_set (map (track_meaning size) streams.old.items) stream (left_track (rests_meaning size (track_of (map (track_meaning size) streams.old.items) stream) rest) (track_of (map (track_meaning size) streams.old.items) stream)) }
+    ensures before { set streams.new.items stream result ≡ streams.old.items }
 {
     let at = usize::from(stream);
-    let track = &tracks.tracks()[at];
+    let track = &streams.tracks()[at];
     let next = Track {
         ordered: track.ordered,
         unordered: track.unordered,
         rest,
     };
-    tracks.replace(at, next)
+    streams.replace(at, next)
 }
 
 /// The message with this ticket took its number.

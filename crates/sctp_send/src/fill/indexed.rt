@@ -11,17 +11,17 @@ ghost use Rattle.sctp_send.specs.inner.Undoing.{IsSized, IsBehind};
 ghost use Rattle.sctp_send.specs.inner.Drafting.{bare, drafted, went_out, item_chunk, IsTried, PutAnswer, IsRefused, IsFlying, IsNextEntry, IsNextUnsent};
 
 use crate::draft::{Change, Draft, note};
-use crate::head::Head;
 use crate::kept::entry::Standing;
 use crate::kept::outstanding::Outstanding;
 use crate::kept::pieces::{bytes_of, fits, put_fragment};
 use crate::kept::wishes::may_flow;
+use crate::told::Told;
 use sctp_framing::Framing;
 use sctp_packet::PacketWriter;
 use sctp_serial::tsn_of;
 use sctp_values::NoMemory;
 
-impl Head {
+impl Told {
     /// Puts the entry at this offset, where it fits.
     #[inline(always)]
     pub(crate) fn put_entry<F: Framing>(
@@ -39,7 +39,7 @@ impl Head {
         ensures behind { IsBehind draft.old draft.new }
     {
         let entry = draft.outstanding.get(at);
-        let bytes = bytes_of(&entry.message, entry.place, self.fragment).len();
+        let bytes = bytes_of(&entry.message, entry.content, self.fragment).len();
         if !fits::<F>(bytes, packet) {
             return Ok(false);
         }
@@ -70,7 +70,7 @@ impl Head {
         ensures behind { IsBehind draft.old draft.new }
     {
         let entry = draft.outstanding.get(at);
-        let bytes = bytes_of(&entry.message, entry.place, self.fragment).len();
+        let bytes = bytes_of(&entry.message, entry.content, self.fragment).len();
         if !may_flow(flying, bytes, self.rwnd) {
             return Ok(false);
         }
@@ -99,7 +99,7 @@ impl Head {
         put_fragment::<F>(
             &entry.message,
             entry.number,
-            entry.place,
+            entry.content,
             self.fragment,
             tsn,
             packet,

@@ -10,7 +10,7 @@ ghost use Rattle.sctp_send.specs.inner.Undoing.{fragment_entry};
 ghost use Rattle.sctp_send.specs.declared.kept.entry.Entry.{Entry as Fields};
 ghost use Rattle.sctp_send.specs.declared.kept.entry.Standing.TheVariants.{Sent};
 
-use crate::kept::entry::{Entry, Place, Standing};
+use crate::kept::entry::{Content, Entry, Standing};
 use crate::kept::message::{Message, shared};
 use crate::kept::outstanding::Outstanding;
 use sctp_values::NoMemory;
@@ -25,7 +25,7 @@ pub(crate) fn push_first(outstanding: &mut Outstanding, message: Arc<Message>, n
     outstanding.put(Entry {
         message,
         number,
-        place: Place::Fragment(0),
+        content: Content::Fragment(0),
         standing: Standing::Sent,
         covered: false,
         abandoned: false,
@@ -48,12 +48,12 @@ pub(crate) fn push_fragment(
     ensures unchanged { OnErr result (outstanding.new.items ≡ outstanding.old.items) }
     ensures size { outstanding.new.size ≡ outstanding.old.size }
     ensures capacity { outstanding.old.capacity ≤ outstanding.new.capacity }
-    ensures in_place { length outstanding.old.items < outstanding.old.capacity → outstanding.new.capacity ≡ outstanding.old.capacity }
+    ensures had_room { length outstanding.old.items < outstanding.old.capacity → outstanding.new.capacity ≡ outstanding.old.capacity }
 {
     let entry = Entry {
         message: shared(message)?,
         number,
-        place: Place::Fragment(fragment),
+        content: Content::Fragment(fragment),
         standing,
         covered: false,
         abandoned: false,

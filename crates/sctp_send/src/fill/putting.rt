@@ -12,18 +12,18 @@ ghost use Rattle.sctp_send.specs.inner.Newcomers.{IsBegun, IsContinued};
 
 use crate::draft::Draft;
 use crate::fill::assigning::{Beginning, Next, copied, has_window, next_new, rest_of};
-use crate::head::Head;
-use crate::kept::entry::Place;
+use crate::kept::entry::Content;
 use crate::kept::message::{Message, fragments_of};
 use crate::kept::pieces::{bytes_of, fits};
 use crate::kept::track::rest_where;
 use crate::kept::wishes::may_flow;
+use crate::told::Told;
 use sctp_framing::Framing;
 use sctp_packet::PacketWriter;
 use sctp_values::NoMemory;
 use std::sync::Arc;
 
-impl Head {
+impl Told {
     /// Puts the next wish into the packet; false where there is none that may go.
     pub(crate) fn put_next<F: Framing>(
         &self,
@@ -86,13 +86,13 @@ impl Head {
         ensures behind { IsBehind draft.old draft.new }
     {
         let message = draft.queue.get(next.place);
-        if usize::from(message.stream) >= draft.tracks.tracks().len() {
+        if usize::from(message.stream) >= draft.streams.tracks().len() {
             return Ok(false);
         }
         let more = next.count < fragments_of(self.fragment, &message.bytes);
         if !has_window(
             &draft.outstanding,
-            &draft.tracks,
+            &draft.streams,
             message.stream,
             next.count,
             more,
@@ -124,12 +124,12 @@ impl Head {
             → OnErr result (IsRefused F.format v packet.old packet.new) }
         ensures behind { IsBehind draft.old draft.new }
     {
-        let Some(rest) = rest_of(draft.tracks.tracks(), stream) else {
+        let Some(rest) = rest_of(draft.streams.tracks(), stream) else {
             return Ok(false);
         };
         let next = rest.fragment.wrapping_add(1);
         let more = (next as usize) < fragments_of(self.fragment, &rest.message.bytes);
-        if !has_window(&draft.outstanding, &draft.tracks, stream, 1, more) {
+        if !has_window(&draft.outstanding, &draft.streams, stream, 1, more) {
             return Ok(false);
         }
         if !self.is_let_in::<F>(&rest.message, rest.fragment, flying, packet) {
@@ -153,7 +153,7 @@ impl Head {
         ensures { (number i : ℕ)
             → result ≡ let_in F.format flying (bare self.now) i packet.now (Part (lane_meaning message.now.value) number fragment) (Some (message_meaning self.now.fragment message.now.value)) }
     {
-        let bytes = bytes_of(message, Place::Fragment(fragment), self.fragment).len();
+        let bytes = bytes_of(message, Content::Fragment(fragment), self.fragment).len();
         may_flow(flying, bytes, self.rwnd) && fits::<F>(bytes, packet)
     }
 }

@@ -105,11 +105,11 @@ fn note(lanes: &mut Lanes, next: Passed, most: usize) -> bool
     ensures few { length lanes.new.items ≤ most }
 {
     let key = key_of(next);
-    let place = place_of(lanes.as_slice(), key);
-    if place < lanes.len() {
-        let found = lanes.as_slice()[place];
+    let rank = rank_of(lanes.as_slice(), key);
+    if rank < lanes.len() {
+        let found = lanes.as_slice()[rank];
         if key_of(found) == key {
-            lanes.as_mut_slice()[place] = Passed {
+            lanes.as_mut_slice()[rank] = Passed {
                 stream: found.stream,
                 kind: found.kind,
                 number: found.number.max(next.number),
@@ -120,14 +120,14 @@ fn note(lanes: &mut Lanes, next: Passed, most: usize) -> bool
     if lanes.len() >= most {
         return false;
     }
-    lanes.insert(place, next);
+    lanes.insert(rank, next);
     true
 }
 
 /// How many of these lanes, which stand in order, come before one.
-fn place_of(lanes: &[Passed], key: u32) -> usize
+fn rank_of(lanes: &[Passed], key: u32) -> usize
     requires { AreRising 0 (map passed_meaning lanes.now) }
-    ensures place { result ≡ before key (map passed_meaning lanes.now) }
+    ensures rank { result ≡ before key (map passed_meaning lanes.now) }
     ensures within { result ≤ length lanes.now }
 {
     let mut low = 0;

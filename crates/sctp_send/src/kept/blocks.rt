@@ -14,7 +14,7 @@ pub(crate) const BLOCK: usize = 4_096;
 pub(crate) enum Block {
     /// All ended so.
     Alike(Fate),
-    /// They ended one so, another so: the fates stand from this place on.
+    /// They ended one so, another so: the fates stand from this one on.
     Each(u32),
 }
 
@@ -69,7 +69,7 @@ fn drop_front(fates: &mut Vec<Fate>)
 fn block_of(recent: &[Fate], mixed: &mut Vec<Fate>) -> Option<Block>
     requires { 4096 ≤ length recent.now }
     ensures block { IfSome result (λ block. IsBlock block (take 4096 recent.now) mixed.old.items mixed.new.items) }
-    ensures settled { IfSome result (λ block. any_queued (take 4096 recent.now) ≡ false) }
+    ensures none_queued { IfSome result (λ block. any_queued (take 4096 recent.now) ≡ false) }
     ensures same { IfNone result (mixed.new.items ≡ mixed.old.items) }
 {
     let fates = &recent[..BLOCK];

@@ -3,8 +3,8 @@
 ghost use Rattle.std.specs.Prelude.{◌≡◌, ℕ, ◌<◌, ◌≤◌, true, false, map, length, IfSome, IfNone};
 ghost use Rattle.std.specs.VecDeque.{deque_capacity};
 ghost use Rattle.sctp_send.specs.OutstandingFields.{item_meaning};
-ghost use Rattle.sctp_send.specs.PartsKept.{IsSameRoom, at_place};
-ghost use Rattle.sctp_send.specs.inner.Changes.{given, all_given};
+ghost use Rattle.sctp_send.specs.PartsKept.{IsSameRoom, changed_at};
+ghost use Rattle.sctp_send.specs.inner.Changes.{as_abandoned, all_abandoned};
 ghost use Rattle.sctp_send.specs.inner.Counting.{IsCounted};
 ghost use Rattle.sctp_send.specs.inner.Dues.{IsItemUntil};
 ghost use Rattle.sctp_send.specs.inner.Walks.{any_item, any_uncovered, is_item_uncovered};
@@ -32,9 +32,9 @@ impl Outstanding {
         ensures uncovered { (size : ℕ) → IfSome result (λ until. any_uncovered ticket (map (item_meaning size) self.now.items) ≡ true) }
         ensures none { (size : ℕ) → IfNone result (any_uncovered ticket (map (item_meaning size) self.now.items) ≡ false) }
     {
-        let start = self.by_ticket.place(ticket, 0);
-        for place in start..self.by_ticket.len() {
-            let entry = &self.entries[self.by_ticket.offset(place)];
+        let start = self.by_ticket.rank(ticket, 0);
+        for rank in start..self.by_ticket.len() {
+            let entry = &self.entries[self.by_ticket.offset(rank)];
             if entry.message.ticket != ticket {
                 return None;
             }
@@ -49,31 +49,37 @@ impl Outstanding {
     pub(crate) fn is_past(&self, last: u64) -> bool
         ensures { (size t : ℕ) → result ≡ true → t ≤ last → any_item t (map (item_meaning size) self.now.items) ≡ false }
     {
-        self.by_ticket.place(last, usize::MAX) == 0
+        self.by_ticket.rank(last, usize::MAX) == 0
     }
 
     /// Each entry of the message with this ticket is abandoned.
     pub(crate) fn abandon(&mut self, ticket: u64)
-        ensures items { self.new.items ≡ all_given ticket self.old.items }
+        ensures items { self.new.items ≡ all_abandoned ticket self.old.items }
         ensures kept { IsSameRoom self.old self.new }
     {
-        let start = self.by_ticket.place(ticket, 0);
-        for place in start..self.by_ticket.len() {
-            let at = self.by_ticket.offset(place);
+        let start = self.by_ticket.rank(ticket, 0);
+        for rank in start..self.by_ticket.len() {
+            let at = self.by_ticket.offset(rank);
             if self.entries[at].message.ticket != ticket {
                 return;
             }
             forget_stretch(&mut self.stretches, self.by_ticket.index(at));
-            give_one(&mut self.entries, &mut self.counts, self.size, at, ticket);
+            abandon_one(&mut self.entries, &mut self.counts, self.size, at, ticket);
         }
     }
 }
 
 /// An entry of the message with this ticket is abandoned; its mark ends.
-fn give_one(entries: &mut VecDeque<Entry>, counts: &mut Counts, size: u16, at: usize, ticket: u64)
+fn abandon_one(
+    entries: &mut VecDeque<Entry>,
+    counts: &mut Counts,
+    size: u16,
+    at: usize,
+    ticket: u64,
+)
     requires within { at < length entries.old.items }
     requires counted { IsCounted size entries.old.items counts.old }
-    ensures items { entries.new.items ≡ at_place (given ticket) at entries.old.items }
+    ensures items { entries.new.items ≡ changed_at (as_abandoned ticket) at entries.old.items }
     ensures counted { IsCounted size entries.new.items counts.new }
     ensures capacity { deque_capacity entries.new ≡ deque_capacity entries.old }
 {

@@ -2,7 +2,7 @@
 
 ghost use Rattle.std.specs.Prelude.{◌≡◌, ℕ, ◌+◌, ◌<◌, ◌≤◌, ◌%◌, ◌^◌, ◌++◌, ◌∷◌, [], true, List, length, slice_get, slice_index_or, Some, OnOk};
 ghost use Rattle.std.specs.VecDeque.{deque_len, deque_capacity};
-ghost use Rattle.sctp_send.specs.inner.TicketOrder.{offset_of, comes_before, IsOrderOf, IsPlaceOf, IsGone, AreUpTo};
+ghost use Rattle.sctp_send.specs.inner.TicketOrder.{offset_of, comes_before, IsOrderOf, IsRankOf, IsGone, AreUpTo};
 ghost use Rattle.sctp_send.specs.inner.Stretching.{index_at};
 ghost use Rattle.sctp_send.specs.declared.kept.by_ticket.Spot.{Spot};
 
@@ -13,7 +13,7 @@ use std::collections::VecDeque;
 /// The most entries of an order, since their indexes are kept modulo 2^32.
 pub(crate) const MOST: usize = 0xffff_ffff;
 
-/// An entry: its message's ticket, and its index, modulo 2^32.
+/// A spot: an entry by its message's ticket and its own index, modulo 2^32. Its rank is how many spots lie before it.
 #[derive(Clone, Copy)]
 pub(crate) struct Spot {
     pub(crate) ticket: u64,
@@ -123,8 +123,8 @@ impl ByTicket {
             ticket,
             index: self.first.wrapping_add(offset as u32),
         };
-        let place = self.place(ticket, offset);
-        let _placed = self.spots.insert(place, spot);
+        let rank = self.rank(ticket, offset);
+        let _inserted = self.spots.insert(rank, spot);
     }
 
     /// The first entry goes, which is of this ticket.
@@ -164,10 +164,10 @@ impl ByTicket {
         self.remove(ticket, offset);
     }
 
-    /// How many spots lie before an entry of this ticket at this offset, or before the place where it would lie.
-    pub(crate) fn place(&self, ticket: u64, offset: usize) -> usize
+    /// How many spots lie before an entry of this ticket at this offset, or would lie before it: its rank.
+    pub(crate) fn rank(&self, ticket: u64, offset: usize) -> usize
         ensures bound { result ≤ length self.now.spots.items }
-        ensures place { (tickets : List ℕ) → IsOrderOf tickets self.now.first self.now.spots.items → IsPlaceOf self.now.first ticket offset self.now.spots.items result }
+        ensures rank { (tickets : List ℕ) → IsOrderOf tickets self.now.first self.now.spots.items → IsRankOf self.now.first ticket offset self.now.spots.items result }
     {
         let first = self.first;
         self.spots.partition_point(
@@ -177,12 +177,12 @@ impl ByTicket {
         )
     }
 
-    /// The offset of the entry whose spot has this place.
-    pub(crate) fn offset(&self, place: usize) -> usize
-        requires { place < length self.now.spots.items }
-        ensures { (spot : Spot) → result ≡ offset_of self.now.first (slice_index_or self.now.spots.items place spot) }
+    /// The offset of the entry whose spot has this rank.
+    pub(crate) fn offset(&self, rank: usize) -> usize
+        requires { rank < length self.now.spots.items }
+        ensures { (spot : Spot) → result ≡ offset_of self.now.first (slice_index_or self.now.spots.items rank spot) }
     {
-        offset_of(self.first, &self.spots[place])
+        offset_of(self.first, &self.spots[rank])
     }
 
     /// The spot in front is that of the first entry.
@@ -205,8 +205,8 @@ impl ByTicket {
         ensures below { AreUpTo self.old.highest self.old.spots.items → AreUpTo self.new.highest self.new.spots.items }
         ensures capacity { deque_capacity self.new.spots ≡ deque_capacity self.old.spots }
     {
-        let place = self.place(ticket, offset);
-        let _gone = self.spots.remove(place);
+        let rank = self.rank(ticket, offset);
+        let _gone = self.spots.remove(rank);
     }
 }
 

@@ -4,7 +4,7 @@ ghost use Rattle.std.specs.Prelude.{◌≡◌, ℕ, ◌+◌, ◌<◌, ◌≤◌,
 ghost use Rattle.sctp_send.specs.SenderKept.{Item};
 ghost use Rattle.sctp_send.specs.OutstandingFields.{item_meaning};
 ghost use Rattle.std.specs.VecDeque.{deque_capacity};
-ghost use Rattle.sctp_send.specs.PartsKept.{at_place};
+ghost use Rattle.sctp_send.specs.PartsKept.{changed_at};
 ghost use Rattle.sctp_send.specs.inner.Changes.{stood};
 ghost use Rattle.sctp_send.specs.inner.Counting.{entered, left, lowered, furthest, reached, IsCounted};
 ghost use Rattle.sctp_send.specs.inner.Walks.{abandoned_items};
@@ -119,7 +119,7 @@ pub(crate) fn stand_one(
 )
     requires within { at < length entries.old.items }
     requires counted { IsCounted size entries.old.items counts.old }
-    ensures items { entries.new.items ≡ at_place (stood standing covered abandoned) at entries.old.items }
+    ensures items { entries.new.items ≡ changed_at (stood standing covered abandoned) at entries.old.items }
     ensures counted { IsCounted size entries.new.items counts.new }
     ensures capacity { deque_capacity entries.new ≡ deque_capacity entries.old }
 {

@@ -21,7 +21,7 @@ pub(crate) fn moment_in(until: Option<u64>) -> u64
     }
 }
 
-/// The moment at a place is no later than this one.
+/// The moment at an index is no later than this one.
 pub(crate) fn lower_at(moments: &mut VecDeque<u64>, at: usize, moment: u64)
     ensures long { length moments.new.items ≡ length moments.old.items }
     ensures each { (k d : ℕ) → slice_index_or moments.new.items k d ≤ slice_index_or moments.old.items k d }
@@ -49,7 +49,7 @@ pub(crate) fn lower_page(leasts: &mut Vec<u64>, at: usize, moment: u64)
     }
 }
 
-/// The first place from one on, before another, whose moment has come; or that other.
+/// The first index from one on, before another, whose moment has come; or that other.
 fn first_in(moments: &[u64], from: usize, end: usize, now: u64) -> usize
     requires within { end ≤ length moments.now }
     ensures within { result ≤ end }
@@ -64,7 +64,7 @@ fn first_in(moments: &[u64], from: usize, end: usize, now: u64) -> usize
     end
 }
 
-/// The first place from one on, before another, whose moment has come. The moments lie in two slices.
+/// The first index from one on, before another, whose moment has come. The moments lie in two slices.
 #[inline(never)]
 fn first_come(moments: &VecDeque<u64>, from: usize, end: usize, now: u64) -> Option<usize>
     requires within { end ≤ length moments.now.items }
@@ -88,7 +88,7 @@ fn first_come(moments: &VecDeque<u64>, from: usize, end: usize, now: u64) -> Opt
     None
 }
 
-/// The first place from one on whose moment has come, or how many places there are.
+/// The first index from one on whose moment has come, or how many moments there are.
 #[inline(never)]
 pub(crate) fn first_due(moments: &VecDeque<u64>, leasts: &[u64], from: usize, now: u64) -> usize
     requires { AreLeast moments.now.items leasts.now }
@@ -108,7 +108,7 @@ pub(crate) fn first_due(moments: &VecDeque<u64>, leasts: &[u64], from: usize, no
     moments.len()
 }
 
-/// The least of the moments of places from one on, before another.
+/// The least of the moments of indexes from one on, before another.
 fn least_in(moments: &[u64], from: usize, end: usize) -> u64
     requires within { end ≤ length moments.now }
     ensures { (k d : ℕ) → from ≤ k → k < end → result ≤ slice_index_or moments.now k d }

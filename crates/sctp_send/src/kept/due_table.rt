@@ -130,7 +130,7 @@ impl DueTable {
         ensures others { (t : ℕ) → (t ≡ ticket → ⊥) → due_at self.old.passed self.new.moments t ≡ due_at self.old.passed self.old.moments t }
         ensures asleep { self.new.asleep ≡ self.old.asleep }
     {
-        if let Some(at) = self.place(ticket) {
+        if let Some(at) = self.index_of(ticket) {
             lower_page(&mut self.leasts, at / PAGE, moment);
             self.earliest = self.earliest.min(moment);
             self.moments[at] = moment;
@@ -157,15 +157,15 @@ impl DueTable {
         ensures here { ticket ≤ self.old.passed + length self.old.moments → self.old.passed < ticket → due_at self.old.passed self.new.moments ticket ≤ moment }
         ensures asleep { self.new.asleep ≡ self.old.asleep }
     {
-        if let Some(at) = self.place(ticket) {
+        if let Some(at) = self.index_of(ticket) {
             lower_page(&mut self.leasts, at / PAGE, moment);
             self.earliest = self.earliest.min(moment);
             lower_at(&mut self.moments, at, moment);
         }
     }
 
-    /// Where the moment of a ticket stands, if it does.
-    fn place(&self, ticket: u64) -> Option<usize>
+    /// The index of the moment of a ticket, if it has one.
+    fn index_of(&self, ticket: u64) -> Option<usize>
         ensures some { IfSome result (λ at. (at < length self.now.moments) × (ticket ≡ self.now.passed + 1 + at)) }
         ensures none { IfNone result ((ticket ≤ self.now.passed) ⊎ (self.now.passed + length self.now.moments < ticket)) }
     {

@@ -15,7 +15,7 @@ use std::marker::Model;
 ///
 /// As long as no message has one, none is kept one by one.
 #[derive(Drop)]
-pub struct Dues {
+pub(crate) struct Dues {
     // so many of the tickets behind those that are passed have one moment
     alike: u64,
     // this one

@@ -27,9 +27,9 @@ pub(crate) fn unmarked(standing: Standing) -> Standing
     }
 }
 
-/// What stands at an index.
+/// The content of an index: what was given to it.
 #[derive(Clone, Copy)]
-pub(crate) enum Place {
+pub(crate) enum Content {
     /// A fragment of a message.
     Fragment(u32),
     /// The end mark of a message that was abandoned in part.
@@ -40,9 +40,9 @@ pub(crate) enum Place {
 #[derive(Drop)]
 pub(crate) struct Entry {
     pub(crate) message: Arc<Message>,
-    /// Its message's place in the lane (SSN or MID, as a count).
+    /// Its message's number in the lane (SSN or MID, as a count).
     pub(crate) number: u64,
-    pub(crate) place: Place,
+    pub(crate) content: Content,
     pub(crate) standing: Standing,
     pub(crate) covered: bool,
     pub(crate) abandoned: bool,

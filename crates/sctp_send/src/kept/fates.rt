@@ -127,7 +127,7 @@ impl Fates {
         ensures items { self.new.items ≡ self.old.items }
         ensures within { self.new.ended ≤ self.old.ended + 4096 }
         ensures given { self.new.ended ≤ length self.new.items }
-        ensures settled { (at : ℕ) (fate : Fate) → self.old.ended ≤ at → at < self.new.ended → is_queued_fate (slice_index_or self.new.items at fate) ≡ false }
+        ensures none_queued { (at : ℕ) (fate : Fate) → self.old.ended ≤ at → at < self.new.ended → is_queued_fate (slice_index_or self.new.items at fate) ≡ false }
     {
         if self.recent.len() < BLOCK {
             return;
@@ -138,7 +138,7 @@ impl Fates {
     }
 }
 
-/// The fate at a place, where there is such a place, is this.
+/// The n-th fate, where there is one, is this.
 fn set_at(fates: &mut Vec<Fate>, at: usize, fate: Fate)
     ensures { fates.new.items ≡ set fates.old.items at fate }
 {

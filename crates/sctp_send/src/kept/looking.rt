@@ -4,7 +4,7 @@ ghost use Rattle.std.specs.Prelude.{◌≡◌, ℕ, ◌<◌, ◌≤◌, true, fa
 ghost use Rattle.sctp_send.specs.SenderFields.{track_meaning};
 ghost use Rattle.sctp_send.specs.inner.Walks.{any_rest, rest_has, GoesOnAt};
 ghost use Rattle.sctp_send.specs.inner.Newcomers.{rest_at, has_rest, IsNextPart};
-ghost use Rattle.sctp_send.specs.inner.PartPairs.{ticket_left};
+ghost use Rattle.sctp_send.specs.inner.PartSeats.{ticket_left};
 
 use crate::kept::track::Track;
 

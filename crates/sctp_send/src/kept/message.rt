@@ -31,38 +31,38 @@ pub(crate) fn moment_of(message: &Message) -> u64
     }
 }
 
-/// The most places of messages that are kept for messages to come.
-pub(crate) const SPENT: usize = 64;
+/// The most shells that are kept. A shell is the memory of a message that is gone, without its bytes, for a message to come.
+pub(crate) const MOST_SHELLS: usize = 64;
 
-/// Keeps the place of a message, without its bytes, where nothing else has it and there is room. What is kept shows in no answer, so that
-/// its contract says nothing.
+/// Keeps the shell of a message, where nothing else has it and there is room. What is kept shows in no answer, so that its contract says
+/// nothing.
 #[inline(always)]
-pub(crate) fn lay_by(spent: &mut Vec<Arc<Message>>, alloc: Global, message: Arc<Message>) {
-    if spent.len() >= spent.capacity() {
+pub(crate) fn keep_shell(shells: &mut Vec<Arc<Message>>, alloc: Global, message: Arc<Message>) {
+    if shells.len() >= shells.capacity() {
         return;
     }
-    let mut place = message;
-    match Arc::get_mut(&mut place) {
+    let mut shell = message;
+    match Arc::get_mut(&mut shell) {
         Some(gone) => gone.bytes = Vec::new(alloc),
         None => return,
     }
-    spent.push_reserved(place);
+    shells.push_reserved(shell);
 }
 
-/// A message takes a place that was laid by, or else one of its own.
+/// A message takes a shell that was kept, or else new memory.
 ///
 /// # Errors
 /// `NoMemory`.
 #[inline(always)]
-pub(crate) fn placed(
-    spent: &mut Vec<Arc<Message>>,
+pub(crate) fn in_shell(
+    shells: &mut Vec<Arc<Message>>,
     alloc: Global,
     message: Message,
 ) -> Result<Arc<Message>, NoMemory>
-    ensures { IfOk result (λ placed. placed.value ≡ message) }
+    ensures { IfOk result (λ shared. shared.value ≡ message) }
 {
-    if let Some(mut place) = spent.pop() {
-        if let Some(gone) = Arc::get_mut(&mut place) {
+    if let Some(mut shell) = shells.pop() {
+        if let Some(gone) = Arc::get_mut(&mut shell) {
             let Message {
                 ticket,
                 stream,
@@ -77,19 +77,19 @@ pub(crate) fn placed(
             gone.payload_id = payload_id;
             gone.until = until;
             gone.bytes = bytes;
-            return Ok(place);
+            return Ok(shell);
         }
     }
-    placed_anew(alloc, message)
+    in_new_shell(alloc, message)
 }
 
-/// A message takes a place of its own.
+/// A message takes new memory.
 ///
 /// # Errors
 /// `NoMemory`.
 #[inline(never)]
-fn placed_anew(alloc: Global, message: Message) -> Result<Arc<Message>, NoMemory>
-    ensures { IfOk result (λ placed. placed.value ≡ message) }
+fn in_new_shell(alloc: Global, message: Message) -> Result<Arc<Message>, NoMemory>
+    ensures { IfOk result (λ shared. shared.value ≡ message) }
 {
     Arc::new(alloc, message).map_err(|_| NoMemory)
 }

@@ -1,4 +1,4 @@
-//! Pairs of numbers in rising order, so that one is found by halves.
+//! Seats in rising order, so that one is found by halves.
 
 ghost use Rattle.std.specs.Prelude.{◌≡◌, ◌+◌, ◌^◌, ◌<◌, ◌≤◌, [], nat_lt, length, insert, remove, slice_index_or, OnOk, IfSome};
 ghost use Rattle.sctp_send.specs.inner.Ordering.{key, before, AreOrdered};
@@ -8,17 +8,18 @@ use std::alloc::Global;
 use std::collections::VecDeque;
 use std::marker::Model;
 
-/// Two numbers. Pairs stand by rising first number, and where it is the same by rising second one.
+/// A message by its stream and its ticket, in this order or the other. Seats stand by rising first number, and where it is the same by
+/// rising second one. The rank of a seat is how many come before it.
 #[derive(Clone, Copy)]
-pub(crate) struct Pair {
+pub(crate) struct Seat {
     pub(crate) first: u64,
     pub(crate) second: u64,
 }
 
-/// Pairs in rising order.
+/// Seats in rising order.
 #[derive(Drop)]
 pub(crate) struct Ordered {
-    pairs: VecDeque<Pair>,
+    seats: VecDeque<Seat>,
 }
 
 impl Model for Ordered {
@@ -29,22 +30,22 @@ impl Model for Ordered {
 
     ghost use Rattle.sctp_send.specs.inner.Ordering.{AreOrdered};
 
-    ghost view = { λ w. record { items = w.pairs.items; capacity = deque_capacity w.pairs } };
+    ghost view = { λ w. record { items = w.seats.items; capacity = deque_capacity w.seats } };
 
-    ghost invariant = { λ w. AreOrdered w.pairs.items };
+    ghost invariant = { λ w. AreOrdered w.seats.items };
 }
 
 impl Ordered {
-    /// No pair.
+    /// No seat.
     pub(crate) fn new(alloc: Global) -> Ordered
         ensures { result.items ≡ [] }
     {
         Ordered {
-            pairs: VecDeque::new(alloc),
+            seats: VecDeque::new(alloc),
         }
     }
 
-    /// Takes room for so many pairs more.
+    /// Takes room for so many seats more.
     ///
     /// # Errors
     /// `NoMemory`.
@@ -53,114 +54,114 @@ impl Ordered {
         ensures capacity { self.old.capacity ≤ self.new.capacity }
         ensures room { OnOk result (length self.new.items + more ≤ self.new.capacity) }
     {
-        match self.pairs.reserve(more) {
+        match self.seats.reserve(more) {
             Ok(()) => Ok(()),
             Err(_) => Err(NoMemory),
         }
     }
 
-    /// How many pairs there are.
+    /// How many seats there are.
     pub(crate) fn len(&self) -> usize
         ensures len { result ≡ length self.now.items }
         ensures order { AreOrdered self.now.items }
         ensures within { length self.now.items ≤ self.now.capacity }
     {
-        self.pairs.len()
+        self.seats.len()
     }
 
-    /// The pair at a place.
-    pub(crate) fn get(&self, at: usize) -> Pair
+    /// The seat at a rank.
+    pub(crate) fn get(&self, at: usize) -> Seat
         requires { at < length self.now.items }
         ensures { result ≡ slice_index_or self.now.items at result }
     {
-        self.pairs[at]
+        self.seats[at]
     }
 
-    /// How many pairs come before one.
+    /// How many seats come before one.
     #[inline(always)]
-    pub(crate) fn place_of(&self, pair: Pair) -> usize
-        ensures place { result ≡ before key (key pair) self.now.items }
+    pub(crate) fn rank_of(&self, seat: Seat) -> usize
+        ensures rank { result ≡ before key (key seat) self.now.items }
         ensures within { result ≤ length self.now.items }
         ensures order { AreOrdered self.now.items }
-        ensures small { pair.second < 2 ^ 64 }
+        ensures small { seat.second < 2 ^ 64 }
     {
-        let sought = key_of(pair);
-        if let Some(place) = self.place_at_end(sought) {
-            return place;
+        let sought = key_of(seat);
+        if let Some(rank) = self.rank_at_end(sought) {
+            return rank;
         }
-        self.place_among(sought)
+        self.rank_among(sought)
     }
 
-    /// The same by halves. It stands apart, so that a place at an end is found at little cost.
+    /// The same by halves. It stands apart, so that one at an end is found at little cost.
     #[inline(never)]
-    fn place_among(&self, sought: u128) -> usize
-        ensures place { result ≡ before key sought self.now.items }
+    fn rank_among(&self, sought: u128) -> usize
+        ensures rank { result ≡ before key sought self.now.items }
         ensures within { result ≤ length self.now.items }
     {
-        self.pairs.partition_point(
-            |one: &Pair| -> bool
+        self.seats.partition_point(
+            |one: &Seat| -> bool
                 ensures { result ≡ nat_lt (key one.now) sought }
             { key_of(*one) < sought },
         )
     }
 
-    /// The place of what comes before all pairs, or behind them.
+    /// The rank of what comes before all seats, or behind them.
     #[inline(always)]
-    fn place_at_end(&self, sought: u128) -> Option<usize>
-        ensures place { IfSome result (λ place. place ≡ before key sought self.now.items) }
-        ensures within { IfSome result (λ place. place ≤ length self.now.items) }
+    fn rank_at_end(&self, sought: u128) -> Option<usize>
+        ensures rank { IfSome result (λ rank. rank ≡ before key sought self.now.items) }
+        ensures within { IfSome result (λ rank. rank ≤ length self.now.items) }
         ensures order { AreOrdered self.now.items }
     {
-        let len = self.pairs.len();
+        let len = self.seats.len();
         if len == 0 {
             return Some(0);
         }
-        let first = self.pairs[0];
+        let first = self.seats[0];
         if sought <= key_of(first) {
             return Some(0);
         }
-        let last = self.pairs[len - 1];
+        let last = self.seats[len - 1];
         if key_of(last) < sought {
             return Some(len);
         }
         None
     }
 
-    /// A pair comes at its place. There is room for it.
-    pub(crate) fn insert(&mut self, pair: Pair)
+    /// A seat comes at its rank. There is room for it.
+    pub(crate) fn insert(&mut self, seat: Seat)
         requires { length self.old.items < self.old.capacity }
-        ensures items { self.new.items ≡ insert self.old.items (before key (key pair) self.old.items) pair }
+        ensures items { self.new.items ≡ insert self.old.items (before key (key seat) self.old.items) seat }
         ensures capacity { self.old.capacity ≤ self.new.capacity }
     {
-        let place = self.place_of(pair);
-        if place >= self.pairs.len() {
-            self.pairs.push_back_reserved(pair);
+        let rank = self.rank_of(seat);
+        if rank >= self.seats.len() {
+            self.seats.push_back_reserved(seat);
             return;
         }
-        let _placed = self.pairs.insert(place, pair);
+        let _inserted = self.seats.insert(rank, seat);
     }
 
-    /// The pair at the place of one goes, where there is one at it or behind.
-    pub(crate) fn remove(&mut self, pair: Pair)
+    /// The seat at the rank of one goes, where there is one at it or behind.
+    pub(crate) fn remove(&mut self, seat: Seat)
         ensures order { AreOrdered self.old.items }
-        ensures items { before key (key pair) self.old.items < length self.old.items → self.new.items ≡ remove self.old.items (before key (key pair) self.old.items) }
+        ensures items { before key (key seat) self.old.items < length self.old.items → self.new.items ≡ remove self.old.items (before key (key seat) self.old.items) }
         ensures capacity { self.new.capacity ≡ self.old.capacity }
     {
-        let place = self.place_of(pair);
-        if place == 0 {
-            let _gone = self.pairs.pop_front();
+        let rank = self.rank_of(seat);
+        if rank == 0 {
+            let _gone = self.seats.pop_front();
             return;
         }
-        if place < self.pairs.len() {
-            let _gone = self.pairs.remove(place);
+        if rank < self.seats.len() {
+            let _gone = self.seats.remove(rank);
         }
     }
 }
 
-/// Where a pair stands.
-fn key_of(pair: Pair) -> u128
-    ensures exact { result ≡ key pair }
-    ensures small { pair.second < 2 ^ 64 }
+/// Where a seat stands.
+fn key_of(seat: Seat) -> u128
+    ensures exact { result ≡ key seat }
+    ensures small { seat.second < 2 ^ 64 }
 {
-    (u128::from(pair.first) << 64) + u128::from(pair.second)
+    (u128::from(seat.first) << 64) + u128::from(seat.second)
 }

@@ -30,7 +30,7 @@ pub(crate) struct Outstanding {
     pub(crate) room: usize,
     // what is known of 64 entries in a row; nothing until there are many
     pub(crate) stretches: Vec<Stretch>,
-    // empty: the places of a SACK's runs and of the next one's, from the first entry on until a SACK is taken
+    // empty: the room of a SACK's runs and of the next one's, from the first entry on until a SACK is taken
     pub(crate) covered: Vec<CoveredRun>,
     pub(crate) spare: Vec<CoveredRun>,
 }
@@ -114,7 +114,7 @@ impl Outstanding {
         ensures items { self.new.items ≡ self.old.items }
         ensures capacity { self.old.capacity ≤ self.new.capacity }
         ensures room { OnOk result (length self.new.items + more ≤ self.new.capacity) }
-        ensures in_place { length self.old.items + more ≤ self.old.capacity → self.new ≡ self.old }
+        ensures had_room { length self.old.items + more ≤ self.old.capacity → self.new ≡ self.old }
         ensures refused { OnErr result (self.old.capacity < length self.old.items + more) }
     {
         if more <= self.room - self.entries.len() {
@@ -135,6 +135,7 @@ impl Outstanding {
         self.entries.reserve(more).map_err(|_| NoMemory)?;
         self.by_ticket.reserve(more)?;
         self.reserve_runs()?;
+        self.keep_stretches();
         self.room = self
             .entries
             .capacity()
@@ -147,6 +148,13 @@ impl Outstanding {
         }
     }
 
+    /// It is kept from now on what is known of stretches, where many entries are outstanding and there is memory for it.
+    fn keep_stretches(&mut self)
+        ensures { self.new ≡ self.old }
+    {
+        keep_stretches(&mut self.stretches, self.entries.len());
+    }
+
     /// One entry more, behind the others.
     ///
     /// # Errors
@@ -156,7 +164,7 @@ impl Outstanding {
         ensures items { OnOk result (self.new.items ≡ self.old.items ++ entry ∷ []) }
         ensures unchanged { OnErr result (self.new.items ≡ self.old.items) }
         ensures capacity { self.old.capacity ≤ self.new.capacity }
-        ensures in_place { length self.old.items < self.old.capacity → self.new ≡ record self.old { items = self.old.items ++ entry ∷ [] } }
+        ensures had_room { length self.old.items < self.old.capacity → self.new ≡ record self.old { items = self.old.items ++ entry ∷ [] } }
     {
         self.reserve(1)?;
         self.put(entry);
@@ -172,7 +180,6 @@ impl Outstanding {
         let others = self.entries.len();
         self.counts.enter(&entry, self.size);
         self.counts.reach(others, &entry);
-        keep_stretches(&mut self.stretches, others);
         forget_stretch(&mut self.stretches, self.by_ticket.index(others));
         self.by_ticket.push(entry.message.ticket);
         self.entries.push_back_reserved(entry);

@@ -2,10 +2,10 @@
 
 ghost use Rattle.std.specs.Prelude.{◌≡◌, ℕ, ◌<◌, ◌≤◌, ◌^◌, true, List, Option, None, Some, length, replicate, set, slice_index_or, IfOk};
 ghost use Rattle.sctp_send.specs.inner.Ordering.{key, before, AreOrdered};
-ghost use Rattle.sctp_send.specs.inner.PartPairs.{left_on, IsListed, FirstLeftAnswer, StreamWithAnswer};
-ghost use Rattle.sctp_send.specs.declared.kept.ordered.Pair.{Pair};
+ghost use Rattle.sctp_send.specs.inner.PartSeats.{left_on, IsListed, FirstLeftAnswer, StreamWithAnswer};
+ghost use Rattle.sctp_send.specs.declared.kept.ordered.Seat.{Seat};
 
-use crate::kept::ordered::{Ordered, Pair};
+use crate::kept::ordered::{Ordered, Seat};
 use crate::kept::seats::add_seat;
 use sctp_values::NoMemory;
 use std::alloc::Global;
@@ -55,8 +55,8 @@ impl PartLists {
         self.by_ticket.len()
     }
 
-    /// The one at a place by rising ticket: the ticket, and the stream.
-    pub(crate) fn by_ticket(&self, at: usize) -> Pair
+    /// The one at a rank by rising ticket: the ticket, and the stream.
+    pub(crate) fn by_ticket(&self, at: usize) -> Seat
         requires { at < length self.now.by_ticket.items }
         ensures { result ≡ slice_index_or self.now.by_ticket.items at result }
     {
@@ -65,22 +65,22 @@ impl PartLists {
 
     /// How many have lower tickets.
     pub(crate) fn below(&self, ticket: u64) -> usize
-        ensures place { result ≡ before key (key (record { first = ticket; second = 0 })) self.now.by_ticket.items }
+        ensures rank { result ≡ before key (key (record { first = ticket; second = 0 })) self.now.by_ticket.items }
         ensures within { result ≤ length self.now.by_ticket.items }
         ensures order { AreOrdered self.now.by_ticket.items }
     {
-        self.by_ticket.place_of(Pair {
+        self.by_ticket.rank_of(Seat {
             first: ticket,
             second: 0,
         })
     }
 
     /// The first one on a stream from this one on: the stream, and the ticket.
-    pub(crate) fn first_from(&self, stream: u16) -> Option<Pair>
+    pub(crate) fn first_from(&self, stream: u16) -> Option<Seat>
         requires { self.now.is_listed ≡ true }
         ensures { (tickets : List (Option ℕ)) → IsListed tickets self.now → FirstLeftAnswer stream tickets result }
     {
-        let at = self.by_stream.place_of(Pair {
+        let at = self.by_stream.rank_of(Seat {
             first: u64::from(stream),
             second: 0,
         });
@@ -136,11 +136,11 @@ impl PartLists {
         let Some(ticket) = before else {
             return;
         };
-        self.by_stream.remove(Pair {
+        self.by_stream.remove(Seat {
             first: stream,
             second: ticket,
         });
-        self.by_ticket.remove(Pair {
+        self.by_ticket.remove(Seat {
             first: ticket,
             second: stream,
         });
@@ -153,11 +153,11 @@ impl PartLists {
         let Some(ticket) = now else {
             return;
         };
-        let one = Pair {
+        let one = Seat {
             first: stream,
             second: ticket,
         };
-        let other = Pair {
+        let other = Seat {
             first: ticket,
             second: stream,
         };

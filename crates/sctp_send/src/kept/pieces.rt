@@ -10,7 +10,7 @@ ghost use Rattle.sctp_packet.specs.Draft.{has_room, after_try};
 ghost use Rattle.sctp_send.specs.OutstandingFields.{message_meaning, entry_meaning};
 ghost use Rattle.sctp_send.specs.inner.Drafting.{fragment_chunk, said_chunk};
 
-use crate::kept::entry::Place;
+use crate::kept::entry::Content;
 use crate::kept::message::{Message, fragments_of};
 use sctp_framing::Framing;
 use sctp_packet::PacketWriter;
@@ -18,28 +18,28 @@ use sctp_values::NoMemory;
 use sctp_wire::Piece;
 
 /// The bytes of a fragment: a range of its message's. An end mark has none.
-pub(crate) fn bytes_of(message: &Message, place: Place, size: u16) -> &[u8]
+pub(crate) fn bytes_of(message: &Message, content: Content, size: u16) -> &[u8]
     requires { 0 < size }
-    ensures { (l : Lane) (n : ℕ) → result.now ≡ bytes_in (entry_meaning l n place) (Some (message_meaning size message.now)) }
+    ensures { (l : Lane) (n : ℕ) → result.now ≡ bytes_in (entry_meaning l n content) (Some (message_meaning size message.now)) }
 {
     let bytes = message.bytes.as_slice();
-    match place {
-        Place::Fragment(fragment) => {
+    match content {
+        Content::Fragment(fragment) => {
             let from = (fragment as usize * usize::from(size)).min(bytes.len());
             let to = (from + usize::from(size)).min(bytes.len());
             &bytes[from..to]
         }
-        Place::EndMark => &bytes[0..0],
+        Content::EndMark => &bytes[0..0],
     }
 }
 
 /// Which fragment of its message it is; an end mark counts as the first.
-fn fragment_of(place: Place) -> u32
-    ensures { (l : Lane) (n : ℕ) → result ≡ entry_fragment (entry_meaning l n place) }
+fn fragment_of(content: Content) -> u32
+    ensures { (l : Lane) (n : ℕ) → result ≡ entry_fragment (entry_meaning l n content) }
 {
-    match place {
-        Place::Fragment(fragment) => fragment,
-        Place::EndMark => 0,
+    match content {
+        Content::Fragment(fragment) => fragment,
+        Content::EndMark => 0,
     }
 }
 
@@ -73,18 +73,18 @@ pub(crate) fn fits<F: Framing>(bytes: usize, packet: &PacketWriter) -> bool
 pub(crate) fn put_fragment<F: Framing>(
     message: &Message,
     number: u64,
-    place: Place,
+    content: Content,
     size: u16,
     tsn: u32,
     packet: &mut PacketWriter,
 ) -> Result<bool, NoMemory>
     requires some { 0 < size }
     requires short { size ≤ GREATEST_FRAGMENT }
-    ensures answer { (initial i : ℕ) → tsn ≡ serial.tsn initial i → IfOk result (λ put. put ≡ has_room packet.old (fragment_chunk F.format size initial i message.now number place)) }
-    ensures after { (initial i : ℕ) → tsn ≡ serial.tsn initial i → IfOk result (λ put. packet.new ≡ after_try packet.old (fragment_chunk F.format size initial i message.now number place) put) }
+    ensures answer { (initial i : ℕ) → tsn ≡ serial.tsn initial i → IfOk result (λ put. put ≡ has_room packet.old (fragment_chunk F.format size initial i message.now number content)) }
+    ensures after { (initial i : ℕ) → tsn ≡ serial.tsn initial i → IfOk result (λ put. packet.new ≡ after_try packet.old (fragment_chunk F.format size initial i message.now number content) put) }
     ensures unchanged { OnErr result (packet.new ≡ packet.old) }
 {
-    let fragment = fragment_of(place);
+    let fragment = fragment_of(content);
     let stream = stream_of(message);
     let payload_id = payload_of(message);
     let kind = message.kind;
@@ -97,7 +97,7 @@ pub(crate) fn put_fragment<F: Framing>(
         stream,
         number: F::wire_number(kind, number),
         word: F::wire_word(payload_id, fragment),
-        bytes: bytes_of(message, place, size),
+        bytes: bytes_of(message, content, size),
     };
     packet.try_chunk(&F::data_chunk(piece))
 }

@@ -9,7 +9,7 @@ ghost use Rattle.sctp_send.specs.Waiting.{waiting_bytes};
 ghost use Rattle.sctp_send.specs.inner.Seating.{AreLower, NextOnAnswer};
 
 use crate::kept::message::{Message, bytes_of, owed_by_message};
-use crate::kept::ordered::{Ordered, Pair};
+use crate::kept::ordered::{Ordered, Seat};
 use crate::kept::seats::{
     Found, add_seat, first_from, fits_at, free_seat, is_in_front, make_room, next_by_looking,
     remove_at, seat_of,
@@ -206,7 +206,7 @@ impl Queue {
         if !rises || !is_seated {
             return next_by_looking(&self.messages, from, below);
         }
-        let at = self.seats.place_of(Pair {
+        let at = self.seats.rank_of(Seat {
             first: u64::from(from),
             second: 0,
         });

@@ -1,4 +1,4 @@
-//! The room for the runs of a SACK that is taken: it comes with the first entry, so that an end at rest has none and a SACK takes no memory.
+//! The room for the runs of a SACK that is taken: it comes with the first entry, so that an end to which no entry came has none and a SACK takes no memory.
 
 ghost use Rattle.std.specs.Prelude.{◌≡◌};
 

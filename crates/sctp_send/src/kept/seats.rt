@@ -8,7 +8,7 @@ ghost use Rattle.sctp_send.specs.inner.Ordering.{key, before, AreOrdered};
 ghost use Rattle.sctp_send.specs.inner.Seating.{ticket_in, DoTicketsRise, IsBetween, NextOnAnswer};
 
 use crate::kept::message::Message;
-use crate::kept::ordered::{Ordered, Pair};
+use crate::kept::ordered::{Ordered, Seat};
 use sctp_values::NoMemory;
 use std::collections::VecDeque;
 use std::sync::Arc;
@@ -21,11 +21,11 @@ pub(crate) struct Found {
 }
 
 /// A message by its stream and its ticket.
-pub(crate) fn seat_of(message: &Message) -> Pair
+pub(crate) fn seat_of(message: &Message) -> Seat
     ensures first { result.first ≡ message.now.stream }
     ensures second { result.second ≡ message.now.ticket }
 {
-    Pair {
+    Seat {
         first: u64::from(message.stream),
         second: message.ticket,
     }
@@ -98,7 +98,7 @@ pub(crate) fn make_room(seats: &mut Ordered, is_seated: bool) -> Result<(), NoMe
 
 /// A seat is taken, where the seats are kept and there is memory for it: whether they still are those of all messages.
 #[inline(always)]
-pub(crate) fn add_seat(seats: &mut Ordered, is_seated: bool, seat: Pair) -> bool
+pub(crate) fn add_seat(seats: &mut Ordered, is_seated: bool, seat: Seat) -> bool
     ensures kept { result ≡ true → is_seated ≡ true }
     ensures seats { result ≡ true → seats.new.items ≡ insert seats.old.items (before key (key seat) seats.old.items) seat }
 {
@@ -110,7 +110,7 @@ pub(crate) fn add_seat(seats: &mut Ordered, is_seated: bool, seat: Pair) -> bool
 
 /// A seat is taken, where there is memory for it. It stands apart, so that it costs little where no seats are kept.
 #[inline(never)]
-fn take_seat(seats: &mut Ordered, seat: Pair) -> bool
+fn take_seat(seats: &mut Ordered, seat: Seat) -> bool
     ensures { result ≡ true → seats.new.items ≡ insert seats.old.items (before key (key seat) seats.old.items) seat }
 {
     if seats.reserve(1).is_err() {
@@ -122,7 +122,7 @@ fn take_seat(seats: &mut Ordered, seat: Pair) -> bool
 
 /// A seat is free again, where the seats are kept.
 #[inline(always)]
-pub(crate) fn free_seat(seats: &mut Ordered, is_seated: bool, seat: Pair)
+pub(crate) fn free_seat(seats: &mut Ordered, is_seated: bool, seat: Seat)
     ensures order { is_seated ≡ true → AreOrdered seats.old.items }
     ensures seats { is_seated ≡ true → before key (key seat) seats.old.items < length seats.old.items
         → seats.new.items ≡ remove seats.old.items (before key (key seat) seats.old.items) }

@@ -5,7 +5,7 @@ ghost use Rattle.sctp_send.specs.SenderFields.{track_meaning};
 ghost use Rattle.sctp_send.specs.inner.Walks.{total, one_if_rest, rest_owes, any_rest, GoesOnAt};
 ghost use Rattle.sctp_send.specs.inner.Newcomers.{IsNextPart};
 ghost use Rattle.sctp_send.specs.inner.Undoing.{counted_to};
-ghost use Rattle.sctp_send.specs.PartsKept.{at_place};
+ghost use Rattle.sctp_send.specs.PartsKept.{changed_at};
 
 use crate::kept::looking::{are_past, next_part_by_looking, stream_by_looking, ticket_of_track};
 use crate::kept::part_lists::PartLists;
@@ -34,7 +34,7 @@ impl Model for Streams {
 
     ghost Value = { StreamsKept };
 
-    ghost use Rattle.sctp_send.specs.inner.PartPairs.{IsStreamsOf};
+    ghost use Rattle.sctp_send.specs.inner.PartSeats.{IsStreamsOf};
 
     ghost view = { λ w. record { size = w.size; items = w.tracks.items } };
 
@@ -92,12 +92,12 @@ impl Streams {
     #[inline(always)]
     pub(crate) fn count_to(&mut self, at: usize, kind: Kind, many: u64)
         requires { at < length self.old.items }
-        ensures { self.new ≡ record self.old { items = at_place (counted_to kind many) at self.old.items } }
+        ensures { self.new ≡ record self.old { items = changed_at (counted_to kind many) at self.old.items } }
     {
         set_count(&mut self.tracks[at], kind, many);
     }
 
-    /// A stream goes on with this, in place of what it answers.
+    /// A stream goes on with this, instead of what it answers.
     pub(crate) fn replace(&mut self, at: usize, track: Track) -> Track
         requires { at < length self.old.items }
         ensures before { result ≡ slice_index_or self.old.items at result }

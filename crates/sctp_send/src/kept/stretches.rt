@@ -14,16 +14,16 @@ use std::collections::VecDeque;
 /// How many entries in a row are a stretch. The index of the first is a multiple.
 pub(crate) const STRETCH: usize = 64;
 
-/// So many stretches in a row have a place each; one that lies so many further on shares it.
-const PLACES: usize = 512;
+/// So many stretches in a row have a slot each; one that lies so many further on shares it.
+const SLOTS: usize = 512;
 
-/// Among so many entries no two whole stretches share a place.
+/// Among so many entries no two whole stretches share a slot.
 pub(crate) const MOST_KNOWN: usize = 32_768;
 
-/// It is kept what is known of stretches once so many entries are outstanding.
-const FEW: usize = 512;
+/// It is kept what is known of stretches once room for entries is taken while so many are outstanding.
+const FEW: usize = 256;
 
-/// What is known of a stretch.
+/// What is known of a stretch, which is 64 entries in a row.
 #[derive(Clone, Copy)]
 pub(crate) struct Stretch {
     /// All its entries went out, and none waits to be repeated or is abandoned.
@@ -41,18 +41,18 @@ pub(crate) const UNKNOWN: Stretch = Stretch {
     bytes: 0,
 };
 
-/// The place of the stretch with an index.
-fn place_of(index: u32) -> usize
+/// The slot of the stretch with an index.
+fn slot_of(index: u32) -> usize
     ensures { result ≡ index / 64 % 512 }
 {
-    index as usize / STRETCH % PLACES
+    index as usize / STRETCH % SLOTS
 }
 
 /// What is known of the stretch with an index.
 pub(crate) fn stretch_of(stretches: &[Stretch], index: u32) -> Stretch
     ensures { result.is_known ≡ true → slice_get stretches.now (index / 64 % 512) ≡ Some result }
 {
-    let at = place_of(index);
+    let at = slot_of(index);
     if at < stretches.len() {
         stretches[at]
     } else {
@@ -65,7 +65,7 @@ pub(crate) fn put_stretch(stretches: &mut Vec<Stretch>, index: u32, stretch: Str
     ensures here { (s : Stretch) → slice_get stretches.new.items (index / 64 % 512) ≡ Some s → s ≡ stretch }
     ensures others { (k : ℕ) → (k ≡ index / 64 % 512 → ⊥) → slice_get stretches.new.items k ≡ slice_get stretches.old.items k }
 {
-    let at = place_of(index);
+    let at = slot_of(index);
     if at < stretches.len() {
         stretches[at] = stretch;
     }
@@ -82,12 +82,12 @@ pub(crate) fn forget_stretch(stretches: &mut Vec<Stretch>, index: u32)
     put_stretch(stretches, index, UNKNOWN);
 }
 
-/// It is kept from now on what is known, where so many entries are outstanding and there is memory for it.
+/// It is kept from now on what is known, where many entries are outstanding and there is memory for it.
 pub(crate) fn keep_stretches(stretches: &mut Vec<Stretch>, entries: usize)
     ensures { (k : ℕ) (s : Stretch) → slice_get stretches.new.items k ≡ Some s → s.is_known ≡ true → slice_get stretches.old.items k ≡ Some s }
 {
-    if entries == FEW && stretches.is_empty() {
-        let _kept = stretches.resize(PLACES, UNKNOWN);
+    if entries >= FEW && stretches.is_empty() {
+        let _kept = stretches.resize(SLOTS, UNKNOWN);
     }
 }
 
@@ -99,8 +99,8 @@ pub(crate) fn look_at_stretch(entries: &VecDeque<Entry>, size: u16, at: usize) -
 {
     let covered = entries[at].covered;
     let mut bytes: u32 = 0;
-    for place in at..at + STRETCH {
-        let entry = &entries[place];
+    for offset in at..at + STRETCH {
+        let entry = &entries[offset];
         if entry.covered != covered {
             return UNKNOWN;
         }
@@ -122,7 +122,7 @@ pub(crate) fn bytes_in(entry: &Entry, size: u16) -> u32
     ensures bytes { result ≡ entry_bytes size entry.now }
     ensures short { result ≤ 65535 }
 {
-    bytes_of(&entry.message, entry.place, size).len() as u32
+    bytes_of(&entry.message, entry.content, size).len() as u32
 }
 
 /// An entry went out, doesn't wait to be repeated, and isn't abandoned.
@@ -156,8 +156,8 @@ fn set_covered(entries: &mut [Entry], at: usize, covered: bool)
     requires { at + 64 ≤ length entries.old }
     ensures { entries.new ≡ covered_run covered at 64 entries.old }
 {
-    for place in at..at + STRETCH {
-        entries[place].covered = covered;
+    for offset in at..at + STRETCH {
+        entries[offset].covered = covered;
     }
 }
 

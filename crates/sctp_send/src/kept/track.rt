@@ -19,7 +19,7 @@ pub(crate) struct Rest {
     pub(crate) fragment: u32,
 }
 
-/// What is kept of a stream: how many messages of each kind have a number, and its message in part.
+/// A track: of one stream, how many messages of each kind have a number, and its message in part.
 #[derive(Drop)]
 pub(crate) struct Track {
     pub(crate) ordered: u64,

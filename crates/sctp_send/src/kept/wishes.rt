@@ -1,4 +1,4 @@
-//! What is to go out next, among what has an index; and whether it may flow (RFC 9260, 6.1 and 6.3.3).
+//! Wishes: what is to go out next, among what has an index; and whether it may flow (RFC 9260, 6.1 and 6.3.3).
 
 ghost use Rattle.std.specs.Prelude.{◌≡◌, ℕ, ◌<◌, ◌||◌};
 ghost use Rattle.sctp_send.specs.OutstandingFields.{item_meaning};
@@ -28,7 +28,7 @@ pub(crate) fn weight(entry: &Entry, size: u16) -> u64
     ensures { result ≡ item_weight (item_meaning size entry.now) }
 {
     if entry.standing == Standing::Sent && !entry.covered && !entry.abandoned {
-        bytes_of(&entry.message, entry.place, size).len() as u64
+        bytes_of(&entry.message, entry.content, size).len() as u64
     } else {
         0
     }

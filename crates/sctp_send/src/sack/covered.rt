@@ -9,7 +9,7 @@ ghost use Rattle.sctp_send.specs.inner.Changes.{all_told, told_where, in_gaps, i
 
 use crate::kept::entry::CoveredRun;
 use crate::kept::outstanding::Outstanding;
-use crate::sack::settling::{cover, remember};
+use crate::sack::entries::{cover, remember};
 use sctp_wire::Blocks;
 use std::mem;
 

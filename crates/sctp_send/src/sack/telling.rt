@@ -3,7 +3,7 @@
 ghost use Rattle.std.specs.Prelude.{◌≡◌, ℕ, ◌+◌, ◌<◌, ◌≤◌, true, false, length};
 ghost use Rattle.std.specs.VecDeque.{deque_capacity};
 ghost use Rattle.sctp_send.specs.OutstandingFields.{item_meaning};
-ghost use Rattle.sctp_send.specs.PartsKept.{at_place, changed};
+ghost use Rattle.sctp_send.specs.PartsKept.{changed_at, changed};
 ghost use Rattle.sctp_send.specs.inner.Changes.{as_covered, as_uncovered, told, told_where, is_between};
 ghost use Rattle.sctp_send.specs.inner.Counting.{entered, left, IsCounted};
 ghost use Rattle.sctp_send.specs.inner.Stretching.{IsPlain, told_run};
@@ -152,7 +152,7 @@ impl Outstanding {
 
 impl Counts {
     /// An entry that went out, and is neither covered nor abandoned nor to be repeated, counts no more.
-    fn settle(&mut self, entry: &Entry, size: u16)
+    fn leave_plain(&mut self, entry: &Entry, size: u16)
         requires some { 0 < size }
         requires plain { IsPlain false entry.now }
         ensures { self.new ≡ left (item_meaning size entry.now) self.old }
@@ -162,7 +162,7 @@ impl Counts {
     }
 
     /// Such an entry counts.
-    fn unsettle(&mut self, entry: &Entry, size: u16)
+    fn enter_plain(&mut self, entry: &Entry, size: u16)
         requires some { 0 < size }
         requires plain { IsPlain false entry.now }
         ensures { self.new ≡ entered (item_meaning size entry.now) self.old }
@@ -176,13 +176,13 @@ impl Counts {
 fn cover_one(entries: &mut VecDeque<Entry>, counts: &mut Counts, size: u16, at: usize)
     requires within { at < length entries.old.items }
     requires counted { IsCounted size entries.old.items counts.old }
-    ensures items { entries.new.items ≡ at_place as_covered at entries.old.items }
+    ensures items { entries.new.items ≡ changed_at as_covered at entries.old.items }
     ensures counted { IsCounted size entries.new.items counts.new }
     ensures capacity { deque_capacity entries.new ≡ deque_capacity entries.old }
 {
     let entry = &mut entries[at];
     if is_plain(entry) && !entry.covered {
-        counts.settle(entry, size);
+        counts.leave_plain(entry, size);
         entry.covered = true;
         return;
     }
@@ -195,7 +195,7 @@ fn cover_one(entries: &mut VecDeque<Entry>, counts: &mut Counts, size: u16, at: 
 fn uncover_one(entries: &mut VecDeque<Entry>, counts: &mut Counts, size: u16, at: usize)
     requires within { at < length entries.old.items }
     requires counted { IsCounted size entries.old.items counts.old }
-    ensures items { entries.new.items ≡ at_place as_uncovered at entries.old.items }
+    ensures items { entries.new.items ≡ changed_at as_uncovered at entries.old.items }
     ensures counted { IsCounted size entries.new.items counts.new }
     ensures capacity { deque_capacity entries.new ≡ deque_capacity entries.old }
 {
@@ -205,7 +205,7 @@ fn uncover_one(entries: &mut VecDeque<Entry>, counts: &mut Counts, size: u16, at
     }
     entry.covered = false;
     if is_plain(entry) {
-        counts.unsettle(entry, size);
+        counts.enter_plain(entry, size);
         return;
     }
     counts.enter(entry, size);

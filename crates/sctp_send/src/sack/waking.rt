@@ -10,7 +10,7 @@ use crate::kept::dues::Dues;
 use crate::kept::entry::CoveredRun;
 use crate::kept::message::moment_of;
 use crate::kept::outstanding::Outstanding;
-use crate::sack::settling::run_behind;
+use crate::sack::entries::run_behind;
 use sctp_wire::{Blocks, GapBlock};
 
 /// Where blocks may uncover an entry, so many entries further on than the runs that are covered, each outstanding message is looked at from

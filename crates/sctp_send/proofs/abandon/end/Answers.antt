@@ -3,22 +3,22 @@ use Rattle.sctp_send.specs.SenderFields.{track_meaning}
 use Rattle.sctp_send.specs.PartsKept.{StreamsKept}
 use Rattle.sctp_send.specs.inner.Walks.{GoesOnAt}
 use Rattle.sctp_send.specs.declared.kept.track.Track.{Track as TrackFields}
-use Rattle.sctp_send.proofs.TrackLemmas.{rest_taken, never_none, same_read}
+use Rattle.sctp_send.proofs.abandon.TrackLemmas.{rest_taken, never_none, same_read}
 use Rattle.sctp_send.proofs.abandon.end.Goals as goal
 
 pub returns-clause-none : goal.returns-clause-none
 returns-clause-none c = λ size.
-    let there : GoesOnAt c.args.ticket c.in_ok-at.at (map (track_meaning size) c.args.tracks.now.items) = c.in_ok-at.ensures.some size in
-    never_none size c.args.ticket c.in_ok-at.at c.args.tracks.now.items c.replace.result _ _ c.replace.ensures.before there (c.ending_of.ensures size)
+    let there : GoesOnAt c.args.ticket c.in_ok-at.at (map (track_meaning size) c.args.streams.now.items) = c.in_ok-at.ensures.some size in
+    never_none size c.args.ticket c.in_ok-at.at c.args.streams.now.items c.replace.result _ _ c.replace.ensures.before there (c.ending_of.ensures size)
 
 pub returns-clause-same : goal.returns-clause-same
 returns-clause-same c =
-    let there : GoesOnAt c.args.ticket c.in_ok-at.at (map (track_meaning 1) c.args.tracks.now.items) = c.in_ok-at.ensures.some 1 in
-    never_none 1 c.args.ticket c.in_ok-at.at c.args.tracks.now.items c.replace.result _ _ c.replace.ensures.before there (c.ending_of.ensures 1)
+    let there : GoesOnAt c.args.ticket c.in_ok-at.at (map (track_meaning 1) c.args.streams.now.items) = c.in_ok-at.ensures.some 1 in
+    never_none 1 c.args.ticket c.in_ok-at.at c.args.streams.now.items c.replace.result _ _ c.replace.ensures.before there (c.ending_of.ensures 1)
 
 pub returns-clause-some : goal.returns-clause-some
 returns-clause-some c = λ size.
-    let ts = c.args.tracks.now.items in
+    let ts = c.args.streams.now.items in
     let x = c.replace.result in
     let there : GoesOnAt c.args.ticket c.in_ok-at.at (map (track_meaning size) ts) = c.in_ok-at.ensures.some size in
     let same = same_read ts c.in_ok-at.at c.index-tracks-at.result x c.in_ok-at.ensures.within (rw c.tracks.ensures at c.index-tracks-at.is) c.replace.ensures.before in

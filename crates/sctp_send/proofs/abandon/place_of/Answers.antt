@@ -1,7 +1,7 @@
 use Rattle.std.proofs.Common.{arith, ap, sym, ◌∙◌}
 use Rattle.sctp_send.specs.declared.kept.message.Message.{Message as MessageFields}
-use Rattle.sctp_send.proofs.WithdrawLemmas.{walked_place, found_place, ended_place}
-use Rattle.sctp_send.proofs.SeatedLemmas.{place_from}
+use Rattle.sctp_send.proofs.abandon.WithdrawLemmas.{walked_place, found_place, ended_place}
+use Rattle.sctp_send.proofs.kept.SeatedLemmas.{place_from}
 use Rattle.sctp_send.proofs.abandon.place_of.Goals as goal
 
 pub loop-at-preserved : goal.loop-at-preserved

@@ -1,7 +1,7 @@
 use Rattle.std.proofs.Common.{◌∙◌, ap, map}
 use Rattle.sctp_send.specs.SenderFields.{queued_by}
 use Rattle.sctp_send.specs.PartsKept.{QueueKept}
-use Rattle.sctp_send.proofs.WithdrawLemmas.{withdrawn_is, withdrawn_place}
+use Rattle.sctp_send.proofs.abandon.WithdrawLemmas.{withdrawn_is, withdrawn_place}
 use Rattle.sctp_send.proofs.abandon.withdraw.Goals as goal
 
 pub returns-clause-size : goal.returns-clause-size

@@ -1,6 +1,6 @@
 use Rattle.std.proofs.Common.{◌∙◌, arith}
 use Rattle.sctp_send.specs.inner.Undoing.{stands_so}
-use Rattle.sctp_send.proofs.UndoLemmas.{stood_again, stood_nowhere}
+use Rattle.sctp_send.proofs.fill.UndoLemmas.{stood_again, stood_nowhere}
 use Rattle.sctp_send.proofs.draft.stand_again.Goals as goal
 
 pub returns-then-at-len : goal.returns-then-at-len

@@ -1,6 +1,6 @@
 use Rattle.std.proofs.Common.{refl, sym, ap, ◌+◌, arith, subst}
 use Rattle.sctp_send.specs.declared.draft.Draft.{Draft}
-use Rattle.sctp_send.proofs.UndoLemmas.{IsTakenBack, taken_more, taken_fits, taken_all}
+use Rattle.sctp_send.proofs.fill.UndoLemmas.{IsTakenBack, taken_more, taken_fits, taken_all}
 use Rattle.sctp_send.proofs.draft.undo_all.Goals as goal
 use Rattle.sctp_send.proofs.draft.undo_all.Goals.{in-Some, in_default}
 

@@ -1,4 +1,4 @@
-use Rattle.sctp_send.proofs.UndoLemmas.{IsTakenBack}
+use Rattle.sctp_send.proofs.fill.UndoLemmas.{IsTakenBack}
 use Rattle.sctp_send.proofs.draft.undo_all.Given as goal
 
 abbrev pub invariant-loop : goal.invariant-loop

@@ -1,10 +1,10 @@
 use Rattle.std.proofs.Common.{◌≡◌, ℕ, ◌-◌, ◌<◌, ◌≤◌, List, length, get_or, arith, ◌∙◌}
 use Rattle.sctp_values.specs.declared.ticket.Ticket.{Ticket}
 use Rattle.sctp_send.specs.inner.Drafting.{numbers_of, AreOpen}
-use Rattle.sctp_send.proofs.EnterLemmas.{numbered_more, numbered_end, open_at}
+use Rattle.sctp_send.proofs.fill.EnterLemmas.{numbered_more, numbered_end, open_at}
 use Rattle.sctp_send.proofs.fill.number_all.Goals as goal
 
--- the place of a ticket that isn't over
+-- where the fate of a ticket that isn't over stands
 open_place : (ended : ℕ) (ts : List Ticket) (i at : ℕ) (d : Ticket) → AreOpen ended (numbers_of ts) → i < length ts → at ≡ (get_or ts i d).0 - 1 → ended ≤ at
 open_place ended ts i at d are lt is = let behind = open_at ended ts i d are lt in omega (arith, behind, is)
 

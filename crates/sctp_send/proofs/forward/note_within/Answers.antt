@@ -5,9 +5,9 @@ use Rattle.sctp_framing.specs.SkipForms.{skip_form}
 use Rattle.sctp_send.specs.OutstandingFields.{item_meaning}
 use Rattle.sctp_send.specs.inner.Lanes.{passed_meaning}
 use Rattle.sctp_send.proofs.ReaderLemmas.{run_within}
-use Rattle.sctp_send.proofs.LaneLemmas.{none_below}
-use Rattle.sctp_send.proofs.ForwardLemmas.{IsPassed, is_passed}
-use Rattle.sctp_send.proofs.ReachLemmas.{too_short, walked_far, furthest_is_end}
+use Rattle.sctp_send.proofs.forward.LaneWalks.{none_below}
+use Rattle.sctp_send.proofs.forward.ForwardLemmas.{IsPassed, is_passed}
+use Rattle.sctp_send.proofs.forward.ReachLemmas.{too_short, walked_far, furthest_is_end}
 use Rattle.sctp_send.proofs.forward.note_within.Goals as goal
 
 pub returns-then-limit-lt-PACKET_ALONE-clause-end : goal.returns-then-limit-lt-PACKET_ALONE-clause-end

@@ -6,8 +6,8 @@ use Rattle.sctp_packet.specs.Draft.{room_in, has_room}
 use Rattle.sctp_wire.specs.Skips.{skip_size}
 use Rattle.sctp_framing.specs.SkipForms.{skip_form}
 use Rattle.sctp_send.specs.inner.Lanes.{passed_meaning, forward_of_lanes}
-use Rattle.sctp_send.proofs.ForwardLemmas.{room_counted}
-use Rattle.sctp_send.proofs.NewMayLemmas.{on_err}
+use Rattle.sctp_send.proofs.forward.ForwardLemmas.{room_counted}
+use Rattle.sctp_send.proofs.fill.NewMayLemmas.{on_err}
 use Rattle.sctp_send.proofs.forward.put_lanes.Goals as goal
 
 pub returns-then-size-lanes-clause-answer : goal.returns-then-size-lanes-clause-answer

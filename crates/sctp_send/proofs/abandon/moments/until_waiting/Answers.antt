@@ -2,7 +2,7 @@ use Rattle.std.proofs.Common.{Option, arith, ap, sym, ◌∙◌}
 use Rattle.std.specs.Prelude.{option_and_then}
 use Rattle.sctp_model.specs.sender.SenderView.{Queued}
 use Rattle.sctp_send.specs.declared.kept.message.Message.{Message as MessageFields}
-use Rattle.sctp_send.proofs.UntilLemmas.{past_lower, past_other, found_until, none_until}
+use Rattle.sctp_send.proofs.abandon.UntilLemmas.{past_lower, past_other, found_until, none_until}
 use Rattle.sctp_send.proofs.abandon.moments.until_waiting.Goals as goal
 
 pub loop-at-init : goal.loop-at-init

@@ -1,6 +1,6 @@
 use Rattle.std.proofs.Common.{◌≡◌, ℕ, map, drop}
 use Rattle.sctp_send.specs.SenderFields.{queued_by}
-use Rattle.sctp_send.proofs.UntilLemmas.{with_ticket}
+use Rattle.sctp_send.proofs.abandon.UntilLemmas.{with_ticket}
 use Rattle.sctp_send.proofs.abandon.moments.until_waiting.Given as goal
 
 abbrev pub invariant-loop-at : goal.invariant-loop-at

@@ -2,7 +2,7 @@ use Rattle.std.proofs.Common.{◌∙◌, ◌%◌, List, ◌+◌, suc, refl, ap, 
 use Rattle.sctp_model.specs.sender.Assigning.{first_on}
 use Rattle.sctp_model.specs.sender.SenderView.{Queued}
 use Rattle.sctp_send.specs.inner.Drafting.{drafted}
-use Rattle.sctp_send.proofs.NextLemmas.{part_first, waiting_first}
+use Rattle.sctp_send.proofs.fill.NextLemmas.{part_first, waiting_first}
 use Rattle.sctp_send.proofs.fill.assigning.next_between.Goals as goal
 
 pub returns-in_default-clause-does : goal.returns-in_default-clause-does

@@ -1,6 +1,6 @@
 use Rattle.std.proofs.Common.{refl}
 use Rattle.sctp_send.specs.inner.Drafting.{drafted}
-use Rattle.sctp_send.proofs.NextLemmas.{turn_kept, turn_kept_on}
+use Rattle.sctp_send.proofs.fill.NextLemmas.{turn_kept, turn_kept_on}
 use Rattle.sctp_send.proofs.fill.assigning.next_in_turn.Goals as goal
 
 pub returns-in-Some-clause-next : goal.returns-in-Some-clause-next

@@ -6,7 +6,7 @@ use Rattle.sctp_model.specs.sender.Queueing.{cut}
 use Rattle.sctp_send.specs.SenderFields.{queued_by}
 use Rattle.sctp_send.specs.declared.kept.message.Message.{Message as MessageFields}
 use Rattle.sctp_send.proofs.WalkLemmas.{queue_read}
-use Rattle.sctp_send.proofs.TurnLemmas.{whole_none, whole_begun, first_filled}
+use Rattle.sctp_send.proofs.fill.TurnLemmas.{whole_none, whole_begun, first_filled}
 use Rattle.sctp_send.proofs.fill.assigning.next_whole.Goals as goal
 
 pub returns-then-len-eq0-clause-next : goal.returns-then-len-eq0-clause-next

@@ -2,7 +2,7 @@ use Rattle.std.proofs.Common.{◌∙◌, List, ap, arith}
 use Rattle.sctp_model.specs.sender.Assigning.{first_on}
 use Rattle.sctp_model.specs.sender.SenderView.{Queued}
 use Rattle.sctp_send.specs.inner.Drafting.{drafted}
-use Rattle.sctp_send.proofs.NextLemmas.{part_first, none_first}
+use Rattle.sctp_send.proofs.fill.NextLemmas.{part_first, none_first}
 use Rattle.sctp_send.proofs.fill.assigning.part_between.Goals as goal
 
 pub returns-then-part-below-clause-does : goal.returns-then-part-below-clause-does

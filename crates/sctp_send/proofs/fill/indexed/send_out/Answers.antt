@@ -1,5 +1,5 @@
 use Rattle.std.proofs.Common.{◌∙◌}
-use Rattle.sctp_send.proofs.UndoLemmas.{stood_sent}
+use Rattle.sctp_send.proofs.fill.UndoLemmas.{stood_sent}
 use Rattle.sctp_send.proofs.fill.indexed.send_out.Goals as goal
 
 pub returns : goal.returns

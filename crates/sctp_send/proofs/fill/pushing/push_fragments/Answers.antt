@@ -4,7 +4,7 @@ use Rattle.sctp_model.specs.messages.Plan.{Part}
 use Rattle.sctp_send.specs.SenderKept.{Item}
 use Rattle.sctp_send.specs.OutstandingFields.{item_meaning, lane_meaning, message_meaning}
 use Rattle.sctp_send.specs.inner.Newcomers.{new_item, begun_items}
-use Rattle.sctp_send.proofs.EnterLemmas.{begun_push, before_more}
+use Rattle.sctp_send.proofs.fill.EnterLemmas.{begun_push, before_more}
 use Rattle.sctp_send.proofs.fill.pushing.push_fragments.Goals as goal
 
 pub loop-fragment-init : goal.loop-fragment-init
@@ -33,7 +33,7 @@ loop-fragment-preserved c =
       long = omega (arith, long, c.in_ok-push_fragment.ensures.long);
       room = record {
         size = c.in_ok-push_fragment.ensures.size ∙ was.room.size;
-        capacity = c.in_ok-push_fragment.ensures.in_place (let capacity = was.room.capacity in omega (arith, long, capacity, c.requires.room)) ∙ was.room.capacity;
+        capacity = c.in_ok-push_fragment.ensures.had_room (let capacity = was.room.capacity in omega (arith, long, capacity, c.requires.room)) ∙ was.room.capacity;
       };
     }
 
@@ -47,7 +47,7 @@ returns-in_err-push_fragment-clause-room c =
     let capacity = was.room.capacity in
     record {
       size = c.in_err-push_fragment.ensures.size ∙ was.room.size;
-      capacity = c.in_err-push_fragment.ensures.in_place (omega (arith, long, capacity, c.requires.room)) ∙ capacity;
+      capacity = c.in_err-push_fragment.ensures.had_room (omega (arith, long, capacity, c.requires.room)) ∙ capacity;
     }
 
 pub returns-clause-items : goal.returns-clause-items

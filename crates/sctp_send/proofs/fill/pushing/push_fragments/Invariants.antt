@@ -1,4 +1,4 @@
-use Rattle.sctp_send.proofs.EnterLemmas.{IsPushed}
+use Rattle.sctp_send.proofs.fill.EnterLemmas.{IsPushed}
 use Rattle.sctp_send.proofs.fill.pushing.push_fragments.Given as goal
 
 abbrev pub invariant-loop-fragment : goal.invariant-loop-fragment

@@ -3,8 +3,8 @@ use Rattle.sctp_wire.specs.Skips.{skips_in}
 use Rattle.sctp_framing.specs.SkipForms.{skip_form}
 use Rattle.sctp_values.specs.declared.kind.Kind.TheVariants.{Ordered}
 use Rattle.sctp_send.specs.declared.forward.lanes.Passed.{Passed}
-use Rattle.sctp_send.proofs.ForwardLemmas.{none_counted}
-use Rattle.sctp_send.proofs.LaneLemmas.{said_fits, said_more, said_all}
+use Rattle.sctp_send.proofs.forward.ForwardLemmas.{none_counted}
+use Rattle.sctp_send.proofs.forward.LaneBytes.{said_fits, said_more, said_all}
 use Rattle.sctp_send.proofs.forward.lanes.list_of.Goals as goal
 
 pub loop-at-init : goal.loop-at-init

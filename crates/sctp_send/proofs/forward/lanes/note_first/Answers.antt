@@ -2,7 +2,8 @@ use Rattle.std.proofs.Common.{◌≡◌, ◌∙◌, ◌<◌, List, length, map, 
 use Rattle.sctp_model.specs.messages.Forward.{Skip}
 use Rattle.sctp_send.specs.OutstandingFields.{item_meaning, entries_of}
 use Rattle.sctp_send.specs.inner.Lanes.{passed_meaning, AreRising, noted_entry}
-use Rattle.sctp_send.proofs.LaneLemmas.{none_below, below_rising, lanes_step}
+use Rattle.sctp_send.proofs.forward.LaneLemmas.{below_rising}
+use Rattle.sctp_send.proofs.forward.LaneWalks.{none_below, lanes_step}
 use Rattle.sctp_send.proofs.forward.lanes.note_first.Goals as goal
 
 pub loop-at-init : goal.loop-at-init

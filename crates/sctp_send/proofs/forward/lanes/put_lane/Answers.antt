@@ -6,7 +6,7 @@ use Rattle.sctp_wire.specs.Skips.{skips_in, IsSkip}
 use Rattle.sctp_wire.specs.declared.skips.SkipForm.{SkipForm}
 use Rattle.sctp_framing.specs.SkipForms.{skip_form}
 use Rattle.sctp_send.specs.inner.Lanes.{passed_meaning}
-use Rattle.sctp_send.proofs.LaneLemmas.{said_is, whole_before, put_more}
+use Rattle.sctp_send.proofs.forward.LaneBytes.{said_is, whole_before, put_more}
 use Rattle.sctp_send.proofs.forward.lanes.put_lane.Goals as goal
 
 pub put_skip-requires : goal.put_skip-requires

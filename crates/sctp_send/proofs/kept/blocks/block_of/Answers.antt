@@ -1,6 +1,6 @@
 use Rattle.std.proofs.Common.{◌≡◌, length, take, arith}
 use Rattle.std.proofs.lemmas.List.{length-take-le}
-use Rattle.sctp_send.proofs.FateLemmas.{alike_block, each_block}
+use Rattle.sctp_send.proofs.kept.FateLemmas.{alike_block, each_block}
 use Rattle.sctp_send.proofs.kept.blocks.block_of.Goals as goal
 
 pub returns-then-are_alike-clause-block : goal.returns-then-are_alike-clause-block

@@ -1,4 +1,4 @@
-use Rattle.sctp_send.proofs.FateLemmas.{read_alike, each_within, read_each, get_self}
+use Rattle.sctp_send.proofs.kept.FateLemmas.{read_alike, each_within, read_each, get_self}
 use Rattle.sctp_send.proofs.kept.blocks.fate_in.Goals as goal
 
 pub bounds-mixed-start : goal.bounds-mixed-start

@@ -1,5 +1,5 @@
 use Rattle.std.proofs.Common.{◌≡◌, ◌<◌, length, ◌∙◌, arith}
-use Rattle.sctp_send.proofs.FrontLemmas.{front_more, front_stops, front_ended}
+use Rattle.sctp_send.proofs.kept.FrontLemmas.{front_more, front_stops, front_ended}
 use Rattle.sctp_send.proofs.kept.counts.abandoned_from.Goals as goal
 
 pub loop-at-preserved : goal.loop-at-preserved

@@ -1,6 +1,6 @@
 use Rattle.std.proofs.Common.{map, ◌∙◌}
 use Rattle.sctp_send.specs.OutstandingFields.{item_meaning}
-use Rattle.sctp_send.proofs.FrontLemmas.{after_off, after_far, after_there}
+use Rattle.sctp_send.proofs.kept.FrontLemmas.{after_off, after_far, after_there}
 use Rattle.sctp_send.proofs.kept.counts.front_after.Goals as goal
 
 pub returns-then-not-abandoned : goal.returns-then-not-abandoned

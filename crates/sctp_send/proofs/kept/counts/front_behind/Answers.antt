@@ -1,7 +1,7 @@
 use Rattle.std.proofs.Common.{◌≡◌, ◌+◌, map, drop, ◌∙◌, arith}
 use Rattle.sctp_send.specs.OutstandingFields.{item_meaning}
 use Rattle.sctp_send.specs.inner.Walks.{abandoned_items}
-use Rattle.sctp_send.proofs.FrontLemmas.{first_some}
+use Rattle.sctp_send.proofs.kept.FrontLemmas.{first_some}
 use Rattle.sctp_send.proofs.kept.counts.front_behind.Goals as goal
 
 pub returns-then-front-gt0 : goal.returns-then-front-gt0

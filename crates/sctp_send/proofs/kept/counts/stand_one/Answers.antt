@@ -3,9 +3,9 @@ use Rattle.std.proofs.lemmas.List.{length-map, length-set, map-set}
 use Rattle.sctp_send.specs.OutstandingFields.{item_meaning}
 use Rattle.sctp_send.specs.inner.Walks.{abandoned_items}
 use Rattle.sctp_send.specs.inner.Changes.{stood}
-use Rattle.sctp_send.proofs.CountLemmas.{counts_set}
-use Rattle.sctp_send.proofs.FrontLemmas.{front_within}
-use Rattle.sctp_send.proofs.PlacedLemmas.{placed_set}
+use Rattle.sctp_send.proofs.kept.CountLemmas.{counts_set}
+use Rattle.sctp_send.proofs.kept.FrontLemmas.{front_within}
+use Rattle.sctp_send.proofs.kept.ChangedLemmas.{changed_set}
 use Rattle.sctp_send.proofs.kept.counts.stand_one.Goals as goal
 
 pub front_after-counts-requires : goal.front_after-counts-requires
@@ -31,4 +31,4 @@ returns-clause-counted c =
 pub returns-clause-items : goal.returns-clause-items
 returns-clause-items c =
     let es = c.args.entries.now.items in
-    rw (placed_set (stood c.args.standing c.args.covered c.args.abandoned) c.args.at es c.index_mut-entry.result.now c.requires.within c.index_mut-entry.ensures.value) refl
+    rw (changed_set (stood c.args.standing c.args.covered c.args.abandoned) c.args.at es c.index_mut-entry.result.now c.requires.within c.index_mut-entry.ensures.value) refl

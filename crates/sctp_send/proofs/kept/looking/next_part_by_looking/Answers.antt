@@ -1,6 +1,6 @@
 use Rattle.std.proofs.Common.{map, sym, ◌∙◌, arith}
 use Rattle.sctp_send.specs.SenderFields.{track_meaning}
-use Rattle.sctp_send.proofs.NextLemmas.{one_more_off}
+use Rattle.sctp_send.proofs.fill.NextLemmas.{one_more_off}
 use Rattle.sctp_send.proofs.kept.looking.next_part_by_looking.Goals as goal
 
 pub loop-stream-preserved : goal.loop-stream-preserved

@@ -1,5 +1,5 @@
 use Rattle.std.proofs.Common.{◌≡◌, ◌+◌, ◌*◌, min, length}
-use Rattle.sctp_send.proofs.EnterLemmas.{range_is}
+use Rattle.sctp_send.proofs.fill.EnterLemmas.{range_is}
 use Rattle.sctp_send.proofs.kept.pieces.bytes_of.Goals as goal
 
 pub returns-in-Fragment : goal.returns-in-Fragment

@@ -2,7 +2,7 @@ use Rattle.std.proofs.Common.{ℕ, ◌+◌, ◌*◌, ◌/◌, length, sym, ap, �
 use Rattle.std.specs.Prelude.{nat_le}
 use Rattle.sctp_model.specs.messages.Framing.{header_of}
 use Rattle.sctp_model.specs.sender.Entries.{bytes_in}
-use Rattle.sctp_send.proofs.RoomLemmas.{fits_by_length}
+use Rattle.sctp_send.proofs.fill.RoomLemmas.{fits_by_length}
 use Rattle.sctp_send.proofs.kept.pieces.fits.Goals as goal
 
 pub returns : goal.returns

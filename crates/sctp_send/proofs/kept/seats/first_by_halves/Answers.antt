@@ -1,8 +1,8 @@
 use Rattle.std.proofs.Common.{ℕ, ◌+◌, ◌-◌, ◌/◌, ◌<◌, ◌≤◌, get_or, ap, ◌∙◌, arith}
 use Rattle.sctp_send.specs.inner.Seating.{ticket_in}
 use Rattle.sctp_send.specs.declared.kept.message.Message.{Message as MessageFields}
-use Rattle.sctp_send.proofs.PairLemmas.{before_within, before_above, before_below}
-use Rattle.sctp_send.proofs.RiseLemmas.{rise_in_order}
+use Rattle.sctp_send.proofs.kept.OrderedLemmas.{before_within, before_above, before_below}
+use Rattle.sctp_send.proofs.kept.RiseLemmas.{rise_in_order}
 use Rattle.sctp_send.proofs.kept.seats.first_by_halves.Goals as goal
 
 pub loop-low-init : goal.loop-low-init

@@ -1,6 +1,6 @@
 use Rattle.std.proofs.Common.{ℕ, map}
 use Rattle.sctp_send.specs.SenderFields.{queued_by}
-use Rattle.sctp_send.proofs.TurnLemmas.{IsPassedOn}
+use Rattle.sctp_send.proofs.fill.TurnLemmas.{IsPassedOn}
 use Rattle.sctp_send.proofs.kept.seats.first_on.Given as goal
 
 abbrev pub invariant-loop-at : goal.invariant-loop-at

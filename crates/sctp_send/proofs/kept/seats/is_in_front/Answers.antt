@@ -3,7 +3,7 @@ use Rattle.std.proofs.lemmas.List.{length-map}
 use Rattle.sctp_send.specs.SenderFields.{queued_by}
 use Rattle.sctp_send.specs.declared.kept.message.Message.{Message as MessageFields}
 use Rattle.sctp_send.proofs.WalkLemmas.{queue_read}
-use Rattle.sctp_send.proofs.TurnLemmas.{passed_none, passed_here}
+use Rattle.sctp_send.proofs.fill.TurnLemmas.{passed_none, passed_here}
 use Rattle.sctp_send.proofs.kept.seats.is_in_front.Goals as goal
 
 pub returns-then-deref-stream-clause-first : goal.returns-then-deref-stream-clause-first

@@ -7,7 +7,7 @@ use Rattle.sctp_send.proofs.kept.stretches.forget_stretch.Goals as goal
 pub returns-then-is_empty-clause-here : goal.returns-then-is_empty-clause-here
 returns-then-is_empty-clause-here c = λ s there.
     let items = c.args.stretches.now.items in
-    let place = c.args.index / 64 % 512 in
+    let slot = c.args.index / 64 % 512 in
     let empty : length items ≡ 0 = grind (arith, nat_tests, c.is_empty.ensures, c.if-is_empty.true) in
-    let none : slice_get items place ≡ None = slice_get_past items place (omega (arith, empty)) in
+    let none : slice_get items slot ≡ None = slice_get_past items slot (omega (arith, empty)) in
     absurd (cc)

@@ -1,12 +1,12 @@
 use Rattle.std.proofs.Common.{◌≡◌, ◌+◌, ◌-◌, ◌<◌, ℕ, suc, length, Bool, Some, sym, ap, subst, arith}
 use Rattle.std.specs.Prelude.{slice_get}
 use Rattle.sctp_send.specs.inner.Stretching.{IsPlain, entry_bytes, AreAlike}
-use Rattle.sctp_send.proofs.TicketWalks.{get_read}
-use Rattle.sctp_send.proofs.StretchLemmas.{flags_not_differ, alike_none, alike_more}
+use Rattle.sctp_send.proofs.kept.TicketWalks.{get_read}
+use Rattle.sctp_send.proofs.kept.StretchLemmas.{flags_not_differ, alike_none, alike_more}
 use Rattle.sctp_send.proofs.kept.stretches.look_at_stretch.Goals as goal
 
-pub loop-place-init : goal.loop-place-init
-loop-place-init c =
+pub loop-offset-init : goal.loop-offset-init
+loop-offset-init c =
     let es = c.args.entries.now.items in
     let none : 0 ≡ c.args.at - c.args.at = omega arith in
     record {
@@ -15,19 +15,19 @@ loop-place-init c =
       few = omega arith;
     }
 
-pub loop-place-preserved : goal.loop-place-preserved
-loop-place-preserved c =
-    let h = c.loop-place.invariant in
+pub loop-offset-preserved : goal.loop-offset-preserved
+loop-offset-preserved c =
+    let h = c.loop-offset.invariant in
     let es = c.args.entries.now.items in
     let e = c.index-entry.result.now in
     let b = c.index.result.now.covered in
-    let n = c.loop-place.bytes in
+    let n = c.loop-offset.bytes in
     let at = c.args.at in
-    let p = c.loop-place.place in
+    let p = c.loop-offset.offset in
     let k = p - at in
     let here : p ≡ at + k = omega (arith, h.low) in
     let next : suc k ≡ p + 1 - at = omega (arith, h.low) in
-    let lt : p < length es = omega (arith, c.requires.within, c.loop-place-test.true) in
+    let lt : p < length es = omega (arith, c.requires.within, c.loop-offset-test.true) in
     let read = subst (λ (m : ℕ). slice_get es m ≡ Some e) here (get_read es p e lt c.index-entry.ensures) in
     let plain = subst (λ (d : Bool). IsPlain d e) (flags_not_differ e.covered b c.if-entry-covered.false) (c.is_plain.ensures c.if-not-is_plain.false) in
     let more = alike_more c.args.size b n at k es e h.alike read plain in

@@ -2,8 +2,8 @@ use Rattle.std.proofs.Common.{◌≡◌, List, length, sym, ap, ◌∙◌, arith
 use Rattle.std.specs.Prelude.{not}
 use Rattle.sctp_send.specs.inner.Stretching.{covered_run, told_run}
 use Rattle.sctp_send.specs.declared.kept.entry.Entry.{Entry as EntryFields}
-use Rattle.sctp_send.proofs.StretchLemmas.{alike_long, run_noted, length-told_run}
-use Rattle.sctp_send.proofs.TurnedLemmas.{counts_turned}
+use Rattle.sctp_send.proofs.kept.StretchLemmas.{alike_long, run_noted, length-told_run}
+use Rattle.sctp_send.proofs.kept.TurnedLemmas.{counts_turned}
 use Rattle.sctp_send.proofs.kept.stretches.turn_stretch.Goals as goal
 
 pub set_covered-requires : goal.set_covered-requires

@@ -1,4 +1,4 @@
-use Rattle.sctp_send.proofs.RecoverLemmas.{recovered}
+use Rattle.sctp_send.proofs.sack.RecoverLemmas.{recovered}
 use Rattle.sctp_send.proofs.sack.covered.cover_anew.Goals as goal
 
 pub returns-clause-covered : goal.returns-clause-covered

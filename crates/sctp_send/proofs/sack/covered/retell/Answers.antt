@@ -2,7 +2,7 @@ use Rattle.std.proofs.Common.{◌∙◌, subst, Bool}
 use Rattle.sctp_model.specs.messages.Acknowledgement.{in_blocks}
 use Rattle.sctp_send.specs.CoveredRuns.{in_runs, HoldsBlocks}
 use Rattle.sctp_send.specs.inner.Changes.{IsExact}
-use Rattle.sctp_send.proofs.CoverLemmas.{told_same}
+use Rattle.sctp_send.proofs.sack.CoverLemmas.{told_same}
 use Rattle.sctp_send.proofs.sack.covered.retell.Goals as goal
 
 pub returns-then-are_known-clause-told : goal.returns-then-are_known-clause-told

@@ -2,8 +2,8 @@ use Rattle.std.proofs.Common.{◌≡◌, ap, sym, subst, arith, refl, ◌∙◌,
 use Rattle.sctp_send.specs.CoveredRuns.{HasPassed}
 use Rattle.sctp_send.specs.inner.Changes.{told_where, in_gaps}
 use Rattle.sctp_send.specs.declared.kept.entry.CoveredRun.{CoveredRun}
-use Rattle.sctp_send.proofs.GapLemmas.{ends_behind, next_begins, passed_on}
-use Rattle.sctp_send.proofs.RecoverLemmas.{alone_start, alone_more, alone_all}
+use Rattle.sctp_send.proofs.sack.GapLemmas.{ends_behind, next_begins, passed_on}
+use Rattle.sctp_send.proofs.sack.RecoverLemmas.{alone_start, alone_more, alone_all}
 use Rattle.sctp_send.proofs.sack.covered.tell_alone.Goals as goal
 
 pub loop-run-init : goal.loop-run-init

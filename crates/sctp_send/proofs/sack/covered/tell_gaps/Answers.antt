@@ -2,8 +2,8 @@ use Rattle.std.proofs.Common.{◌≡◌, ◌≤◌, ◌<◌, ℕ, min, max, ap, 
 use Rattle.sctp_send.specs.PartsKept.{OutstandingKept}
 use Rattle.sctp_send.specs.inner.Changes.{told_where, is_between}
 use Rattle.sctp_send.specs.declared.kept.entry.CoveredRun.{CoveredRun}
-use Rattle.sctp_send.proofs.TellLemmas.{length-told_where}
-use Rattle.sctp_send.proofs.GapLemmas.{passed_on, passed_more, passed_all, gaps_start, gaps_more, gaps_rest, gaps_end}
+use Rattle.sctp_send.proofs.sack.TellLemmas.{length-told_where}
+use Rattle.sctp_send.proofs.sack.GapLemmas.{passed_on, passed_more, passed_all, gaps_start, gaps_more, gaps_rest, gaps_end}
 use Rattle.sctp_send.proofs.sack.covered.tell_gaps.Goals as goal
 
 pub loop-next-init : goal.loop-next-init

@@ -5,12 +5,12 @@ use Rattle.sctp_send.specs.inner.Stretching.{IsPlain}
 use Rattle.sctp_send.specs.OutstandingFields.{item_meaning}
 use Rattle.sctp_send.specs.declared.kept.entry.Entry.{Entry as EntryFields}
 use Rattle.sctp_send.specs.declared.kept.entry.Standing.{Standing}
-use Rattle.sctp_send.proofs.CountLemmas.{counts_covered}
-use Rattle.sctp_send.proofs.PlacedLemmas.{placed_set}
+use Rattle.sctp_send.proofs.kept.CountLemmas.{counts_covered}
+use Rattle.sctp_send.proofs.kept.ChangedLemmas.{changed_set}
 use Rattle.sctp_send.proofs.sack.telling.cover_one.Goals as goal
 
-pub settle-requires : goal.settle-requires
-settle-requires c =
+pub leave_plain-requires : goal.leave_plain-requires
+leave_plain-requires c =
     let x = c.index_mut-entry.result.now in
     record { some = c.requires.counted.some; plain = subst (λ b. IsPlain b x) c.if-not-entry.true (c.is_plain.ensures c.if-is_plain.true) }
 
@@ -19,7 +19,7 @@ returns-then-not-entry-clause-items c =
     let x = c.index_mut-entry.result.now in
     let out = (c.is_plain.ensures c.if-is_plain.true).out in
     let same : as_covered x ≡ record x { covered = true } = ap (λ (s : Standing). record x { covered = true; standing = s }) (rw out refl) in
-    rw (placed_set as_covered c.args.at c.args.entries.now.items x c.requires.within c.index_mut-entry.ensures.value, same) refl
+    rw (changed_set as_covered c.args.at c.args.entries.now.items x c.requires.within c.index_mut-entry.ensures.value, same) refl
 
 pub returns-then-not-entry-clause-counted : goal.returns-then-not-entry-clause-counted
 returns-then-not-entry-clause-counted c =
@@ -27,7 +27,7 @@ returns-then-not-entry-clause-counted c =
     let es = c.args.entries.now.items in
     let out = (c.is_plain.ensures c.if-is_plain.true).out in
     let same : as_covered x ≡ record x { covered = true } = ap (λ (s : Standing). record x { covered = true; standing = s }) (rw out refl) in
-    rw c.settle.ensures (subst (λ (y : EntryFields). IsCounted c.args.size (set es c.args.at y) (left (item_meaning c.args.size x) c.args.counts.now)) same
+    rw c.leave_plain.ensures (subst (λ (y : EntryFields). IsCounted c.args.size (set es c.args.at y) (left (item_meaning c.args.size x) c.args.counts.now)) same
     (counts_covered c.args.size es c.args.at x c.args.counts.now c.requires.within c.index_mut-entry.ensures.value c.requires.counted))
 
 pub returns-clause-counted : goal.returns-clause-counted
@@ -38,4 +38,4 @@ returns-clause-counted c =
 pub returns-clause-items : goal.returns-clause-items
 returns-clause-items c =
     let es = c.args.entries.now.items in
-    rw (placed_set as_covered c.args.at es c.index_mut-entry.result.now c.requires.within c.index_mut-entry.ensures.value, c.unmarked-entry.ensures) refl
+    rw (changed_set as_covered c.args.at es c.index_mut-entry.result.now c.requires.within c.index_mut-entry.ensures.value, c.unmarked-entry.ensures) refl

@@ -5,7 +5,7 @@ use Rattle.sctp_model.specs.wire.Chunk.{BlockMeaning}
 use Rattle.sctp_model.specs.messages.Acknowledgement.{in_blocks}
 use Rattle.sctp_wire.specs.ChunkTree.{block_meaning}
 use Rattle.sctp_send.specs.declared.kept.entry.CoveredRun.{CoveredRun}
-use Rattle.sctp_send.proofs.WakeLemmas.{some_run, in_first, in_others}
+use Rattle.sctp_send.proofs.sack.WakeLemmas.{some_run, in_first, in_others}
 use Rattle.sctp_send.proofs.sack.waking.lie_in.Goals as goal
 
 no_run : CoveredRun

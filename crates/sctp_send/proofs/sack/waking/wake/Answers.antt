@@ -5,7 +5,7 @@ use Rattle.sctp_send.specs.inner.Counting.{moment_from}
 use Rattle.std.specs.Prelude.{Some}
 use Rattle.sctp_send.specs.inner.Dues.{due_at, AreWoken}
 use Rattle.sctp_send.specs.declared.kept.message.Message.{Message as MessageFields}
-use Rattle.sctp_send.proofs.WakeLemmas.{woken_more}
+use Rattle.sctp_send.proofs.sack.WakeLemmas.{woken_more}
 use Rattle.sctp_send.proofs.sack.waking.wake.Goals as goal
 
 pub loop-at-preserved : goal.loop-at-preserved

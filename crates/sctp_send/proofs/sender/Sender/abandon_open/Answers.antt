@@ -3,7 +3,7 @@ use Rattle.sctp_send.specs.SenderKept.{Kept}
 use Rattle.sctp_send.specs.SenderStands.{StandsFor, Keeps}
 use Rattle.sctp_send.specs.inner.Walks.{is_numbered_fate}
 use Rattle.sctp_send.specs.declared.kept.message.Fate.TheVariants.{Queued as StillQueued, Numbered, Withdrawn, Abandoned as WasAbandoned}
-use Rattle.sctp_send.proofs.AnswerLemmas.{fate_read, answered_unknown, AnsweredBy, answered_by}
+use Rattle.sctp_send.proofs.abandon.AnswerLemmas.{fate_read, answered_unknown, AnsweredBy, answered_by}
 use Rattle.sctp_send.proofs.sender.Sender.abandon_open.Goals as goal
 
 pub returns-then-at-eq0 : goal.returns-then-at-eq0

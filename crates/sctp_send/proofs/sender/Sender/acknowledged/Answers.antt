@@ -32,4 +32,4 @@ returns g c = λ v stands.
     let keeps = subst (λ (k : Kept). Keeps g.F.Framing.format k v) (sym c.self.view_is) stands in
     let fate = ap is_numbered_fate c.get-fate.ensures ∙ numbered_read g.F.Framing.format _ v c.args.ticket.0 c.get-fate.result keeps (omega arith) (omega arith) in
     let is = numbered_acknowledged g.F.Framing.format _ v c.args.ticket.0 keeps (sym fate ∙ sym c.is_numbered.ensures ∙ c.if-not-is_numbered.false) in
-    rw (c.is_all_covered.ensures s.head.fragment) is
+    rw (c.is_all_covered.ensures s.told.fragment) is

@@ -12,7 +12,7 @@ unfolding StandsFor
 returns-then-len-gt0 g c = λ v stands.
     let s = c.self.inside in
     let keeps = subst (λ (k : Kept). Keeps g.F.Framing.format k v) (sym c.self.view_is) stands in
-    let long = length-map s.parts.queue.items (queued_by s.head.fragment) in
+    let long = length-map s.parts.queue.items (queued_by s.told.fragment) in
     some_waits g.F.Framing.format _ v keeps (omega arith)
 
 pub returns-then-in_part-gt0 : goal.returns-then-in_part-gt0
@@ -20,7 +20,7 @@ unfolding StandsFor
 returns-then-in_part-gt0 g c = λ v stands.
     let s = c.self.inside in
     let keeps = subst (λ (k : Kept). Keeps g.F.Framing.format k v) (sym c.self.view_is) stands in
-    let long = length-map s.parts.queue.items (queued_by s.head.fragment) in
+    let long = length-map s.parts.queue.items (queued_by s.told.fragment) in
     let parts = rw c.self.invariant.tracks at c.in_part.ensures in
     some_in_part g.F.Framing.format _ v keeps (omega arith) (omega (arith, parts))
 
@@ -29,8 +29,8 @@ unfolding StandsFor
 returns g c = λ v stands.
     let s = c.self.inside in
     let keeps = subst (λ (k : Kept). Keeps g.F.Framing.format k v) (sym c.self.view_is) stands in
-    let long = length-map s.parts.queue.items (queued_by s.head.fragment) in
-    let more = length-map s.parts.outstanding.items (item_meaning s.head.fragment) in
+    let long = length-map s.parts.queue.items (queued_by s.told.fragment) in
+    let more = length-map s.parts.outstanding.items (item_meaning s.told.fragment) in
     let parts = rw c.self.invariant.tracks at c.in_part.ensures in
     let is = nothing_waits g.F.Framing.format _ v keeps (omega arith) (omega (arith, parts)) in
     rw c.len-2.ensures (rw more at is)

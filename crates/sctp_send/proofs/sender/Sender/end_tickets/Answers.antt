@@ -13,6 +13,6 @@ returns g c = λ v stands.
     let given = rw c.end_block.ensures.items at c.end_block.ensures.given in
     rw c.end_block.ensures.items
     (keeps_over g.F.Framing.format _ v c.end_block.new.self.ended c.in-Some.last StillQueued keeps given (omega (arith, c.end_block.ensures.within, c.in-Some.ensures))
-    (λ at low high. rw c.end_block.ensures.items at (c.end_block.ensures.settled at StillQueued low high))
-    (λ t le. c.is_past.ensures.tracks s.head.fragment t c.if-not-is_past.false le)
-    (λ t le. c.is_past.ensures.items s.head.fragment t c.if-not-is_past.false le))
+    (λ at low high. rw c.end_block.ensures.items at (c.end_block.ensures.none_queued at StillQueued low high))
+    (λ t le. c.is_past.ensures.tracks s.told.fragment t c.if-not-is_past.false le)
+    (λ t le. c.is_past.ensures.items s.told.fragment t c.if-not-is_past.false le))

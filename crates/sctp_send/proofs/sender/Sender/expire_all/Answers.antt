@@ -2,7 +2,7 @@ use Rattle.std.proofs.Common.{◌≡◌, ℕ, subst, sym, refl, arith}
 use Rattle.sctp_model.proofs.sender.ExpiredLaws.{expired_to}
 use Rattle.sctp_send.specs.SenderKept.{Kept}
 use Rattle.sctp_send.specs.SenderStands.{StandsFor, Keeps}
-use Rattle.sctp_send.proofs.ExpireKept.{next_done, late_none}
+use Rattle.sctp_send.proofs.abandon.ExpireKept.{next_done, late_none}
 use Rattle.sctp_send.proofs.QueueLemmas.{fates_given}
 use Rattle.sctp_send.proofs.sender.Sender.expire_all.Goals as goal
 

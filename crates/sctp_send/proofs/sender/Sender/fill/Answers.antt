@@ -2,8 +2,8 @@ use Rattle.std.proofs.Common.{[], refl, sym}
 use Rattle.sctp_model.proofs.sender.FillLaws.{goes_none, stopped_is_fill}
 use Rattle.sctp_packet.specs.Draft.{room_in}
 use Rattle.sctp_send.specs.SenderStands.{StandsFor}
-use Rattle.sctp_send.proofs.FilledLemmas.{no_chunks}
-use Rattle.sctp_send.proofs.NewlyLemmas.{newly_self}
+use Rattle.sctp_send.proofs.fill.FilledLemmas.{no_chunks}
+use Rattle.sctp_send.proofs.fill.NewlyLemmas.{newly_self}
 use Rattle.sctp_send.proofs.sender.Sender.fill.Goals as goal
 
 pub returns-then-is_at_rest-clause-step : goal.returns-then-is_at_rest-clause-step

@@ -2,7 +2,7 @@ use Rattle.std.proofs.Common.{sym, subst}
 use Rattle.sctp_model.proofs.sender.LateLaws.{nothing_expires}
 use Rattle.sctp_send.specs.inner.Dues.{NextLateAnswer}
 use Rattle.sctp_send.specs.SenderStands.{StandsFor}
-use Rattle.sctp_send.proofs.ExpireKept.{none_late, some_late_there}
+use Rattle.sctp_send.proofs.abandon.ExpireKept.{none_late, some_late_there}
 use Rattle.sctp_send.proofs.sender.Sender.has_late.Goals as goal
 
 pub returns-in-Some-clause-exact : goal.returns-in-Some-clause-exact

@@ -3,8 +3,8 @@ use Rattle.std.proofs.lemmas.Bool.{cases_lt, and_parts}
 use Rattle.sctp_model.specs.sender.Abandoning.{is_to_expire, is_overdue, may_abandon}
 use Rattle.sctp_send.specs.SenderKept.{Kept}
 use Rattle.sctp_send.specs.SenderStands.{StandsFor, Keeps}
-use Rattle.sctp_send.proofs.ExpireKept.{due_stays, due_given}
-use Rattle.sctp_send.proofs.MomentKept.{unknown_late}
+use Rattle.sctp_send.proofs.abandon.ExpireKept.{due_stays, due_given}
+use Rattle.sctp_send.proofs.abandon.MomentKept.{unknown_late}
 use Rattle.sctp_send.proofs.sender.Sender.lowest_late.Goals as goal
 
 pub loop-preserved : goal.loop-preserved

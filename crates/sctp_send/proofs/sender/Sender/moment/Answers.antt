@@ -5,9 +5,9 @@ use Rattle.sctp_send.specs.SenderKept.{Kept}
 use Rattle.sctp_send.specs.SenderStands.{StandsFor, Keeps}
 use Rattle.sctp_send.specs.inner.Walks.{is_numbered_fate}
 use Rattle.sctp_send.specs.declared.kept.message.Fate.TheVariants.{Queued as StillQueued, Numbered, Withdrawn, Abandoned as WasAbandoned}
-use Rattle.sctp_send.proofs.AnswerLemmas.{fate_read}
-use Rattle.sctp_send.proofs.UntilLemmas.{with_ticket}
-use Rattle.sctp_send.proofs.MomentKept.{has_come, unknown_late, LateBy, late_by, waiting_moment}
+use Rattle.sctp_send.proofs.abandon.AnswerLemmas.{fate_read}
+use Rattle.sctp_send.proofs.abandon.UntilLemmas.{with_ticket}
+use Rattle.sctp_send.proofs.abandon.MomentKept.{has_come, unknown_late, LateBy, late_by, waiting_moment}
 use Rattle.sctp_send.proofs.sender.Sender.moment.Goals as goal
 
 pub returns-then-at-eq0 : goal.returns-then-at-eq0
@@ -46,7 +46,7 @@ returns-in-Queued g c = λ v stands now.
     let keeps = subst (λ (k : Kept). Keeps g.F.Framing.format k v) (sym c.self.view_is) stands in
     let fate = fate_read g.F.Framing.format _ v c.args.ticket c.get.result StillQueued keeps (omega arith) (omega arith) c.get.ensures c.in-Queued.is in
     let by = subst (LateBy v c.args.ticket) fate (late_by v c.args.ticket) in
-    let found = c.until_waiting.ensures s.head.fragment ∙ ap (λ (qs : List QueuedMessage). option_and_then (λ q. q.message.until) (with_ticket c.args.ticket qs)) keeps.holds.queue in
+    let found = c.until_waiting.ensures s.told.fragment ∙ ap (λ (qs : List QueuedMessage). option_and_then (λ q. q.message.until) (with_ticket c.args.ticket qs)) keeps.holds.queue in
     waiting_moment g.F.Framing.format v now c.args.ticket keeps.reached by ∙ ap (has_come now) (sym found)
 
 pub returns-in-Numbered : goal.returns-in-Numbered

@@ -1,6 +1,6 @@
 use Rattle.std.proofs.Common.{sym, ◌∙◌}
 use Rattle.sctp_send.specs.SenderStands.{StandsFor}
-use Rattle.sctp_send.proofs.ExpireKept.{answered_next}
+use Rattle.sctp_send.proofs.abandon.ExpireKept.{answered_next}
 use Rattle.sctp_send.proofs.sender.Sender.next_late.Goals as goal
 
 pub returns-in-Some : goal.returns-in-Some

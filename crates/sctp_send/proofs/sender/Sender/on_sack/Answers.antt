@@ -8,16 +8,16 @@ use Rattle.sctp_send.specs.SenderKept.{Kept}
 use Rattle.sctp_send.specs.SenderStands.{StandsFor, Keeps}
 use Rattle.sctp_send.specs.CoveredRuns.{runs_behind}
 use Rattle.sctp_send.specs.PartsKept.{OutstandingKept}
-use Rattle.sctp_send.proofs.CoverLemmas.{items_told, all_told_meaning}
+use Rattle.sctp_send.proofs.sack.CoverLemmas.{items_told, all_told_meaning}
 use Rattle.sctp_model.specs.sender.Words.{when}
-use Rattle.sctp_send.proofs.RunLemmas.{when_remembered}
-use Rattle.sctp_send.proofs.RecoverLemmas.{exact_kept}
+use Rattle.sctp_send.proofs.sack.RunLemmas.{when_remembered}
+use Rattle.sctp_send.proofs.sack.RecoverLemmas.{exact_kept}
 use Rattle.sctp_send.proofs.KeepLemmas.{keeps_sacked}
-use Rattle.sctp_send.proofs.SackLemmas.{sack_by_blocks, blocks_past, blocks_bad, blocks_good, sack_faulty}
+use Rattle.sctp_send.proofs.sack.SackLemmas.{sack_by_blocks, blocks_past, blocks_bad, blocks_good, sack_faulty}
 use Rattle.sctp_send.proofs.DueKept.{keeps_awake}
 use Rattle.sctp_send.specs.inner.Dues.{LieIn}
 use Rattle.sctp_send.specs.declared.kept.entry.CoveredRun.{CoveredRun}
-use Rattle.sctp_send.proofs.WakeLemmas.{covered_lies}
+use Rattle.sctp_send.proofs.sack.WakeLemmas.{covered_lies}
 use Rattle.sctp_send.proofs.sender.Sender.on_sack.Goals as goal
 
 pub returns-then-reach_past-clause-answer : goal.returns-then-reach_past-clause-answer
@@ -27,8 +27,8 @@ returns-then-reach_past-clause-answer g c = λ v stands.
     let keeps = subst (λ (k : Kept). Keeps g.F.Framing.format k v) (sym c.self.view_is) stands in
     let n = c.in_ok-passed.passed in
     let p = c.in_ok-passed.ensures.answer v stands in
-    let long = length-map s.parts.outstanding.items (item_meaning s.head.fragment) in
-    let within : n ≤ length (map (item_meaning s.head.fragment) s.parts.outstanding.items) = subst (λ (k : Kept). n ≤ length k.items) (sym c.self.view_is) c.in_ok-passed.ensures.within in
+    let long = length-map s.parts.outstanding.items (item_meaning s.told.fragment) in
+    let within : n ≤ length (map (item_meaning s.told.fragment) s.parts.outstanding.items) = subst (λ (k : Kept). n ≤ length k.items) (sym c.self.view_is) c.in_ok-passed.ensures.within in
     let by = sack_by_blocks g.F.Framing.format _ v (sack_meaning c.args.sack.now) n (c.len.result - n) keeps p (omega (arith, long, within, c.len.ensures)) in
     sym (by ∙ blocks_past (c.len.result - n) c.args.sack.now.blocks (sym c.reach_past.ensures ∙ c.if-reach_past.true))
 
@@ -39,8 +39,8 @@ returns-then-reach_past-clause-step g c = λ v stands.
     let keeps = subst (λ (k : Kept). Keeps g.F.Framing.format k v) (sym c.self.view_is) stands in
     let n = c.in_ok-passed.passed in
     let p = c.in_ok-passed.ensures.answer v stands in
-    let long = length-map s.parts.outstanding.items (item_meaning s.head.fragment) in
-    let within : n ≤ length (map (item_meaning s.head.fragment) s.parts.outstanding.items) = subst (λ (k : Kept). n ≤ length k.items) (sym c.self.view_is) c.in_ok-passed.ensures.within in
+    let long = length-map s.parts.outstanding.items (item_meaning s.told.fragment) in
+    let within : n ≤ length (map (item_meaning s.told.fragment) s.parts.outstanding.items) = subst (λ (k : Kept). n ≤ length k.items) (sym c.self.view_is) c.in_ok-passed.ensures.within in
     let by = sack_by_blocks g.F.Framing.format _ v (sack_meaning c.args.sack.now) n (c.len.result - n) keeps p (omega (arith, long, within, c.len.ensures)) in
     rw (sack_faulty v (sack_meaning c.args.sack.now) taken.Beyond (by ∙ blocks_past (c.len.result - n) c.args.sack.now.blocks (sym c.reach_past.ensures ∙ c.if-reach_past.true))) stands
 
@@ -51,8 +51,8 @@ returns-then-are_disordered-clause-answer g c = λ v stands.
     let keeps = subst (λ (k : Kept). Keeps g.F.Framing.format k v) (sym c.self.view_is) stands in
     let n = c.in_ok-passed.passed in
     let p = c.in_ok-passed.ensures.answer v stands in
-    let long = length-map s.parts.outstanding.items (item_meaning s.head.fragment) in
-    let within : n ≤ length (map (item_meaning s.head.fragment) s.parts.outstanding.items) = subst (λ (k : Kept). n ≤ length k.items) (sym c.self.view_is) c.in_ok-passed.ensures.within in
+    let long = length-map s.parts.outstanding.items (item_meaning s.told.fragment) in
+    let within : n ≤ length (map (item_meaning s.told.fragment) s.parts.outstanding.items) = subst (λ (k : Kept). n ≤ length k.items) (sym c.self.view_is) c.in_ok-passed.ensures.within in
     let by = sack_by_blocks g.F.Framing.format _ v (sack_meaning c.args.sack.now) n (c.len.result - n) keeps p (omega (arith, long, within, c.len.ensures)) in
     sym (by ∙ blocks_bad (c.len.result - n) c.args.sack.now.blocks (sym c.reach_past.ensures ∙ c.if-reach_past.false) (sym c.are_disordered.ensures ∙ c.if-are_disordered.true))
 
@@ -63,8 +63,8 @@ returns-then-are_disordered-clause-step g c = λ v stands.
     let keeps = subst (λ (k : Kept). Keeps g.F.Framing.format k v) (sym c.self.view_is) stands in
     let n = c.in_ok-passed.passed in
     let p = c.in_ok-passed.ensures.answer v stands in
-    let long = length-map s.parts.outstanding.items (item_meaning s.head.fragment) in
-    let within : n ≤ length (map (item_meaning s.head.fragment) s.parts.outstanding.items) = subst (λ (k : Kept). n ≤ length k.items) (sym c.self.view_is) c.in_ok-passed.ensures.within in
+    let long = length-map s.parts.outstanding.items (item_meaning s.told.fragment) in
+    let within : n ≤ length (map (item_meaning s.told.fragment) s.parts.outstanding.items) = subst (λ (k : Kept). n ≤ length k.items) (sym c.self.view_is) c.in_ok-passed.ensures.within in
     let by = sack_by_blocks g.F.Framing.format _ v (sack_meaning c.args.sack.now) n (c.len.result - n) keeps p (omega (arith, long, within, c.len.ensures)) in
     rw (sack_faulty v (sack_meaning c.args.sack.now) taken.BadBlock (by ∙ blocks_bad (c.len.result - n) c.args.sack.now.blocks (sym c.reach_past.ensures ∙ c.if-reach_past.false) (sym c.are_disordered.ensures ∙ c.if-are_disordered.true))) stands
 
@@ -75,8 +75,8 @@ returns-clause-answer g c = λ v stands.
     let keeps = subst (λ (k : Kept). Keeps g.F.Framing.format k v) (sym c.self.view_is) stands in
     let n = c.in_ok-passed.passed in
     let p = c.in_ok-passed.ensures.answer v stands in
-    let long = length-map s.parts.outstanding.items (item_meaning s.head.fragment) in
-    let within : n ≤ length (map (item_meaning s.head.fragment) s.parts.outstanding.items) = subst (λ (k : Kept). n ≤ length k.items) (sym c.self.view_is) c.in_ok-passed.ensures.within in
+    let long = length-map s.parts.outstanding.items (item_meaning s.told.fragment) in
+    let within : n ≤ length (map (item_meaning s.told.fragment) s.parts.outstanding.items) = subst (λ (k : Kept). n ≤ length k.items) (sym c.self.view_is) c.in_ok-passed.ensures.within in
     let by = sack_by_blocks g.F.Framing.format _ v (sack_meaning c.args.sack.now) n (c.len.result - n) keeps p (omega (arith, long, within, c.len.ensures)) in
     sym (by ∙ blocks_good (c.len.result - n) c.args.sack.now.blocks (sym c.reach_past.ensures ∙ c.if-reach_past.false) (sym c.are_disordered.ensures ∙ c.if-are_disordered.false))
 
@@ -87,16 +87,16 @@ returns-clause-step g c = λ v stands.
     let keeps = subst (λ (k : Kept). Keeps g.F.Framing.format k v) (sym c.self.view_is) stands in
     let n = c.in_ok-passed.passed in
     let p = c.in_ok-passed.ensures.answer v stands in
-    let long = length-map s.parts.outstanding.items (item_meaning s.head.fragment) in
-    let within : n ≤ length (map (item_meaning s.head.fragment) s.parts.outstanding.items) = subst (λ (k : Kept). n ≤ length k.items) (sym c.self.view_is) c.in_ok-passed.ensures.within in
+    let long = length-map s.parts.outstanding.items (item_meaning s.told.fragment) in
+    let within : n ≤ length (map (item_meaning s.told.fragment) s.parts.outstanding.items) = subst (λ (k : Kept). n ≤ length k.items) (sym c.self.view_is) c.in_ok-passed.ensures.within in
     let by = sack_by_blocks g.F.Framing.format _ v (sack_meaning c.args.sack.now) n (c.len.result - n) keeps p (omega (arith, long, within, c.len.ensures)) in
     let runs = when_remembered c.cover_blocks-self-inside.result c.cover_blocks-self-inside.new.covered.items c.args.sack.now.blocks c.cover_blocks-self-inside.ensures.runs in
-    let awake = keeps_awake g.F.Framing.format _ v s.head.fragment s.parts.outstanding.items c.wake_for.new.dues.moments c.wake_for.new.dues.asleep keeps refl c.wake_for.ensures.long c.wake_for.ensures.each c.wake_for.ensures.here in
-    let taken = keeps_sacked g.F.Framing.format _ v (sack_meaning c.args.sack.now) n (when c.cover_blocks-self-inside.result c.cover_blocks-self-inside.new.covered.items) awake (λ on i some covered. covered_lies s.head.is_known s.head.covered.items v.covered v.cum n i c.args.sack.now.blocks (c.wake_for.ensures.known on) keeps.holds.covered (subst (λ (rs : List CoveredRun). LieIn n rs c.args.sack.now.blocks) c.deref.ensures.value (c.wake_for.ensures.asleep on)) some covered) p (by ∙ blocks_good (c.len.result - n) c.args.sack.now.blocks (sym c.reach_past.ensures ∙ c.if-reach_past.false) (sym c.are_disordered.ensures ∙ c.if-are_disordered.false)) runs in
+    let awake = keeps_awake g.F.Framing.format _ v s.told.fragment s.parts.outstanding.items c.wake_for.new.dues.moments c.wake_for.new.dues.asleep keeps refl c.wake_for.ensures.long c.wake_for.ensures.each c.wake_for.ensures.here in
+    let taken = keeps_sacked g.F.Framing.format _ v (sack_meaning c.args.sack.now) n (when c.cover_blocks-self-inside.result c.cover_blocks-self-inside.new.covered.items) awake (λ on i some covered. covered_lies s.told.is_known s.told.covered.items v.covered v.cum n i c.args.sack.now.blocks (c.wake_for.ensures.known on) keeps.holds.covered (subst (λ (rs : List CoveredRun). LieIn n rs c.args.sack.now.blocks) c.deref.ensures.value (c.wake_for.ensures.asleep on)) some covered) p (by ∙ blocks_good (c.len.result - n) c.args.sack.now.blocks (sym c.reach_past.ensures ∙ c.if-reach_past.false) (sym c.are_disordered.ensures ∙ c.if-are_disordered.false)) runs in
     let gone = c.forget.ensures.items ∙ ap (λ (w : OutstandingKept). drop n w.items) c.lend_runs.ensures.same in
     let moved = c.move_on.ensures ∙ ap (runs_behind n) c.lend_runs.ensures.covered in
-    let exact = exact_kept g.F.Framing.format _ v s.head.fragment n s.parts.outstanding.items c.forget.new.outstanding.items s.head.is_known s.head.covered.items c.move_on.new.runs.items keeps refl refl gone moved in
+    let exact = exact_kept g.F.Framing.format _ v s.told.fragment n s.parts.outstanding.items c.forget.new.outstanding.items s.told.is_known s.told.covered.items c.move_on.new.runs.items keeps refl refl gone moved in
     let told = c.cover_blocks-self-inside.ensures.told exact in
-    let items : map (item_meaning s.head.fragment) c.cover_blocks-self-inside.new.outstanding.items ≡ items_told (in_blocks 0 c.args.sack.now.blocks) 1 (drop n (map (item_meaning s.head.fragment) s.parts.outstanding.items)) =
+    let items : map (item_meaning s.told.fragment) c.cover_blocks-self-inside.new.outstanding.items ≡ items_told (in_blocks 0 c.args.sack.now.blocks) 1 (drop n (map (item_meaning s.told.fragment) s.parts.outstanding.items)) =
     rw (told, all_told_meaning, gone, drop-map) refl in
     rw (c.from.ensures, c.wake_for.ensures.passed, items, c.cover_blocks-self-inside.ensures.kept.capacity, c.forget.ensures.kept.capacity, c.lend_runs.ensures.same) taken

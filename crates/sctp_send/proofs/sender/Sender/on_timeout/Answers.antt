@@ -1,8 +1,8 @@
 use Rattle.std.proofs.Common.{subst, sym}
 use Rattle.sctp_send.specs.SenderKept.{Kept}
 use Rattle.sctp_send.specs.SenderStands.{StandsFor, Keeps}
-use Rattle.sctp_send.proofs.ItemLemmas.{items-timed}
-use Rattle.sctp_send.proofs.KeepLemmas.{keeps_timed}
+use Rattle.sctp_send.proofs.kept.ItemLemmas.{items-timed}
+use Rattle.sctp_send.proofs.TimerLemmas.{keeps_timed}
 use Rattle.sctp_send.proofs.sender.Sender.on_timeout.Goals as goal
 
 pub returns : goal.returns

@@ -12,7 +12,7 @@ returns-clause-count g c = λ v stands.
     let s = c.self.inside in
     let keeps = subst (λ (k : Kept). Keeps g.F.Framing.format k v) (sym c.self.view_is) stands in
     let is = outstanding_is g.F.Framing.format _ v keeps in
-    let long = length-map s.parts.outstanding.items (item_meaning s.head.fragment) in
+    let long = length-map s.parts.outstanding.items (item_meaning s.told.fragment) in
     let parts = rw c.self.invariant.tracks at c.in_part.ensures in
     rw (c.count_of.ensures, parts) (rw long at is)
 
@@ -22,7 +22,7 @@ returns-clause-bound g c = λ v stands.
     let s = c.self.inside in
     let keeps = subst (λ (k : Kept). Keeps g.F.Framing.format k v) (sym c.self.view_is) stands in
     let is = outstanding_is g.F.Framing.format _ v keeps in
-    let long = length-map s.parts.outstanding.items (item_meaning s.head.fragment) in
+    let long = length-map s.parts.outstanding.items (item_meaning s.told.fragment) in
     let parts = rw c.self.invariant.tracks at c.in_part.ensures in
     let counted = rw long at is in
     rw (c.count_of.ensures, parts, counted) (outstanding_fits g.F.Framing.format _ v keeps)

@@ -10,4 +10,4 @@ returns g c = λ v stands.
     let s = c.self.inside in
     let keeps = subst (λ (k : Kept). Keeps g.F.Framing.format k v) (sym c.self.view_is) stands in
     let is = point_is g.F.Framing.format _ v keeps in
-    rw (c.from.ensures, c.abandoned_run.ensures s.head.fragment) is
+    rw (c.from.ensures, c.abandoned_run.ensures s.told.fragment) is

@@ -8,8 +8,8 @@ use Rattle.sctp_send.specs.OutstandingFields.{item_meaning, entries_of}
 use Rattle.sctp_send.specs.SenderKept.{Kept}
 use Rattle.sctp_send.specs.SenderStands.{StandsFor, Keeps}
 use Rattle.sctp_send.specs.inner.Lanes.{passed_meaning}
-use Rattle.sctp_send.proofs.ForwardLemmas.{all_fit}
-use Rattle.sctp_send.proofs.ReachLemmas.{reaches, sent_forward, goes_on}
+use Rattle.sctp_send.proofs.forward.ForwardLemmas.{all_fit}
+use Rattle.sctp_send.proofs.forward.ReachLemmas.{reaches, sent_forward, goes_on}
 use Rattle.sctp_send.proofs.sender.Sender.put_forward.Goals as goal
 
 pub returns-then-passed-eq0-clause-reaches : goal.returns-then-passed-eq0-clause-reaches
@@ -20,16 +20,16 @@ put_lanes-requires-clause-fits g c =
     let f = g.F.Framing.format in
     let lanes = ap (map passed_meaning) c.as_slice.ensures.value ∙ c.note_within-passed.ensures.lanes 1 in
     subst (λ (xs : List Skip). AllByRecursion (IsSkip (skip_form f)) (map (skip_said f) xs)) (sym lanes)
-    (all_fit f (entries_of (map (item_meaning 1) (take c.note_within-passed.result c.self.inside.parts.outstanding.items))) c.self.inside.head.streams (omega arith))
+    (all_fit f (entries_of (map (item_meaning 1) (take c.note_within-passed.result c.self.inside.parts.outstanding.items))) c.self.inside.told.streams (omega arith))
 
 pub returns-clause-answer : goal.returns-clause-answer
 unfolding StandsFor
 returns-clause-answer g c = λ v stands.
     let s = c.self.inside in
     let keeps = subst (λ (k : Kept). Keeps g.F.Framing.format k v) (sym c.self.view_is) stands in
-    let end = c.note_within-passed.ensures.end _ v s.head.fragment keeps refl refl in
-    let lanes = ap (map passed_meaning) c.as_slice.ensures.value ∙ c.note_within-passed.ensures.lanes s.head.fragment in
-    let chunk = sent_forward g.F.Framing.format _ v s.head.fragment c.args.limit c.note_within-passed.result c.tsn_of-cumulative.result s.parts.outstanding.items c.as_slice.result.now keeps refl end lanes (rw c.from.ensures at c.tsn_of-cumulative.ensures) in
+    let end = c.note_within-passed.ensures.end _ v s.told.fragment keeps refl refl in
+    let lanes = ap (map passed_meaning) c.as_slice.ensures.value ∙ c.note_within-passed.ensures.lanes s.told.fragment in
+    let chunk = sent_forward g.F.Framing.format _ v s.told.fragment c.args.limit c.note_within-passed.result c.tsn_of-cumulative.result s.parts.outstanding.items c.as_slice.result.now keeps refl end lanes (rw c.from.ensures at c.tsn_of-cumulative.ensures) in
     rw (goes_on g.F.Framing.format c.args.limit c.note_within-passed.result v end c.if-passed-eq0.false) (rw chunk at c.put_lanes.ensures.answer)
 
 pub returns-clause-after : goal.returns-clause-after
@@ -37,9 +37,9 @@ unfolding StandsFor
 returns-clause-after g c = λ v stands.
     let s = c.self.inside in
     let keeps = subst (λ (k : Kept). Keeps g.F.Framing.format k v) (sym c.self.view_is) stands in
-    let end = c.note_within-passed.ensures.end _ v s.head.fragment keeps refl refl in
-    let lanes = ap (map passed_meaning) c.as_slice.ensures.value ∙ c.note_within-passed.ensures.lanes s.head.fragment in
-    let chunk = sent_forward g.F.Framing.format _ v s.head.fragment c.args.limit c.note_within-passed.result c.tsn_of-cumulative.result s.parts.outstanding.items c.as_slice.result.now keeps refl end lanes (rw c.from.ensures at c.tsn_of-cumulative.ensures) in
+    let end = c.note_within-passed.ensures.end _ v s.told.fragment keeps refl refl in
+    let lanes = ap (map passed_meaning) c.as_slice.ensures.value ∙ c.note_within-passed.ensures.lanes s.told.fragment in
+    let chunk = sent_forward g.F.Framing.format _ v s.told.fragment c.args.limit c.note_within-passed.result c.tsn_of-cumulative.result s.parts.outstanding.items c.as_slice.result.now keeps refl end lanes (rw c.from.ensures at c.tsn_of-cumulative.ensures) in
     rw chunk at c.put_lanes.ensures.after
 
 pub returns-clause-memory : goal.returns-clause-memory
@@ -47,7 +47,7 @@ unfolding StandsFor
 returns-clause-memory g c = λ v stands.
     let s = c.self.inside in
     let keeps = subst (λ (k : Kept). Keeps g.F.Framing.format k v) (sym c.self.view_is) stands in
-    let end = c.note_within-passed.ensures.end _ v s.head.fragment keeps refl refl in
-    let lanes = ap (map passed_meaning) c.as_slice.ensures.value ∙ c.note_within-passed.ensures.lanes s.head.fragment in
-    let chunk = sent_forward g.F.Framing.format _ v s.head.fragment c.args.limit c.note_within-passed.result c.tsn_of-cumulative.result s.parts.outstanding.items c.as_slice.result.now keeps refl end lanes (rw c.from.ensures at c.tsn_of-cumulative.ensures) in
+    let end = c.note_within-passed.ensures.end _ v s.told.fragment keeps refl refl in
+    let lanes = ap (map passed_meaning) c.as_slice.ensures.value ∙ c.note_within-passed.ensures.lanes s.told.fragment in
+    let chunk = sent_forward g.F.Framing.format _ v s.told.fragment c.args.limit c.note_within-passed.result c.tsn_of-cumulative.result s.parts.outstanding.items c.as_slice.result.now keeps refl end lanes (rw c.from.ensures at c.tsn_of-cumulative.ensures) in
     rw (goes_on g.F.Framing.format c.args.limit c.note_within-passed.result v end c.if-passed-eq0.false) (rw chunk at c.put_lanes.ensures.memory)

@@ -3,7 +3,7 @@ use Rattle.std.proofs.lemmas.List.{length-map}
 use Rattle.sctp_send.specs.SenderKept.{Kept}
 use Rattle.sctp_send.specs.SenderFields.{queued_by}
 use Rattle.sctp_send.specs.SenderStands.{StandsFor, Keeps}
-use Rattle.sctp_send.proofs.LoadLemmas.{queued_fits}
+use Rattle.sctp_send.proofs.kept.LoadLemmas.{queued_fits}
 use Rattle.sctp_send.proofs.sender.Sender.queued.Goals as goal
 
 pub returns-clause-bound : goal.returns-clause-bound
@@ -11,6 +11,6 @@ unfolding StandsFor
 returns-clause-bound g c = λ v stands.
     let s = c.self.inside in
     let keeps = subst (λ (k : Kept). Keeps g.F.Framing.format k v) (sym c.self.view_is) stands in
-    let long = length-map s.parts.queue.items (queued_by s.head.fragment) in
+    let long = length-map s.parts.queue.items (queued_by s.told.fragment) in
     let few = queued_fits g.F.Framing.format _ v keeps in
     omega (arith, c.len.ensures.len, long, few)

@@ -1,7 +1,7 @@
 use Rattle.std.proofs.Common.{subst, sym}
 use Rattle.sctp_send.specs.SenderKept.{Kept}
 use Rattle.sctp_send.specs.SenderStands.{StandsFor, Keeps}
-use Rattle.sctp_send.proofs.LoadLemmas.{queued_bytes_is, queued_bytes_fit}
+use Rattle.sctp_send.proofs.kept.LoadLemmas.{queued_bytes_is, queued_bytes_fit}
 use Rattle.sctp_send.proofs.sender.Sender.queued_bytes.Goals as goal
 
 pub returns-clause-bytes : goal.returns-clause-bytes

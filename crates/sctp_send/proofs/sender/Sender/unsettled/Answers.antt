@@ -17,4 +17,4 @@ returns g c = λ v stands.
     let s = c.self.inside in
     let keeps = subst (λ (k : Kept). Keeps g.F.Framing.format k v) (sym c.self.view_is) stands in
     let is = point_alone g.F.Framing.format _ v keeps (sym (rw c.self.invariant.window at c.is_unsettled.ensures) ∙ c.if-is_unsettled.false) in
-    rw (c.front.ensures s.head.fragment) is
+    rw (c.front.ensures s.told.fragment) is

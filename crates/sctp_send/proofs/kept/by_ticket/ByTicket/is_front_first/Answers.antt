@@ -1,6 +1,6 @@
 use Rattle.std.proofs.Common.{◌≡◌, ◌<◌, refl, arith}
 use Rattle.std.proofs.lemmas.Bool.Decides.{nat_tests}
-use Rattle.sctp_send.proofs.OrderLemmas.{front_first}
+use Rattle.sctp_send.proofs.kept.OrderShortened.{front_first}
 use Rattle.sctp_send.proofs.kept.by_ticket.ByTicket.is_front_first.Goals as goal
 
 pub returns-in-Some-clause-first : goal.returns-in-Some-clause-first

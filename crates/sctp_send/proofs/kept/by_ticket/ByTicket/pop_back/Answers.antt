@@ -1,7 +1,8 @@
 use Rattle.std.proofs.Common.{◌≡◌, ◌++◌, ◌∷◌, [], ℕ, length, Some, sym, subst, arith, length-append}
 use Rattle.std.specs.Prelude.{slice_get}
 use Rattle.sctp_send.specs.inner.TicketOrder.{IsOrderOf, IsGone}
-use Rattle.sctp_send.proofs.OrderLemmas.{ordered_cut, get_last}
+use Rattle.sctp_send.proofs.kept.OrderLemmas.{get_last}
+use Rattle.sctp_send.proofs.kept.OrderShortened.{ordered_cut}
 use Rattle.sctp_send.proofs.kept.by_ticket.ByTicket.pop_back.Goals as goal
 
 pub returns-clause-order : goal.returns-clause-order

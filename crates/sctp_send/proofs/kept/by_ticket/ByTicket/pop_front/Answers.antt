@@ -2,7 +2,8 @@ use Rattle.std.proofs.Common.{◌∷◌, ◌+◌, ◌%◌, ◌^◌, ℕ, List, a
 use Rattle.sctp_send.specs.declared.kept.by_ticket.ByTicket.{ByTicket}
 use Rattle.sctp_send.specs.declared.kept.by_ticket.Spot.{Spot}
 use Rattle.sctp_send.specs.inner.TicketOrder.{IsGone, AreUpTo}
-use Rattle.sctp_send.proofs.OrderLemmas.{ordered_behind, front_gone, upto_behind}
+use Rattle.sctp_send.proofs.kept.OrderLemmas.{upto_behind}
+use Rattle.sctp_send.proofs.kept.OrderShortened.{ordered_behind, front_gone}
 use Rattle.sctp_send.proofs.kept.by_ticket.ByTicket.pop_front.Goals as goal
 use Rattle.sctp_send.proofs.kept.by_ticket.ByTicket.pop_front.Goals.{then-is_front_first, else-is_front_first}
 

@@ -2,7 +2,8 @@ use Rattle.std.proofs.Common.{◌≡◌, ◌+◌, ◌%◌, ◌^◌, ◌++◌, �
 use Rattle.std.proofs.lemmas.List.Edits.{insert_end}
 use Rattle.sctp_send.specs.declared.kept.by_ticket.Spot.{Spot}
 use Rattle.sctp_send.specs.inner.TicketOrder.{IsOrderOf, AreUpTo}
-use Rattle.sctp_send.proofs.OrderLemmas.{ordered_pushed, place_last, upto_inserted, fresh_offset}
+use Rattle.sctp_send.proofs.kept.OrderLemmas.{ordered_pushed, rank_last, upto_inserted}
+use Rattle.sctp_send.proofs.kept.OrderShortened.{fresh_offset}
 use Rattle.sctp_send.proofs.kept.by_ticket.ByTicket.push.Goals as goal
 
 pub returns-then-self-ticket-clause-order : goal.returns-then-self-ticket-clause-order
@@ -13,8 +14,8 @@ returns-then-self-ticket-clause-order c = λ tickets order.
     let long : n ≡ length ss = c.len-offset.ensures ∙ s.spots.ok.0 in
     let y : Spot = record { ticket = c.args.ticket; index = (s.first + n) % 2 ^ 32 } in
     let at = fresh_offset s.first c.args.ticket n (length tickets) order.small (omega (arith, c.requires.few, long)) (omega (arith, long, order.many)) in
-    let place = place_last tickets s.first c.args.ticket s.highest ss c.if-self-ticket.true c.requires.below order in
-    let last = ordered_pushed tickets s.first y ss (length ss) (omega arith) at order place in
+    let rank = rank_last tickets s.first c.args.ticket s.highest ss c.if-self-ticket.true c.requires.below order in
+    let last = ordered_pushed tickets s.first y ss (length ss) (omega arith) at order rank in
     subst (λ (xs : List Spot). IsOrderOf (tickets ++ c.args.ticket ∷ []) s.first xs) (insert_end ss y ∙ sym c.push_back_reserved.ensures.items) last
 
 pub returns-then-self-ticket-clause-below : goal.returns-then-self-ticket-clause-below

@@ -1,7 +1,8 @@
 use Rattle.std.proofs.Common.{◌≡◌, ◌+◌, ◌%◌, ◌^◌, ◌++◌, ◌∷◌, [], ℕ, List, length, arith, sym, ◌∙◌, subst}
 use Rattle.sctp_send.specs.declared.kept.by_ticket.Spot.{Spot}
-use Rattle.sctp_send.specs.inner.TicketOrder.{IsOrderOf, IsPlaceOf, AreUpTo}
-use Rattle.sctp_send.proofs.OrderLemmas.{ordered_pushed, upto_inserted, fresh_offset, when_ok}
+use Rattle.sctp_send.specs.inner.TicketOrder.{IsOrderOf, IsRankOf, AreUpTo}
+use Rattle.sctp_send.proofs.kept.OrderLemmas.{ordered_pushed, upto_inserted}
+use Rattle.sctp_send.proofs.kept.OrderShortened.{fresh_offset, when_ok}
 use Rattle.sctp_send.proofs.kept.by_ticket.ByTicket.push_among.Goals as goal
 
 pub returns-clause-order : goal.returns-clause-order
@@ -13,9 +14,9 @@ returns-clause-order c = λ tickets order.
     let y : Spot = record { ticket = c.args.ticket; index = (s.first + n) % 2 ^ 32 } in
     let at = fresh_offset s.first c.args.ticket n (length tickets) order.small (omega (arith, c.requires.few, long)) (omega (arith, long, order.many)) in
     let same : n ≡ length tickets = omega (arith, long, order.many) in
-    let place = subst (λ (m : ℕ). IsPlaceOf s.first c.args.ticket m ss c.place-place.result) same (c.place-place.ensures.place tickets order) in
-    let items = when_ok c.insert-placed.result c.insert-placed.ensures.items c.insert-placed.ensures.full (λ full. omega (arith, full, c.requires.room, s.spots.ok)) in
-    let new = ordered_pushed tickets s.first y ss c.place-place.result c.place-place.ensures.bound at order place in
+    let rank = subst (λ (m : ℕ). IsRankOf s.first c.args.ticket m ss c.rank-rank.result) same (c.rank-rank.ensures.rank tickets order) in
+    let items = when_ok c.insert-inserted.result c.insert-inserted.ensures.items c.insert-inserted.ensures.full (λ full. omega (arith, full, c.requires.room, s.spots.ok)) in
+    let new = ordered_pushed tickets s.first y ss c.rank-rank.result c.rank-rank.ensures.bound at order rank in
     subst (λ (xs : List Spot). IsOrderOf (tickets ++ c.args.ticket ∷ []) s.first xs) (sym items) new
 
 pub returns-clause-below : goal.returns-clause-below
@@ -23,5 +24,5 @@ returns-clause-below c =
     let s = c.args.self.now in
     let ss = s.spots.items in
     let y : Spot = record { ticket = c.args.ticket; index = (s.first + c.len-offset.result) % 2 ^ 32 } in
-    let items = when_ok c.insert-placed.result c.insert-placed.ensures.items c.insert-placed.ensures.full (λ full. omega (arith, full, c.requires.room, s.spots.ok)) in
-    subst (λ (xs : List Spot). AreUpTo s.highest xs) (sym items) (upto_inserted s.highest s.highest y ss c.place-place.result (omega arith) c.requires.low c.requires.below)
+    let items = when_ok c.insert-inserted.result c.insert-inserted.ensures.items c.insert-inserted.ensures.full (λ full. omega (arith, full, c.requires.room, s.spots.ok)) in
+    subst (λ (xs : List Spot). AreUpTo s.highest xs) (sym items) (upto_inserted s.highest s.highest y ss c.rank-rank.result (omega arith) c.requires.low c.requires.below)

@@ -1,7 +1,7 @@
 use Rattle.std.proofs.Common.{ℕ, ◌≡◌, ◌+◌, ◌<◌, List, length, subst, sym, ap, arith}
 use Rattle.sctp_send.specs.PartsKept.{DueTableKept}
 use Rattle.sctp_send.specs.inner.Dues.{due_at, AreDues}
-use Rattle.sctp_send.proofs.MomentLemmas.{dues_lowered, due_lowered, due_here}
+use Rattle.sctp_send.proofs.kept.MomentLemmas.{dues_lowered, due_lowered, due_here}
 use Rattle.sctp_send.proofs.kept.due_table.DueTable.lower.Goals as goal
 
 pub invariant_of-self : goal.invariant_of-self

@@ -1,7 +1,7 @@
 use Rattle.std.proofs.Common.{◌^◌, ◌<◌, subst, arith}
 use Rattle.sctp_send.specs.PartsKept.{DueTableKept}
 use Rattle.sctp_send.specs.inner.Dues.{due_at}
-use Rattle.sctp_send.proofs.MomentLemmas.{due_above, due_early}
+use Rattle.sctp_send.proofs.kept.MomentLemmas.{due_above, due_early}
 use Rattle.sctp_send.proofs.kept.due_table.DueTable.next.Goals as goal
 
 pub returns-then-now-self-clause-none : goal.returns-then-now-self-clause-none

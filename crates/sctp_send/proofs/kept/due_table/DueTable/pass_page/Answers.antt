@@ -1,6 +1,6 @@
 use Rattle.std.proofs.Common.{◌≤◌, length, subst, sym}
 use Rattle.sctp_send.specs.PartsKept.{DueTableKept}
-use Rattle.sctp_send.proofs.MomentLemmas.{dues_passed}
+use Rattle.sctp_send.proofs.kept.MomentPages.{dues_passed}
 use Rattle.sctp_send.proofs.kept.due_table.DueTable.pass_page.Goals as goal
 
 pub invariant_of-self : goal.invariant_of-self

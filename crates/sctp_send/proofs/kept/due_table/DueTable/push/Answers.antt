@@ -1,6 +1,6 @@
 use Rattle.std.proofs.Common.{◌≡◌, ◌+◌, ◌<◌, ◌^◌, ◌%◌, suc, length, subst, sym, arith}
 use Rattle.sctp_send.specs.PartsKept.{DueTableKept}
-use Rattle.sctp_send.proofs.MomentLemmas.{dues_begun, dues_lower, dues_under}
+use Rattle.sctp_send.proofs.kept.MomentLemmas.{dues_begun, dues_lower, dues_under}
 use Rattle.sctp_send.proofs.kept.due_table.DueTable.push.Goals.{then-many-eq0, else-many-eq0+then-moment-index, else-many-eq0+else-moment-index}
 use Rattle.sctp_send.proofs.kept.due_table.DueTable.push.Goals as goal
 

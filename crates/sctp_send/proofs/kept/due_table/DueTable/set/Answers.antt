@@ -1,7 +1,7 @@
 use Rattle.std.proofs.Common.{ℕ, List, inl, length, sym, ◌∙◌, ap, arith}
 use Rattle.sctp_send.specs.PartsKept.{DueTableKept}
 use Rattle.sctp_send.specs.inner.Dues.{due_at}
-use Rattle.sctp_send.proofs.MomentLemmas.{due_set_same, due_set_other}
+use Rattle.sctp_send.proofs.kept.MomentLemmas.{due_set_same, due_set_other}
 use Rattle.sctp_send.proofs.kept.due_table.DueTable.set.Goals as goal
 
 pub returns-in-Some-clause-here : goal.returns-in-Some-clause-here

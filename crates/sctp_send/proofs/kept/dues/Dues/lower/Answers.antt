@@ -3,7 +3,7 @@ use Rattle.std.proofs.lemmas.List.{length-append, length-replicate}
 use Rattle.std.specs.Prelude.{replicate}
 use Rattle.sctp_send.specs.PartsKept.{DuesKept}
 use Rattle.sctp_send.specs.inner.Dues.{due_at}
-use Rattle.sctp_send.proofs.MomentLemmas.{due_alike, due_after, run_less}
+use Rattle.sctp_send.proofs.kept.MomentPages.{due_alike, due_after, run_less}
 use Rattle.sctp_send.proofs.kept.dues.Dues.lower.Goals as goal
 
 pub returns-then-ticket-passed-clause-each : goal.returns-then-ticket-passed-clause-each

@@ -1,7 +1,7 @@
 use Rattle.std.proofs.Common.{◌≡◌, ℕ, ◌+◌, ◌-◌, ◌<◌, ◌≤◌, subst, sym, arith}
 use Rattle.sctp_send.specs.PartsKept.{DuesKept}
 use Rattle.sctp_send.specs.inner.Dues.{due_at}
-use Rattle.sctp_send.proofs.MomentLemmas.{run_due, some_more, none_more}
+use Rattle.sctp_send.proofs.kept.MomentPages.{run_due, some_more, none_more}
 use Rattle.sctp_send.proofs.kept.dues.Dues.next.Goals as goal
 
 pub returns-then-now-self-clause-before : goal.returns-then-now-self-clause-before

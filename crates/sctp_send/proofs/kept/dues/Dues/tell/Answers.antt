@@ -3,7 +3,7 @@ use Rattle.std.specs.Prelude.{replicate, unwrap_or}
 use Rattle.sctp_model.specs.numbers.Limits.{LAST_MOMENT}
 use Rattle.sctp_send.specs.PartsKept.{DuesKept}
 use Rattle.sctp_send.specs.inner.Dues.{due_at}
-use Rattle.sctp_send.proofs.MomentLemmas.{run_here, run_same}
+use Rattle.sctp_send.proofs.kept.MomentPages.{run_here, run_same}
 use Rattle.sctp_send.proofs.kept.dues.Dues.tell.Goals as goal
 
 pub returns-clause-here : goal.returns-clause-here

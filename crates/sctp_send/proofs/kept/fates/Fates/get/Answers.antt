@@ -2,7 +2,7 @@ use Rattle.std.proofs.Common.{◌≡◌, ◌+◌, length, get_or, ap, sym, ◌�
 use Rattle.std.proofs.lemmas.List.{get_or_append_left, get_or-append_right}
 use Rattle.sctp_send.specs.PartsKept.{FatesKept}
 use Rattle.sctp_send.specs.inner.FateBlocks.{fates_of}
-use Rattle.sctp_send.proofs.FateLemmas.{long_all, long_of}
+use Rattle.sctp_send.proofs.kept.FateLemmas.{long_all, long_of}
 use Rattle.sctp_send.proofs.kept.fates.Fates.get.Goals as goal
 
 pub index-requires : goal.index-requires

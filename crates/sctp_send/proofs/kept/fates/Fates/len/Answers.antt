@@ -1,6 +1,6 @@
 use Rattle.std.proofs.Common.{◌≡◌, ◌+◌, length, ap, sym, ◌∙◌, arith}
 use Rattle.sctp_send.specs.PartsKept.{FatesKept}
-use Rattle.sctp_send.proofs.FateLemmas.{long_all}
+use Rattle.sctp_send.proofs.kept.FateLemmas.{long_all}
 use Rattle.sctp_send.proofs.kept.fates.Fates.len.Goals as goal
 
 pub returns-clause-len : goal.returns-clause-len

@@ -2,7 +2,7 @@ use Rattle.std.proofs.Common.{◌≡◌, ◌+◌, length, ap, sym, ◌∙◌, ar
 use Rattle.std.specs.Vec.{vec_capacity}
 use Rattle.std.proofs.lemmas.List.{length_push}
 use Rattle.sctp_send.specs.PartsKept.{FatesKept}
-use Rattle.sctp_send.proofs.FateLemmas.{long_all}
+use Rattle.sctp_send.proofs.kept.FateLemmas.{long_all}
 use Rattle.sctp_send.proofs.kept.fates.Fates.push.Goals as goal
 
 pub push_reserved-requires : goal.push_reserved-requires

@@ -1,6 +1,6 @@
 use Rattle.std.proofs.Common.{◌<◌, length, subst, arith}
 use Rattle.sctp_send.specs.PartsKept.{FatesKept}
-use Rattle.sctp_send.proofs.FateLemmas.{long_all}
+use Rattle.sctp_send.proofs.kept.FateLemmas.{long_all}
 use Rattle.sctp_send.proofs.kept.fates.Fates.reserve.Goals as goal
 use Rattle.sctp_send.proofs.kept.fates.Fates.reserve.Goals.{in-Ok, in-Err}
 

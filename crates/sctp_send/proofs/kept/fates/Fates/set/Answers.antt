@@ -2,7 +2,7 @@ use Rattle.std.proofs.Common.{◌≡◌, ◌++◌, set, sym, subst, arith}
 use Rattle.std.proofs.lemmas.List.{set-append_right}
 use Rattle.sctp_send.specs.PartsKept.{FatesKept}
 use Rattle.sctp_send.specs.inner.FateBlocks.{fates_of}
-use Rattle.sctp_send.proofs.FateLemmas.{long_of}
+use Rattle.sctp_send.proofs.kept.FateLemmas.{long_of}
 use Rattle.sctp_send.proofs.kept.fates.Fates.set.Goals as goal
 
 pub returns-then-at-self-clause-items : goal.returns-then-at-self-clause-items

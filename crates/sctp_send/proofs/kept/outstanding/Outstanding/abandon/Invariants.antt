@@ -1,12 +1,12 @@
 use Rattle.std.proofs.Common.{◌≡◌}
 use Rattle.std.specs.VecDeque.{deque_capacity}
-use Rattle.sctp_send.specs.inner.Changes.{all_given}
+use Rattle.sctp_send.specs.inner.Changes.{all_abandoned}
 use Rattle.sctp_send.specs.inner.TicketOrder.{IsInOrder}
-use Rattle.sctp_send.proofs.TicketWalks.{WerePassed, IsGiven}
+use Rattle.sctp_send.proofs.kept.TicketWalks.{WerePassed, IsAbandonedAlready}
 use Rattle.sctp_send.proofs.kept.outstanding.Outstanding.abandon.Given as goal
 
-abbrev pub invariant-loop-place : goal.invariant-loop-place
-invariant-loop-place l =
+abbrev pub invariant-loop-rank : goal.invariant-loop-rank
+invariant-loop-rank l =
     let s = l.self-inside in
     let t = l.initial.self-inside in
     record {
@@ -14,6 +14,6 @@ invariant-loop-place l =
       size : s.size ≡ t.size;
       room : s.room ≡ t.room;
       order : s.by_ticket ≡ t.by_ticket;
-      given : all_given l.ticket s.entries.items ≡ all_given l.ticket t.entries.items;
-      fixed : WerePassed s.entries.items s.by_ticket.first s.by_ticket.spots.items (IsGiven l.ticket) l.place;
+      abandoned : all_abandoned l.ticket s.entries.items ≡ all_abandoned l.ticket t.entries.items;
+      fixed : WerePassed s.entries.items s.by_ticket.first s.by_ticket.spots.items (IsAbandonedAlready l.ticket) l.rank;
     }

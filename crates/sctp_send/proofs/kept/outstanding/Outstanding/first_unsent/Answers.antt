@@ -2,9 +2,9 @@ use Rattle.std.proofs.Common.{◌≡◌, ◌<◌, ◌≤◌, length, map, sym, �
 use Rattle.std.specs.VecDeque.{deque_capacity}
 use Rattle.sctp_send.specs.OutstandingFields.{item_meaning}
 use Rattle.sctp_send.specs.inner.Wishing.{is_item_unsent}
-use Rattle.sctp_send.proofs.CursorLemmas.{none_less, none_more, first_found, none_found}
-use Rattle.sctp_send.proofs.CountLemmas.{counts_unsent}
-use Rattle.sctp_send.proofs.TicketWalks.{recounted}
+use Rattle.sctp_send.proofs.kept.CursorLemmas.{none_less, none_more, first_found, none_found}
+use Rattle.sctp_send.proofs.kept.CountLemmas.{counts_unsent}
+use Rattle.sctp_send.proofs.kept.TicketWalks.{recounted}
 use Rattle.sctp_send.proofs.kept.outstanding.Outstanding.first_unsent.Goals as goal
 
 pub loop-at-init : goal.loop-at-init

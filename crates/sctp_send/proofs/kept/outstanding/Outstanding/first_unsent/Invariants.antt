@@ -2,7 +2,7 @@ use Rattle.std.proofs.Common.{◌≡◌, None, length, map, take}
 use Rattle.std.specs.VecDeque.{deque_capacity}
 use Rattle.sctp_send.specs.OutstandingFields.{item_meaning}
 use Rattle.sctp_send.specs.PartsKept.{OutstandingKept}
-use Rattle.sctp_send.specs.inner.Wishing.{first_place, is_item_unsent}
+use Rattle.sctp_send.specs.inner.Wishing.{first_offset, is_item_unsent}
 use Rattle.sctp_send.specs.inner.TicketOrder.{IsInOrder}
 use Rattle.sctp_send.proofs.kept.outstanding.Outstanding.first_unsent.Given as goal
 
@@ -13,5 +13,5 @@ invariant-loop-at l =
       kept : IsInOrder s.size s.entries.items (deque_capacity s.entries) s.counts s.by_ticket s.room s.stretches.items;
       same : ◌≡◌ {A = OutstandingKept} (record { size = s.size; items = s.entries.items; capacity = s.room }) l.fn.self;
       end : l.at-end ≡ length s.entries.items;
-      none : first_place is_item_unsent (take l.at (map (item_meaning s.size) s.entries.items)) ≡ None;
+      none : first_offset is_item_unsent (take l.at (map (item_meaning s.size) s.entries.items)) ≡ None;
     }

@@ -1,4 +1,4 @@
-use Rattle.sctp_send.proofs.WeightLemmas.{flight_bound}
+use Rattle.sctp_send.proofs.kept.WeightLemmas.{flight_bound}
 use Rattle.sctp_send.proofs.kept.outstanding.Outstanding.flight.Goals as goal
 
 pub returns-clause-bound : goal.returns-clause-bound

@@ -2,7 +2,7 @@ use Rattle.std.proofs.Common.{◌∙◌, ap, map}
 use Rattle.sctp_send.specs.OutstandingFields.{item_meaning}
 use Rattle.sctp_send.specs.PartsKept.{OutstandingKept}
 use Rattle.sctp_send.specs.inner.Walks.{abandoned_items}
-use Rattle.sctp_send.proofs.FrontLemmas.{front_any}
+use Rattle.sctp_send.proofs.kept.FrontLemmas.{front_any}
 use Rattle.sctp_send.proofs.kept.outstanding.Outstanding.front.Goals as goal
 
 pub returns : goal.returns

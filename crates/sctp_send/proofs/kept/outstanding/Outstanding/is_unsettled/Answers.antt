@@ -1,5 +1,5 @@
 use Rattle.std.proofs.Common.{◌<◌, ◌^◌, length, arith}
-use Rattle.sctp_send.proofs.WeightLemmas.{some_counts}
+use Rattle.sctp_send.proofs.kept.WeightLemmas.{some_counts}
 use Rattle.sctp_send.proofs.kept.outstanding.Outstanding.is_unsettled.Goals as goal
 
 pub returns : goal.returns

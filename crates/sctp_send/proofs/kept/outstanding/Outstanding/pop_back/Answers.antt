@@ -4,9 +4,9 @@ use Rattle.sctp_send.specs.declared.kept.message.Message.{Message as MessageFiel
 use Rattle.sctp_send.specs.declared.kept.entry.Entry.{Entry as EntryFields}
 use Rattle.sctp_send.specs.inner.Counting.{IsCounted}
 use Rattle.sctp_send.specs.inner.TicketOrder.{IsOrderOf, ticket_of, tickets_of}
-use Rattle.sctp_send.proofs.CountLemmas.{counts_cut}
+use Rattle.sctp_send.proofs.kept.CountLemmas.{counts_cut}
 use Rattle.sctp_send.specs.inner.Stretching.{AreKnown}
-use Rattle.sctp_send.proofs.KnownLemmas.{known_cut}
+use Rattle.sctp_send.proofs.kept.KnownLemmas.{known_cut}
 use Rattle.sctp_send.proofs.kept.outstanding.Outstanding.pop_back.Goals as goal
 
 pub invariant_of-self : goal.invariant_of-self

@@ -4,10 +4,10 @@ use Rattle.sctp_send.specs.PartsKept.{OutstandingKept}
 use Rattle.sctp_send.specs.inner.TicketOrder.{IsOrderOf, ticket_of, tickets_of}
 use Rattle.sctp_send.specs.declared.kept.message.Message.{Message as MessageFields}
 use Rattle.sctp_send.specs.declared.kept.entry.Entry.{Entry as EntryFields}
-use Rattle.sctp_send.proofs.CountLemmas.{counts_pushed}
-use Rattle.sctp_send.proofs.TicketWalks.{long_tickets}
+use Rattle.sctp_send.proofs.kept.CountLemmas.{counts_pushed}
+use Rattle.sctp_send.proofs.kept.TicketWalks.{long_tickets}
 use Rattle.sctp_send.specs.inner.Stretching.{index_at, AreKnown}
-use Rattle.sctp_send.proofs.KnownLemmas.{SayTheSame, SayNothing, known_less, known_pushed}
+use Rattle.sctp_send.proofs.kept.KnownLemmas.{SayTheSame, SayNothing, known_pushed}
 use Rattle.sctp_send.proofs.kept.outstanding.Outstanding.put.Goals as goal
 
 pub push-requires : goal.push-requires
@@ -52,8 +52,8 @@ invariant_of-self c =
           let here = c.index.ensures ∙ ap (index_at s.by_ticket.first) long in
           subst (λ (xs : List EntryFields). AreKnown s.size c.push.new.self.first c.forget_stretch.new.stretches.items xs) (sym items)
           (subst (λ (n : ℕ). AreKnown s.size n c.forget_stretch.new.stretches.items (es ++ e ∷ [])) (sym c.push.ensures.first)
-          (known_pushed s.size s.by_ticket.first c.keep_stretches.new.stretches.items c.forget_stretch.new.stretches.items es e
-          (subst (λ (i : ℕ). SayTheSame i c.forget_stretch.new.stretches.items c.keep_stretches.new.stretches.items) here c.forget_stretch.ensures.others)
+          (known_pushed s.size s.by_ticket.first s.stretches.items c.forget_stretch.new.stretches.items es e
+          (subst (λ (i : ℕ). SayTheSame i c.forget_stretch.new.stretches.items s.stretches.items) here c.forget_stretch.ensures.others)
           (subst (λ (i : ℕ). SayNothing i c.forget_stretch.new.stretches.items) here c.forget_stretch.ensures.here)
-          (known_less s.size s.by_ticket.first s.stretches.items c.keep_stretches.new.stretches.items es c.keep_stretches.ensures h.known)));
+          h.known));
     }

@@ -3,11 +3,11 @@ use Rattle.sctp_send.specs.PartsKept.{OutstandingKept}
 use Rattle.sctp_send.specs.inner.Changes.{as_covered, as_uncovered}
 use Rattle.sctp_send.specs.inner.TicketOrder.{IsOrderOf, tickets_of}
 use Rattle.sctp_send.specs.declared.kept.entry.Entry.{Entry as EntryFields}
-use Rattle.sctp_send.proofs.PlacedLemmas.{count_placed}
-use Rattle.sctp_send.proofs.TicketWalks.{placed_tickets}
+use Rattle.sctp_send.proofs.kept.ChangedLemmas.{count_changed}
+use Rattle.sctp_send.proofs.kept.TicketWalks.{changed_tickets}
 use Rattle.sctp_send.specs.inner.Stretching.{AreKnown}
 use Rattle.sctp_send.specs.declared.kept.stretches.Stretch.{Stretch}
-use Rattle.sctp_send.proofs.KnownLemmas.{SayTheSame, SayNothing, known_placed}
+use Rattle.sctp_send.proofs.kept.KnownLemmas.{SayTheSame, SayNothing, known_changed}
 use Rattle.sctp_send.proofs.kept.outstanding.Outstanding.tell.Goals as goal
 
 pub cover_one-requires : goal.cover_one-requires
@@ -28,10 +28,10 @@ invariant_of-self c =
     let h = c.self.invariant in
     let es = s.entries.items in
     let items = c.cover_one.ensures.items in
-    let long : length c.cover_one.new.entries.items ≡ length es = ap (λ (xs : List EntryFields). length xs) items ∙ count_placed as_covered c.args.at es in
+    let long : length c.cover_one.new.entries.items ≡ length es = ap (λ (xs : List EntryFields). length xs) items ∙ count_changed as_covered c.args.at es in
     record {
       counted = c.cover_one.ensures.counted;
-      order = subst (λ (ts : List ℕ). IsOrderOf ts s.by_ticket.first s.by_ticket.spots.items) (sym (ap tickets_of items ∙ placed_tickets as_covered (λ e. refl) c.args.at es)) h.order;
+      order = subst (λ (ts : List ℕ). IsOrderOf ts s.by_ticket.first s.by_ticket.spots.items) (sym (ap tickets_of items ∙ changed_tickets as_covered (λ e. refl) c.args.at es)) h.order;
       below = h.below;
       few = h.few;
       within = let le = h.within in omega (arith, long, le);
@@ -39,7 +39,7 @@ invariant_of-self c =
       there = h.there;
       known =
           subst (λ (xs : List EntryFields). AreKnown s.size s.by_ticket.first c.put_stretch.new.stretches.items xs) (sym items)
-          (known_placed s.size s.by_ticket.first c.args.at as_covered s.stretches.items c.put_stretch.new.stretches.items es
+          (known_changed s.size s.by_ticket.first c.args.at as_covered s.stretches.items c.put_stretch.new.stretches.items es
           (subst (λ (i : ℕ). SayTheSame i c.put_stretch.new.stretches.items s.stretches.items) c.index.ensures c.put_stretch.ensures.others)
           (subst (λ (i : ℕ). SayNothing i c.put_stretch.new.stretches.items) c.index.ensures (λ t there. ap (λ (x : Stretch). x.is_known) (c.put_stretch.ensures.here t there))) h.known);
     }
@@ -50,10 +50,10 @@ invariant_of-self-2 c =
     let h = c.self.invariant in
     let es = s.entries.items in
     let items = c.uncover_one.ensures.items in
-    let long : length c.uncover_one.new.entries.items ≡ length es = ap (λ (xs : List EntryFields). length xs) items ∙ count_placed as_uncovered c.args.at es in
+    let long : length c.uncover_one.new.entries.items ≡ length es = ap (λ (xs : List EntryFields). length xs) items ∙ count_changed as_uncovered c.args.at es in
     record {
       counted = c.uncover_one.ensures.counted;
-      order = subst (λ (ts : List ℕ). IsOrderOf ts s.by_ticket.first s.by_ticket.spots.items) (sym (ap tickets_of items ∙ placed_tickets as_uncovered (λ e. refl) c.args.at es)) h.order;
+      order = subst (λ (ts : List ℕ). IsOrderOf ts s.by_ticket.first s.by_ticket.spots.items) (sym (ap tickets_of items ∙ changed_tickets as_uncovered (λ e. refl) c.args.at es)) h.order;
       below = h.below;
       few = h.few;
       within = let le = h.within in omega (arith, long, le);
@@ -61,7 +61,7 @@ invariant_of-self-2 c =
       there = h.there;
       known =
           subst (λ (xs : List EntryFields). AreKnown s.size s.by_ticket.first c.put_stretch.new.stretches.items xs) (sym items)
-          (known_placed s.size s.by_ticket.first c.args.at as_uncovered s.stretches.items c.put_stretch.new.stretches.items es
+          (known_changed s.size s.by_ticket.first c.args.at as_uncovered s.stretches.items c.put_stretch.new.stretches.items es
           (subst (λ (i : ℕ). SayTheSame i c.put_stretch.new.stretches.items s.stretches.items) c.index.ensures c.put_stretch.ensures.others)
           (subst (λ (i : ℕ). SayNothing i c.put_stretch.new.stretches.items) c.index.ensures (λ t there. ap (λ (x : Stretch). x.is_known) (c.put_stretch.ensures.here t there))) h.known);
     }

@@ -2,7 +2,7 @@ use Rattle.std.proofs.Common.{◌≡◌, ◌≤◌, List, length, ap, ◌∙◌,
 use Rattle.sctp_send.specs.PartsKept.{OutstandingKept}
 use Rattle.sctp_send.specs.inner.Changes.{told_where, is_between}
 use Rattle.sctp_send.specs.declared.kept.entry.Entry.{Entry as EntryFields}
-use Rattle.sctp_send.proofs.TellLemmas.{length-told_where, run_starts, run_joined}
+use Rattle.sctp_send.proofs.sack.TellLemmas.{length-told_where, run_starts, run_joined}
 use Rattle.sctp_send.proofs.kept.outstanding.Outstanding.tell_long.Goals as goal
 
 pub loop-at-init : goal.loop-at-init

@@ -2,8 +2,8 @@ use Rattle.std.proofs.Common.{◌<◌, List, length, ap, sym, ◌∙◌, subst, 
 use Rattle.sctp_send.specs.PartsKept.{OutstandingKept, changed}
 use Rattle.sctp_send.specs.inner.Changes.{told}
 use Rattle.sctp_send.specs.declared.kept.entry.Entry.{Entry as EntryFields}
-use Rattle.sctp_send.proofs.StretchLemmas.{run_where}
-use Rattle.sctp_send.proofs.TellLemmas.{run_starts, run_step}
+use Rattle.sctp_send.proofs.kept.StretchLemmas.{run_where}
+use Rattle.sctp_send.proofs.sack.TellLemmas.{run_starts, run_step}
 use Rattle.sctp_send.proofs.kept.outstanding.Outstanding.tell_on.Goals as goal
 
 pub tell-requires : goal.tell-requires

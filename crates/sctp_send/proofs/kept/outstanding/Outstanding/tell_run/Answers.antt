@@ -1,6 +1,6 @@
 use Rattle.std.proofs.Common.{◌≡◌, List, ap, sym, arith}
 use Rattle.sctp_send.specs.declared.kept.entry.Entry.{Entry as EntryFields}
-use Rattle.sctp_send.proofs.TellLemmas.{run_starts}
+use Rattle.sctp_send.proofs.sack.TellLemmas.{run_starts}
 use Rattle.sctp_send.proofs.kept.outstanding.Outstanding.tell_run.Goals as goal
 
 pub returns-then-from-to : goal.returns-then-from-to

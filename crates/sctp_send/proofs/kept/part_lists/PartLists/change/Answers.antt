@@ -1,7 +1,7 @@
 use Rattle.std.proofs.Common.{ℕ, List, Option, None, arith, subst, set}
 use Rattle.std.proofs.lemmas.List.{length-set}
-use Rattle.sctp_send.specs.inner.PartPairs.{IsListed}
-use Rattle.sctp_send.proofs.PartPairLemmas.{set_again, left_set}
+use Rattle.sctp_send.specs.inner.PartSeats.{IsListed}
+use Rattle.sctp_send.proofs.kept.PartSeatLemmas.{set_again, left_set}
 use Rattle.sctp_send.proofs.kept.part_lists.PartLists.change.Goals as goal
 
 pub returns : goal.returns

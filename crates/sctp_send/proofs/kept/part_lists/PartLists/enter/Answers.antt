@@ -1,5 +1,5 @@
 use Rattle.std.proofs.Common.{refl}
-use Rattle.sctp_send.proofs.PartPairLemmas.{listed_entered}
+use Rattle.sctp_send.proofs.kept.PartSeatLemmas.{listed_entered}
 use Rattle.sctp_send.proofs.kept.part_lists.PartLists.enter.Goals as goal
 
 pub returns : goal.returns

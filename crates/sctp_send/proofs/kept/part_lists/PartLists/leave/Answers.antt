@@ -1,5 +1,5 @@
 use Rattle.std.proofs.Common.{◌∙◌, refl}
-use Rattle.sctp_send.proofs.PartPairLemmas.{listed_left}
+use Rattle.sctp_send.proofs.kept.PartSeatLemmas.{listed_left}
 use Rattle.sctp_send.proofs.kept.part_lists.PartLists.leave.Goals as goal
 
 pub returns : goal.returns

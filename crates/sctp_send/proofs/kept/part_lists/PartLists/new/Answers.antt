@@ -1,5 +1,5 @@
 use Rattle.std.proofs.Common.{◌∙◌}
-use Rattle.sctp_send.proofs.PartPairLemmas.{listed_fresh}
+use Rattle.sctp_send.proofs.kept.PartSeatLemmas.{listed_fresh}
 use Rattle.sctp_send.proofs.kept.part_lists.PartLists.new.Goals as goal
 
 pub returns : goal.returns

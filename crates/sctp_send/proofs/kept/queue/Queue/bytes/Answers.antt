@@ -2,7 +2,7 @@ use Rattle.std.proofs.Common.{◌≡◌, ◌∙◌, ◌%◌, ◌^◌, ℕ, map, 
 use Rattle.sctp_send.specs.SenderFields.{queued_by}
 use Rattle.sctp_send.specs.PartsKept.{QueueKept}
 use Rattle.sctp_send.specs.Waiting.{waiting_bytes}
-use Rattle.sctp_send.proofs.LoadLemmas.{waiting_is}
+use Rattle.sctp_send.proofs.kept.LoadLemmas.{waiting_is}
 use Rattle.sctp_send.proofs.kept.queue.Queue.bytes.Goals as goal
 
 pub returns : goal.returns

@@ -1,7 +1,7 @@
 use Rattle.std.proofs.Common.{subst}
 use Rattle.sctp_send.specs.PartsKept.{QueueKept}
 use Rattle.sctp_send.specs.inner.Seating.{AreLower}
-use Rattle.sctp_send.proofs.SeatedLemmas.{lower_there}
+use Rattle.sctp_send.proofs.kept.SeatedLemmas.{lower_there}
 use Rattle.sctp_send.proofs.kept.queue.Queue.first_from.Goals as goal
 
 pub first_from-requires : goal.first_from-requires

@@ -1,4 +1,4 @@
-use Rattle.sctp_send.proofs.SeatedLemmas.{seated_fresh}
+use Rattle.sctp_send.proofs.kept.SeatedLemmas.{seated_fresh}
 use Rattle.sctp_send.proofs.kept.queue.Queue.new.Goals as goal
 
 pub invariant_of-result : goal.invariant_of-result

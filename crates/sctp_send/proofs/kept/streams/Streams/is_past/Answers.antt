@@ -1,12 +1,12 @@
 use Rattle.std.proofs.Common.{◌≡◌, List, map, subst, false}
 use Rattle.sctp_send.specs.SenderFields.{track_meaning}
 use Rattle.sctp_send.specs.PartsKept.{StreamsKept}
-use Rattle.sctp_send.specs.inner.PartPairs.{tickets_left}
+use Rattle.sctp_send.specs.inner.PartSeats.{tickets_left}
 use Rattle.sctp_send.specs.inner.Walks.{any_rest}
 use Rattle.sctp_send.specs.declared.kept.track.Track.{Track as TrackFields}
-use Rattle.sctp_send.proofs.NextLemmas.{none_with}
-use Rattle.sctp_send.proofs.OwedLemmas.{no_part}
-use Rattle.sctp_send.proofs.PartStreams.{none_goes_on_with}
+use Rattle.sctp_send.proofs.fill.NextLemmas.{none_with}
+use Rattle.sctp_send.proofs.kept.OwedLemmas.{no_part}
+use Rattle.sctp_send.proofs.kept.PartStreams.{none_goes_on_with}
 use Rattle.sctp_send.proofs.kept.streams.Streams.is_past.Goals as goal
 
 pub returns-then-self-eq0 : goal.returns-then-self-eq0

@@ -1,5 +1,5 @@
 use Rattle.std.proofs.Common.{arith}
-use Rattle.sctp_send.proofs.PartStreams.{streams_fresh}
+use Rattle.sctp_send.proofs.kept.PartStreams.{streams_fresh}
 use Rattle.sctp_send.proofs.kept.streams.Streams.new.Goals as goal
 
 pub invariant_of-result : goal.invariant_of-result

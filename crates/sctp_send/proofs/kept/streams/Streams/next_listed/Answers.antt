@@ -2,8 +2,8 @@ use Rattle.std.proofs.Common.{map, subst, ◌∙◌, ap, min}
 use Rattle.sctp_send.specs.SenderFields.{track_meaning}
 use Rattle.sctp_send.specs.PartsKept.{StreamsKept}
 use Rattle.sctp_send.specs.inner.Newcomers.{IsNextPart}
-use Rattle.sctp_send.specs.inner.PartPairs.{tickets_left}
-use Rattle.sctp_send.proofs.PartStreams.{next_found, next_none}
+use Rattle.sctp_send.specs.inner.PartSeats.{tickets_left}
+use Rattle.sctp_send.proofs.kept.PartStreams.{next_found, next_none}
 use Rattle.sctp_send.proofs.kept.streams.Streams.next_listed.Goals as goal
 
 pub returns-in-Some : goal.returns-in-Some

@@ -2,8 +2,8 @@ use Rattle.std.proofs.Common.{map, subst, arith}
 use Rattle.sctp_send.specs.SenderFields.{track_meaning}
 use Rattle.sctp_send.specs.PartsKept.{StreamsKept}
 use Rattle.sctp_send.specs.inner.Newcomers.{IsNextPart}
-use Rattle.sctp_send.proofs.NextLemmas.{none_goes_on}
-use Rattle.sctp_send.proofs.OwedLemmas.{no_part}
+use Rattle.sctp_send.proofs.fill.NextLemmas.{none_goes_on}
+use Rattle.sctp_send.proofs.kept.OwedLemmas.{no_part}
 use Rattle.sctp_send.proofs.kept.streams.Streams.next_part.Goals as goal
 
 pub returns-then-self-eq0 : goal.returns-then-self-eq0

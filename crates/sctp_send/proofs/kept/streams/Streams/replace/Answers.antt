@@ -1,11 +1,11 @@
 use Rattle.std.proofs.Common.{◌<◌, ◌∙◌, ◌%◌, ◌^◌, length, set, sym, ap, subst}
 use Rattle.sctp_send.specs.SenderFields.{track_meaning}
 use Rattle.sctp_send.specs.PartsKept.{StreamsKept}
-use Rattle.sctp_send.specs.inner.PartPairs.{ticket_left}
+use Rattle.sctp_send.specs.inner.PartSeats.{ticket_left}
 use Rattle.sctp_send.specs.inner.Walks.{one_if_rest, rest_owes}
 use Rattle.sctp_send.specs.declared.kept.track.Track.{Track as TrackFields}
-use Rattle.sctp_send.proofs.OwedLemmas.{counted_set, IsCountOf}
-use Rattle.sctp_send.proofs.PartStreams.{listed_replaced}
+use Rattle.sctp_send.proofs.kept.OwedLemmas.{counted_set, IsCountOf}
+use Rattle.sctp_send.proofs.kept.PartStreams.{listed_replaced}
 use Rattle.sctp_send.proofs.kept.streams.Streams.replace.Goals as goal
 
 pub invariant_of-self : goal.invariant_of-self

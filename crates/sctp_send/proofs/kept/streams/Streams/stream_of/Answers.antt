@@ -1,11 +1,11 @@
 use Rattle.std.proofs.Common.{◌≡◌, map, subst, false}
 use Rattle.sctp_send.specs.SenderFields.{track_meaning}
 use Rattle.sctp_send.specs.PartsKept.{StreamsKept}
-use Rattle.sctp_send.specs.inner.PartPairs.{tickets_left}
+use Rattle.sctp_send.specs.inner.PartSeats.{tickets_left}
 use Rattle.sctp_send.specs.inner.Walks.{any_rest, GoesOnAt}
-use Rattle.sctp_send.proofs.NextLemmas.{none_with}
-use Rattle.sctp_send.proofs.OwedLemmas.{no_part}
-use Rattle.sctp_send.proofs.PartStreams.{goes_on_there, none_goes_on_with}
+use Rattle.sctp_send.proofs.fill.NextLemmas.{none_with}
+use Rattle.sctp_send.proofs.kept.OwedLemmas.{no_part}
+use Rattle.sctp_send.proofs.kept.PartStreams.{goes_on_there, none_goes_on_with}
 use Rattle.sctp_send.proofs.kept.streams.Streams.stream_of.Goals as goal
 
 pub returns-then-self-eq0-clause-none : goal.returns-then-self-eq0-clause-none

@@ -1,0 +1,8 @@
+pub mod TrackLemmas
+pub mod WithdrawLemmas
+pub mod AbandonedLemmas
+pub mod EndLemmas
+pub mod UntilLemmas
+pub mod MomentKept
+pub mod AnswerLemmas
+pub mod ExpireKept

@@ -1,0 +1,253 @@
+-- A message that begins is put into a packet, or isn't.
+use Rattle.std.proofs.Common.{◌≡◌, ℕ, suc, ◌+◌, ◌^◌, ◌<◌, ◌≤◌, inl, inr, List, [], ◌∷◌, ◌++◌, length, map, get_or, Bool, true, false, Some, sym, ap, ◌∙◌, subst, arith, length-append}
+use Rattle.std.specs.Prelude.{nat_le, nat_lt, ◌&&◌, Option, IsSome, None}
+use Rattle.std.proofs.lemmas.Option.{get_or_from_slice_get}
+use Rattle.std.proofs.lemmas.List.{length-map}
+use Rattle.std.proofs.lemmas.Bool.{and_parts}
+use Rattle.std.specs.declared.sync.Arc.{Arc}
+use Rattle.std.specs.declared.alloc.Global.{Global}
+use Rattle.sctp_model.specs.numbers.Limits.{WINDOW}
+use Rattle.sctp_model.specs.messages.Format.{Format}
+use Rattle.sctp_model.specs.wire.Chunk.{ChunkMeaning}
+use Rattle.sctp_model.specs.messages.Framing.{data_chunk}
+use Rattle.sctp_model.specs.sender.PieceSaid.{piece_said}
+use Rattle.sctp_model.specs.messages.Plan.{Part}
+use Rattle.sctp_model.specs.sender.SenderView.{Queued, SenderView}
+use Rattle.sctp_model.specs.sender.Entries.{bytes_in}
+use Rattle.sctp_model.specs.sender.Queueing.{cut}
+use Rattle.sctp_model.specs.sender.Assigning.{assigned}
+use Rattle.sctp_model.specs.sender.Readers.{outstanding}
+use Rattle.sctp_model.specs.sender.Filling.{newcomer, may_go, chunk_of, goes, gone}
+use Rattle.sctp_model.proofs.sender.FillLaws.{goes_is, goes_not}
+use Rattle.sctp_model.proofs.sender.SetLaws.{AllFilled, is_filled}
+use Rattle.sctp_model.proofs.sender.CountLaws.{first_there}
+use Rattle.sctp_model.proofs.sender.QueueLaws.{IsTaken, taken_head, taken_first}
+use Rattle.sctp_packet.specs.Draft.{Draft as PacketDraft, room_in, has_room, with_chunks}
+use Rattle.sctp_send.specs.SenderKept.{Item, Track, Kept}
+use Rattle.sctp_send.specs.SenderStands.{track_here, Keeps}
+use Rattle.sctp_send.specs.OutstandingFields.{item_meaning, lane_meaning, message_meaning, queued_meaning}
+use Rattle.sctp_send.specs.SenderFields.{queued_by, track_meaning}
+use Rattle.sctp_send.specs.inner.Walks.{total, one_if_rest}
+use Rattle.sctp_send.specs.inner.Newcomers.{gone_item, new_item, new_items, begun_items, number_in, begun_track, rest_at, has_rest, one_if, without_place, fresh_track, number_on, begun, IsBegun}
+use Rattle.sctp_send.specs.inner.Wishing.{item_flight}
+use Rattle.sctp_send.specs.inner.Drafting.{numbers_of, drafted, fragment_chunk, item_chunk, let_in, IsStopped, IsRefused, IsTried, PutAnswer, NothingStands}
+use Rattle.sctp_values.specs.Meanings.{kind_meaning}
+use Rattle.std.proofs.lemmas.Option.{slice_get-get_or}
+use Rattle.sctp_send.specs.declared.kept.track.Track.{Track as TrackFields}
+use Rattle.sctp_send.proofs.WalkLemmas.{track_read}
+use Rattle.sctp_send.specs.declared.draft.Draft.{Draft}
+use Rattle.sctp_send.specs.declared.kept.message.Message.{Message as MessageFields}
+use Rattle.sctp_send.specs.declared.kept.entry.Content.TheVariants.{Fragment}
+use Rattle.sctp_send.proofs.TableLemmas.{length-table}
+use Rattle.sctp_send.proofs.fill.NewItems.{numbered}
+use Rattle.sctp_send.proofs.fill.AssignLemmas.{number_is, track_at}
+use Rattle.sctp_send.specs.inner.Expiring.{queue_messages}
+use Rattle.sctp_send.specs.inner.Dues.{some_late}
+use Rattle.sctp_send.proofs.DueLemmas.{late_taken, IsLeftIdle}
+use Rattle.sctp_send.proofs.fill.AssignedKept.{begun_kept, outstanding_begun, length-new_items}
+use Rattle.sctp_send.proofs.fill.ChunkLemmas.{chunk_begun, bytes_begun}
+use Rattle.sctp_send.proofs.fill.FewLemmas.{few_messages}
+use Rattle.sctp_send.proofs.fill.NewlyLemmas.{newly_begun}
+use Rattle.sctp_send.proofs.fill.NewMayLemmas.{flows, in_window, new_may, next_is, few_parts, rest_read, when_rest, window_test, and_off, map_read, tried_put, item_behind}
+
+-- ---- a message begins
+
+-- the message that was read from the draft's queue is the one that begins
+pub begun_message : (f : Format) (s : Kept) (v : SenderView) (old : Draft) (place count turn : ℕ) (x : Arc MessageFields Global) → Keeps f (drafted s old) v → (b : IsBegun f v place count turn) → x ≡ get_or old.queue.items place x
+    → queued_meaning s.fragment x.value ≡ b.message
+begun_message f s v old place count turn x k b read =
+    sym (map_read (queued_by s.fragment) old.queue.items place x read) ∙ ap (λ (qs : List Queued). get_or qs place (queued_by s.fragment x)) k.holds.queue
+    ∙ get_or_from_slice_get v.queue place b.message (queued_by s.fragment x) b.there
+
+-- what is known of a message that begins
+record IsBegunBy (f : Format) (v : SenderView) (q : Queued) (place count turn : ℕ) : Type 0 where
+  less : ℕ
+  some : count ≡ suc less
+  taken : IsTaken q (without_place place v.queue) v.queue
+  idle : (now t : ℕ) → some_late now t (queue_messages v.queue) ≡ false → IsLeftIdle now t q (without_place place v.queue)
+  low : q.lane.stream < v.streams
+  assigned : assigned f v ≡ Some (numbered v q (suc less) (without_place place v.queue) turn)
+
+begun_by : (f : Format) (s : Kept) (v : SenderView) (place count turn : ℕ) → Keeps f s v → (b : IsBegun f v place count turn) → IsBegunBy f v b.message place count turn
+begun_by f s v place count turn k b =
+    elim b.first [
+      | inl whole ↦ record {
+        less = b.less;
+        some = b.some;
+        taken = subst (λ (qs : List Queued). IsTaken b.message (without_place place v.queue) qs) (sym whole) (taken_head b.message (without_place place v.queue));
+        idle = λ now t none. late_taken now t place v.queue b.message b.there none;
+        low = (subst (λ (qs : List Queued). AllFilled v.streams qs) whole (is_filled f v k.reached)).0.1;
+        assigned = now;
+      }
+      | inr first ↦ record {
+        less = b.less;
+        some = b.some;
+        taken = subst (λ (qs : List Queued). IsTaken b.message qs v.queue) first.1 (taken_first b.message.lane.stream b.message v.queue first.0);
+        idle = λ now t none. late_taken now t place v.queue b.message b.there none;
+        low = first_there v.streams b.message.lane.stream b.message v.queue (is_filled f v k.reached) first.0;
+        assigned = now;
+      }
+    ]
+  where
+    now : assigned f v ≡ Some (numbered v b.message (suc b.less) (without_place place v.queue) turn)
+    now = b.assigned ∙ ap (λ (n : ℕ). Some (numbered v b.message n (without_place place v.queue) turn)) b.some
+
+-- its stream is there
+pub begun_there : (f : Format) (s : Kept) (v : SenderView) (old : Draft) (m : MessageFields) (place count turn : ℕ) → Keeps f (drafted s old) v → (b : IsBegun f v place count turn) → queued_meaning s.fragment m ≡ b.message
+    → m.stream < length old.streams.items
+begun_there f s v old m place count turn k b mine =
+    let tracks = ap (λ (ts : List Track). length ts) k.holds.tracks ∙ length-table (track_here v) 0 v.streams in
+    let long = length-map old.streams.items (track_meaning s.fragment) in
+    let low = (begun_by f (drafted s old) v place count turn k b).low in
+    let stream = ap (λ (q : Queued). q.lane.stream) mine in
+    omega (arith, tracks, long, low, stream)
+
+-- its number, as it was read
+pub number_read : (n i number : ℕ) (xs ts : List TrackFields) (x : TrackFields) (m y : MessageFields) → xs ≡ ts → i ≡ m.stream → y ≡ m → i < length ts → x ≡ get_or xs i x
+    → number ≡ number_in (kind_meaning y.kind) (track_meaning n x) → number ≡ number_on (map (track_meaning n) ts) (lane_meaning m)
+number_read n i number xs ts x m y all stream same low read is =
+    let long = length-map ts (track_meaning n) in
+    let here = track_read n ts i x (read ∙ ap (λ (zs : List TrackFields). get_or zs i x) all) in
+    let one = slice_get-get_or (map (track_meaning n) ts) i (track_meaning n x) (omega (arith, long, low)) in
+    let two = slice_get-get_or (map (track_meaning n) ts) i fresh_track (omega (arith, long, low)) in
+    let other : get_or (map (track_meaning n) ts) i (track_meaning n x) ≡ get_or (map (track_meaning n) ts) i fresh_track = let both = sym one ∙ two in cc in
+    is ∙ ap (λ (z : MessageFields). number_in (kind_meaning z.kind) (track_meaning n x)) same ∙ ap (number_in (kind_meaning m.kind)) (sym here ∙ other)
+    ∙ ap (λ (j : ℕ). number_in (kind_meaning m.kind) (get_or (map (track_meaning n) ts) j fresh_track)) stream
+
+-- the test of the window, as it was read
+pub window_read : (x : ℕ) (ts : List Track) (m y : MessageFields) (r b : Bool) → y ≡ m → r ≡ nat_le x (WINDOW + one_if (has_rest (rest_at ts y.stream))) → r ≡ b → nat_le x (WINDOW + one_if (has_rest (rest_at ts m.stream))) ≡ b
+window_read x ts m y r b same is tested = ap (λ (z : MessageFields). nat_le x (WINDOW + one_if (has_rest (rest_at ts z.stream)))) (sym same) ∙ sym is ∙ tested
+
+-- a stream that is there was found
+pub never_none : {A : Type 0} (o : Option A) (P : Type 0) → o ≡ None → (P → IsSome o) → P → ⊥
+never_none None P is found p = let off = found p in cc
+never_none (Some x) P is found p = absurd (cc)
+
+-- a draft, and the message that begins: it stands at a place of the queue, and this is its number
+module _ (f : Format) (s : Kept) (v : SenderView) (old : Draft) (m : MessageFields) (place count turn number : ℕ) (k : Keeps f (drafted s old) v) (stands : NothingStands f v) (b : IsBegun f v place count turn)
+    (mine : queued_meaning s.fragment m ≡ b.message) (its : number ≡ number_on (drafted s old).tracks (lane_meaning m)) where
+  abbrev by : IsBegunBy f v (queued_meaning s.fragment m) place count turn
+  by = subst (λ (q : Queued). IsBegunBy f v q place count turn) (sym mine) (begun_by f (drafted s old) v place count turn k b)
+
+  abbrev led : SenderView
+  led = numbered v (queued_meaning s.fragment m) (suc by.less) (without_place place v.queue) turn
+
+  -- its number leaves room to count
+  pub begun_few : suc number < 2 ^ 64
+  begun_few =
+      let l = lane_meaning m in
+      let same : number ≡ length (v.plan.messages l) = its ∙ ap (number_in l.kind) (track_at f (drafted s old) v l.stream fresh_track k by.low) ∙ number_is v l in
+      let few = few_messages f v l k.reached in
+      omega (arith, same, few)
+
+  -- its chunk
+  begun_chunk : chunk_of f (newcomer v led) ≡ fragment_chunk f s.fragment s.initial (suc (s.cum + length old.outstanding.items)) m number (Fragment 0)
+  begun_chunk =
+      let q = queued_meaning s.fragment m in
+      let long = length-map old.outstanding.items (item_meaning s.fragment) in
+      chunk_begun f (drafted s old) v q (without_place place v.queue) by.less turn fresh_track k by.low
+      ∙ ap (λ (n : ℕ). data_chunk f (piece_said f s.initial (suc (s.cum + n)) (Part q.lane (number_on (drafted s old).tracks (lane_meaning m)) 0) (Some q.message))) long
+      ∙ ap (λ (n : ℕ). fragment_chunk f s.fragment s.initial (suc (s.cum + length old.outstanding.items)) m n (Fragment 0)) (sym its)
+
+  begun_may : (p : PacketDraft) → may_go f (room_in p) (newcomer v led)
+      ≡ ((flows s old (bytes_in (Part (lane_meaning m) number 0) (Some (message_meaning s.fragment m)))
+      && has_room p (fragment_chunk f s.fragment s.initial (suc (s.cum + length old.outstanding.items)) m number (Fragment 0))) && nat_le (outstanding led) WINDOW)
+  begun_may p =
+      let q = queued_meaning s.fragment m in
+      let bytes = bytes_begun f (drafted s old) v q (without_place place v.queue) by.less turn fresh_track k by.low in
+      new_may f s v led p old _ _ k by.assigned begun_chunk (bytes ∙ ap (λ (n : ℕ). bytes_in (Part q.lane n 0) (Some q.message)) (sym its))
+
+  -- how the code tests the window
+  begun_window : (more : Bool) → more ≡ nat_lt count (length (cut s.fragment m.bytes.items)) → nat_le (outstanding led) WINDOW
+      ≡ in_window s old count m.stream more
+  begun_window more is =
+      let q = queued_meaning s.fragment m in
+      let ts = map (track_meaning s.fragment) old.streams.items in
+      let long = length-map old.outstanding.items (item_meaning s.fragment) in
+      let wide = length-map old.streams.items (track_meaning s.fragment) in
+      let there = begun_there f s v old m place count turn k b mine in
+      let had = rest_read ts m.stream fresh_track (omega arith) in
+      let all = outstanding_begun f (drafted s old) v q (without_place place v.queue) by.less turn fresh_track k by.low in
+      let left : one_if_rest (begun_track q (suc by.less) (get_or ts m.stream fresh_track)).rest ≡ one_if more =
+      when_rest (nat_lt (suc by.less) (length q.message.fragments)) _ ∙ ap (λ (n : ℕ). one_if (nat_lt n (length q.message.fragments))) (sym by.some) ∙ ap one_if (sym is) in
+      let some = by.some in
+      window_test (outstanding led) (one_if (has_rest (rest_at ts m.stream))) (length old.outstanding.items + count) (total (λ t. one_if_rest t.rest) ts) (one_if more) WINDOW
+      (omega (arith, all, had, left, long, some)) (few_parts f (drafted s old) v k)
+
+  begun_goes : (p : PacketDraft) (more : Bool) → more ≡ nat_lt count (length (cut s.fragment m.bytes.items))
+      → in_window s old count m.stream more ≡ true
+      → let_in f (item_flight (map (item_meaning s.fragment) old.outstanding.items)) s (suc (s.cum + length old.outstanding.items)) p (Part (lane_meaning m) number 0) (Some (message_meaning s.fragment m)) ≡ true
+      → goes f (room_in p) v ≡ Some (newcomer v led)
+  begun_goes p more is window on =
+      goes_is f (room_in p) v (newcomer v led) (next_is f v led stands by.assigned) (begun_may p ∙ ap (λ (x : Bool). x && nat_le (outstanding led) WINDOW) on ∙ begun_window more is ∙ window)
+
+  -- it may not flow, or does not fit
+  pub begun_held : (p r : PacketDraft) (new : Draft) → let_in f (item_flight (map (item_meaning s.fragment) old.outstanding.items)) s (suc (s.cum + length old.outstanding.items)) p (Part (lane_meaning m) number 0) (Some (message_meaning s.fragment m)) ≡ false → r ≡ p → drafted s new ≡ drafted s old → new.tickets ≡ old.tickets → IsStopped f s v p r old new
+  begun_held p r new off packet kept tickets = record {
+    none = goes_not f (room_in p) v (newcomer v led) (next_is f v led stands by.assigned) (begun_may p ∙ ap (λ (x : Bool). x && nat_le (outstanding led) WINDOW) off);
+    packet = packet;
+    kept = kept;
+    tickets = tickets;
+  }
+
+  -- the window has no room for it
+  pub begun_full : (p r : PacketDraft) (new : Draft) (more : Bool) → more ≡ nat_lt count (length (cut s.fragment m.bytes.items))
+      → in_window s old count m.stream more ≡ false
+      → r ≡ p → drafted s new ≡ drafted s old → new.tickets ≡ old.tickets → IsStopped f s v p r old new
+  begun_full p r new more is window packet kept tickets = record {
+    none = goes_not f (room_in p) v (newcomer v led) (next_is f v led stands by.assigned) (begun_may p ∙ and_off _ (nat_le (outstanding led) WINDOW) (begun_window more is ∙ window));
+    packet = packet;
+    kept = kept;
+    tickets = tickets;
+  }
+
+  -- its chunk, of the item that it is then
+  begun_tried : (p r : PacketDraft) (new : Draft) (at capacity : ℕ) (none : Item) (put : Bool) → at ≡ length old.outstanding.items → drafted s new ≡ begun (drafted s old) (queued_meaning s.fragment m) place count turn capacity
+      → IsTried p r (item_chunk f s.initial (suc (s.cum + at)) (get_or (drafted s new).items at none)) put
+      → IsTried p r (fragment_chunk f s.fragment s.initial (suc (s.cum + length old.outstanding.items)) m number (Fragment 0)) put
+  begun_tried p r new at capacity none put here kept tried =
+      let q = queued_meaning s.fragment m in
+      let xs = (drafted s old).items in
+      let n = number_on (drafted s old).tracks q.lane in
+      let long : at ≡ length xs = here ∙ sym (length-map old.outstanding.items (item_meaning s.fragment)) in
+      let items = ap (λ (y : Kept). y.items) kept ∙ ap (λ (d : ℕ). xs ++ begun_items q.lane n q.message d) by.some in
+      let item = ap (λ (ys : List Item). get_or ys at none) items ∙ ap (λ (j : ℕ). get_or (xs ++ begun_items q.lane n q.message (suc by.less)) j none) long
+      ∙ item_behind xs (gone_item (new_item (Part q.lane n 0) q.message)) (new_items q.lane n q.message 1 by.less) none
+      ∙ ap (λ (j : ℕ). gone_item (new_item (Part q.lane j 0) q.message)) (sym its) in
+      subst (λ (j : ℕ). IsTried p r (fragment_chunk f s.fragment s.initial (suc (s.cum + j)) m number (Fragment 0)) put) here
+      (subst (λ (x : Item). IsTried p r (item_chunk f s.initial (suc (s.cum + at)) x) put) item tried)
+
+  -- it is in the packet, and took its number
+  pub begun_put : (p r : PacketDraft) (new : Draft) (more : Bool) (at capacity : ℕ) (none : Item) (put : Bool) → more ≡ nat_lt count (length (cut s.fragment m.bytes.items))
+      → in_window s old count m.stream more ≡ true
+      → let_in f (item_flight (map (item_meaning s.fragment) old.outstanding.items)) s (suc (s.cum + length old.outstanding.items)) p (Part (lane_meaning m) number 0) (Some (message_meaning s.fragment m)) ≡ true → at ≡ length old.outstanding.items
+      → drafted s new ≡ begun (drafted s old) (queued_meaning s.fragment m) place count turn capacity → s.streams + length new.outstanding.items ≤ capacity
+      → numbers_of new.tickets.items ≡ numbers_of old.tickets.items ++ m.ticket ∷ []
+      → IsTried p r (item_chunk f s.initial (suc (s.cum + at)) (get_or (drafted s new).items at none)) put → PutAnswer f s v p r old new put
+  begun_put p r new more at capacity none put is window on here kept room tickets tried =
+      let q = queued_meaning s.fragment m in
+      let goes_now = begun_goes p more is window on in
+      let many = ap (λ (y : Kept). length y.items) kept in
+      let long = length-map new.outstanding.items (item_meaning s.fragment) in
+      let all = ap (λ (n : ℕ). length (begun (drafted s old) q place n turn capacity).items) by.some in
+      let more_items = length-append (drafted s old).items (begun_items q.lane (number_on (drafted s old).tracks q.lane) q.message (suc by.less)) in
+      let new_ones = length-new_items q.lane (number_on (drafted s old).tracks q.lane) q.message 1 by.less in
+      let streams = k.holds.streams in
+      let h = begun_kept f (drafted s old) v q (without_place place v.queue) by.less turn capacity (room_in p) fresh_track k by.taken by.idle by.low goes_now (omega (arith, many, long, all, more_items, new_ones, streams, room)) in
+      let queue = subst (λ (qs : List Queued). Keeps f (record (begun (drafted s old) q place (suc by.less) turn capacity) { queue = without_place place qs }) (gone (newcomer v led))) (sym k.holds.queue) h in
+      let counted = subst (λ (n : ℕ). Keeps f (begun (drafted s old) q place n turn capacity) (gone (newcomer v led))) (sym by.some) queue in
+      let in_packet = tried_put p r _ put (and_parts _ _ on).1 (begun_tried p r new at capacity none put here kept tried) in
+      subst (λ (b : Bool). PutAnswer f s v p r old new b) (sym in_packet.0)
+      (record {
+        wish = newcomer v led;
+        next = goes_now;
+        chunk = in_packet.1 ∙ ap (λ (c : ChunkMeaning). with_chunks p (c ∷ [])) (sym begun_chunk);
+        keeps = subst (λ (y : Kept). Keeps f y (gone (newcomer v led))) (sym kept) counted;
+        told = tickets ∙ ap (λ (ts : List ℕ). numbers_of old.tickets.items ++ ts) (sym (newly_begun v q (without_place place v.queue) by.less turn));
+      })
+
+  -- memory ran out for it
+  pub begun_refused : (p r : PacketDraft) (more : Bool) → more ≡ nat_lt count (length (cut s.fragment m.bytes.items))
+      → in_window s old count m.stream more ≡ true
+      → let_in f (item_flight (map (item_meaning s.fragment) old.outstanding.items)) s (suc (s.cum + length old.outstanding.items)) p (Part (lane_meaning m) number 0) (Some (message_meaning s.fragment m)) ≡ true → r ≡ p → IsRefused f v p r
+  begun_refused p r more is window on packet = record { wish = newcomer v led; next = begun_goes p more is window on; packet = packet }

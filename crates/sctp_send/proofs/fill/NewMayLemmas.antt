@@ -1,0 +1,193 @@
+-- Whether what is assigned next may go, as the code tests it: flow, room, and the window.
+use Rattle.std.proofs.Common.{◌≡◌, ℕ, zero, suc, ◌+◌, ◌*◌, ◌%◌, ◌^◌, ◌<◌, ◌≤◌, List, [], ◌∷◌, ◌++◌, length, map, get_or, Bool, true, false, Option, Some, None, refl, sym, ap, ◌∙◌, arith}
+use Rattle.std.specs.Prelude.{nat_le, ◌&&◌, option_map, Result, Ok, Err, IfOk, OnErr, nat_lt}
+use Rattle.std.proofs.lemmas.Bool.Decides.{nat_tests}
+use Rattle.std.proofs.lemmas.Option.{slice_get-get_or}
+use Rattle.sctp_model.specs.numbers.Limits.{WINDOW}
+use Rattle.sctp_model.specs.messages.Format.{Format, Lane, ordered_lane}
+use Rattle.sctp_model.specs.wire.Chunk.{ChunkMeaning}
+use Rattle.sctp_model.specs.messages.Plan.{Entry, End}
+use Rattle.sctp_model.specs.sender.SenderView.{SenderView}
+use Rattle.sctp_model.specs.sender.Entries.{bytes_in}
+use Rattle.sctp_model.specs.sender.Words.{when}
+use Rattle.sctp_model.specs.sender.Queueing.{cut}
+use Rattle.sctp_model.specs.sender.Assigning.{assigned}
+use Rattle.sctp_model.specs.sender.Readers.{outstanding}
+use Rattle.sctp_model.specs.sender.Filling.{newcomer, next_wish, may_go, bytes_of_wish, chunk_of, room_of}
+use Rattle.sctp_model.proofs.sender.Bounds.{is_bounded}
+use Rattle.sctp_model.proofs.sender.OwedLaws.{is_windowed}
+use Rattle.sctp_packet.specs.Draft.{Draft as PacketDraft, room_in, with_chunks, has_room, after_try}
+use Rattle.sctp_send.specs.SenderKept.{Item, Rest, Track, Kept}
+use Rattle.sctp_send.specs.SenderStands.{Keeps}
+use Rattle.sctp_send.specs.OutstandingFields.{item_meaning, message_meaning, entry_meaning}
+use Rattle.sctp_send.specs.SenderFields.{track_meaning}
+use Rattle.sctp_send.specs.inner.Walks.{total, one_if_rest}
+use Rattle.sctp_send.specs.inner.Wishing.{item_flight, lets_flow}
+use Rattle.sctp_send.specs.inner.Newcomers.{rest_at, has_rest, one_if}
+use Rattle.sctp_send.specs.inner.Drafting.{drafted, IsTried, IsFlying, NothingStands}
+use Rattle.sctp_send.specs.PartsKept.{OutstandingKept}
+use Rattle.sctp_send.proofs.KeepLemmas.{kept_length}
+use Rattle.std.proofs.lemmas.List.{length-map}
+use Rattle.sctp_send.specs.declared.draft.Draft.{Draft}
+use Rattle.sctp_send.specs.declared.kept.message.Message.{Message as MessageFields}
+use Rattle.sctp_send.specs.declared.kept.entry.Entry.{Entry as EntryFields}
+use Rattle.sctp_send.specs.declared.kept.entry.Content.{Content}
+use Rattle.sctp_send.proofs.QueueLemmas.{kept_in_part}
+use Rattle.sctp_send.proofs.fill.RoomLemmas.{has_room_is, go_new}
+
+-- ---- the tests, as the code makes them
+
+-- these bytes may flow, by what a draft keeps
+abbrev pub flows : Kept → Draft → List ℕ → Bool
+flows s d bytes = lets_flow (item_flight (map (item_meaning s.fragment) d.outstanding.items)) (length bytes) s.rwnd
+
+-- the window has room for so many indexes more of a stream, whose message then has more fragments or not
+abbrev pub in_window : Kept → Draft → (count stream : ℕ) → (more : Bool) → Bool
+in_window s d count stream more =
+    nat_le (length d.outstanding.items + count + (total (λ t. one_if_rest t.rest) (map (track_meaning s.fragment) d.streams.items) % 2 ^ 32 + one_if more))
+    (WINDOW + one_if (has_rest (rest_at (map (track_meaning s.fragment) d.streams.items) stream)))
+
+-- ---- may it go
+
+-- what is assigned next goes exactly where it may flow, fits, and keeps within the window
+pub new_may : (f : Format) (s : Kept) (v u : SenderView) (p : PacketDraft) (old : Draft) (c : ChunkMeaning) (bytes : List ℕ) → Keeps f (drafted s old) v → assigned f v ≡ Some u
+    → chunk_of f (newcomer v u) ≡ c → bytes_of_wish (newcomer v u) ≡ bytes
+    → may_go f (room_in p) (newcomer v u) ≡ ((lets_flow (item_flight (map (item_meaning s.fragment) old.outstanding.items)) (length bytes) s.rwnd && has_room p c) && nat_le (outstanding u) WINDOW)
+new_may f s v u p old c bytes k is chunk said =
+    let room : nat_le (room_of f (newcomer v u)) (room_in p) ≡ has_room p c = sym (has_room_is f p (newcomer v u)) ∙ ap (has_room p) chunk in
+    let flight = item_flight (map (item_meaning s.fragment) old.outstanding.items) in
+    go_new f (drafted s old) v u (room_in p) k is
+    ∙ ap (λ (b : Bool). b && (lets_flow flight (length (bytes_of_wish (newcomer v u))) s.rwnd && nat_le (outstanding u) WINDOW)) room
+    ∙ ap (λ (ds : List ℕ). has_room p c && (lets_flow flight (length ds) s.rwnd && nat_le (outstanding u) WINDOW)) said
+    ∙ regroup (has_room p c) (lets_flow flight (length bytes) s.rwnd) (nat_le (outstanding u) WINDOW)
+  where
+    regroup : (a b c : Bool) → (a && (b && c)) ≡ ((b && a) && c)
+    regroup true true c = refl
+    regroup true false c = refl
+    regroup false true c = refl
+    regroup false false c = refl
+
+-- nothing that has an index goes out, so this is the next wish
+pub next_is : (f : Format) (v u : SenderView) → NothingStands f v → assigned f v ≡ Some u → next_wish f v ≡ Some (newcomer v u)
+next_is f v u stands is = stands ∙ ap (option_map (newcomer v)) is
+
+-- ---- the window
+
+-- messages in part are few, since they count in the window
+pub few_parts : (f : Format) (s : Kept) (v : SenderView) → Keeps f s v → total (λ t. one_if_rest t.rest) s.tracks < 2 ^ 32
+few_parts f s v k =
+    let all = kept_in_part f s v k in
+    let most = is_windowed f v k.reached in
+    let low = (is_bounded f v k.reached).within in
+    omega (arith, all, most, low)
+
+-- a stream's rest that was read, and whether there is one
+pub rest_read : (ts : List Track) (j : ℕ) (x : Track) → j < length ts → one_if_rest (get_or ts j x).rest ≡ one_if (has_rest (rest_at ts j))
+rest_read ts j x low = rw (slice_get-get_or ts j x low) (counts (get_or ts j x).rest)
+  where
+    counts : (o : Option Rest) → one_if_rest o ≡ one_if (has_rest o)
+    counts None = refl
+    counts (Some r) = refl
+
+pub when_rest : (b : Bool) (r : Rest) → one_if_rest (when b r) ≡ one_if b
+when_rest true r = refl
+when_rest false r = refl
+
+-- two ways to test the window
+pub window_test : (o had count all more w : ℕ) → o + had ≡ count + (all + more) → all < 2 ^ 32 → nat_le o w ≡ nat_le (count + (all % 2 ^ 32 + more)) (w + had)
+window_test o had count all more w is small = let same : all % 2 ^ 32 ≡ all = omega arith in rw same (grind (arith, nat_tests))
+
+-- held back by the second test
+pub and_off : (a b : Bool) → b ≡ false → (a && b) ≡ false
+and_off true b is = is
+and_off false b is = refl
+
+-- ---- what is in flight
+
+-- what is counted modulo 2^64 is all that is in flight: so few entries hold no more
+pub flying_is : (f : Format) (s : Kept) (v : SenderView) (d : Draft) (w : OutstandingKept) (flying : ℕ) → Keeps f (drafted s d) v → w ≡ d.outstanding → d.outstanding.size ≡ s.fragment
+    → flying ≡ item_flight (map (item_meaning w.size) w.items) % 2 ^ 64 → item_flight (map (item_meaning w.size) w.items) ≤ length w.items * 65535 → IsFlying s d flying
+flying_is f s v d w flying k same sized counted few =
+    let here = ap (λ (y : OutstandingKept). item_flight (map (item_meaning y.size) y.items)) same ∙ ap (λ (n : ℕ). item_flight (map (item_meaning n) d.outstanding.items)) sized in
+    let items = ap (λ (y : OutstandingKept). length y.items) same in
+    let count = kept_length f (drafted s d) v k in
+    let long = length-map d.outstanding.items (item_meaning s.fragment) in
+    let most = is_windowed f v k.reached in
+    let all : item_flight (map (item_meaning w.size) w.items) % 2 ^ 64 ≡ item_flight (map (item_meaning w.size) w.items) = omega (arith, few, items, count, long, most) in
+    counted ∙ all ∙ here
+
+-- ---- lists
+
+-- an item that was read is the one that its meaning is read by
+pub map_read : {A B : Type 0} (g : A → B) (xs : List A) (i : ℕ) (x : A) → x ≡ get_or xs i x → get_or (map g xs) i (g x) ≡ g x
+map_read g xs i x read = of_map xs i x ∙ ap g (sym read)
+  where
+    of_map : (ys : List _) (j : ℕ) (d : _) → get_or (map g ys) j (g d) ≡ g (get_or ys j d)
+    of_map [] j d = refl
+    of_map (y ∷ ys) zero d = refl
+    of_map (y ∷ ys) (suc j) d = of_map ys j d
+
+-- ---- as the code reads it
+
+-- whether a fragment may flow, with size, window and message as they were read
+pub flow_read : (size fragment rwnd window : ℕ) (es : List EntryFields) (bytes : List ℕ) (l : Lane) (n : ℕ) (p : Content) (m x : MessageFields) → size ≡ fragment → rwnd ≡ window → m ≡ x
+    → bytes ≡ bytes_in (entry_meaning l n p) (Some (message_meaning size m)) → lets_flow (item_flight (map (item_meaning size) es)) (length bytes) rwnd
+    ≡ lets_flow (item_flight (map (item_meaning fragment) es)) (length (bytes_in (entry_meaning l n p) (Some (message_meaning fragment x)))) window
+flow_read size fragment rwnd window es bytes l n p m x one two three is =
+    ap (λ (ds : List ℕ). lets_flow (item_flight (map (item_meaning size) es)) (length ds) rwnd) is
+    ∙ ap (λ (k : ℕ). lets_flow (item_flight (map (item_meaning k) es)) (length (bytes_in (entry_meaning l n p) (Some (message_meaning k m)))) rwnd) one
+    ∙ ap (λ (y : MessageFields). lets_flow (item_flight (map (item_meaning fragment) es)) (length (bytes_in (entry_meaning l n p) (Some (message_meaning fragment y)))) rwnd) three
+    ∙ ap (lets_flow (item_flight (map (item_meaning fragment) es)) (length (bytes_in (entry_meaning l n p) (Some (message_meaning fragment x))))) two
+
+-- how many bytes an entry's data has, with size and message as they were read
+pub length_read : (size fragment : ℕ) (bytes : List ℕ) (e : Entry) (m x : MessageFields) → size ≡ fragment → m ≡ x → bytes ≡ bytes_in e (Some (message_meaning size m)) → length bytes ≡ length (bytes_in e (Some (message_meaning fragment x)))
+length_read size fragment bytes e m x one two is =
+    ap (λ (ds : List ℕ). length ds) is ∙ ap (λ (k : ℕ). length (bytes_in e (Some (message_meaning k m)))) one ∙ ap (λ (y : MessageFields). length (bytes_in e (Some (message_meaning fragment y)))) two
+
+-- both tests, of which the second is made where the first one passes
+pub both_pass : (first second a b : Bool) → first ≡ a → first ≡ true → second ≡ b → second ≡ (a && b)
+both_pass first second a b one on two = two ∙ ap (λ (x : Bool). x && b) (sym on ∙ one)
+
+pub first_fails : (first a b : Bool) → first ≡ a → first ≡ false → false ≡ (a && b)
+first_fails first a b one off = ap (λ (x : Bool). x && b) (sym off ∙ one)
+
+-- what follows of an answer
+pub of_ok : {A E : Type 0} (P Q : A → Type 0) (r : Result A E) → ((x : A) → P x → Q x) → IfOk r P → IfOk r Q
+of_ok P Q (Ok x) so p = so x p
+of_ok P Q (Err e) so p = tt
+
+-- what is so anyway is so after an error
+pub on_err : {A E : Type 0} (P : Type 0) (r : Result A E) → P → OnErr r P
+on_err P (Ok x) p = tt
+on_err P (Err e) p = p
+
+pub of_err : {A E : Type 0} (P Q : Type 0) (r : Result A E) → (P → Q) → OnErr r P → OnErr r Q
+of_err P Q (Ok x) so p = tt
+of_err P Q (Err e) so p = so p
+
+-- whether a message has more fragments, as it was read
+pub more_read : (fragment size n count : ℕ) (bytes items : List ℕ) → suc fragment < 2 ^ 32 → count ≡ length (cut size bytes) → size ≡ n → bytes ≡ items
+    → nat_lt ((fragment + 1) % 2 ^ 32) count ≡ nat_lt (suc fragment) (length (cut n items))
+more_read fragment size n count bytes items small many one same =
+    let next : (fragment + 1) % 2 ^ 32 ≡ suc fragment = omega arith in
+    ap (λ (k : ℕ). nat_lt k count) next ∙ ap (nat_lt (suc fragment)) (many ∙ ap (λ (k : ℕ). length (cut k bytes)) one ∙ ap (λ (bs : List ℕ). length (cut n bs)) same)
+
+-- the same of a message that begins
+pub left_over : (count size n many : ℕ) (bytes : List ℕ) (m y : MessageFields) → many ≡ length (cut size bytes) → size ≡ n → bytes ≡ y.bytes.items → y ≡ m → nat_lt count many ≡ nat_lt count (length (cut n m.bytes.items))
+left_over count size n many bytes m y all one read same =
+    ap (nat_lt count) (all ∙ ap (λ (k : ℕ). length (cut k bytes)) one ∙ ap (λ (bs : List ℕ). length (cut n bs)) (read ∙ ap (λ (z : MessageFields). z.bytes.items) same))
+
+-- ---- a chunk that was tried
+
+-- where there is room, it is in the packet
+pub tried_put : (before after : PacketDraft) (c : ChunkMeaning) (put : Bool) → has_room before c ≡ true → IsTried before after c put → (put ≡ true) × (after ≡ with_chunks before (c ∷ []))
+tried_put before after c put room tried = let on = tried.answer ∙ room in (on, tried.packet ∙ ap (after_try before c) on)
+
+-- an item, for an offset at which there is none
+pub no_item : Item
+no_item = record { entry = End (ordered_lane 0) 0; message = None; sent = false; marked = false; covered = false; abandoned = false }
+
+-- the item behind some others
+pub item_behind : (xs : List Item) (x : Item) (ys : List Item) (none : Item) → get_or (xs ++ x ∷ ys) (length xs) none ≡ x
+item_behind [] x ys none = refl
+item_behind (y ∷ xs) x ys none = item_behind xs x ys none

@@ -1,6 +1,0 @@
-use Rattle.sctp_send.proofs.FilledLemmas.{IsFilledSoFar}
-use Rattle.sctp_send.specs.inner.Drafting.{bare}
-use Rattle.sctp_send.proofs.head.Head.put_all.Given as goal
-
-abbrev pub invariant-loop : goal.invariant-loop
-invariant-loop g l = IsFilledSoFar g.F.Framing.format (bare l.self) l.initial.packet l.packet l.initial.draft l.draft l.counter

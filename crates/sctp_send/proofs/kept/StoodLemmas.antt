@@ -1,0 +1,69 @@
+-- What becomes of one entry is what its change says, and where it says nothing, all stays.
+use Rattle.std.proofs.Common.{◌≡◌, ℕ, zero, suc, List, [], ◌∷◌, get_or, Bool, true, false, refl, sym, ap, ◌∙◌, arith}
+use Rattle.std.specs.Prelude.{not, ◌&&◌, ◌==◌}
+use Rattle.std.proofs.lemmas.Bool.Decides.{nat_tests}
+use Rattle.sctp_send.specs.PartsKept.{OutstandingKept, changed_at, changed}
+use Rattle.sctp_send.specs.inner.Changes.{unmarked, stood, marked_if, timed, as_abandoned}
+use Rattle.sctp_send.specs.declared.kept.entry.Standing.{Standing}
+use Rattle.sctp_send.specs.declared.kept.entry.Standing.TheVariants.{Unsent, Sent, Marked}
+use Rattle.sctp_send.specs.declared.kept.entry.Entry.{Entry as EntryFields}
+
+-- ---- what is outstanding, with one entry changed
+
+pub same_there : {A : Type 0} (f g : A → A) (n : ℕ) (xs : List A) (x : A) → x ≡ get_or xs n x → f x ≡ g x → changed_at f n xs ≡ changed_at g n xs
+same_there f g n [] x read same = refl
+same_there {A = A} f g zero (y ∷ ys) x read same = ap (λ (z : A). z ∷ ys) (ap f (sym read) ∙ same ∙ ap g read)
+same_there {A = A} f g (suc n) (y ∷ ys) x read same = ap (λ (zs : List A). y ∷ zs) (same_there f g n ys x read same)
+
+pub stays_there : {A : Type 0} (f : A → A) (n : ℕ) (xs : List A) (x : A) → x ≡ get_or xs n x → f x ≡ x → xs ≡ changed_at f n xs
+stays_there f n [] x read same = refl
+stays_there {A = A} f zero (y ∷ ys) x read same = ap (λ (z : A). z ∷ ys) (sym (ap f (sym read) ∙ same ∙ read))
+stays_there {A = A} f (suc n) (y ∷ ys) x read same = ap (λ (zs : List A). y ∷ zs) (stays_there f n ys x read same)
+
+-- changes that agree on the entry
+pub changed_same : (f g : EntryFields → EntryFields) (n : ℕ) (w : OutstandingKept) (x : EntryFields) → x ≡ get_or w.items n x → f x ≡ g x → changed f n w ≡ changed g n w
+changed_same f g n w x read same = ap (λ (es : List EntryFields). record w { items = es }) (same_there f g n w.items x read same)
+
+-- a change that leaves the entry as it is
+pub changed_none : (f : EntryFields → EntryFields) (n : ℕ) (w : OutstandingKept) (x : EntryFields) → x ≡ get_or w.items n x → f x ≡ x → w ≡ changed f n w
+changed_none f n w x read same = ap (λ (es : List EntryFields). record w { items = es }) (stays_there f n w.items x read same)
+
+-- ---- what becomes of an entry
+
+-- an entry of the message is abandoned
+pub abandoned_mine : (t : ℕ) (s : Standing) (x : EntryFields) → x.message.value.ticket ≡ t → s ≡ unmarked x.standing → stood s x.covered true x ≡ as_abandoned t x
+abandoned_mine t s x mine is = let on : (x.message.value.ticket == t) ≡ true = grind (arith, nat_tests) in rw (on, is) refl
+
+-- another one stays
+pub abandoned_other : (t : ℕ) (x : EntryFields) → (x.message.value.ticket ≡ t → ⊥) → as_abandoned t x ≡ x
+abandoned_other t x other = let off : (x.message.value.ticket == t) ≡ false = grind (arith, nat_tests) in rw off refl
+
+both_off : (b c : Bool) → (not b && not c) ≡ true → (b ≡ false) × (c ≡ false)
+both_off true c is = absurd (cc)
+both_off false true is = absurd (cc)
+both_off false false is = (refl, refl)
+
+-- an entry that went out, and that the peer may still need
+pub timed_sent : (x : EntryFields) → (not x.covered && not x.abandoned) ≡ true → x.standing ≡ Sent → stood Marked false false x ≡ timed x
+timed_sent x needed sent =
+    let offs = both_off x.covered x.abandoned needed in
+    let c : x.covered ≡ false = offs.0 in
+    let g : x.abandoned ≡ false = offs.1 in
+    rw (c, g, sent) refl
+
+-- another one
+pub timed_unneeded : (x : EntryFields) → (not x.covered && not x.abandoned) ≡ false → timed x ≡ x
+timed_unneeded x off = rw off (by_standing x.standing)
+  where
+    by_standing : (s : Standing) → record x { standing = marked_if false s } ≡ record x { standing = s }
+    by_standing Unsent = refl
+    by_standing Sent = refl
+    by_standing Marked = refl
+
+pub timed_other : (x : EntryFields) → (x.standing ≡ Sent → ⊥) → timed x ≡ x
+timed_other x other = by_standing (not x.covered && not x.abandoned) x.standing other
+  where
+    by_standing : (b : Bool) (s : Standing) → (s ≡ Sent → ⊥) → record x { standing = marked_if b s } ≡ record x { standing = s }
+    by_standing b Unsent off = refl
+    by_standing b Sent off = absurd (off refl)
+    by_standing b Marked off = refl

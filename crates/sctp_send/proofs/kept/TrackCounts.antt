@@ -1,0 +1,136 @@
+-- A message takes its number on a stream: one more is counted there, and so much is left of it.
+use Rattle.std.proofs.Common.{◌≡◌, ℕ, zero, suc, ◌+◌, ◌%◌, ◌^◌, ◌<◌, List, [], ◌∷◌, length, map, set, get_or, Bool, true, false, Option, Some, None, refl, sym, ap, ◌∙◌, subst, arith}
+use Rattle.std.specs.Prelude.{is_some, not}
+use Rattle.sctp_values.specs.Meanings.{kind_meaning}
+use Rattle.sctp_values.specs.declared.kind.Kind.{Kind}
+use Rattle.sctp_values.specs.declared.kind.Kind.TheVariants.{Ordered, Unordered}
+use Rattle.sctp_send.specs.PartsKept.{changed_at}
+use Rattle.sctp_send.specs.SenderKept.{Rest, Track}
+use Rattle.sctp_send.specs.SenderFields.{counts_meaning, rests_meaning, track_meaning}
+use Rattle.sctp_send.specs.inner.Newcomers.{number_in, counted_in, rest_at, has_rest, track_of}
+use Rattle.sctp_send.specs.inner.Drafting.{counted_track, left_track}
+use Rattle.sctp_send.specs.inner.PartSeats.{ticket_left, tickets_left, IsListed, IsStreamsOf}
+use Rattle.sctp_send.specs.inner.Undoing.{count_of, counted_to}
+use Rattle.sctp_send.specs.inner.Walks.{total, one_if_rest, rest_owes}
+use Rattle.sctp_send.specs.declared.kept.message.Message.{Message as MessageFields}
+use Rattle.sctp_send.specs.declared.kept.part_lists.PartLists.{PartLists}
+use Rattle.sctp_send.specs.declared.kept.track.Rest.{Rest as RestFields}
+use Rattle.sctp_send.specs.declared.kept.track.Track.{Track as TrackFields}
+
+-- how many messages of a kind have a number, as it was read
+pub count_read : (size : ℕ) (k : Kind) (t : TrackFields) → number_in (kind_meaning k) (track_meaning size t) ≡ count_of k t
+count_read size Ordered t = refl
+count_read size Unordered t = refl
+
+-- a message took its number on a stream, and so much of it is left
+one_counted : (size many : ℕ) (k : Kind) (t : TrackFields) (rest : Option RestFields) → many ≡ suc (count_of k t) → left_track (rests_meaning size (track_meaning size (counted_to k many t)) rest) (track_meaning size (counted_to k many t))
+    ≡ counted_track (kind_meaning k) (rests_meaning size (counted_in (kind_meaning k) (track_meaning size t)) rest) (track_meaning size t)
+one_counted size many Ordered t None is = rw is refl
+one_counted size many Ordered t (Some r) is = rw is refl
+one_counted size many Unordered t None is = rw is refl
+one_counted size many Unordered t (Some r) is = rw is refl
+
+-- the same among all streams
+pub counted_on : (size many stream : ℕ) (k : Kind) (ts : List TrackFields) (rest : Option RestFields) → stream < length ts → many ≡ suc (number_in (kind_meaning k) (track_of (map (track_meaning size) ts) stream))
+    → set (map (track_meaning size) (changed_at (counted_to k many) stream ts)) stream (left_track (rests_meaning size (track_of (map (track_meaning size) (changed_at (counted_to k many) stream ts)) stream) rest) (track_of (map (track_meaning size) (changed_at (counted_to k many) stream ts)) stream))
+    ≡ set (map (track_meaning size) ts) stream (counted_track (kind_meaning k) (rests_meaning size (counted_in (kind_meaning k) (track_of (map (track_meaning size) ts) stream)) rest) (track_of (map (track_meaning size) ts) stream))
+counted_on size many stream k [] rest low is = absurd (omega arith)
+counted_on size many zero k (t ∷ ts) rest low is = ap (λ (x : Track). x ∷ map (track_meaning size) ts) (one_counted size many k t rest (is ∙ ap suc (count_read size k t)))
+counted_on size many (suc stream) k (t ∷ ts) rest low is = ap (λ (xs : List Track). track_meaning size t ∷ xs) (counted_on size many stream k ts rest (omega arith) is)
+
+-- the same as the code has it, of a message that took its number there
+pub entered_tracks : (size n many : ℕ) (m x y : MessageFields) (ts us vs : List TrackFields) (rest : Option RestFields) → x ≡ m → y ≡ m → m.stream < length ts → us ≡ changed_at (counted_to y.kind many) x.stream ts
+    → many ≡ suc n → n ≡ number_in (kind_meaning m.kind) (track_of (map (track_meaning size) ts) m.stream)
+    → map (track_meaning size) vs ≡ set (map (track_meaning size) us) x.stream (left_track (rests_meaning size (track_of (map (track_meaning size) us) x.stream) rest) (track_of (map (track_meaning size) us) x.stream))
+    → map (track_meaning size) vs ≡ set (map (track_meaning size) ts) m.stream (counted_track (kind_meaning m.kind) (rests_meaning size (counted_in (kind_meaning m.kind) (track_of (map (track_meaning size) ts) m.stream)) rest) (track_of (map (track_meaning size) ts) m.stream))
+entered_tracks size n many m x y ts us vs rest one two low now next number left =
+    let stream : x.stream ≡ m.stream = ap (λ (z : MessageFields). z.stream) one in
+    let there : us ≡ changed_at (counted_to m.kind many) m.stream ts = now ∙ ap (λ (z : MessageFields). changed_at (counted_to z.kind many) x.stream ts) two ∙ ap (λ (j : ℕ). changed_at (counted_to m.kind many) j ts) stream in
+    left
+    ∙ ap (λ (j : ℕ). set (map (track_meaning size) us) j (left_track (rests_meaning size (track_of (map (track_meaning size) us) j) rest) (track_of (map (track_meaning size) us) j))) stream
+    ∙ ap (λ (ws : List TrackFields). set (map (track_meaning size) ws) m.stream (left_track (rests_meaning size (track_of (map (track_meaning size) ws) m.stream) rest) (track_of (map (track_meaning size) ws) m.stream))) there
+    ∙ counted_on size many m.stream m.kind ts rest low (next ∙ ap suc number)
+
+-- there is nothing
+pub nothing : {A : Type 0} (o : Option A) (b : Bool) → is_some o ≡ not b → b ≡ true → o ≡ None
+nothing None b is on = refl
+nothing (Some x) true is on = absurd (cc)
+nothing (Some x) false is on = absurd (cc)
+
+-- nothing is left on a stream, as before
+pub left_none : (size stream : ℕ) (ts : List TrackFields) (rest : Option RestFields) → stream < length ts → rest ≡ None → has_rest (rest_at (map (track_meaning size) ts) stream) ≡ false
+    → map (track_meaning size) ts ≡ set (map (track_meaning size) ts) stream (left_track (rests_meaning size (track_of (map (track_meaning size) ts) stream) rest) (track_of (map (track_meaning size) ts) stream))
+left_none size stream [] rest low none off = absurd (omega arith)
+left_none size zero (t ∷ ts) rest low none off = ap (λ (x : Track). x ∷ map (track_meaning size) ts) (rw none (by_rest (track_meaning size t).rest refl off))
+  where
+    by_rest : (o : Option Rest) → (track_meaning size t).rest ≡ o → has_rest o ≡ false → track_meaning size t ≡ left_track None (track_meaning size t)
+    by_rest None is never = ap (λ (p : Option Rest). left_track p (track_meaning size t)) is
+    by_rest (Some r) is never = absurd (cc)
+left_none size (suc stream) (t ∷ ts) rest low none off = ap (λ (xs : List Track). track_meaning size t ∷ xs) (left_none size stream ts rest (omega arith) none off)
+
+-- a stream on which a message more was counted has as many as before
+pub counted_back : (k : Kind) (many at : ℕ) (ts : List TrackFields) (x : TrackFields) → x ≡ get_or ts at x → changed_at (counted_to k (count_of k x)) at (changed_at (counted_to k many) at ts) ≡ ts
+counted_back k many at [] x read = refl
+counted_back k many zero (t ∷ ts) x read = ap (λ (y : TrackFields). y ∷ ts) (one k t (ap (count_of k) read))
+  where
+    one : (k : Kind) (t : TrackFields) → count_of k x ≡ count_of k t → counted_to k (count_of k x) (counted_to k many t) ≡ t
+    one Ordered t is = rw is refl
+    one Unordered t is = rw is refl
+counted_back k many (suc at) (t ∷ ts) x read = ap (λ (us : List TrackFields). t ∷ us) (counted_back k many at ts x read)
+
+-- ---- what is left stays
+
+-- how many have a number changes nothing in what is left
+rest_stays : {B : Type 0} (f : Option Rest → B) (size many : ℕ) (k : Kind) (t : TrackFields) → ((a b : Track) (o : Option RestFields) → f (rests_meaning size a o) ≡ f (rests_meaning size b o))
+    → f (track_meaning size (counted_to k many t)).rest ≡ f (track_meaning size t).rest
+rest_stays f size many Ordered t same = same (counts_meaning (counted_to Ordered many t)) (counts_meaning t) t.rest
+rest_stays f size many Unordered t same = same (counts_meaning (counted_to Unordered many t)) (counts_meaning t) t.rest
+
+total_stays : (f : Option Rest → ℕ) (size many at : ℕ) (k : Kind) (ts : List TrackFields) → ((a b : Track) (o : Option RestFields) → f (rests_meaning size a o) ≡ f (rests_meaning size b o))
+    → total (λ t. f t.rest) (map (track_meaning size) (changed_at (counted_to k many) at ts)) ≡ total (λ t. f t.rest) (map (track_meaning size) ts)
+total_stays f size many at k [] same = refl
+total_stays f size many zero k (t ∷ ts) same = ap (λ (n : ℕ). n + total (λ t. f t.rest) (map (track_meaning size) ts)) (rest_stays f size many k t same)
+total_stays f size many (suc at) k (t ∷ ts) same = ap (λ (n : ℕ). f (track_meaning size t).rest + n) (total_stays f size many at k ts same)
+
+fields_stay : (many : ℕ) (k : Kind) (t : TrackFields) → (counted_to k many t).rest ≡ t.rest
+fields_stay many Ordered t = refl
+fields_stay many Unordered t = refl
+
+tickets_stay : (many at : ℕ) (k : Kind) (ts : List TrackFields) → tickets_left (changed_at (counted_to k many) at ts) ≡ tickets_left ts
+tickets_stay many at k [] = refl
+tickets_stay many zero k (t ∷ ts) = ap (λ (o : Option RestFields). ticket_left o ∷ tickets_left ts) (fields_stay many k t)
+tickets_stay many (suc at) k (t ∷ ts) = ap (λ (os : List (Option ℕ)). ticket_left t.rest ∷ os) (tickets_stay many at k ts)
+
+pub long_stays : (many at : ℕ) (k : Kind) (ts : List TrackFields) → length (changed_at (counted_to k many) at ts) ≡ length ts
+long_stays many at k [] = refl
+long_stays many zero k (t ∷ ts) = refl
+long_stays many (suc at) k (t ∷ ts) = ap suc (long_stays many at k ts)
+
+-- all that is said of the streams
+pub streams_counted : (size many at parts owed : ℕ) (k : Kind) (ts : List TrackFields) (lists : PartLists) → IsStreamsOf size ts parts owed lists → IsStreamsOf size (changed_at (counted_to k many) at ts) parts owed lists
+streams_counted size many at parts owed k ts lists h =
+    let long = long_stays many at k ts in
+    let few = h.counted.few in
+    record {
+      counted = record {
+        some = h.counted.some;
+        few = omega (arith, long, few);
+        parts = h.counted.parts ∙ ap (λ (n : ℕ). n % 2 ^ 32) (sym (total_stays one_if_rest size many at k ts one));
+        owed = h.counted.owed ∙ ap (λ (n : ℕ). n % 2 ^ 64) (sym (total_stays rest_owes size many at k ts owes));
+      };
+      listed = subst (λ (os : List (Option ℕ)). IsListed os lists) (sym (tickets_stay many at k ts)) h.listed;
+    }
+  where
+    one : (a b : Track) (o : Option RestFields) → one_if_rest (rests_meaning size a o) ≡ one_if_rest (rests_meaning size b o)
+    one a b None = refl
+    one a b (Some r) = refl
+
+    owes : (a b : Track) (o : Option RestFields) → rest_owes (rests_meaning size a o) ≡ rest_owes (rests_meaning size b o)
+    owes a b None = refl
+    owes a b (Some r) = refl
+
+-- an element that was changed where it stands
+pub set_changed : {A : Type 0} (f : A → A) (at : ℕ) (xs : List A) (x y : A) → x ≡ get_or xs at x → y ≡ f x → set xs at y ≡ changed_at f at xs
+set_changed f at [] x y read is = refl
+set_changed f zero (z ∷ xs) x y read is = ap (λ w. w ∷ xs) (is ∙ ap f read)
+set_changed f (suc at) (z ∷ xs) x y read is = ap (λ zs. z ∷ zs) (set_changed f at xs x y read is)

@@ -1,0 +1,18 @@
+use Rattle.std.proofs.Common.{◌∙◌, ap, sym, true}
+use Rattle.sctp_send.specs.inner.Changes.{stood, as_abandoned}
+use Rattle.sctp_send.specs.declared.kept.message.Message.{Message as MessageFields}
+use Rattle.sctp_send.proofs.kept.StoodLemmas.{same_there, stays_there, abandoned_mine, abandoned_other}
+use Rattle.sctp_send.proofs.kept.by_message.abandon_one.Goals as goal
+
+pub returns-then-deref-ticket-clause-items : goal.returns-then-deref-ticket-clause-items
+returns-then-deref-ticket-clause-items c =
+    let x = c.index-entry.result.now in
+    let ticket = ap (λ (m : MessageFields). m.ticket) c.deref.ensures in
+    let same = abandoned_mine c.args.ticket c.unmarked-standing.result x (sym ticket ∙ c.if-deref-ticket.true) c.unmarked-standing.ensures in
+    c.stand_one.ensures.items ∙ same_there (stood c.unmarked-standing.result x.covered true) (as_abandoned c.args.ticket) c.args.at c.args.entries.now.items x c.index-entry.ensures same
+
+pub returns-else-deref-ticket-clause-items : goal.returns-else-deref-ticket-clause-items
+returns-else-deref-ticket-clause-items c =
+    let x = c.index-entry.result.now in
+    let ticket = ap (λ (m : MessageFields). m.ticket) c.deref.ensures in
+    stays_there (as_abandoned c.args.ticket) c.args.at c.args.entries.now.items x c.index-entry.ensures (abandoned_other c.args.ticket x (λ e. c.if-deref-ticket.false (ticket ∙ e)))

@@ -1,8 +1,0 @@
-use Rattle.std.proofs.Common.{refl}
-use Rattle.sctp_send.proofs.TurnedLemmas.{plain_uncovered}
-use Rattle.sctp_send.proofs.kept.counts.Counts.settle.Goals as goal
-
-pub returns : goal.returns
-returns c =
-    let weighs = plain_uncovered c.args.size c.args.entry.now c.requires.plain in
-    rw (weighs.0, weighs.1, c.from.ensures, ← c.bytes_in.ensures.bytes) refl

@@ -1,0 +1,7 @@
+pub mod CoverLemmas
+pub mod RunLemmas
+pub mod TellLemmas
+pub mod GapLemmas
+pub mod RecoverLemmas
+pub mod SackLemmas
+pub mod WakeLemmas

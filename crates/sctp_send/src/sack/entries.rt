@@ -1,0 +1,176 @@
+//! What was assigned and isn't acknowledged cumulatively: an entry for each index, the one of CUM + 1 in front.
+
+ghost use Rattle.std.specs.Prelude.{◌≡◌, ℕ, Bool, true, false, ◌<◌, ◌≤◌, ◌-◌, List, [], length, drop, None};
+ghost use Rattle.std.specs.VecDeque.{deque_capacity};
+ghost use Rattle.sctp_send.specs.PartsKept.{IsSameRoom, changed};
+ghost use Rattle.sctp_model.specs.messages.Acknowledgement.{in_blocks};
+ghost use Rattle.sctp_send.specs.inner.Changes.{all_told, or_run, timed, all_timed};
+ghost use Rattle.sctp_model.specs.sender.SackTaken.{some_is_bad};
+ghost use Rattle.sctp_send.specs.CoveredRuns.{run_behind, runs_behind, HoldsBlocks};
+ghost use Rattle.sctp_send.specs.inner.Acknowledging.{block_fault};
+ghost use Rattle.sctp_send.specs.declared.kept.entry.Entry.{Entry as EntryFields};
+
+use crate::kept::counts::Counts;
+use crate::kept::entry::{CoveredRun, Entry, RUNS, Standing};
+use crate::kept::message::{Message, keep_shell};
+use crate::kept::outstanding::Outstanding;
+use sctp_wire::Blocks;
+use std::alloc::Global;
+use std::collections::VecDeque;
+use std::sync::Arc;
+
+/// A run of entries is covered: those from the offset `from` up to before the offset `to`.
+fn cover_run(outstanding: &mut Outstanding, from: usize, to: usize)
+    requires order { from ≤ to }
+    requires within { to ≤ length outstanding.old.items }
+    ensures long { length outstanding.new.items ≡ length outstanding.old.items }
+    ensures kept { IsSameRoom outstanding.old outstanding.new }
+    ensures run { (test : ℕ → Bool) (es : List EntryFields)
+        → outstanding.old.items ≡ all_told test 1 es → outstanding.new.items ≡ all_told (or_run test from to) 1 es }
+{
+    for at in from..to {
+        outstanding.tell(at, true);
+    }
+}
+
+/// No entry is covered.
+fn uncover(outstanding: &mut Outstanding)
+    ensures items { outstanding.new.items ≡ all_told (λ i. false) 1 outstanding.old.items }
+    ensures kept { IsSameRoom outstanding.old outstanding.new }
+{
+    for at in 0..outstanding.len() {
+        outstanding.tell(at, false);
+    }
+}
+
+/// What lies in a block is covered, and nothing else: what an earlier SACK covered counts no more.
+pub(crate) fn cover(outstanding: &mut Outstanding, blocks: &Blocks<'_>)
+    requires { block_fault (length outstanding.old.items) blocks.now ≡ None }
+    ensures covered { outstanding.new.items ≡ all_told (in_blocks 0 blocks.now) 1 outstanding.old.items }
+    ensures kept { IsSameRoom outstanding.old outstanding.new }
+{
+    uncover(outstanding);
+    for block in blocks.iter() {
+        cover_run(
+            outstanding,
+            usize::from(block.start) - 1,
+            usize::from(block.end),
+        );
+    }
+}
+
+/// The first entries go: so many are acknowledged cumulatively. Their shells are kept for messages to come.
+pub(crate) fn forget(
+    outstanding: &mut Outstanding,
+    shells: &mut Vec<Arc<Message>>,
+    alloc: Global,
+    passed: usize,
+)
+    requires { passed ≤ length outstanding.old.items }
+    ensures items { outstanding.new.items ≡ drop passed outstanding.old.items }
+    ensures kept { IsSameRoom outstanding.old outstanding.new }
+{
+    if passed == outstanding.len() {
+        outstanding.clear(shells, alloc);
+        return;
+    }
+    for _ in 0..passed {
+        if let Some(message) = outstanding.pop_front() {
+            keep_shell(shells, alloc, message);
+        }
+    }
+}
+
+impl Outstanding {
+    /// All entries go, and with them what is counted: none is looked at for that.
+    fn clear(&mut self, shells: &mut Vec<Arc<Message>>, alloc: Global)
+        ensures { self.new ≡ record self.old { items = [] } }
+    {
+        keep_shells(&mut self.entries, shells, alloc);
+        self.by_ticket.clear();
+        self.counts = Counts::none();
+    }
+}
+
+/// All entries go. Their shells are kept for messages to come.
+fn keep_shells(entries: &mut VecDeque<Entry>, shells: &mut Vec<Arc<Message>>, alloc: Global)
+    ensures items { entries.new.items ≡ [] }
+    ensures capacity { deque_capacity entries.new ≡ deque_capacity entries.old }
+{
+    for _ in 0..entries.len() {
+        if let Some(entry) = entries.pop_front() {
+            let Entry { message, .. } = entry;
+            keep_shell(shells, alloc, message);
+        }
+    }
+}
+
+/// The runs as seen from so many entries further on.
+pub(crate) fn move_on(runs: &mut Vec<CoveredRun>, passed: usize)
+    ensures { runs.new.items ≡ runs_behind passed runs.old.items }
+{
+    for at in 0..runs.len() {
+        runs[at] = run_behind(runs[at], passed);
+    }
+}
+
+/// A run as seen from so many entries further on.
+pub(crate) fn run_behind(run: CoveredRun, passed: usize) -> CoveredRun
+    ensures { result ≡ run_behind passed run }
+{
+    CoveredRun {
+        from: less(run.from, passed),
+        to: less(run.to, passed),
+    }
+}
+
+/// An offset less so many entries; 0 where it is no more than they are.
+fn less(offset: u16, passed: usize) -> u16
+    ensures { result ≡ offset - passed }
+{
+    if passed < usize::from(offset) {
+        offset - passed as u16
+    } else {
+        0
+    }
+}
+
+/// Keeps what blocks cover, instead of what was kept; false where they are too many.
+pub(crate) fn remember(runs: &mut Vec<CoveredRun>, blocks: &Blocks<'_>) -> bool
+    requires { some_is_bad 0 blocks.now ≡ false }
+    ensures { result ≡ true → HoldsBlocks runs.new.items blocks.now }
+{
+    runs.clear();
+    for block in blocks.iter() {
+        let run = CoveredRun {
+            from: block.start.saturating_sub(1),
+            to: block.end,
+        };
+        if runs.len() >= RUNS || runs.push(run).is_err() {
+            return false;
+        }
+    }
+    true
+}
+
+/// An entry that the peer may still need is marked.
+fn time_one(outstanding: &mut Outstanding, at: usize)
+    requires { at < length outstanding.old.items }
+    ensures { outstanding.new ≡ changed timed at outstanding.old }
+{
+    let entry = outstanding.get(at);
+    let needed = !entry.covered && !entry.abandoned;
+    if needed && entry.standing == Standing::Sent {
+        outstanding.stand(at, Standing::Marked, false, false);
+    }
+}
+
+/// Each entry that the peer may still need is marked.
+pub(crate) fn mark_unsettled(outstanding: &mut Outstanding)
+    ensures items { outstanding.new.items ≡ all_timed outstanding.old.items }
+    ensures kept { IsSameRoom outstanding.old outstanding.new }
+{
+    for at in 0..outstanding.len() {
+        time_one(outstanding, at);
+    }
+}
