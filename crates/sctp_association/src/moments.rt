@@ -74,7 +74,7 @@ impl Machine {
     }
 
     /// The timer of fragments stops where nothing is unsettled (RFC 9260, 6.3.2), and a FORWARD is due no more where there is nothing to skip.
-    pub fn settle(&mut self)
+    pub(crate) fn settle(&mut self)
         ensures { (v : EndView) → MachineStands self.old v → MachineStands self.new (settled v) }
     {
         let wanted = self.unsettled();
