@@ -70,7 +70,7 @@ impl Due {
         ensures { (d : model.Due) (t : model.Tags) → DueStands self.old d → DueStands self.new (record (due_in (model.Open t model.Established) d) { cookie_ack = true }) }
     {
         self.turn(Stage::Established);
-        self.cookie_ack = true;
+        self.acknowledge_cookie();
     }
 
     /// The association begins at the caller: its cookie is to go back, with these causes behind it (RFC 9260, 5.1, C).
@@ -93,6 +93,70 @@ impl Due {
         self.cookie_echo = false;
         self.shutdown = false;
         self.shutdown_ack = false;
+    }
+
+    /// INIT goes out once more (RFC 9260, 5.1, A).
+    #[inline(always)]
+    pub(crate) fn repeat_init(&mut self)
+        ensures { (d : model.Due) → DueStands self.old d → DueStands self.new (record d { init = true }) }
+    {
+        self.init = true;
+    }
+
+    /// The cookie goes back once more (RFC 9260, 5.1, C).
+    #[inline(always)]
+    pub(crate) fn repeat_echo(&mut self)
+        ensures { (d : model.Due) → DueStands self.old d → DueStands self.new (record d { cookie_echo = true }) }
+    {
+        self.cookie_echo = true;
+    }
+
+    /// The caller's cookie is to be acknowledged (RFC 9260, 5.1, D and 5.2.4).
+    #[inline(always)]
+    pub(crate) fn acknowledge_cookie(&mut self)
+        ensures { (d : model.Due) → DueStands self.old d → DueStands self.new (record d { cookie_ack = true }) }
+    {
+        self.cookie_ack = true;
+    }
+
+    /// The value of a HEARTBEAT is to go back; an older one that waits is forgotten (RFC 9260, 8.3).
+    #[inline(always)]
+    pub(crate) fn bring_back(&mut self, info: HeartbeatInfo)
+        ensures { (d : model.Due) (xs : List ℕ) → DueStands self.old d → info.bytes.items ≡ xs → DueStands self.new (record d { heartbeat = Some xs }) }
+    {
+        self.heartbeat = Some(info);
+    }
+
+    /// A SACK is due, or is due no more (RFC 9260, 6.2).
+    #[inline(always)]
+    pub(crate) fn owe_sack(&mut self, is_due: bool)
+        ensures { (d : model.Due) → DueStands self.old d → DueStands self.new (record d { sack = is_due }) }
+    {
+        self.sack = is_due;
+    }
+
+    /// A FORWARD is due, or is due no more (RFC 3758, 3.5).
+    #[inline(always)]
+    pub(crate) fn owe_forward(&mut self, is_due: bool)
+        ensures { (d : model.Due) → DueStands self.old d → DueStands self.new (record d { forward = is_due }) }
+    {
+        self.forward = is_due;
+    }
+
+    /// A SHUTDOWN is due (RFC 9260, 9.2).
+    #[inline(always)]
+    pub(crate) fn shut(&mut self)
+        ensures { (d : model.Due) → DueStands self.old d → DueStands self.new (record d { shutdown = true }) }
+    {
+        self.shutdown = true;
+    }
+
+    /// A SHUTDOWN ACK is due (RFC 9260, 9.2).
+    #[inline(always)]
+    pub(crate) fn answer_shut(&mut self)
+        ensures { (d : model.Due) → DueStands self.old d → DueStands self.new (record d { shutdown_ack = true }) }
+    {
+        self.shutdown_ack = true;
     }
 
     /// A FORWARD is due where the point moved (RFC 3758, 3.5).
