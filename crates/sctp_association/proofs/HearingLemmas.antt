@@ -21,11 +21,8 @@ use Rattle.sctp_recv.specs.declared.answer.Answer.TheVariants as answer
 use Rattle.sctp_recv.specs.declared.forward.ForwardAnswer.{ForwardAnswer}
 use Rattle.sctp_outcomes.proofs.Buffers.{piece_keeps_buffer, forward_keeps_buffer}
 use Rattle.sctp_association.specs.PhaseMeans.{phase_unjoined, phase_of}
-use Rattle.sctp_association.specs.DueStands.{DueStands}
 use Rattle.sctp_association.specs.TrafficStands.{TrafficStands}
 use Rattle.sctp_association.specs.MachineStands.{KeepsMachine}
-use Rattle.sctp_association.specs.declared.carried.HeartbeatInfo.{HeartbeatInfo}
-use Rattle.sctp_association.specs.declared.due.Due.{Due}
 use Rattle.sctp_association.specs.declared.life.Unjoined.{Unjoined}
 use Rattle.sctp_association.specs.declared.life.Unjoined.TheVariants.{Idle, Listening, Calling, Failed}
 use Rattle.sctp_association.specs.declared.life.Association.{Association}
@@ -130,9 +127,6 @@ shut_leaves v moved is =
     ∙ ap (λ (f : Alarm → Timer). record v { timers = f }) (λ i a. own_at v.timers a i)
 
 -- ---- what is answered
-
-pub due_heartbeat : (d : Due) (m : model.Due) (h : HeartbeatInfo) (xs : List ℕ) → DueStands d m → h.bytes.items ≡ xs → DueStands (record d { heartbeat = Some h }) (record m { heartbeat = Some xs })
-due_heartbeat d m h xs s is = record { init = s.init; cookie_echo = s.cookie_echo; cookie_ack = s.cookie_ack; heartbeat = ap (λ (ys : List ℕ). Some ys) is; causes = s.causes; sack = s.sack; forward = s.forward; shutdown = s.shutdown; shutdown_ack = s.shutdown_ack }
 
 pub heartbeat_by : (v : EndView) (info : List ℕ) (room : ℕ) (b : Bool) → HasRoom v.configuration room → nat_le (length info) room ≡ b
     → heartbeat_heard v info ≡ with_due (record v.due { heartbeat = if b then Some info else v.due.heartbeat }) v

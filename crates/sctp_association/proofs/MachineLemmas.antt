@@ -1,5 +1,5 @@
 -- An end that stands for a view, with a part of both changed.
-use Rattle.std.proofs.Common.{◌≡◌, ◌∙◌, ℕ, Bool, true, false, refl, sym, ap, subst}
+use Rattle.std.proofs.Common.{◌≡◌, ◌∙◌, ℕ, Bool, false, refl, sym, ap, subst}
 use Rattle.std.specs.Prelude.{max, zero, suc, Option, None}
 use Rattle.std.specs.declared.vec.Vec.{Vec}
 use Rattle.std.specs.declared.alloc.Global.{Global}
@@ -55,26 +55,6 @@ with_delayed m v n o k is = record { configuration = k.configuration; role = k.r
 -- the room for the next packet is no part of any view
 pub with_room : (m : Machine) (v : EndView) (room : Vec ℕ Global) → KeepsMachine m v → KeepsMachine (record m { room = room }) v
 with_room m v room k = record { configuration = k.configuration; role = k.role; clock = k.clock; due = k.due; timers = k.timers; delayed = k.delayed; phase = k.phase; life = k.life }
-
--- ---- one thing that is due
-
-pub due_init : (d : Due) (m : model.Due) → DueStands d m → DueStands (record d { init = true }) (record m { init = true })
-due_init d m s = record { init = refl; cookie_echo = s.cookie_echo; cookie_ack = s.cookie_ack; heartbeat = s.heartbeat; causes = s.causes; sack = s.sack; forward = s.forward; shutdown = s.shutdown; shutdown_ack = s.shutdown_ack }
-
-pub due_echo : (d : Due) (m : model.Due) → DueStands d m → DueStands (record d { cookie_echo = true }) (record m { cookie_echo = true })
-due_echo d m s = record { init = s.init; cookie_echo = refl; cookie_ack = s.cookie_ack; heartbeat = s.heartbeat; causes = s.causes; sack = s.sack; forward = s.forward; shutdown = s.shutdown; shutdown_ack = s.shutdown_ack }
-
-pub due_forward : (d : Due) (m : model.Due) (b c : Bool) → DueStands d m → b ≡ c → DueStands (record d { forward = b }) (record m { forward = c })
-due_forward d m b c s is = record { init = s.init; cookie_echo = s.cookie_echo; cookie_ack = s.cookie_ack; heartbeat = s.heartbeat; causes = s.causes; sack = s.sack; forward = is; shutdown = s.shutdown; shutdown_ack = s.shutdown_ack }
-
-pub due_sack : (d : Due) (m : model.Due) → DueStands d m → DueStands (record d { sack = true }) (record m { sack = true })
-due_sack d m s = record { init = s.init; cookie_echo = s.cookie_echo; cookie_ack = s.cookie_ack; heartbeat = s.heartbeat; causes = s.causes; sack = refl; forward = s.forward; shutdown = s.shutdown; shutdown_ack = s.shutdown_ack }
-
-pub due_shutdown : (d : Due) (m : model.Due) → DueStands d m → DueStands (record d { shutdown = true }) (record m { shutdown = true })
-due_shutdown d m s = record { init = s.init; cookie_echo = s.cookie_echo; cookie_ack = s.cookie_ack; heartbeat = s.heartbeat; causes = s.causes; sack = s.sack; forward = s.forward; shutdown = refl; shutdown_ack = s.shutdown_ack }
-
-pub due_shutdown_ack : (d : Due) (m : model.Due) → DueStands d m → DueStands (record d { shutdown_ack = true }) (record m { shutdown_ack = true })
-due_shutdown_ack d m s = record { init = s.init; cookie_echo = s.cookie_echo; cookie_ack = s.cookie_ack; heartbeat = s.heartbeat; causes = s.causes; sack = s.sack; forward = s.forward; shutdown = s.shutdown; shutdown_ack = refl }
 
 -- ---- terms, sender and receiver
 

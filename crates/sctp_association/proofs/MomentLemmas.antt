@@ -39,5 +39,8 @@ kept_in n f g b c is wanted same =
 pub settled_due : (d : Due) (m : model.Due) (b c : Bool) → DueStands d (record m { forward = m.forward && b }) → b ≡ c → DueStands d (record m { forward = m.forward && c })
 settled_due d m b c stands same = subst (λ (x : Bool). DueStands d (record m { forward = m.forward && x })) same stands
 
+pub owed_due : (d : Due) (m : model.Due) (b c : Bool) → DueStands d (record m { forward = b }) → b ≡ c → DueStands d (record m { forward = c })
+owed_due d m b c stands same = subst (λ (x : Bool). DueStands d (record m { forward = x })) same stands
+
 pub skipped_due : (d : Due) (m : model.Due) (b c : Bool) → DueStands d (record m { forward = m.forward || b }) → b ≡ c → DueStands d (record m { forward = m.forward || c })
 skipped_due d m b c stands same = subst (λ (x : Bool). DueStands d (record m { forward = m.forward || x })) same stands

@@ -59,11 +59,6 @@ established_there m a v t xs d s is k phase due timers =
       life = record { terms = (joined m a v is k).terms; traffic = (joined m a v is k).traffic; buffer = (joined m a v is k).buffer };
     }
 
--- ---- a COOKIE ACK that is due
-
-pub due_cookie_ack : (d : Due) (m : model.Due) → DueStands d m → DueStands (record d { cookie_ack = true }) (record m { cookie_ack = true })
-due_cookie_ack d m s = record { init = s.init; cookie_echo = s.cookie_echo; cookie_ack = refl; heartbeat = s.heartbeat; causes = s.causes; sack = s.sack; forward = s.forward; shutdown = s.shutdown; shutdown_ack = s.shutdown_ack }
-
 -- ---- the seal of an end that listens
 
 pub seal_listening : (h : model.Phase) (r : model.Role) → is_listening h ≡ true → seal_at h r ≡ seal_in r

@@ -112,14 +112,14 @@ plain_sender (Ok p) e v d w m a b is k kept packed = (packed.0, packed.1, on_tra
 plain_sender (Err failed) e v d w m a b is k kept packed = packed
 
 -- what is due behind it
-pub due_plain : (d n : Due) (x : model.Due) (s f : Bool) → DueStands d x → DueStands n x → DueStands (record n { sack = s }) (due_left (plain_marks d s f) x)
+pub due_plain : (d n : Due) (x : model.Due) (s f : Bool) → DueStands d x → DueStands n (record x { sack = s }) → DueStands n (due_left (plain_marks d s f) x)
 due_plain d n x s f was now = record {
   init = now.init ∙ sym was.init;
   cookie_echo = now.cookie_echo ∙ sym was.cookie_echo;
   cookie_ack = now.cookie_ack ∙ sym was.cookie_ack;
   heartbeat = now.heartbeat;
   causes = now.causes;
-  sack = refl;
+  sack = now.sack;
   forward = now.forward ∙ sym was.forward;
   shutdown = now.shutdown ∙ sym was.shutdown;
   shutdown_ack = now.shutdown_ack ∙ sym was.shutdown_ack;

@@ -34,7 +34,8 @@ impl Machine {
         if info.len() > room_behind(&self.config, 4) {
             return Ok(());
         }
-        self.due.heartbeat = Some(HeartbeatInfo::copied(self.alloc, info)?);
+        let copied = HeartbeatInfo::copied(self.alloc, info)?;
+        self.due.bring_back(copied);
         Ok(())
     }
 
@@ -79,13 +80,13 @@ impl Machine {
         ensures { (v : EndView) (t : model.Tags) (g : model.Stage) → MachineStands self.old v → v.phase ≡ model.Open t g → MachineStands self.new (answers_shutdown t v) }
     {
         self.turn(Stage::ShutdownAckSent);
-        self.due.shutdown_ack = true;
+        self.due.answer_shut();
     }
 
     /// The SHUTDOWN ACK is due once more: the peer's SHUTDOWN came again (RFC 9260, 9.2).
     pub fn repeat_shutdown_ack(&mut self)
         ensures { (v : EndView) → MachineStands self.old v → MachineStands self.new (with_due (record v.due { shutdown_ack = true }) v) }
     {
-        self.due.shutdown_ack = true;
+        self.due.answer_shut();
     }
 }

@@ -11,21 +11,21 @@ use std::alloc::Global;
 
 /// The value of a HEARTBEAT, which its answer brings back (RFC 9260, 8.3).
 #[derive(Drop)]
-pub struct HeartbeatInfo {
+pub(crate) struct HeartbeatInfo {
     pub(crate) bytes: Vec<u8>,
     ghost small: { 4 + length bytes.items < 2 ^ 16 },
 }
 
 /// The cookie that a caller sends back (RFC 9260, 5.1, C).
 #[derive(Drop)]
-pub struct EchoedCookie {
+pub(crate) struct EchoedCookie {
     pub(crate) bytes: Vec<u8>,
     ghost small: { 4 + length bytes.items < 2 ^ 16 },
 }
 
 /// What the peer is to be told in one ERROR: its causes, as they are written there (RFC 9260, 3.3.10).
 #[derive(Drop)]
-pub struct WaitingCauses {
+pub(crate) struct WaitingCauses {
     pub(crate) bytes: Vec<u8>,
     ghost typed: { are_typed bytes.items ≡ true },
     ghost written: { AreAsWritten bytes.items },
@@ -39,7 +39,7 @@ impl HeartbeatInfo {
     ///
     /// # Errors
     /// Memory ran out.
-    pub fn copied(alloc: Global, info: &[u8]) -> Result<HeartbeatInfo, NoMemory>
+    pub(crate) fn copied(alloc: Global, info: &[u8]) -> Result<HeartbeatInfo, NoMemory>
         requires { 4 + length info.now < 2 ^ 16 }
         ensures { IfOk result (λ h. h.bytes.items ≡ info.now) }
     {
@@ -56,7 +56,7 @@ impl EchoedCookie {
     ///
     /// # Errors
     /// Memory ran out.
-    pub fn copied(alloc: Global, cookie: &[u8]) -> Result<EchoedCookie, NoMemory>
+    pub(crate) fn copied(alloc: Global, cookie: &[u8]) -> Result<EchoedCookie, NoMemory>
         requires { 4 + length cookie.now < 2 ^ 16 }
         ensures { IfOk result (λ c. c.bytes.items ≡ cookie.now) }
     {
@@ -75,7 +75,7 @@ impl WaitingCauses {
 
     /// No causes.
     #[tactic(auto, unfolding(sctp_model::specs::wire::Typed::typed_of))]
-    pub fn none(alloc: Global) -> WaitingCauses
+    pub(crate) fn none(alloc: Global) -> WaitingCauses
         ensures { result.bytes.items ≡ [] }
     {
         WaitingCauses {
@@ -88,7 +88,7 @@ impl WaitingCauses {
     ///
     /// # Errors
     /// Memory ran out.
-    pub fn with_ack_report(
+    pub(crate) fn with_ack_report(
         &self,
         alloc: Global,
         config: &Config,

@@ -69,11 +69,11 @@ impl Machine {
         match stage {
             Stage::ShutdownPending => {
                 self.turn(Stage::ShutdownSent);
-                self.due.shutdown = true;
+                self.due.shut();
             }
             Stage::ShutdownReceived => {
                 self.turn(Stage::ShutdownAckSent);
-                self.due.shutdown_ack = true;
+                self.due.answer_shut();
             }
             _ => {}
         }

@@ -32,7 +32,11 @@ impl Traffic {
     ///
     /// # Errors
     /// Memory ran out.
-    pub fn put_forward(&self, packet: &mut PacketWriter, limit: u16) -> Result<bool, NoMemory>
+    pub(crate) fn put_forward(
+        &self,
+        packet: &mut PacketWriter,
+        limit: u16,
+    ) -> Result<bool, NoMemory>
         requires least { LEAST_PACKET ≤ limit }
         requires greatest { limit ≤ GREATEST_PACKET }
         ensures answer { (f : Format) (s : SenderView) (r : ReceiverView) → TrafficStands self.now f s r
@@ -51,7 +55,7 @@ impl Traffic {
     /// # Errors
     /// Memory ran out; nothing of the traffic changed.
     #[inline(always)]
-    pub fn fill(&mut self, packet: &mut PacketWriter) -> Result<Filled, NoMemory>
+    pub(crate) fn fill(&mut self, packet: &mut PacketWriter) -> Result<Filled, NoMemory>
         ensures chunks { (f : Format) (s : SenderView) (r : ReceiverView) → TrafficStands self.old f s r
             → OnOk result (packet.new ≡ with_chunks packet.old (map (chunk_of f) (fill f (room_in packet.old) s).wishes)) }
         ensures step { (f : Format) (s : SenderView) (r : ReceiverView) → TrafficStands self.old f s r

@@ -108,7 +108,7 @@ impl Machine {
         match self.take_sack(sack) {
             Ok(()) => {
                 let moved = before < self.cum();
-                self.due.forward = true;
+                self.due.owe_forward(true);
                 self.settle();
                 self.renew(Alarm::Fragments, moved);
                 Ok(())

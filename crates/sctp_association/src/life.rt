@@ -19,7 +19,7 @@ use sctp_terms::{Draw, End};
 
 /// How an end came to be.
 #[derive(Drop)]
-pub enum Role {
+pub(crate) enum Role {
     /// It calls.
     Caller,
     /// It listens, and its cookies are sealed with this key.
@@ -30,7 +30,7 @@ pub enum Role {
 
 /// Where an end stands in its life.
 #[derive(Drop)]
-pub enum Life {
+pub(crate) enum Life {
     /// There was no association yet.
     Unjoined(Unjoined),
     /// There is an association, or there was one.
@@ -39,7 +39,7 @@ pub enum Life {
 
 /// Where an end stands that never had an association.
 #[derive(Clone, Copy)]
-pub enum Unjoined {
+pub(crate) enum Unjoined {
     /// Nothing happened yet.
     Idle,
     /// It waits for a cookie, and remembers nothing.
@@ -52,7 +52,7 @@ pub enum Unjoined {
 
 /// An association: there as soon as both tags and all terms are known, also once it is over.
 #[derive(Drop)]
-pub struct Association {
+pub(crate) struct Association {
     pub(crate) tags: Tags,
     pub(crate) terms: Terms,
     pub(crate) progress: Progress,
@@ -61,7 +61,7 @@ pub struct Association {
 
 /// How far an association has come.
 #[derive(Drop)]
-pub enum Progress {
+pub(crate) enum Progress {
     /// Its cookie is on the way back to the listener.
     Echoing(EchoedCookie),
     /// Both ends are there.

@@ -59,7 +59,7 @@ impl Machine {
         if !is_over_at(self.delayed, self.moment) {
             return;
         }
-        self.due.sack = true;
+        self.due.owe_sack(true);
         self.delayed = None;
     }
 
@@ -74,7 +74,7 @@ impl Machine {
     }
 
     /// The timer of fragments stops where nothing is unsettled (RFC 9260, 6.3.2), and a FORWARD is due no more where there is nothing to skip.
-    pub fn settle(&mut self)
+    pub(crate) fn settle(&mut self)
         ensures { (v : EndView) → MachineStands self.old v → MachineStands self.new (settled v) }
     {
         let wanted = self.unsettled();
@@ -104,11 +104,11 @@ impl Machine {
         ensures { (v : EndView) → MachineStands self.old v → MachineStands self.new (due_again (alarm_meaning alarm) v) }
     {
         match alarm {
-            Alarm::Init => self.due.init = true,
-            Alarm::Cookie => self.due.cookie_echo = true,
+            Alarm::Init => self.due.repeat_init(),
+            Alarm::Cookie => self.due.repeat_echo(),
             Alarm::Fragments => self.repeat_fragments(),
-            Alarm::Shutdown => self.due.shutdown = true,
-            Alarm::ShutdownAck => self.due.shutdown_ack = true,
+            Alarm::Shutdown => self.due.shut(),
+            Alarm::ShutdownAck => self.due.answer_shut(),
         }
     }
 
@@ -116,7 +116,8 @@ impl Machine {
     fn repeat_fragments(&mut self)
         ensures { (v : EndView) → MachineStands self.old v → MachineStands self.new (record v { sender = timed_out v.sender; due = record v.due { forward = is_point_past v.sender } }) }
     {
-        self.due.forward = self.is_point_past();
+        let past = self.is_point_past();
+        self.due.owe_forward(past);
         self.repeat();
     }
 

@@ -115,7 +115,7 @@ impl Machine {
     pub fn acknowledge_cookie(&mut self)
         ensures { (v : EndView) → MachineStands self.old v → MachineStands self.new (with_due (record v.due { cookie_ack = true }) v) }
     {
-        self.due.cookie_ack = true;
+        self.due.acknowledge_cookie();
     }
 
     /// What a listener reads in a cookie that came under this verification tag (RFC 9260, 5.1.5); None at an end that isn't one.

@@ -42,7 +42,7 @@ impl Machine {
     }
 
     /// The index up to which all is acknowledged or abandoned: the Advanced Peer Ack Point (RFC 3758, 3.5).
-    pub fn point(&self) -> u64
+    pub(crate) fn point(&self) -> u64
         ensures { (v : EndView) → MachineStands self.now v → result ≡ point v.sender }
     {
         match &self.life {
@@ -52,7 +52,7 @@ impl Machine {
     }
 
     /// There is something to skip: the point is past the acknowledged index.
-    pub fn is_point_past(&self) -> bool
+    pub(crate) fn is_point_past(&self) -> bool
         ensures { (v : EndView) → MachineStands self.now v → result ≡ is_point_past v.sender }
     {
         match &self.life {
@@ -62,7 +62,7 @@ impl Machine {
     }
 
     /// The timer of fragments is wanted (RFC 9260, 6.3.2).
-    pub fn unsettled(&self) -> bool
+    pub(crate) fn unsettled(&self) -> bool
         ensures { (v : EndView) → MachineStands self.now v → result ≡ unsettled v.sender }
     {
         match &self.life {
@@ -72,7 +72,7 @@ impl Machine {
     }
 
     /// Nothing waits to go out, and all is acknowledged (RFC 9260, 9.2).
-    pub fn is_drained(&self) -> bool
+    pub(crate) fn is_drained(&self) -> bool
         ensures { (v : EndView) → MachineStands self.now v → result ≡ drained v.sender }
     {
         match &self.life {

@@ -134,7 +134,7 @@ impl Machine {
         self.moment = moment;
         self.when_sack_sent(self.due.sack, plain.sack);
         self.timers.start_fragments(plain.fragments, moment);
-        self.due.sack = plain.sack;
+        self.due.owe_sack(plain.sack);
         let tickets = plain.tickets;
         match writer.finish_or_room() {
             Ok(packet) => Some(Built { packet, tickets }),

@@ -27,7 +27,7 @@ impl Traffic {
     ///
     /// # Errors
     /// Memory ran out, and nothing changed.
-    pub fn on_data(&mut self, piece: &Piece<'_>) -> Result<Answer, NoMemory>
+    pub(crate) fn on_data(&mut self, piece: &Piece<'_>) -> Result<Answer, NoMemory>
         ensures step { (f : Format) (s : SenderView) (r : ReceiverView) → TrafficStands self.old f s r → IfOk result (λ a. (t : ReceiverView) × PieceTaken f r (piece_meaning piece.now) (answer_of a) t × TrafficStands self.new f s t) }
         ensures refused { (f : Format) (s : SenderView) (r : ReceiverView) → TrafficStands self.old f s r → OnErr result (TrafficStands self.new f s r) }
     {
@@ -41,7 +41,7 @@ impl Traffic {
     ///
     /// # Errors
     /// Memory ran out, and nothing changed.
-    pub fn on_forward(&mut self, forward: &Forward<'_>) -> Result<ForwardAnswer, NoMemory>
+    pub(crate) fn on_forward(&mut self, forward: &Forward<'_>) -> Result<ForwardAnswer, NoMemory>
         ensures step { (f : Format) (s : SenderView) (r : ReceiverView) → TrafficStands self.old f s r → IfOk result (λ a. (t : ReceiverView) × ForwardTaken f r (forward_meaning forward.now) (forward_answer_of a) t × TrafficStands self.new f s t) }
         ensures refused { (f : Format) (s : SenderView) (r : ReceiverView) → TrafficStands self.old f s r → OnErr result (TrafficStands self.new f s r) }
     {
@@ -56,7 +56,7 @@ impl Traffic {
     /// # Errors
     /// Memory ran out.
     #[inline(always)]
-    pub fn sack(&self) -> Result<SackLists, NoMemory>
+    pub(crate) fn sack(&self) -> Result<SackLists, NoMemory>
         ensures sack { (f : Format) (s : SenderView) (r : ReceiverView) → TrafficStands self.now f s r → IfOk result (λ l. IsSack r (lists_meaning l)) }
         ensures fits { IfOk result (λ l. Fits (Sack (lists_meaning l))) }
     {
@@ -67,7 +67,7 @@ impl Traffic {
     }
 
     /// A SACK was sent: the duplicates that it told are forgotten.
-    pub fn sack_sent(&mut self)
+    pub(crate) fn sack_sent(&mut self)
         ensures { (f : Format) (s : SenderView) (r : ReceiverView) → TrafficStands self.old f s r → TrafficStands self.new f s (sack_sent r) }
     {
         match self {
@@ -77,7 +77,7 @@ impl Traffic {
     }
 
     /// The TSN up to which all came or was passed (RFC 9260, 6.2).
-    pub fn cumulative(&self) -> u32
+    pub(crate) fn cumulative(&self) -> u32
         ensures { (f : Format) (s : SenderView) (r : ReceiverView) → TrafficStands self.now f s r → (c : ℕ) × IsCumulative r c × (result ≡ tsn r.initial c) }
     {
         match self {
@@ -87,7 +87,7 @@ impl Traffic {
     }
 
     /// An index above the cumulative one came: one below it is missing (RFC 9260, 6.2).
-    pub fn has_gap(&self) -> bool
+    pub(crate) fn has_gap(&self) -> bool
         ensures { (f : Format) (s : SenderView) (r : ReceiverView) → TrafficStands self.now f s r → TellsGap result r }
     {
         match self {
@@ -97,7 +97,7 @@ impl Traffic {
     }
 
     /// The bytes of all data that was recorded and not taken yet.
-    pub fn held_bytes(&self) -> u32
+    pub(crate) fn held_bytes(&self) -> u32
         ensures held { (f : Format) (s : SenderView) (r : ReceiverView) → TrafficStands self.now f s r → result ≡ held_bytes r }
         ensures bound { (f : Format) (s : SenderView) (r : ReceiverView) → TrafficStands self.now f s r → result ≤ r.buffer }
     {
@@ -108,7 +108,7 @@ impl Traffic {
     }
 
     /// How many streams come into this end.
-    pub fn inbound(&self) -> u16
+    pub(crate) fn inbound(&self) -> u16
         ensures { (f : Format) (s : SenderView) (r : ReceiverView) → TrafficStands self.now f s r → result ≡ r.streams }
     {
         match self {
@@ -118,7 +118,7 @@ impl Traffic {
     }
 
     /// The message that waits on a stream at a place, from 0, and isn't taken.
-    pub fn waiting(&self, stream: u16, place: usize) -> Option<&Message>
+    pub(crate) fn waiting(&self, stream: u16, place: usize) -> Option<&Message>
         ensures { (f : Format) (s : SenderView) (r : ReceiverView) → TrafficStands self.now f s r → MatchOption result (slice_get (r.waiting stream) place ≡ None) (λ m. slice_get (r.waiting stream) place ≡ Some (handed_of m.now)) }
     {
         match self {
@@ -128,7 +128,7 @@ impl Traffic {
     }
 
     /// Takes the first message that waits on a stream (RFC 9260, 11.1.6).
-    pub fn take(&mut self, stream: u16) -> Option<Message>
+    pub(crate) fn take(&mut self, stream: u16) -> Option<Message>
         ensures { (f : Format) (s : SenderView) (r : ReceiverView) → TrafficStands self.old f s r → (t : ReceiverView) × TakeLeaves r stream (option_map handed_of result) t × TrafficStands self.new f s t }
     {
         match self {

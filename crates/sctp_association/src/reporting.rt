@@ -34,7 +34,7 @@ impl WaitingCauses {
     /// # Errors
     /// `NoMemory` where a growth was refused; nothing changed then.
     #[inline(always)]
-    pub fn make_room(&mut self) -> Result<(), NoMemory>
+    pub(crate) fn make_room(&mut self) -> Result<(), NoMemory>
         ensures same { self.new.bytes.items ≡ self.old.bytes.items }
         ensures room { OnOk result (length self.new.bytes.items + 11 ≤ vec_capacity self.new.bytes) }
     {
@@ -45,7 +45,7 @@ impl WaitingCauses {
     }
 
     /// The ERROR fits a packet with one cause more, whose value has so many bytes.
-    pub fn has_room(&self, config: &Config, size: usize) -> bool
+    pub(crate) fn has_room(&self, config: &Config, size: usize) -> bool
         ensures exact { (e : EndView) (x : Typed) → e.configuration ≡ config.now → WritesTyped self.now.bytes.items e.due.causes → length x.value ≡ size
             → result ≡ fits_alone e (Error (written (e.due.causes ++ x ∷ []))) }
         ensures few { result ≡ true → padded (length self.now.bytes.items) + 4 + size < 1500 }
@@ -62,7 +62,12 @@ impl WaitingCauses {
     ///
     /// # Errors
     /// `NoMemory` where a growth was refused; nothing changed then.
-    pub fn report(&mut self, config: &Config, cause: u16, value: &[u8]) -> Result<(), NoMemory>
+    pub(crate) fn report(
+        &mut self,
+        config: &Config,
+        cause: u16,
+        value: &[u8],
+    ) -> Result<(), NoMemory>
         ensures step { (e : EndView) → e.configuration ≡ config.now → WritesTyped self.old.bytes.items e.due.causes
             → OnOk result (WritesTyped self.new.bytes.items (causes_with e (item cause value.now))) }
         ensures refused { OnErr result (self.new.bytes.items ≡ self.old.bytes.items) }

@@ -21,7 +21,7 @@ use sctp_wire::Sack;
 
 impl Traffic {
     /// The index up to which all is acknowledged.
-    pub fn cum(&self) -> u64
+    pub(crate) fn cum(&self) -> u64
         ensures { (f : Format) (s : SenderView) (r : ReceiverView) → TrafficStands self.now f s r → result ≡ s.cum }
     {
         match self {
@@ -31,7 +31,7 @@ impl Traffic {
     }
 
     /// The index up to which all is acknowledged or abandoned: the Advanced Peer Ack Point (RFC 3758, 3.5).
-    pub fn point(&self) -> u64
+    pub(crate) fn point(&self) -> u64
         ensures { (f : Format) (s : SenderView) (r : ReceiverView) → TrafficStands self.now f s r → result ≡ point s }
     {
         match self {
@@ -41,7 +41,7 @@ impl Traffic {
     }
 
     /// Its sender stands only for views that calls reach. It does nothing, and has this as its contract.
-    pub fn reached(&self)
+    pub(crate) fn reached(&self)
         ensures { (f : Format) (s : SenderView) (r : ReceiverView) → TrafficStands self.now f s r → IsReached f s }
     {
         match self {
@@ -51,7 +51,7 @@ impl Traffic {
     }
 
     /// The point is past the acknowledged index: there is something to skip (RFC 3758, 3.5).
-    pub fn is_point_past(&self) -> bool
+    pub(crate) fn is_point_past(&self) -> bool
         ensures { (f : Format) (s : SenderView) (r : ReceiverView) → TrafficStands self.now f s r → result ≡ is_point_past s }
     {
         self.cum() < self.point()
@@ -59,7 +59,7 @@ impl Traffic {
 
     /// The timer of fragments is wanted: something that went out is neither acknowledged nor abandoned, or there is something to skip
     /// (RFC 9260, 6.3.2).
-    pub fn unsettled(&self) -> bool
+    pub(crate) fn unsettled(&self) -> bool
         ensures { (f : Format) (s : SenderView) (r : ReceiverView) → TrafficStands self.now f s r → result ≡ unsettled s }
     {
         match self {
@@ -69,7 +69,7 @@ impl Traffic {
     }
 
     /// Nothing waits to go out, and all is acknowledged (RFC 9260, 9.2).
-    pub fn drained(&self) -> bool
+    pub(crate) fn drained(&self) -> bool
         ensures { (f : Format) (s : SenderView) (r : ReceiverView) → TrafficStands self.now f s r → result ≡ drained s }
     {
         match self {
@@ -79,7 +79,7 @@ impl Traffic {
     }
 
     /// The indexes above the acknowledged one, and the messages in part: at most 32,767.
-    pub fn outstanding(&self) -> u32
+    pub(crate) fn outstanding(&self) -> u32
         ensures count { (f : Format) (s : SenderView) (r : ReceiverView) → TrafficStands self.now f s r → result ≡ outstanding s }
         ensures bound { (f : Format) (s : SenderView) (r : ReceiverView) → TrafficStands self.now f s r → result ≤ WINDOW }
     {
@@ -90,7 +90,7 @@ impl Traffic {
     }
 
     /// How many tickets were given.
-    pub fn tickets(&self) -> u64
+    pub(crate) fn tickets(&self) -> u64
         ensures { (f : Format) (s : SenderView) (r : ReceiverView) → TrafficStands self.now f s r → result ≡ s.tickets }
     {
         match self {
@@ -100,7 +100,7 @@ impl Traffic {
     }
 
     /// Some message is past its time at this moment: where none is, `expire` changes nothing.
-    pub fn has_late(&self, now: u64) -> bool
+    pub(crate) fn has_late(&self, now: u64) -> bool
         ensures exact { (f : Format) (s : SenderView) (r : ReceiverView) → TrafficStands self.now f s r → result ≡ has_late s now }
         ensures idle { (f : Format) (s : SenderView) (r : ReceiverView) → TrafficStands self.now f s r → result ≡ false → expired s now ≡ s }
     {
@@ -111,7 +111,7 @@ impl Traffic {
     }
 
     /// The lowest ticket above `last` of a message that may be abandoned and is past its time at this moment; `Ticket(0)` lies below all.
-    pub fn next_late(&self, last: Ticket, now: u64) -> Option<Ticket>
+    pub(crate) fn next_late(&self, last: Ticket, now: u64) -> Option<Ticket>
         ensures { (f : Format) (s : SenderView) (r : ReceiverView) → TrafficStands self.now f s r → option_map (λ t. t.0) result ≡ next_late s last.0 now }
     {
         match self {
@@ -121,7 +121,7 @@ impl Traffic {
     }
 
     /// The message with this ticket was acknowledged whole.
-    pub fn acknowledged(&self, ticket: Ticket) -> bool
+    pub(crate) fn acknowledged(&self, ticket: Ticket) -> bool
         ensures { (f : Format) (s : SenderView) (r : ReceiverView) → TrafficStands self.now f s r → result ≡ acknowledged s ticket.0 }
     {
         match self {
@@ -131,7 +131,7 @@ impl Traffic {
     }
 
     /// The message with this ticket has a number, and was abandoned.
-    pub fn abandoned(&self, ticket: Ticket) -> bool
+    pub(crate) fn abandoned(&self, ticket: Ticket) -> bool
         ensures { (f : Format) (s : SenderView) (r : ReceiverView) → TrafficStands self.now f s r → result ≡ abandoned s ticket.0 }
     {
         match self {
@@ -144,7 +144,7 @@ impl Traffic {
     ///
     /// # Errors
     /// The fault that it has; nothing changed.
-    pub fn on_sack(&mut self, sack: &Sack<'_>) -> Result<(), SackFault>
+    pub(crate) fn on_sack(&mut self, sack: &Sack<'_>) -> Result<(), SackFault>
         ensures answer { (f : Format) (s : SenderView) (r : ReceiverView) → TrafficStands self.old f s r → reason_meaning result ≡ sack_fault s (sack_meaning sack.now) }
         ensures step { (f : Format) (s : SenderView) (r : ReceiverView) → TrafficStands self.old f s r → TrafficStands self.new f (sack_after s (sack_meaning sack.now)) r }
     {
@@ -158,7 +158,7 @@ impl Traffic {
     ///
     /// # Errors
     /// The fault that it has; nothing changed.
-    pub fn on_shutdown(&mut self, tsn: u32) -> Result<(), SackFault>
+    pub(crate) fn on_shutdown(&mut self, tsn: u32) -> Result<(), SackFault>
         ensures answer { (f : Format) (s : SenderView) (r : ReceiverView) → TrafficStands self.old f s r → reason_meaning result ≡ shutdown_fault s tsn }
         ensures step { (f : Format) (s : SenderView) (r : ReceiverView) → TrafficStands self.old f s r → TrafficStands self.new f (shutdown_after s tsn) r }
     {
@@ -169,7 +169,7 @@ impl Traffic {
     }
 
     /// The timer of fragments expired: what is wanted still is marked for repeating (RFC 9260, 6.3.3).
-    pub fn on_timeout(&mut self)
+    pub(crate) fn on_timeout(&mut self)
         ensures { (f : Format) (s : SenderView) (r : ReceiverView) → TrafficStands self.old f s r → TrafficStands self.new f (timed_out s) r }
     {
         match self {
@@ -179,7 +179,7 @@ impl Traffic {
     }
 
     /// What is past its time at this moment is abandoned (RFC 3758, 3.5).
-    pub fn expire(&mut self, now: u64)
+    pub(crate) fn expire(&mut self, now: u64)
         ensures { (f : Format) (s : SenderView) (r : ReceiverView) → TrafficStands self.old f s r → TrafficStands self.new f (expired s now) r }
     {
         match self {
@@ -189,7 +189,7 @@ impl Traffic {
     }
 
     /// Abandons the message with this ticket (RFC 3758, 3.5).
-    pub fn abandon(&mut self, ticket: Ticket) -> Abandoned
+    pub(crate) fn abandon(&mut self, ticket: Ticket) -> Abandoned
         ensures answer { (f : Format) (s : SenderView) (r : ReceiverView) → TrafficStands self.old f s r → answer_meaning result ≡ abandon_answer s ticket.0 }
         ensures step { (f : Format) (s : SenderView) (r : ReceiverView) → TrafficStands self.old f s r → TrafficStands self.new f (abandon_after s ticket.0) r }
     {
@@ -203,7 +203,7 @@ impl Traffic {
     ///
     /// # Errors
     /// Why it is refused; nothing changed.
-    pub fn queue(
+    pub(crate) fn queue(
         &mut self,
         stream: u16,
         ordered: bool,

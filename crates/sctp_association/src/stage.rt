@@ -31,7 +31,7 @@ pub enum Stage {
 
 impl Stage {
     /// Both users may send.
-    pub fn is_established(self) -> bool
+    pub(crate) fn is_established(self) -> bool
         ensures { result ≡ is_established (stage_meaning self) }
     {
         matches!(self, Stage::Established)
@@ -46,7 +46,7 @@ impl Stage {
     }
 
     /// SHUTDOWN ACK is sent until it is answered (RFC 9260, 9.2).
-    pub fn is_shutdown_ack_sent(self) -> bool
+    pub(crate) fn is_shutdown_ack_sent(self) -> bool
         ensures { (t : model.Tags) → result ≡ is_home model.AckAlarm (model.Open t (stage_meaning self)) }
     {
         matches!(self, Stage::ShutdownAckSent)

@@ -8,7 +8,7 @@ use crate::timer::Alarm;
 
 /// Which timers of an end are to start.
 #[derive(Clone, Copy)]
-pub struct Starts {
+pub(crate) struct Starts {
     pub(crate) init: bool,
     pub(crate) cookie: bool,
     pub(crate) fragments: bool,

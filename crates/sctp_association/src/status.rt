@@ -19,7 +19,7 @@ use crate::traffic::Traffic;
 
 impl Traffic {
     /// How many messages wait for their numbers: at most 1,024.
-    pub fn queued(&self) -> usize
+    pub(crate) fn queued(&self) -> usize
         ensures count { (f : Format) (s : SenderView) (r : ReceiverView) → TrafficStands self.now f s r → result ≡ length s.queue }
         ensures bound { (f : Format) (s : SenderView) (r : ReceiverView) → TrafficStands self.now f s r → result ≤ QUEUE_LIMIT }
     {
@@ -30,7 +30,7 @@ impl Traffic {
     }
 
     /// The bytes of these messages.
-    pub fn queued_bytes(&self) -> u64
+    pub(crate) fn queued_bytes(&self) -> u64
         ensures bytes { (f : Format) (s : SenderView) (r : ReceiverView) → TrafficStands self.now f s r → result ≡ queued_bytes s }
         ensures bound { (f : Format) (s : SenderView) (r : ReceiverView) → TrafficStands self.now f s r → result ≤ QUEUE_LIMIT * LONGEST_MESSAGE }
     {
@@ -41,7 +41,7 @@ impl Traffic {
     }
 
     /// The peer's receiver window in bytes, as it last advertised it (RFC 9260, 3.3.2 and 3.3.4).
-    pub fn peer_window(&self) -> u32
+    pub(crate) fn peer_window(&self) -> u32
         ensures { (f : Format) (s : SenderView) (r : ReceiverView) → TrafficStands self.now f s r → result ≡ s.rwnd }
     {
         match self {
@@ -51,7 +51,7 @@ impl Traffic {
     }
 
     /// The first stream from one on, on which a message waits to be taken.
-    pub fn readable(&self, from: u16) -> Option<u16>
+    pub(crate) fn readable(&self, from: u16) -> Option<u16>
         ensures { (f : Format) (s : SenderView) (r : ReceiverView) → TrafficStands self.now f s r → ReadableAnswer r.waiting from result }
     {
         match self {

@@ -11,7 +11,7 @@ use sctp_values::{FIRST_WAIT, LONGEST_WAIT, OPENING_REPEATS, REPEATS};
 
 /// Which timer of an end.
 #[derive(Clone, Copy)]
-pub enum Alarm {
+pub(crate) enum Alarm {
     /// INIT, until the INIT ACK comes (RFC 9260, 5.1, A).
     Init,
     /// COOKIE ECHO, until the COOKIE ACK comes (RFC 9260, 5.1, C).
@@ -27,7 +27,7 @@ pub enum Alarm {
 /// A timer: how long it will wait when it starts next, in milliseconds; how often it expired since all was well; the moment at which it expires,
 /// while it runs.
 #[derive(Clone, Copy)]
-pub struct Timer {
+pub(crate) struct Timer {
     wait: u64,
     repeats: u32,
     pub(crate) expiry: Option<u64>,
@@ -89,7 +89,7 @@ impl Timer {
     }
 
     /// The timer once it has expired: it counts one more, rests, and will wait twice as long (RFC 9260, 6.3.3).
-    pub fn expired(self) -> Timer
+    pub(crate) fn expired(self) -> Timer
         requires { self.repeats < 2 ^ 8 }
         ensures { timer_meaning result ≡ expired_timer (timer_meaning self) }
     {
@@ -101,14 +101,14 @@ impl Timer {
     }
 
     /// Its expiry, if it runs, has come by this moment.
-    pub fn is_over(self, now: u64) -> bool
+    pub(crate) fn is_over(self, now: u64) -> bool
         ensures { result ≡ is_over_at now (timer_meaning self).expiry }
     {
         is_over_at(self.expiry, now)
     }
 
     /// Its packet may go out once more: it was repeated fewer times than may be.
-    pub fn can_repeat(self, alarm: Alarm) -> bool
+    pub(crate) fn can_repeat(self, alarm: Alarm) -> bool
         ensures answer { result ≡ nat_lt self.repeats (repeats_of (alarm_meaning alarm)) }
         ensures few { result ≡ true → self.repeats < 2 ^ 8 }
     {
@@ -116,7 +116,7 @@ impl Timer {
     }
 
     /// The timer once its packet was answered in part: it counts anew; where that moved something it waits anew, too (RFC 9260, 6.3.2).
-    pub fn renewed(self, now: u64, moved: bool) -> Timer
+    pub(crate) fn renewed(self, now: u64, moved: bool) -> Timer
         ensures { timer_meaning result ≡ renewed now moved (timer_meaning self) }
     {
         if !moved {

@@ -26,7 +26,7 @@ pub(crate) fn earlier(one: Option<u64>, other: Option<u64>) -> Option<u64>
 
 /// The five timers of an end.
 #[derive(Clone, Copy)]
-pub struct Timers {
+pub(crate) struct Timers {
     init: Timer,
     cookie: Timer,
     fragments: Timer,
@@ -36,7 +36,7 @@ pub struct Timers {
 
 impl Timers {
     /// Timers that never ran.
-    pub fn unused() -> Timers
+    pub(crate) fn unused() -> Timers
         ensures { timers_meaning result ≡ (λ a. unused_timer) }
     {
         Timers {
@@ -49,7 +49,7 @@ impl Timers {
     }
 
     /// One of them.
-    pub fn get(self, alarm: Alarm) -> Timer
+    pub(crate) fn get(self, alarm: Alarm) -> Timer
         ensures { timer_meaning result ≡ timers_meaning self (alarm_meaning alarm) }
     {
         match alarm {
@@ -62,7 +62,7 @@ impl Timers {
     }
 
     /// Puts another timer in one's place.
-    pub fn put(&mut self, alarm: Alarm, timer: Timer)
+    pub(crate) fn put(&mut self, alarm: Alarm, timer: Timer)
         ensures { timers_meaning self.new ≡ replaced (alarm_meaning alarm) (timer_meaning timer) (timers_meaning self.old) }
     {
         match alarm {
@@ -93,21 +93,21 @@ impl Timers {
     }
 
     /// Stops a timer.
-    pub fn stop(&mut self, alarm: Alarm)
+    pub(crate) fn stop(&mut self, alarm: Alarm)
         ensures { timers_meaning self.new ≡ replaced (alarm_meaning alarm) (stopped (timers_meaning self.old (alarm_meaning alarm))) (timers_meaning self.old) }
     {
         self.put(alarm, self.get(alarm).stopped());
     }
 
     /// Stops a timer, unless it is wanted.
-    pub fn stop_unless(&mut self, wanted: bool, alarm: Alarm)
+    pub(crate) fn stop_unless(&mut self, wanted: bool, alarm: Alarm)
         ensures { timers_meaning self.new ≡ replaced (alarm_meaning alarm) (kept_if wanted (timers_meaning self.old (alarm_meaning alarm))) (timers_meaning self.old) }
     {
         self.put(alarm, self.get(alarm).kept_if(wanted));
     }
 
     /// Where an association is open the timers of its opening rest, and those of its closing where they aren't wanted.
-    pub fn keep_open(&mut self, shutdown: bool, shutdown_ack: bool)
+    pub(crate) fn keep_open(&mut self, shutdown: bool, shutdown_ack: bool)
         ensures { timers_meaning self.new ≡ open_timers shutdown shutdown_ack (timers_meaning self.old) }
     {
         self.init = self.init.stopped();
@@ -117,7 +117,7 @@ impl Timers {
     }
 
     /// Stops them all.
-    pub fn stop_all(&mut self)
+    pub(crate) fn stop_all(&mut self)
         ensures { timers_meaning self.new ≡ resting (timers_meaning self.old) }
     {
         self.init = self.init.stopped();
@@ -128,7 +128,7 @@ impl Timers {
     }
 
     /// The earliest expiry of a timer that runs.
-    pub fn next_moment(self) -> Option<u64>
+    pub(crate) fn next_moment(self) -> Option<u64>
         ensures { result ≡ earliest (timers_meaning self) all_alarms }
     {
         let closing = earlier(self.shutdown.expiry, self.shutdown_ack.expiry);

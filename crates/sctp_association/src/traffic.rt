@@ -16,23 +16,23 @@ use std::alloc::Global;
 
 /// Sender and receiver, in one format.
 #[derive(Drop)]
-pub struct Directions<F: Framing> {
+pub(crate) struct Directions<F: Framing> {
     pub(crate) sender: Sender<F>,
     pub(crate) receiver: Receiver<F>,
 }
 
 /// Sender and receiver, in the format that both ends agreed on: DATA, or I-DATA (RFC 8260, 2.2.1).
 #[derive(Drop)]
-pub enum Traffic {
+pub(crate) enum Traffic {
     Plain(Directions<DataFraming>),
     Interleaved(Directions<IDataFraming>),
 }
 
 /// What an end has of its own: the bytes of a fragment, the bytes of its receive buffer.
 #[derive(Clone, Copy)]
-pub struct Sizes {
-    pub fragment: u16,
-    pub buffer: u32,
+pub(crate) struct Sizes {
+    pub(crate) fragment: u16,
+    pub(crate) buffer: u32,
 }
 
 impl Traffic {
@@ -40,7 +40,7 @@ impl Traffic {
     ///
     /// # Errors
     /// Memory ran out.
-    pub fn begun(
+    pub(crate) fn begun(
         alloc: Global,
         terms: Terms,
         sizes: Sizes,
@@ -58,7 +58,7 @@ impl Traffic {
     }
 
     /// I-DATA is in force (RFC 8260, 2.2.1).
-    pub fn is_interleaved(&self) -> bool
+    pub(crate) fn is_interleaved(&self) -> bool
         ensures { (f : Format) (s : SenderView) (r : ReceiverView) → TrafficStands self.now f s r → f ≡ format_for result }
     {
         matches!(self, Traffic::Interleaved(_))

@@ -1,8 +1,7 @@
 use Rattle.sctp_association.specs.MachineStands.{MachineStands}
 use Rattle.sctp_association.proofs.MachineLemmas.{with_due}
-use Rattle.sctp_association.proofs.OpeningLemmas.{due_cookie_ack}
 use Rattle.sctp_association.proofs.machine.Machine.acknowledge_cookie.Goals as goal
 
 pub returns : goal.returns
 unfolding MachineStands
-returns c = λ v stands. with_due _ v _ _ stands (due_cookie_ack _ _ stands.due)
+returns c = λ v stands. with_due _ v _ _ stands (c.acknowledge_cookie.ensures v.due stands.due)

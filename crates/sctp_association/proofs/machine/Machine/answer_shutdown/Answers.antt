@@ -1,7 +1,7 @@
 use Rattle.sctp_association.specs.MachineStands.{MachineStands}
-use Rattle.sctp_association.proofs.MachineLemmas.{with_due, due_shutdown_ack}
+use Rattle.sctp_association.proofs.MachineLemmas.{with_due}
 use Rattle.sctp_association.proofs.machine.Machine.answer_shutdown.Goals as goal
 
 pub returns : goal.returns
 unfolding MachineStands
-returns c = λ v t g stands phase. let now = c.turn.ensures v t g stands phase in with_due _ _ _ _ now (due_shutdown_ack _ _ now.due)
+returns c = λ v t g stands phase. let now = c.turn.ensures v t g stands phase in with_due _ _ _ _ now (c.answer_shut.ensures _ now.due)

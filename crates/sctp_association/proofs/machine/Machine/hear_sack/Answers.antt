@@ -1,11 +1,11 @@
-use Rattle.std.proofs.Common.{true, refl}
+use Rattle.std.proofs.Common.{true}
 use Rattle.sctp_model.specs.sender.SackTaken.{sack_taken}
 use Rattle.sctp_model.specs.end.EndView.{EndView}
 use Rattle.sctp_model.specs.end.Clock.{settled}
 use Rattle.sctp_wire.specs.ChunkTree.{sack_meaning}
 use Rattle.sctp_send.specs.SenderAnswers.{fault_meaning}
 use Rattle.sctp_association.specs.MachineStands.{MachineStands}
-use Rattle.sctp_association.proofs.MachineLemmas.{at_view, with_due, due_forward}
+use Rattle.sctp_association.proofs.MachineLemmas.{at_view, with_due}
 use Rattle.sctp_association.proofs.HearingLemmas.{sack_counts, sack_left, moved_as}
 use Rattle.sctp_association.proofs.machine.Machine.hear_sack.Goals as goal
 
@@ -20,7 +20,7 @@ returns-in-Ok-clause-step c = λ v t g stands phase.
     let took = at_view _ counted _ (sack_counts v x (c.in-Ok.ensures.answer v t g stands phase)) (c.in-Ok.ensures.step v t g stands phase) in
     let moved = moved_as v counted.sender _ _ (c.cum-before.ensures v stands) (c.cum.ensures counted took) in
     let due : EndView = record counted { due = record v.due { forward = true } } in
-    let now = c.settle.ensures due (with_due _ counted _ _ took (due_forward _ _ true true took.due refl)) in
+    let now = c.settle.ensures due (with_due _ counted _ _ took (c.owe_forward.ensures v.due took.due)) in
     rw (← moved) (c.renew.ensures (settled due) now)
 
 pub returns-in-Err-clause-answer : goal.returns-in-Err-clause-answer
