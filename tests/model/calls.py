@@ -1,8 +1,8 @@
 #!/usr/bin/env python3
-"""The transcript that the model gives to cases of a sender and a receiver in the form of crates/sctp_call_rows.
+"""The transcript that the model gives to cases of a sender and a receiver, and of checksums, in the form of crates/sctp_call_rows.
 
-calls.py [CASES [TRANSCRIPT]]: by default the two files of that crate. Cases without a format, of
-numbers, bytes and cookies, are taken over from TRANSCRIPT.
+calls.py [CASES [TRANSCRIPT]]: by default the two files of that crate. Other cases without a format,
+of numbers, bytes and cookies, are taken over from TRANSCRIPT.
 """
 
 import os
@@ -23,6 +23,8 @@ FATES = {1: 'withdrawn', 2: 'abandoned', 3: 'acknowledged', 4: 'unknown', 5: 're
 TAKEN = {1: 'taken', 2: 'duplicate', 3: 'ahead', 4: 'no room', 5: 'passed', 6: 'no such stream'}
 FORWARDED = {MOVED: 'moved', OUT_OF_DATE: 'out of date', BAD: 'bad'}
 FLAGS = {'I': 8, 'U': 4, 'B': 2, 'E': 1}
+POLYNOMIAL = 0x11EDC6F41
+SUMS_OF_LINE = 8
 PIECES, FORWARDS = (wire.DATA, wire.I_DATA), (wire.FORWARD_TSN, wire.I_FORWARD_TSN)
 
 
@@ -48,6 +50,38 @@ def bytes_of(word):
     if not re.fullmatch('([0-9a-fA-F]{2})*', word):
         raise NoCall('not a call')
     return bytes.fromhex(word)
+
+
+def mixed(count):
+    """So many bytes without a pattern: the high 8 bits of the numbers x, 1,664,525 x + 1,013,904,223, .. modulo 2^32, from x = 1."""
+    x, found = 1, bytearray()
+    for _ in range(count):
+        found.append(x >> 24)
+        x = (1_664_525 * x + 1_013_904_223) % 2**32
+    return bytes(found)
+
+
+def divided(rest, bits):
+    """The remainder of a dividend: of its beginning this one is left, and these bits come behind it, the highest power first."""
+    for bit in bits:
+        rest = rest << 1 | bit
+        if rest >> 32:
+            rest ^= POLYNOMIAL
+    return rest
+
+
+def checksums(data):
+    """The CRC32c of the first bytes of these, of none, one and so on up to all (RFC 9260, appendix A), by long division: the bits, of each byte
+    the lowest first, and 32 zeros behind them, of which the first 32 are flipped, divided by the polynomial; of what is left each bit is
+    flipped, and its highest power is the number's lowest bit.
+    """
+    rest, found = 0, []
+    for count in range(len(data) + 1):
+        places = range(8 * count, 8 * count + 32)
+        found.append(int('{:032b}'.format(divided(rest, [int(place < 32) for place in places]))[::-1], 2) ^ 0xFFFFFFFF)
+        if count < len(data):
+            rest = divided(rest, [(data[count] >> place % 8 & 1) ^ (place < 32) for place in places[:8]])
+    return found
 
 
 def pairs_of(words, limit):
@@ -95,6 +129,17 @@ class Case:
         more = ' ..%d' % len(chunks) if len(chunks) > 4 else ''
         return 'packet %d %d %s: %s%s' % (len(self.packets), len(packet), packet[8:12].hex(),
                                           ' '.join(shown(one) for one in chunks[:4]), more)
+
+    # ---- Checksums ----
+
+    def on_sum(self, data):
+        if not data:
+            raise NoCall
+        return '%08x' % checksums(bytes_of(data))[-1]
+
+    def on_sums(self, count):
+        found = ['%08x' % one for one in checksums(mixed(number(count, 65535)))]
+        return '\n'.join('%d: %s' % (first, ' '.join(found[first:first + SUMS_OF_LINE])) for first in range(0, len(found), SUMS_OF_LINE))
 
     # ---- A sender ----
 
@@ -276,6 +321,11 @@ def transcript(name, lines):
     return out
 
 
+def is_told(name, lines):
+    """Whether the model says what a case answers: it has a format, or each of its calls is of checksums."""
+    return name.startswith(('data ', 'i-data ')) or all(re.match('sums? |== |$', line) for line in lines)
+
+
 def split(text):
     """The remarks above the first case, and (name, lines) of each."""
     first, *cases = text.removesuffix('\n').split('\n= ')
@@ -292,8 +342,7 @@ def main():
     first, cases = split(texts[0])
     print(first)
     for name, lines in cases:
-        has_format = name.startswith(('data ', 'i-data '))
-        print('\n'.join(['= ' + name] + (transcript(name, lines) if has_format else stored.get(name, lines))))
+        print('\n'.join(['= ' + name] + (transcript(name, lines) if is_told(name, lines) else stored.get(name, lines))))
 
 
 if __name__ == '__main__':

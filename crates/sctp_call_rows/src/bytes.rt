@@ -1,16 +1,33 @@
 //! Calls of chunks and packets as bytes, and what they answer.
 
-use crate::parts::bytes_of;
+use crate::parts::{bytes_of, mixed};
 use anyhow::Result;
 use sctp_packet::{PacketWriter, crc32c};
 use sctp_wire::{Rule, read_chunks, write_chunk};
 use std::alloc::Global;
 use std::fmt::Write;
 
+/// So many checksums stand on a line.
+const SUMS_OF_LINE: usize = 8;
+
 /// The checksum of bytes, as a number.
 pub fn sum(alloc: Global, bytes: &str, out: &mut String) -> Result<()> {
     if let Some(bytes) = bytes_of(alloc, bytes)? {
         write!(out, "{:08x}", crc32c(&bytes))?;
+    }
+    Ok(())
+}
+
+/// The checksums of the first bytes of a mixed sequence: of none, of one, and so on up to so many; eight on a line, behind the number of bytes of
+/// its first one.
+pub fn sums(alloc: Global, count: usize, out: &mut String) -> Result<()> {
+    let bytes = mixed(alloc, count)?;
+    for length in 0..=bytes.len() {
+        if length % SUMS_OF_LINE == 0 {
+            let behind = if length == 0 { "" } else { "\n" };
+            write!(out, "{behind}{length}:")?;
+        }
+        write!(out, " {:08x}", crc32c(&bytes[..length]))?;
     }
     Ok(())
 }

@@ -1,6 +1,6 @@
 //! Runs the cases of calls that stand on standard input, and prints a transcript: each line of a case as it stands there and, behind each
-//! call, a line with what it answered. A sender and a receiver are called here alone, or one beside the other, with the packets that go
-//! between them; and numbers, bytes and cookies.
+//! call, what it answered. A sender and a receiver are called here alone, or one beside the other, with the packets that go between them; and
+//! numbers, bytes and cookies.
 //!
 //! A case begins with `= NAME`; where it has a sender or a receiver, with `= data NAME` or `= i-data NAME`, which says their format. Its
 //! calls, and what they answer, are told in `docs/CALLS.md`. Other lines are remarks.

@@ -29,6 +29,18 @@ fn counting(alloc: Global, count: usize) -> Result<Vec<u8>> {
     Ok(bytes)
 }
 
+/// So many bytes without a pattern: the high 8 bits of the numbers x, 1,664,525 x + 1,013,904,223, .. modulo 2^32, from x = 1.
+pub fn mixed(alloc: Global, count: usize) -> Result<Vec<u8>> {
+    let mut bytes = Vec::with_capacity(alloc, count)?;
+    let mut x = 1u32;
+    for _ in 0..count {
+        let [_, _, _, high] = x.to_le_bytes();
+        bytes.push(high)?;
+        x = x.wrapping_mul(1_664_525).wrapping_add(1_013_904_223);
+    }
+    Ok(bytes)
+}
+
 /// The bytes of gap blocks `START-END START-END ..`, none where there are no words.
 pub fn blocks_of(alloc: Global, words: Option<&str>) -> Result<Option<Vec<u8>>> {
     let mut list = Vec::new(alloc);

@@ -1,6 +1,6 @@
 //! A call of numbers, bytes or cookies, as a line of a case says it: it goes to no sender and no receiver.
 
-use crate::bytes::{again, packed, rule, sum};
+use crate::bytes::{again, packed, rule, sum, sums};
 use crate::cookies::{mac, opened, sealed};
 use crate::numbers::{Compared, How, compare, tell};
 use crate::words::Words;
@@ -30,6 +30,8 @@ pub enum Plain<'a> {
     },
     /// A checksum.
     Sum(&'a str),
+    /// The checksums of the first bytes of a sequence, of each number of them up to this one.
+    Sums(u16),
     /// Chunks are read, and written again.
     Again(&'a str),
     UnknownChunk(u8),
@@ -75,6 +77,7 @@ pub fn read_plain<'a>(name: &str, words: &mut Words<'a>) -> Option<Plain<'a>> {
             tsn: words.number()?,
         },
         "sum" => Plain::Sum(words.next()?),
+        "sums" => Plain::Sums(words.number()?),
         "again" => Plain::Again(words.next()?),
         "chunk" => Plain::UnknownChunk(words.number()?),
         "parameter" => Plain::UnknownParameter(words.number()?),
@@ -159,6 +162,7 @@ pub fn answer(alloc: Global, call: &Plain<'_>, out: &mut String) -> Result<()> {
             tsn,
         } => tell(index_ahead(initial, known, tsn), out),
         Plain::Sum(bytes) => sum(alloc, bytes, out),
+        Plain::Sums(count) => sums(alloc, usize::from(count), out),
         Plain::Again(bytes) => again(alloc, bytes, out),
         Plain::UnknownChunk(kind) => rule(unknown_chunk(kind), out),
         Plain::UnknownParameter(kind) => rule(unknown_parameter(kind), out),
