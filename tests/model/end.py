@@ -77,11 +77,12 @@ def status_of(endpoint):
     words = ['status', endpoint.state, endpoint.ended or '-', '-' if moment is None else moment]
     sender, receiver = endpoint.sender, endpoint.receiver
     if sender is None:
-        return ' '.join(map(str, words + ['-'] * 3 + [0] * 5))
+        return ' '.join(map(str, words + ['-'] * 3 + [0] * 5 + ['-']))
     formats = {on: name for name, on in MODES.items()}[bool(endpoint.partial), bool(endpoint.interleave)]
     queued = [len(message.data) for message in sender.queue]
+    readable = min((message.stream for message in receiver.waiting), default='-')
     return ' '.join(map(str, words + [sender.streams, receiver.streams, formats.decode(), sender.outstanding(),
-                                      len(queued), sum(queued), receiver.held, sender.rwnd]))
+                                      len(queued), sum(queued), receiver.held, sender.rwnd, readable]))
 
 
 class Session:

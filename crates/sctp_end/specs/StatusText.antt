@@ -29,9 +29,9 @@ abbrev pub formats_word : Option Agreed → List ℕ
 formats_word None = codes "-"
 formats_word (Some a) = mode_on a.interleave a.partial
 
--- STATE WHY NEXT OUTBOUND INBOUND FORMATS OUTSTANDING QUEUED BYTES HELD WINDOW
+-- STATE WHY NEXT OUTBOUND INBOUND FORMATS OUTSTANDING QUEUED BYTES HELD WINDOW READABLE
 abbrev pub status_words : Status → List (List ℕ)
 status_words x =
     codes "status" ∷ state_word (state_meaning x.state) ∷ end_word (option_map end_meaning x.ended) ∷ number_word x.next
     ∷ outbound_word x.agreed ∷ inbound_word x.agreed ∷ formats_word x.agreed
-    ∷ decimal x.outstanding ∷ decimal x.queued ∷ decimal x.queued_bytes ∷ decimal x.held ∷ decimal x.window ∷ []
+    ∷ decimal x.outstanding ∷ decimal x.queued ∷ decimal x.queued_bytes ∷ decimal x.held ∷ decimal x.window ∷ number_word x.readable ∷ []

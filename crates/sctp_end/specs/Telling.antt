@@ -6,10 +6,11 @@ use Rattle.sctp_model.specs.end.EndView.{EndView, state_of, ended_of}
 use Rattle.sctp_model.specs.end.Moments.{next_moment}
 use Rattle.sctp_terms.specs.Meanings.{end_meaning, state_meaning}
 use Rattle.sctp_send.specs.Waiting.{queued_bytes}
+use Rattle.sctp_recv.specs.Readable.{ReadableAnswer}
 use Rattle.sctp_association.specs.Agreeing.{AgreedAnswer}
 use Rattle.sctp_end.specs.declared.status.Status.{Status}
 
--- Each of its numbers and names is the end's.
+-- Each of its numbers and names is the end's; what is readable is the lowest of all streams on which a message waits, and none where none waits.
 pub record IsStatus (v : EndView) (x : Status) : Type 0 where
   pub state : state_meaning x.state ≡ state_of v.phase
   pub ended : option_map end_meaning x.ended ≡ ended_of v.phase
@@ -20,3 +21,4 @@ pub record IsStatus (v : EndView) (x : Status) : Type 0 where
   pub bytes : x.queued_bytes ≡ queued_bytes v.sender
   pub held : x.held ≡ held_bytes v.receiver
   pub window : x.window ≡ v.sender.rwnd
+  pub readable : ReadableAnswer v.receiver.waiting 0 x.readable

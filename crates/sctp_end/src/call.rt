@@ -51,6 +51,6 @@ pub enum Call {
     State,
     /// `held`: how many bytes wait for its user.
     Held,
-    /// `status`: all of these, what both ends agreed on, and what waits to go out.
+    /// `status`: all of these, what both ends agreed on, what waits to go out, and the first stream on which a message waits for its user.
     Status,
 }

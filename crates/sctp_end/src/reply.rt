@@ -76,7 +76,7 @@ pub enum Reply {
     },
     /// `held N`
     Held(u32),
-    /// `status STATE WHY NEXT OUTBOUND INBOUND FORMATS OUTSTANDING QUEUED BYTES HELD WINDOW`
+    /// `status STATE WHY NEXT OUTBOUND INBOUND FORMATS OUTSTANDING QUEUED BYTES HELD WINDOW READABLE`
     Status(Status),
     /// `fault K`: the line asks for nothing.
     Fault(LineFault),

@@ -209,6 +209,7 @@ impl Session {
             queued_bytes: self.endpoint.queued_bytes(),
             held: self.endpoint.held_bytes(),
             window: self.endpoint.peer_window(),
+            readable: self.endpoint.readable(0),
         })
     }
 

@@ -24,4 +24,6 @@ pub struct Status {
     pub held: u32,
     /// The peer's receiver window, in bytes.
     pub window: u32,
+    /// The first stream on which a message waits for `take`.
+    pub readable: Option<u16>,
 }

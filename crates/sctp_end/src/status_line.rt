@@ -28,6 +28,7 @@ pub(crate) fn put_status(status: &Status, out: &mut Vec<u8>) -> Result<(), NoMem
         Word::Number(status.queued_bytes),
         Word::Number(u64::from(status.held)),
         Word::Number(u64::from(status.window)),
+        number_word(status.readable.map(u64::from)),
     ];
     put_line(b"status", &words, &[], out)
 }

@@ -14,6 +14,7 @@ returns c = λ v stands. (
     bytes = c.queued_bytes.ensures.bytes v stands;
     held = c.held_bytes.ensures.held v stands;
     window = c.peer_window.ensures v stands;
+    readable = c.readable.ensures v stands;
   }),
   stands,
 )
