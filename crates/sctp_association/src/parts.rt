@@ -1,5 +1,4 @@
-//! What an end asks of its traffic, and does to it, in every state: before an association nothing was sent, and nothing came. Everything above
-//! goes by these calls, and doesn't know where an end stands in its life.
+//! What an end asks of its traffic, and does to it, in every state: before an association nothing was sent, and nothing came.
 
 ghost use Rattle.std.specs.Prelude.{◌≡◌, ◌≤◌, option_map, false};
 ghost use Rattle.sctp_model.specs.numbers.Limits.{WINDOW};

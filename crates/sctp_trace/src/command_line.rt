@@ -27,7 +27,7 @@ pub const REFUSED: u8 = 2;
 /// The exit status where reading, writing or memory failed.
 pub const FAILED: u8 = 3;
 
-/// A law: the exit statuses are the numbers that the page on programs has.
+/// A law: the exit statuses are the numbers that `docs/FORMATS.md` has.
 pub fn exit_statuses()
     ensures done { DONE ≡ 0 }
     ensures wrong_words { WRONG_WORDS ≡ 1 }
