@@ -1,4 +1,4 @@
--- What a stock of a sender keeps, and what each wish makes of it and of the packet.
+-- What a sender's stock keeps, and what each wish makes of it and of the packet.
 use Rattle.std.specs.Prelude.{◌≡◌, ℕ, suc, nat_lt, ◌-◌, ◌<◌, ◌≤◌, Bool, true, false, List, [], ◌∷◌, ◌++◌, ◌+◌, ◌&&◌, map, length, slice_set, Option, None, Some, option_map}
 use Rattle.sctp_model.specs.messages.Format.{Format, Kind}
 use Rattle.sctp_model.specs.messages.Plan.{Message, Entry, Part}

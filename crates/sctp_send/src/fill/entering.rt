@@ -1,4 +1,4 @@
-//! A message takes its number, or its next index: what becomes of a stock.
+//! A message takes its number, or its next index: what becomes of the stock.
 
 ghost use Rattle.std.specs.Prelude.{◌≡◌, ℕ, suc, ◌+◌, ◌<◌, ◌≤◌, ◌%◌, ◌^◌, ◌∷◌, [], ◌++◌, map, set, length, slice_set, slice_index_or, IfOk, OnOk};
 ghost use Rattle.std.specs.Vec.{vec_len, vec_capacity};

@@ -1,4 +1,4 @@
-//! One wish after the other goes into a packet, and into a stock (RFC 9260, 6.1 and 6.3.3; RFC 8260, 2.2). Whether one may go is asked first,
+//! One wish after the other goes into a packet, out of the stock (RFC 9260, 6.1 and 6.3.3; RFC 8260, 2.2). Whether one may go is asked first,
 //! without memory; then the stock changes, for which memory may be wanted, and last its chunk is put.
 
 ghost use Rattle.std.specs.Prelude.{◌≡◌, ℕ, ◌<◌, Some, length, IfOk, OnErr};
