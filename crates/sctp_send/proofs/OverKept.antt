@@ -15,7 +15,7 @@ use Rattle.sctp_model.proofs.sender.Bounds.{is_bounded}
 use Rattle.sctp_send.specs.SenderKept.{Item, Kept}
 use Rattle.sctp_send.specs.SenderStands.{items_from, fate_here, fate_named, Keeps}
 use Rattle.sctp_send.specs.inner.Walks.{any_item, any_rest, any_uncovered, is_queued_fate}
-use Rattle.sctp_send.specs.inner.Drafting.{AreOpen}
+use Rattle.sctp_send.specs.inner.Stocking.{AreOpen}
 use Rattle.sctp_send.specs.declared.kept.message.Fate.{Fate}
 use Rattle.sctp_send.specs.declared.kept.message.Fate.TheVariants.{Queued as StillQueued}
 use Rattle.sctp_send.proofs.HeldLemmas.{still_held}

@@ -4,7 +4,7 @@ pub mod Walks
 pub mod Expiring
 pub mod Wishing
 pub mod Newcomers
-pub mod Drafting
+pub mod Stocking
 pub mod Ordering
 pub mod Counting
 pub mod Seating

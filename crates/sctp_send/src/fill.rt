@@ -11,13 +11,13 @@ ghost use Rattle.sctp_model.specs.sender.Filling.{next_wish};
 ghost use Rattle.sctp_model.specs.sender.SenderView.{SenderView};
 ghost use Rattle.sctp_send.specs.SenderStands.{StandsFor, Keeps};
 ghost use Rattle.sctp_send.specs.FillAnswers.{FillAnswer, PutSomeOf};
-ghost use Rattle.sctp_send.specs.inner.Drafting.{bare, numbers_of, all_numbered, drafted, AreOpen, AllPut};
+ghost use Rattle.sctp_send.specs.inner.Stocking.{bare, numbers_of, all_numbered, stocked, AreOpen, AllPut};
 ghost use Rattle.sctp_send.specs.inner.Undoing.{IsSized, IsBehind};
 
-use crate::draft::{Draft, begin_anew, forget_changes, undo_all};
 use crate::kept::fates::Fates;
 use crate::kept::message::Fate;
 use crate::sender::Sender;
+use crate::stock::{Stock, begin_anew, forget_changes, undo_all};
 use crate::told::Told;
 use sctp_framing::Framing;
 use sctp_packet::PacketWriter;
@@ -95,18 +95,18 @@ impl Told {
     /// Puts one wish after the other, until none may go.
     fn put_all<F: Framing>(
         &self,
-        draft: &mut Draft,
+        stock: &mut Stock,
         packet: &mut PacketWriter,
     ) -> Result<(), NoMemory>
-        requires fresh { draft.old.tickets.items ≡ [] }
-        requires sized { IsSized self.now.fragment draft.old }
-        ensures behind { IsBehind draft.old draft.new }
-        ensures all { (v : SenderView) → Keeps F.format (drafted (bare self.now) draft.old) v → OnOk result (AllPut F.format (bare self.now) v packet.old packet.new draft.new) }
-        ensures some { (v : SenderView) → Keeps F.format (drafted (bare self.now) draft.old) v → OnErr result (PutSomeOf F.format v packet.old packet.new) }
+        requires fresh { stock.old.tickets.items ≡ [] }
+        requires sized { IsSized self.now.fragment stock.old }
+        ensures behind { IsBehind stock.old stock.new }
+        ensures all { (v : SenderView) → Keeps F.format (stocked (bare self.now) stock.old) v → OnOk result (AllPut F.format (bare self.now) v packet.old packet.new stock.new) }
+        ensures some { (v : SenderView) → Keeps F.format (stocked (bare self.now) stock.old) v → OnErr result (PutSomeOf F.format v packet.old packet.new) }
     {
         // Each chunk takes room.
         for _ in 0..packet.room() {
-            if !self.put_next::<F>(draft, packet)? {
+            if !self.put_next::<F>(stock, packet)? {
                 return Ok(());
             }
         }

@@ -3,7 +3,6 @@
 #![tactic(auto)]
 
 mod abandon;
-mod draft;
 mod fill;
 mod forward;
 mod kept;
@@ -12,6 +11,7 @@ mod queueing;
 mod readers;
 mod sack;
 mod sender;
+mod stock;
 mod told;
 
 pub use abandon::Abandoned;

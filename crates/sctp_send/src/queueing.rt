@@ -76,7 +76,7 @@ impl<F: Framing> Sender<F> {
         }
     }
 
-    /// The same, without a look at the tickets that are over.
+    /// The same, without a look at the tickets that are over. The room for a ticket is taken before anything changes.
     fn accept(
         &mut self,
         stream: u16,
@@ -112,7 +112,6 @@ impl<F: Framing> Sender<F> {
             self.told.alloc,
             message,
         )?;
-        // There is room for it.
         self.told.fates.push(Fate::Queued);
         self.told.dues.push(until);
         Ok(Ticket(ticket))

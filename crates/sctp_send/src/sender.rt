@@ -6,13 +6,13 @@ ghost use Rattle.sctp_model.specs.numbers.Limits.{GREATEST_FRAGMENT};
 ghost use Rattle.sctp_model.specs.sender.SenderView.{SenderView, fresh_sender};
 ghost use Rattle.sctp_send.specs.SenderStands.{StandsFor};
 
-use crate::draft::Draft;
 use crate::kept::dues::Dues;
 use crate::kept::fates::Fates;
 use crate::kept::message::MOST_SHELLS;
 use crate::kept::outstanding::Outstanding;
 use crate::kept::queue::Queue;
 use crate::kept::streams::Streams;
+use crate::stock::Stock;
 use crate::told::Told;
 use sctp_framing::Framing;
 use sctp_values::NoMemory;
@@ -23,7 +23,7 @@ use std::marker::{Model, PhantomData};
 #[derive(Drop)]
 pub struct Sender<F: Framing> {
     pub(crate) told: Told,
-    pub(crate) parts: Draft,
+    pub(crate) parts: Stock,
     pub(crate) format: PhantomData<F>,
 }
 
@@ -100,7 +100,7 @@ impl<F: Framing> Sender<F> {
                 spare: Vec::new(alloc),
                 shells,
             },
-            parts: Draft {
+            parts: Stock {
                 // what is outstanding, by offset from CUM + 1
                 outstanding: Outstanding::new(alloc, fragment),
                 queue: Queue::new(alloc, fragment, F::takes_turns()),

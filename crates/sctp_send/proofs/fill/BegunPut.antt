@@ -30,12 +30,12 @@ use Rattle.sctp_send.specs.SenderFields.{queued_by, track_meaning}
 use Rattle.sctp_send.specs.inner.Walks.{total, one_if_rest}
 use Rattle.sctp_send.specs.inner.Newcomers.{gone_item, new_item, new_items, begun_items, number_in, begun_track, rest_at, has_rest, one_if, without_place, fresh_track, number_on, begun, IsBegun}
 use Rattle.sctp_send.specs.inner.Wishing.{item_flight}
-use Rattle.sctp_send.specs.inner.Drafting.{numbers_of, drafted, fragment_chunk, item_chunk, let_in, IsStopped, IsRefused, IsTried, PutAnswer, NothingStands}
+use Rattle.sctp_send.specs.inner.Stocking.{numbers_of, stocked, fragment_chunk, item_chunk, let_in, IsStopped, IsRefused, IsTried, PutAnswer, NothingStands}
 use Rattle.sctp_values.specs.Meanings.{kind_meaning}
 use Rattle.std.proofs.lemmas.Option.{slice_get-get_or}
 use Rattle.sctp_send.specs.declared.kept.track.Track.{Track as TrackFields}
 use Rattle.sctp_send.proofs.WalkLemmas.{track_read}
-use Rattle.sctp_send.specs.declared.draft.Draft.{Draft}
+use Rattle.sctp_send.specs.declared.stock.Stock.{Stock}
 use Rattle.sctp_send.specs.declared.kept.message.Message.{Message as MessageFields}
 use Rattle.sctp_send.specs.declared.kept.entry.Content.TheVariants.{Fragment}
 use Rattle.sctp_send.proofs.TableLemmas.{length-table}
@@ -52,8 +52,8 @@ use Rattle.sctp_send.proofs.fill.NewMayLemmas.{flows, in_window, new_may, next_i
 
 -- ---- a message begins
 
--- the message that was read from the draft's queue is the one that begins
-pub begun_message : (f : Format) (s : Kept) (v : SenderView) (old : Draft) (place count turn : ℕ) (x : Arc MessageFields Global) → Keeps f (drafted s old) v → (b : IsBegun f v place count turn) → x ≡ get_or old.queue.items place x
+-- the message that was read from the stock's queue is the one that begins
+pub begun_message : (f : Format) (s : Kept) (v : SenderView) (old : Stock) (place count turn : ℕ) (x : Arc MessageFields Global) → Keeps f (stocked s old) v → (b : IsBegun f v place count turn) → x ≡ get_or old.queue.items place x
     → queued_meaning s.fragment x.value ≡ b.message
 begun_message f s v old place count turn x k b read =
     sym (map_read (queued_by s.fragment) old.queue.items place x read) ∙ ap (λ (qs : List Queued). get_or qs place (queued_by s.fragment x)) k.holds.queue
@@ -93,12 +93,12 @@ begun_by f s v place count turn k b =
     now = b.assigned ∙ ap (λ (n : ℕ). Some (numbered v b.message n (without_place place v.queue) turn)) b.some
 
 -- its stream is there
-pub begun_there : (f : Format) (s : Kept) (v : SenderView) (old : Draft) (m : MessageFields) (place count turn : ℕ) → Keeps f (drafted s old) v → (b : IsBegun f v place count turn) → queued_meaning s.fragment m ≡ b.message
+pub begun_there : (f : Format) (s : Kept) (v : SenderView) (old : Stock) (m : MessageFields) (place count turn : ℕ) → Keeps f (stocked s old) v → (b : IsBegun f v place count turn) → queued_meaning s.fragment m ≡ b.message
     → m.stream < length old.streams.items
 begun_there f s v old m place count turn k b mine =
     let tracks = ap (λ (ts : List Track). length ts) k.holds.tracks ∙ length-table (track_here v) 0 v.streams in
     let long = length-map old.streams.items (track_meaning s.fragment) in
-    let low = (begun_by f (drafted s old) v place count turn k b).low in
+    let low = (begun_by f (stocked s old) v place count turn k b).low in
     let stream = ap (λ (q : Queued). q.lane.stream) mine in
     omega (arith, tracks, long, low, stream)
 
@@ -123,11 +123,11 @@ pub never_none : {A : Type 0} (o : Option A) (P : Type 0) → o ≡ None → (P 
 never_none None P is found p = let off = found p in cc
 never_none (Some x) P is found p = absurd (cc)
 
--- a draft, and the message that begins: it stands at a place of the queue, and this is its number
-module _ (f : Format) (s : Kept) (v : SenderView) (old : Draft) (m : MessageFields) (place count turn number : ℕ) (k : Keeps f (drafted s old) v) (stands : NothingStands f v) (b : IsBegun f v place count turn)
-    (mine : queued_meaning s.fragment m ≡ b.message) (its : number ≡ number_on (drafted s old).tracks (lane_meaning m)) where
+-- a stock, and the message that begins: it stands at a place of the queue, and this is its number
+module _ (f : Format) (s : Kept) (v : SenderView) (old : Stock) (m : MessageFields) (place count turn number : ℕ) (k : Keeps f (stocked s old) v) (stands : NothingStands f v) (b : IsBegun f v place count turn)
+    (mine : queued_meaning s.fragment m ≡ b.message) (its : number ≡ number_on (stocked s old).tracks (lane_meaning m)) where
   abbrev by : IsBegunBy f v (queued_meaning s.fragment m) place count turn
-  by = subst (λ (q : Queued). IsBegunBy f v q place count turn) (sym mine) (begun_by f (drafted s old) v place count turn k b)
+  by = subst (λ (q : Queued). IsBegunBy f v q place count turn) (sym mine) (begun_by f (stocked s old) v place count turn k b)
 
   abbrev led : SenderView
   led = numbered v (queued_meaning s.fragment m) (suc by.less) (without_place place v.queue) turn
@@ -136,7 +136,7 @@ module _ (f : Format) (s : Kept) (v : SenderView) (old : Draft) (m : MessageFiel
   pub begun_few : suc number < 2 ^ 64
   begun_few =
       let l = lane_meaning m in
-      let same : number ≡ length (v.plan.messages l) = its ∙ ap (number_in l.kind) (track_at f (drafted s old) v l.stream fresh_track k by.low) ∙ number_is v l in
+      let same : number ≡ length (v.plan.messages l) = its ∙ ap (number_in l.kind) (track_at f (stocked s old) v l.stream fresh_track k by.low) ∙ number_is v l in
       let few = few_messages f v l k.reached in
       omega (arith, same, few)
 
@@ -145,8 +145,8 @@ module _ (f : Format) (s : Kept) (v : SenderView) (old : Draft) (m : MessageFiel
   begun_chunk =
       let q = queued_meaning s.fragment m in
       let long = length-map old.outstanding.items (item_meaning s.fragment) in
-      chunk_begun f (drafted s old) v q (without_place place v.queue) by.less turn fresh_track k by.low
-      ∙ ap (λ (n : ℕ). data_chunk f (piece_said f s.initial (suc (s.cum + n)) (Part q.lane (number_on (drafted s old).tracks (lane_meaning m)) 0) (Some q.message))) long
+      chunk_begun f (stocked s old) v q (without_place place v.queue) by.less turn fresh_track k by.low
+      ∙ ap (λ (n : ℕ). data_chunk f (piece_said f s.initial (suc (s.cum + n)) (Part q.lane (number_on (stocked s old).tracks (lane_meaning m)) 0) (Some q.message))) long
       ∙ ap (λ (n : ℕ). fragment_chunk f s.fragment s.initial (suc (s.cum + length old.outstanding.items)) m n (Fragment 0)) (sym its)
 
   begun_may : (p : PacketDraft) → may_go f (room_in p) (newcomer v led)
@@ -154,7 +154,7 @@ module _ (f : Format) (s : Kept) (v : SenderView) (old : Draft) (m : MessageFiel
       && has_room p (fragment_chunk f s.fragment s.initial (suc (s.cum + length old.outstanding.items)) m number (Fragment 0))) && nat_le (outstanding led) WINDOW)
   begun_may p =
       let q = queued_meaning s.fragment m in
-      let bytes = bytes_begun f (drafted s old) v q (without_place place v.queue) by.less turn fresh_track k by.low in
+      let bytes = bytes_begun f (stocked s old) v q (without_place place v.queue) by.less turn fresh_track k by.low in
       new_may f s v led p old _ _ k by.assigned begun_chunk (bytes ∙ ap (λ (n : ℕ). bytes_in (Part q.lane n 0) (Some q.message)) (sym its))
 
   -- how the code tests the window
@@ -167,12 +167,12 @@ module _ (f : Format) (s : Kept) (v : SenderView) (old : Draft) (m : MessageFiel
       let wide = length-map old.streams.items (track_meaning s.fragment) in
       let there = begun_there f s v old m place count turn k b mine in
       let had = rest_read ts m.stream fresh_track (omega arith) in
-      let all = outstanding_begun f (drafted s old) v q (without_place place v.queue) by.less turn fresh_track k by.low in
+      let all = outstanding_begun f (stocked s old) v q (without_place place v.queue) by.less turn fresh_track k by.low in
       let left : one_if_rest (begun_track q (suc by.less) (get_or ts m.stream fresh_track)).rest ≡ one_if more =
       when_rest (nat_lt (suc by.less) (length q.message.fragments)) _ ∙ ap (λ (n : ℕ). one_if (nat_lt n (length q.message.fragments))) (sym by.some) ∙ ap one_if (sym is) in
       let some = by.some in
       window_test (outstanding led) (one_if (has_rest (rest_at ts m.stream))) (length old.outstanding.items + count) (total (λ t. one_if_rest t.rest) ts) (one_if more) WINDOW
-      (omega (arith, all, had, left, long, some)) (few_parts f (drafted s old) v k)
+      (omega (arith, all, had, left, long, some)) (few_parts f (stocked s old) v k)
 
   begun_goes : (p : PacketDraft) (more : Bool) → more ≡ nat_lt count (length (cut s.fragment m.bytes.items))
       → in_window s old count m.stream more ≡ true
@@ -182,7 +182,7 @@ module _ (f : Format) (s : Kept) (v : SenderView) (old : Draft) (m : MessageFiel
       goes_is f (room_in p) v (newcomer v led) (next_is f v led stands by.assigned) (begun_may p ∙ ap (λ (x : Bool). x && nat_le (outstanding led) WINDOW) on ∙ begun_window more is ∙ window)
 
   -- it may not flow, or does not fit
-  pub begun_held : (p r : PacketDraft) (new : Draft) → let_in f (item_flight (map (item_meaning s.fragment) old.outstanding.items)) s (suc (s.cum + length old.outstanding.items)) p (Part (lane_meaning m) number 0) (Some (message_meaning s.fragment m)) ≡ false → r ≡ p → drafted s new ≡ drafted s old → new.tickets ≡ old.tickets → IsStopped f s v p r old new
+  pub begun_held : (p r : PacketDraft) (new : Stock) → let_in f (item_flight (map (item_meaning s.fragment) old.outstanding.items)) s (suc (s.cum + length old.outstanding.items)) p (Part (lane_meaning m) number 0) (Some (message_meaning s.fragment m)) ≡ false → r ≡ p → stocked s new ≡ stocked s old → new.tickets ≡ old.tickets → IsStopped f s v p r old new
   begun_held p r new off packet kept tickets = record {
     none = goes_not f (room_in p) v (newcomer v led) (next_is f v led stands by.assigned) (begun_may p ∙ ap (λ (x : Bool). x && nat_le (outstanding led) WINDOW) off);
     packet = packet;
@@ -191,9 +191,9 @@ module _ (f : Format) (s : Kept) (v : SenderView) (old : Draft) (m : MessageFiel
   }
 
   -- the window has no room for it
-  pub begun_full : (p r : PacketDraft) (new : Draft) (more : Bool) → more ≡ nat_lt count (length (cut s.fragment m.bytes.items))
+  pub begun_full : (p r : PacketDraft) (new : Stock) (more : Bool) → more ≡ nat_lt count (length (cut s.fragment m.bytes.items))
       → in_window s old count m.stream more ≡ false
-      → r ≡ p → drafted s new ≡ drafted s old → new.tickets ≡ old.tickets → IsStopped f s v p r old new
+      → r ≡ p → stocked s new ≡ stocked s old → new.tickets ≡ old.tickets → IsStopped f s v p r old new
   begun_full p r new more is window packet kept tickets = record {
     none = goes_not f (room_in p) v (newcomer v led) (next_is f v led stands by.assigned) (begun_may p ∙ and_off _ (nat_le (outstanding led) WINDOW) (begun_window more is ∙ window));
     packet = packet;
@@ -202,13 +202,13 @@ module _ (f : Format) (s : Kept) (v : SenderView) (old : Draft) (m : MessageFiel
   }
 
   -- its chunk, of the item that it is then
-  begun_tried : (p r : PacketDraft) (new : Draft) (at capacity : ℕ) (none : Item) (put : Bool) → at ≡ length old.outstanding.items → drafted s new ≡ begun (drafted s old) (queued_meaning s.fragment m) place count turn capacity
-      → IsTried p r (item_chunk f s.initial (suc (s.cum + at)) (get_or (drafted s new).items at none)) put
+  begun_tried : (p r : PacketDraft) (new : Stock) (at capacity : ℕ) (none : Item) (put : Bool) → at ≡ length old.outstanding.items → stocked s new ≡ begun (stocked s old) (queued_meaning s.fragment m) place count turn capacity
+      → IsTried p r (item_chunk f s.initial (suc (s.cum + at)) (get_or (stocked s new).items at none)) put
       → IsTried p r (fragment_chunk f s.fragment s.initial (suc (s.cum + length old.outstanding.items)) m number (Fragment 0)) put
   begun_tried p r new at capacity none put here kept tried =
       let q = queued_meaning s.fragment m in
-      let xs = (drafted s old).items in
-      let n = number_on (drafted s old).tracks q.lane in
+      let xs = (stocked s old).items in
+      let n = number_on (stocked s old).tracks q.lane in
       let long : at ≡ length xs = here ∙ sym (length-map old.outstanding.items (item_meaning s.fragment)) in
       let items = ap (λ (y : Kept). y.items) kept ∙ ap (λ (d : ℕ). xs ++ begun_items q.lane n q.message d) by.some in
       let item = ap (λ (ys : List Item). get_or ys at none) items ∙ ap (λ (j : ℕ). get_or (xs ++ begun_items q.lane n q.message (suc by.less)) j none) long
@@ -218,24 +218,24 @@ module _ (f : Format) (s : Kept) (v : SenderView) (old : Draft) (m : MessageFiel
       (subst (λ (x : Item). IsTried p r (item_chunk f s.initial (suc (s.cum + at)) x) put) item tried)
 
   -- it is in the packet, and took its number
-  pub begun_put : (p r : PacketDraft) (new : Draft) (more : Bool) (at capacity : ℕ) (none : Item) (put : Bool) → more ≡ nat_lt count (length (cut s.fragment m.bytes.items))
+  pub begun_put : (p r : PacketDraft) (new : Stock) (more : Bool) (at capacity : ℕ) (none : Item) (put : Bool) → more ≡ nat_lt count (length (cut s.fragment m.bytes.items))
       → in_window s old count m.stream more ≡ true
       → let_in f (item_flight (map (item_meaning s.fragment) old.outstanding.items)) s (suc (s.cum + length old.outstanding.items)) p (Part (lane_meaning m) number 0) (Some (message_meaning s.fragment m)) ≡ true → at ≡ length old.outstanding.items
-      → drafted s new ≡ begun (drafted s old) (queued_meaning s.fragment m) place count turn capacity → s.streams + length new.outstanding.items ≤ capacity
+      → stocked s new ≡ begun (stocked s old) (queued_meaning s.fragment m) place count turn capacity → s.streams + length new.outstanding.items ≤ capacity
       → numbers_of new.tickets.items ≡ numbers_of old.tickets.items ++ m.ticket ∷ []
-      → IsTried p r (item_chunk f s.initial (suc (s.cum + at)) (get_or (drafted s new).items at none)) put → PutAnswer f s v p r old new put
+      → IsTried p r (item_chunk f s.initial (suc (s.cum + at)) (get_or (stocked s new).items at none)) put → PutAnswer f s v p r old new put
   begun_put p r new more at capacity none put is window on here kept room tickets tried =
       let q = queued_meaning s.fragment m in
       let goes_now = begun_goes p more is window on in
       let many = ap (λ (y : Kept). length y.items) kept in
       let long = length-map new.outstanding.items (item_meaning s.fragment) in
-      let all = ap (λ (n : ℕ). length (begun (drafted s old) q place n turn capacity).items) by.some in
-      let more_items = length-append (drafted s old).items (begun_items q.lane (number_on (drafted s old).tracks q.lane) q.message (suc by.less)) in
-      let new_ones = length-new_items q.lane (number_on (drafted s old).tracks q.lane) q.message 1 by.less in
+      let all = ap (λ (n : ℕ). length (begun (stocked s old) q place n turn capacity).items) by.some in
+      let more_items = length-append (stocked s old).items (begun_items q.lane (number_on (stocked s old).tracks q.lane) q.message (suc by.less)) in
+      let new_ones = length-new_items q.lane (number_on (stocked s old).tracks q.lane) q.message 1 by.less in
       let streams = k.holds.streams in
-      let h = begun_kept f (drafted s old) v q (without_place place v.queue) by.less turn capacity (room_in p) fresh_track k by.taken by.idle by.low goes_now (omega (arith, many, long, all, more_items, new_ones, streams, room)) in
-      let queue = subst (λ (qs : List Queued). Keeps f (record (begun (drafted s old) q place (suc by.less) turn capacity) { queue = without_place place qs }) (gone (newcomer v led))) (sym k.holds.queue) h in
-      let counted = subst (λ (n : ℕ). Keeps f (begun (drafted s old) q place n turn capacity) (gone (newcomer v led))) (sym by.some) queue in
+      let h = begun_kept f (stocked s old) v q (without_place place v.queue) by.less turn capacity (room_in p) fresh_track k by.taken by.idle by.low goes_now (omega (arith, many, long, all, more_items, new_ones, streams, room)) in
+      let queue = subst (λ (qs : List Queued). Keeps f (record (begun (stocked s old) q place (suc by.less) turn capacity) { queue = without_place place qs }) (gone (newcomer v led))) (sym k.holds.queue) h in
+      let counted = subst (λ (n : ℕ). Keeps f (begun (stocked s old) q place n turn capacity) (gone (newcomer v led))) (sym by.some) queue in
       let in_packet = tried_put p r _ put (and_parts _ _ on).1 (begun_tried p r new at capacity none put here kept tried) in
       subst (λ (b : Bool). PutAnswer f s v p r old new b) (sym in_packet.0)
       (record {

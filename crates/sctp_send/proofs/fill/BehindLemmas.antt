@@ -3,11 +3,11 @@ use Rattle.std.proofs.Common.{◌≡◌, ℕ, ◌-◌, List, [], ◌∷◌, ◌+
 use Rattle.std.specs.declared.sync.Arc.{Arc}
 use Rattle.std.specs.declared.alloc.Global.{Global}
 use Rattle.sctp_send.specs.PartsKept.{changed_at}
-use Rattle.sctp_send.specs.inner.Drafting.{went_out}
+use Rattle.sctp_send.specs.inner.Stocking.{went_out}
 use Rattle.sctp_send.specs.inner.Undoing.{Parts, parts_of, before_all, origin, waits_again, waiting_again, fragment_entry, counted_to}
-use Rattle.sctp_send.specs.declared.draft.Change.{Change}
-use Rattle.sctp_send.specs.declared.draft.Change.TheVariants.{Out, Begun, Left, Continued}
-use Rattle.sctp_send.specs.declared.draft.Draft.{Draft}
+use Rattle.sctp_send.specs.declared.stock.Change.{Change}
+use Rattle.sctp_send.specs.declared.stock.Change.TheVariants.{Out, Begun, Left, Continued}
+use Rattle.sctp_send.specs.declared.stock.Stock.{Stock}
 use Rattle.sctp_send.specs.declared.kept.message.Message.{Message}
 use Rattle.sctp_send.specs.declared.kept.entry.Entry.{Entry as EntryFields}
 use Rattle.sctp_send.specs.declared.kept.entry.Standing.TheVariants.{Sent}
@@ -15,7 +15,7 @@ use Rattle.sctp_send.specs.declared.kept.track.Track.{Track}
 use Rattle.sctp_send.proofs.fill.UndoLemmas.{out_undone, taken_undone, cut_behind, before_last}
 
 -- an entry went out
-pub out_behind : (old : Draft) (cs : List Change) (es : List EntryFields) (at : ℕ) (x : EntryFields) → x ≡ get_or old.outstanding.items at x → cs ≡ old.log.items ++ Out at x.standing ∷ [] → es ≡ changed_at went_out at old.outstanding.items
+pub out_behind : (old : Stock) (cs : List Change) (es : List EntryFields) (at : ℕ) (x : EntryFields) → x ≡ get_or old.outstanding.items at x → cs ≡ old.log.items ++ Out at x.standing ∷ [] → es ≡ changed_at went_out at old.outstanding.items
     → before_all cs (record (parts_of old) { items = es }) ≡ origin old
 out_behind old cs es at x read noted went =
     ap (λ (ds : List Change). before_all ds (record (parts_of old) { items = es })) noted
@@ -24,7 +24,7 @@ out_behind old cs es at x read noted went =
     ∙ ap (λ (ys : List EntryFields). before_all old.log.items (record (parts_of old) { items = ys })) (out_undone at old.outstanding.items x read)
 
 -- a message took its number, and its first fragment came behind all entries
-pub begun_behind : (old : Draft) (cs : List Change) (es : List EntryFields) (qs : List (Arc Message Global)) (ts : List Track) (place turn n : ℕ) (m : Arc Message Global)
+pub begun_behind : (old : Stock) (cs : List Change) (es : List EntryFields) (qs : List (Arc Message Global)) (ts : List Track) (place turn n : ℕ) (m : Arc Message Global)
     → cs ≡ old.log.items ++ Begun place (length old.outstanding.items) old.turn ∷ [] → take (suc (length old.outstanding.items)) es ≡ old.outstanding.items ++ fragment_entry m n 0 Sent ∷ []
     → place < length old.queue.items → m ≡ get_or old.queue.items place m → qs ≡ remove old.queue.items place → changed_at (counted_to m.value.kind n) m.value.stream ts ≡ old.streams.items
     → before_all cs (record { items = es; queue = qs; tracks = ts; turn = turn }) ≡ origin old
@@ -47,7 +47,7 @@ left_behind cs ds stream track ts us p noted went is =
     ∙ ap (λ (xs : List Track). before_all cs (record p { tracks = xs })) (ap (λ (xs : List Track). set xs stream track) is ∙ went)
 
 -- a message in part took its next index
-pub continued_behind : (old : Draft) (cs : List Change) (es : List EntryFields) (ts : List Track) (stream turn : ℕ) (track : Track)
+pub continued_behind : (old : Stock) (cs : List Change) (es : List EntryFields) (ts : List Track) (stream turn : ℕ) (track : Track)
     → cs ≡ old.log.items ++ Continued stream track old.turn ∷ [] → old.outstanding.items ≡ take (length es - 1) es → set ts stream track ≡ old.streams.items
     → before_all cs (record { items = es; queue = old.queue.items; tracks = ts; turn = turn }) ≡ origin old
 continued_behind old cs es ts stream turn track noted came went =

@@ -26,8 +26,8 @@ use Rattle.sctp_send.specs.inner.Walks.{total, one_if_rest}
 use Rattle.sctp_send.specs.inner.Newcomers as kept
 use Rattle.sctp_send.specs.inner.Newcomers.{gone_item, rest_item, rest_after, rest_at, has_rest, one_if, fresh_track, IsContinued}
 use Rattle.sctp_send.specs.inner.Wishing.{item_flight}
-use Rattle.sctp_send.specs.inner.Drafting.{numbers_of, drafted, fragment_chunk, item_chunk, let_in, IsStopped, IsRefused, IsTried, PutAnswer, NothingStands}
-use Rattle.sctp_send.specs.declared.draft.Draft.{Draft}
+use Rattle.sctp_send.specs.inner.Stocking.{numbers_of, stocked, fragment_chunk, item_chunk, let_in, IsStopped, IsRefused, IsTried, PutAnswer, NothingStands}
+use Rattle.sctp_send.specs.declared.stock.Stock.{Stock}
 use Rattle.sctp_send.specs.declared.kept.entry.Content.TheVariants.{Fragment}
 use Rattle.sctp_send.specs.declared.kept.track.Rest.{Rest as RestFields}
 use Rattle.sctp_send.proofs.TableLemmas.{length-table}
@@ -60,18 +60,18 @@ rest_of_view f s v stream r k low there = by_next (continued v.plan stream) refl
     by_next (Some e) on is = let same : record { entry = e; message = entry_message v.plan e } ≡ r = cc in subst (λ (x : Rest). IsRestOf v stream x) same (record { on = on; message = refl })
 
 -- a message that goes on has something left
-pub never_ended : (f : Format) (s : Kept) (v : SenderView) (old : Draft) (stream : ℕ) → Keeps f (drafted s old) v → IsContinued f v stream → None ≡ rest_at (map (track_meaning s.fragment) old.streams.items) stream → ⊥
+pub never_ended : (f : Format) (s : Kept) (v : SenderView) (old : Stock) (stream : ℕ) → Keeps f (stocked s old) v → IsContinued f v stream → None ≡ rest_at (map (track_meaning s.fragment) old.streams.items) stream → ⊥
 never_ended f s v old stream k c none =
     let x = track_here v stream in
-    let ts = (drafted s old).tracks in
+    let ts = (stocked s old).tracks in
     let wide = ap (λ (ys : List Track). length ys) k.holds.tracks ∙ length-table (track_here v) 0 v.streams in
     let low = c.low in
-    let here : rest_at ts stream ≡ rest_here v.plan (continued v.plan stream) = rw (slice_get-get_or ts stream x (omega (arith, wide, low))) (ap (λ (t : Track). t.rest) (track_at f (drafted s old) v stream x k low)) in
+    let here : rest_at ts stream ≡ rest_here v.plan (continued v.plan stream) = rw (slice_get-get_or ts stream x (omega (arith, wide, low))) (ap (λ (t : Track). t.rest) (track_at f (stocked s old) v stream x k low)) in
     let some = none ∙ here ∙ ap (rest_here v.plan) c.on in
     absurd (cc)
 
--- a draft, and what is left of the message in part of a stream
-module _ (f : Format) (s : Kept) (v : SenderView) (old : Draft) (t : Track) (r : RestFields) (stream : ℕ) (k : Keeps f (drafted s old) v) (stands : NothingStands f v) (c : IsContinued f v stream)
+-- a stock, and what is left of the message in part of a stream
+module _ (f : Format) (s : Kept) (v : SenderView) (old : Stock) (t : Track) (r : RestFields) (stream : ℕ) (k : Keeps f (stocked s old) v) (stands : NothingStands f v) (c : IsContinued f v stream)
     (its : Some (rest_meaning s.fragment t r) ≡ rest_at (map (track_meaning s.fragment) old.streams.items) stream) where
   abbrev e : Entry
   e = Part (lane_meaning r.message.value) (number_left t r) r.fragment
@@ -80,7 +80,7 @@ module _ (f : Format) (s : Kept) (v : SenderView) (old : Draft) (t : Track) (r :
   led = gone_on v e (stream_after v stream)
 
   left : IsRestOf v stream (rest_meaning s.fragment t r)
-  left = rest_of_view f (drafted s old) v stream (rest_meaning s.fragment t r) k c.low its
+  left = rest_of_view f (stocked s old) v stream (rest_meaning s.fragment t r) k c.low its
 
   led_is : assigned f v ≡ Some led
   led_is = let same : Some c.entry ≡ Some e = sym c.on ∙ left.on in let one : c.entry ≡ e = cc in subst (λ (x : Entry). assigned f v ≡ Some (going_on v stream x)) one c.assigned
@@ -101,7 +101,7 @@ module _ (f : Format) (s : Kept) (v : SenderView) (old : Draft) (t : Track) (r :
   continued_chunk : chunk_of f (newcomer v led) ≡ fragment_chunk f s.fragment s.initial (suc (s.cum + length old.outstanding.items)) r.message.value (number_left t r) (Fragment r.fragment)
   continued_chunk =
       let long = length-map old.outstanding.items (item_meaning s.fragment) in
-      chunk_continued f (drafted s old) v e (stream_after v stream) k ∙ ap (λ (n : ℕ). data_chunk f (piece_said f s.initial (suc (s.cum + n)) e (entry_message v.plan e))) long
+      chunk_continued f (stocked s old) v e (stream_after v stream) k ∙ ap (λ (n : ℕ). data_chunk f (piece_said f s.initial (suc (s.cum + n)) e (entry_message v.plan e))) long
       ∙ ap (λ (x : Option Message). data_chunk f (piece_said f s.initial (suc (s.cum + length old.outstanding.items)) e x)) (sym left.message)
 
   continued_may : (p : PacketDraft) → may_go f (room_in p) (newcomer v led)
@@ -118,11 +118,11 @@ module _ (f : Format) (s : Kept) (v : SenderView) (old : Draft) (t : Track) (r :
       let wide = length-map old.streams.items (track_meaning s.fragment) in
       let there = continued_there in
       let had = rest_read ts stream fresh_track (omega arith) in
-      let all = outstanding_continued f (drafted s old) v stream (stream_after v stream) e fresh_track k c.low left.on in
+      let all = outstanding_continued f (stocked s old) v stream (stream_after v stream) e fresh_track k c.low left.on in
       let next : one_if_rest (rest_after e (entry_message v.plan e)) ≡ one_if more =
       ap (λ (x : Option Message). one_if_rest (rest_after e x)) (sym left.message) ∙ when_rest (nat_lt (suc r.fragment) (length (cut s.fragment r.message.value.bytes.items))) _ ∙ ap one_if (sym is) in
       window_test (outstanding led) (one_if (has_rest (rest_at ts stream))) (length old.outstanding.items + 1) (total (λ t. one_if_rest t.rest) ts) (one_if more) WINDOW
-      (omega (arith, all, had, next, long)) (few_parts f (drafted s old) v k)
+      (omega (arith, all, had, next, long)) (few_parts f (stocked s old) v k)
 
   continued_goes : (p : PacketDraft) (more : Bool) → more ≡ nat_lt (suc r.fragment) (length (cut s.fragment r.message.value.bytes.items))
       → in_window s old 1 stream more ≡ true
@@ -132,7 +132,7 @@ module _ (f : Format) (s : Kept) (v : SenderView) (old : Draft) (t : Track) (r :
       goes_is f (room_in p) v (newcomer v led) (next_is f v led stands led_is) (continued_may p ∙ ap (λ (x : Bool). x && nat_le (outstanding led) WINDOW) on ∙ continued_window more is ∙ window)
 
   -- it may not flow, or does not fit
-  pub continued_held : (p q : PacketDraft) (new : Draft) → let_in f (item_flight (map (item_meaning s.fragment) old.outstanding.items)) s (suc (s.cum + length old.outstanding.items)) p e (Some (message_meaning s.fragment r.message.value)) ≡ false → q ≡ p → drafted s new ≡ drafted s old → new.tickets ≡ old.tickets → IsStopped f s v p q old new
+  pub continued_held : (p q : PacketDraft) (new : Stock) → let_in f (item_flight (map (item_meaning s.fragment) old.outstanding.items)) s (suc (s.cum + length old.outstanding.items)) p e (Some (message_meaning s.fragment r.message.value)) ≡ false → q ≡ p → stocked s new ≡ stocked s old → new.tickets ≡ old.tickets → IsStopped f s v p q old new
   continued_held p q new off packet kept tickets = record {
     none = goes_not f (room_in p) v (newcomer v led) (next_is f v led stands led_is) (continued_may p ∙ ap (λ (x : Bool). x && nat_le (outstanding led) WINDOW) off);
     packet = packet;
@@ -141,9 +141,9 @@ module _ (f : Format) (s : Kept) (v : SenderView) (old : Draft) (t : Track) (r :
   }
 
   -- the window has no room for it
-  pub continued_full : (p q : PacketDraft) (new : Draft) (more : Bool) → more ≡ nat_lt (suc r.fragment) (length (cut s.fragment r.message.value.bytes.items))
+  pub continued_full : (p q : PacketDraft) (new : Stock) (more : Bool) → more ≡ nat_lt (suc r.fragment) (length (cut s.fragment r.message.value.bytes.items))
       → in_window s old 1 stream more ≡ false
-      → q ≡ p → drafted s new ≡ drafted s old → new.tickets ≡ old.tickets → IsStopped f s v p q old new
+      → q ≡ p → stocked s new ≡ stocked s old → new.tickets ≡ old.tickets → IsStopped f s v p q old new
   continued_full p q new more is window packet kept tickets = record {
     none = goes_not f (room_in p) v (newcomer v led) (next_is f v led stands led_is) (continued_may p ∙ and_off _ (nat_le (outstanding led) WINDOW) (continued_window more is ∙ window));
     packet = packet;
@@ -152,11 +152,11 @@ module _ (f : Format) (s : Kept) (v : SenderView) (old : Draft) (t : Track) (r :
   }
 
   -- its chunk, of the item that it is then
-  continued_tried : (p q : PacketDraft) (new : Draft) (at turn capacity : ℕ) (none : Item) (put : Bool) → at ≡ length old.outstanding.items → drafted s new ≡ kept.gone_on (drafted s old) (rest_meaning s.fragment t r) stream turn capacity
-      → IsTried p q (item_chunk f s.initial (suc (s.cum + at)) (get_or (drafted s new).items at none)) put
+  continued_tried : (p q : PacketDraft) (new : Stock) (at turn capacity : ℕ) (none : Item) (put : Bool) → at ≡ length old.outstanding.items → stocked s new ≡ kept.gone_on (stocked s old) (rest_meaning s.fragment t r) stream turn capacity
+      → IsTried p q (item_chunk f s.initial (suc (s.cum + at)) (get_or (stocked s new).items at none)) put
       → IsTried p q (fragment_chunk f s.fragment s.initial (suc (s.cum + length old.outstanding.items)) r.message.value (number_left t r) (Fragment r.fragment)) put
   continued_tried p q new at turn capacity none put here same tried =
-      let xs = (drafted s old).items in
+      let xs = (stocked s old).items in
       let x = gone_item (rest_item (rest_meaning s.fragment t r)) in
       let long : at ≡ length xs = here ∙ sym (length-map old.outstanding.items (item_meaning s.fragment)) in
       let item = ap (λ (y : Kept). get_or y.items at none) same ∙ ap (λ (j : ℕ). get_or (xs ++ x ∷ []) j none) long ∙ item_behind xs x [] none in
@@ -164,21 +164,21 @@ module _ (f : Format) (s : Kept) (v : SenderView) (old : Draft) (t : Track) (r :
       (subst (λ (y : Item). IsTried p q (item_chunk f s.initial (suc (s.cum + at)) y) put) item tried)
 
   -- it is in the packet, and took its index
-  pub continued_put : (p q : PacketDraft) (new : Draft) (more : Bool) (at capacity : ℕ) (none : Item) (put : Bool) → more ≡ nat_lt (suc r.fragment) (length (cut s.fragment r.message.value.bytes.items))
+  pub continued_put : (p q : PacketDraft) (new : Stock) (more : Bool) (at capacity : ℕ) (none : Item) (put : Bool) → more ≡ nat_lt (suc r.fragment) (length (cut s.fragment r.message.value.bytes.items))
       → in_window s old 1 stream more ≡ true
       → let_in f (item_flight (map (item_meaning s.fragment) old.outstanding.items)) s (suc (s.cum + length old.outstanding.items)) p e (Some (message_meaning s.fragment r.message.value)) ≡ true → at ≡ length old.outstanding.items
-      → drafted s new ≡ kept.gone_on (drafted s old) (rest_meaning s.fragment t r) stream (suc stream % s.streams) capacity
+      → stocked s new ≡ kept.gone_on (stocked s old) (rest_meaning s.fragment t r) stream (suc stream % s.streams) capacity
       → s.streams + length new.outstanding.items ≤ capacity → new.tickets ≡ old.tickets
-      → IsTried p q (item_chunk f s.initial (suc (s.cum + at)) (get_or (drafted s new).items at none)) put → PutAnswer f s v p q old new put
+      → IsTried p q (item_chunk f s.initial (suc (s.cum + at)) (get_or (stocked s new).items at none)) put → PutAnswer f s v p q old new put
   continued_put p q new more at capacity none put is window on here same room tickets tried =
       let goes_now = continued_goes p more is window on in
       let many = ap (λ (y : Kept). length y.items) same in
       let long = length-map new.outstanding.items (item_meaning s.fragment) in
-      let one = length-append (drafted s old).items (gone_item (rest_item (rest_meaning s.fragment t r)) ∷ []) in
+      let one = length-append (stocked s old).items (gone_item (rest_item (rest_meaning s.fragment t r)) ∷ []) in
       let streams = k.holds.streams in
-      let h = continued_kept f (drafted s old) v stream (stream_after v stream) capacity (room_in p) e fresh_track k c.low left.on goes_now (omega (arith, many, long, one, streams, room)) in
-      let mine = subst (λ (x : Option Message). Keeps f (kept.gone_on (drafted s old) (record { entry = e; message = x }) stream (stream_after v stream) capacity) (gone (newcomer v led))) (sym left.message) h in
-      let turned = subst (λ (n : ℕ). Keeps f (kept.gone_on (drafted s old) (rest_meaning s.fragment t r) stream (suc stream % n) capacity) (gone (newcomer v led))) (sym streams) mine in
+      let h = continued_kept f (stocked s old) v stream (stream_after v stream) capacity (room_in p) e fresh_track k c.low left.on goes_now (omega (arith, many, long, one, streams, room)) in
+      let mine = subst (λ (x : Option Message). Keeps f (kept.gone_on (stocked s old) (record { entry = e; message = x }) stream (stream_after v stream) capacity) (gone (newcomer v led))) (sym left.message) h in
+      let turned = subst (λ (n : ℕ). Keeps f (kept.gone_on (stocked s old) (rest_meaning s.fragment t r) stream (suc stream % n) capacity) (gone (newcomer v led))) (sym streams) mine in
       let in_packet = tried_put p q _ put (and_parts _ _ on).1 (continued_tried p q new at (suc stream % s.streams) capacity none put here same tried) in
       subst (λ (b : Bool). PutAnswer f s v p q old new b) (sym in_packet.0)
       (record {

@@ -16,12 +16,12 @@ use Rattle.sctp_send.specs.PartsKept.{OutstandingKept, IsSameRoom}
 use Rattle.sctp_send.specs.SenderKept.{Item, Rest, Track, Kept}
 use Rattle.sctp_send.specs.OutstandingFields.{item_meaning, queued_meaning, lane_meaning, message_meaning, entry_meaning}
 use Rattle.sctp_send.specs.inner.Newcomers.{gone_item, new_item, new_items, begun_items, fresh_track, track_of, number_on, without_place, number_in, counted_in, begun, gone_on}
-use Rattle.sctp_send.specs.inner.Drafting.{numbers_of, all_numbered, AreOpen, drafted, fragment_chunk, fragment_item, rest_from, counted_track, left_track}
+use Rattle.sctp_send.specs.inner.Stocking.{numbers_of, all_numbered, AreOpen, stocked, fragment_chunk, fragment_item, rest_from, counted_track, left_track}
 use Rattle.sctp_send.specs.SenderFields.{queued_by, latest_in, number_left, track_meaning, rest_meaning}
 use Rattle.std.specs.declared.alloc.Global.{Global}
 use Rattle.std.specs.declared.sync.Arc.{Arc}
 use Rattle.sctp_send.specs.declared.kept.track.Track.{Track as TrackFields}
-use Rattle.sctp_send.specs.declared.draft.Draft.{Draft}
+use Rattle.sctp_send.specs.declared.stock.Stock.{Stock}
 use Rattle.sctp_send.specs.declared.kept.track.Rest.{Rest as RestFields}
 use Rattle.sctp_send.specs.declared.kept.entry.Standing.TheVariants.{Sent}
 use Rattle.sctp_send.specs.declared.kept.entry.Entry.{Entry as EntryFields}
@@ -163,7 +163,7 @@ pub numbered_push : (fates : List Fate) (ns : List ℕ) (n : ℕ) → all_number
 numbered_push fates [] n = refl
 numbered_push fates (k ∷ ns) n = numbered_push (set fates (k - 1) Numbered) ns n
 
--- ---- a draft changes
+-- ---- a stock changes
 
 -- what was read at a number
 pub read_at : {A B : Type 0} (f : A → B) (xs : List A) (i : ℕ) (x : A) (d : B) → i < length xs → x ≡ get_or xs i x → get_or (map f xs) i d ≡ f x
@@ -175,13 +175,13 @@ read_at f xs i x d low read = of_map xs i low ∙ ap f (sym read)
     of_map (y ∷ ys) (suc j) lt = of_map ys j (omega arith)
 
 -- a message took its number
-pub begun_is : (s : Kept) (old new : Draft) (m : MessageFields) (place count number turn : ℕ) (left : Option Rest)
+pub begun_is : (s : Kept) (old new : Stock) (m : MessageFields) (place count number turn : ℕ) (left : Option Rest)
     → map (item_meaning s.fragment) new.outstanding.items ≡ map (item_meaning s.fragment) old.outstanding.items ++ begun_items (lane_meaning m) number (message_meaning s.fragment m) count
     → map (queued_by s.fragment) new.queue.items ≡ without_place place (map (queued_by s.fragment) old.queue.items)
     → map (track_meaning s.fragment) new.streams.items ≡ set (map (track_meaning s.fragment) old.streams.items) m.stream (counted_track (kind_meaning m.kind) left (track_of (map (track_meaning s.fragment) old.streams.items) m.stream))
     → left ≡ rest_from s.fragment m number count → numbers_of new.tickets.items ≡ numbers_of old.tickets.items ++ m.ticket ∷ [] → new.turn ≡ turn
     → number ≡ number_on (map (track_meaning s.fragment) old.streams.items) (lane_meaning m)
-    → drafted s new ≡ begun (drafted s old) (queued_meaning s.fragment m) place count turn (new.outstanding.capacity)
+    → stocked s new ≡ begun (stocked s old) (queued_meaning s.fragment m) place count turn (new.outstanding.capacity)
 begun_is s old new m place count number turn left items queue tracks rest told turned numbered =
     let fates : all_numbered s.fates (numbers_of new.tickets.items) ≡ set (all_numbered s.fates (numbers_of old.tickets.items)) (m.ticket - 1) Numbered = ap (all_numbered s.fates) told ∙ numbered_push s.fates (numbers_of old.tickets.items) m.ticket in
     rw (items, queue, tracks, fates, turned, rest, numbered) refl
@@ -192,12 +192,12 @@ latest_counted Ordered t = omega arith
 latest_counted Unordered t = omega arith
 
 -- a message in part went on
-pub gone_on_is : (s : Kept) (old new : Draft) (t : Track) (r : RestFields) (stream turn : ℕ) (left : Option Rest)
+pub gone_on_is : (s : Kept) (old new : Stock) (t : Track) (r : RestFields) (stream turn : ℕ) (left : Option Rest)
     → map (item_meaning s.fragment) new.outstanding.items ≡ map (item_meaning s.fragment) old.outstanding.items ++ fragment_item s.fragment r.message.value (number_left t r) r.fragment Sent ∷ []
     → new.queue ≡ old.queue
     → map (track_meaning s.fragment) new.streams.items ≡ set (map (track_meaning s.fragment) old.streams.items) stream (left_track left (track_of (map (track_meaning s.fragment) old.streams.items) stream))
     → left ≡ rest_from s.fragment r.message.value (number_left t r) (suc r.fragment) → new.tickets ≡ old.tickets → new.turn ≡ turn
-    → drafted s new ≡ gone_on (drafted s old) (rest_meaning s.fragment t r) stream turn (new.outstanding.capacity)
+    → stocked s new ≡ gone_on (stocked s old) (rest_meaning s.fragment t r) stream turn (new.outstanding.capacity)
 gone_on_is s old new t r stream turn left items queue tracks rest told turned = rw (items, queue, tracks, told, turned, rest) refl
 
 -- a place of the queue is empty now

@@ -1,4 +1,4 @@
--- One wish after the other: the packet and the draft after some steps, and when none may go any more.
+-- One wish after the other: the packet and the stock after some steps, and when none may go any more.
 use Rattle.std.proofs.Common.{◌≡◌, ℕ, ◌+◌, ◌-◌, ◌≤◌, List, [], ◌∷◌, ◌++◌, length, map, Some, None, refl, sym, ap, ◌∙◌, subst, arith, append-nil, append_assoc, length-append}
 use Rattle.std.proofs.lemmas.List.{map-append}
 use Rattle.sctp_model.specs.messages.Format.{Format}
@@ -11,9 +11,9 @@ use Rattle.sctp_packet.specs.Draft.{Draft as PacketDraft, room_in, with_chunks}
 use Rattle.sctp_send.specs.SenderKept.{Kept}
 use Rattle.sctp_send.specs.SenderStands.{Keeps}
 use Rattle.sctp_send.specs.FillAnswers.{PutSomeOf}
-use Rattle.sctp_send.specs.inner.Drafting.{numbers_of, drafted, IsPut, IsStopped, IsRefused, AllPut}
+use Rattle.sctp_send.specs.inner.Stocking.{numbers_of, stocked, IsPut, IsStopped, IsRefused, AllPut}
 use Rattle.sctp_send.specs.inner.Undoing.{IsSized, IsBehind}
-use Rattle.sctp_send.specs.declared.draft.Draft.{Draft}
+use Rattle.sctp_send.specs.declared.stock.Stock.{Stock}
 use Rattle.sctp_send.proofs.fill.RoomLemmas.{room_more, goes_nowhere}
 use Rattle.sctp_send.proofs.fill.NewlyLemmas.{newly_self, newly_more}
 
@@ -42,18 +42,18 @@ room_used f v u room (w ∷ ws) is =
 
 -- ---- step by step
 
--- So many wishes went: their chunks are in the packet, and the draft keeps what they leave.
-pub record IsSoFar (f : Format) (s : Kept) (v : SenderView) (p now : PacketDraft) (d : Draft) (steps : ℕ) : Type 0 where
+-- So many wishes went: their chunks are in the packet, and the stock keeps what they leave.
+pub record IsSoFar (f : Format) (s : Kept) (v : SenderView) (p now : PacketDraft) (d : Stock) (steps : ℕ) : Type 0 where
   pub wishes : List Wish
   pub view : SenderView
   pub from : IsReached f v
   pub follows : Follows f v (room_in p) wishes view
   pub chunks : now ≡ with_chunks p (map (chunk_of f) wishes)
-  pub keeps : Keeps f (drafted s d) view
+  pub keeps : Keeps f (stocked s d) view
   pub told : numbers_of d.tickets.items ≡ newly_numbered v view
   pub many : length wishes ≡ steps
 
-abbrev pub loop_init : (f : Format) (s : Kept) (v : SenderView) (p : PacketDraft) (d : Draft) → Keeps f (drafted s d) v → d.tickets.items ≡ [] → IsSoFar f s v p p d 0
+abbrev pub loop_init : (f : Format) (s : Kept) (v : SenderView) (p : PacketDraft) (d : Stock) → Keeps f (stocked s d) v → d.tickets.items ≡ [] → IsSoFar f s v p p d 0
 loop_init f s v p d k none = record {
   wishes = [];
   view = v;
@@ -66,7 +66,7 @@ loop_init f s v p d k none = record {
 }
 
 -- the room at a step
-pub room_now : (f : Format) (s : Kept) (v : SenderView) (p now : PacketDraft) (d : Draft) (steps : ℕ) → (x : IsSoFar f s v p now d steps) → room_in now ≡ room_after f (room_in p) x.wishes
+pub room_now : (f : Format) (s : Kept) (v : SenderView) (p now : PacketDraft) (d : Stock) (steps : ℕ) → (x : IsSoFar f s v p now d steps) → room_in now ≡ room_after f (room_in p) x.wishes
 room_now f s v p now d steps x = ap room_in x.chunks ∙ room_left f p x.wishes
 
 -- chunks behind those that are there
@@ -74,7 +74,7 @@ pub chunks_more : (f : Format) (p now later : PacketDraft) (ws xs : List Wish) �
 chunks_more f p now later ws xs here then =
     then ∙ ap (λ (y : PacketDraft). with_chunks y (map (chunk_of f) xs)) here ∙ chunks_joined p (map (chunk_of f) ws) (map (chunk_of f) xs) ∙ ap (with_chunks p) (sym (map-append (chunk_of f) ws xs))
 
-abbrev pub loop_more : (f : Format) (s : Kept) (v : SenderView) (p now later : PacketDraft) (old new : Draft) (steps : ℕ) → (x : IsSoFar f s v p now old steps) → IsPut f s x.view now later old new → IsSoFar f s v p later new (steps + 1)
+abbrev pub loop_more : (f : Format) (s : Kept) (v : SenderView) (p now later : PacketDraft) (old new : Stock) (steps : ℕ) → (x : IsSoFar f s v p now old steps) → IsPut f s x.view now later old new → IsSoFar f s v p later new (steps + 1)
 loop_more f s v p now later old new steps x put =
     let next : goes f (room_after f (room_in p) x.wishes) x.view ≡ Some put.wish = ap (λ (n : ℕ). goes f n x.view) (sym (room_now f s v p now old steps x)) ∙ put.next in
     record {
@@ -88,16 +88,16 @@ loop_more f s v p now later old new steps x put =
       many = let long = length-append x.wishes (put.wish ∷ []) in let before = x.many in omega (arith, long, before);
     }
 
--- What holds at each step: the draft leads back to what it was, with parts of one size, and so many wishes went.
-pub record IsFilledSoFar (f : Format) (s : Kept) (p now : PacketDraft) (old new : Draft) (steps : ℕ) : Type 0 where
+-- What holds at each step: the stock leads back to what it was, with parts of one size, and so many wishes went.
+pub record IsFilledSoFar (f : Format) (s : Kept) (p now : PacketDraft) (old new : Stock) (steps : ℕ) : Type 0 where
   pub sized : IsSized s.fragment new
   pub behind : IsBehind old new
-  pub so_far : (v : SenderView) → Keeps f (drafted s old) v → IsSoFar f s v p now new steps
+  pub so_far : (v : SenderView) → Keeps f (stocked s old) v → IsSoFar f s v p now new steps
 
 -- ---- the end
 
 -- the next wish may not go
-pub loop_stopped : (f : Format) (s : Kept) (v : SenderView) (p now later : PacketDraft) (old new : Draft) (steps : ℕ) → (x : IsSoFar f s v p now old steps) → IsStopped f s x.view now later old new → AllPut f s v p later new
+pub loop_stopped : (f : Format) (s : Kept) (v : SenderView) (p now later : PacketDraft) (old new : Stock) (steps : ℕ) → (x : IsSoFar f s v p now old steps) → IsStopped f s x.view now later old new → AllPut f s v p later new
 loop_stopped f s v p now later old new steps x stop =
     let none : goes f (room_after f (room_in p) x.wishes) x.view ≡ None = ap (λ (n : ℕ). goes f n x.view) (sym (room_now f s v p now old steps x)) ∙ stop.none in
     record {
@@ -110,7 +110,7 @@ loop_stopped f s v p now later old new steps x stop =
     }
 
 -- as many went as there was room, so none is left
-pub loop_full : (f : Format) (s : Kept) (v : SenderView) (p now : PacketDraft) (d : Draft) (steps : ℕ) → IsSoFar f s v p now d steps → room_in p ≤ steps → AllPut f s v p now d
+pub loop_full : (f : Format) (s : Kept) (v : SenderView) (p now : PacketDraft) (d : Stock) (steps : ℕ) → IsSoFar f s v p now d steps → room_in p ≤ steps → AllPut f s v p now d
 loop_full f s v p now d steps x all =
     let used = room_used f v x.view (room_in p) x.wishes x.follows in
     let count = x.many in
@@ -118,7 +118,7 @@ loop_full f s v p now d steps x all =
     record { wishes = x.wishes; view = x.view; fill = stopped_is_fill f v x.view (room_in p) x.wishes x.follows none; chunks = x.chunks; keeps = x.keeps; told = x.told }
 
 -- memory ran out in a step
-pub loop_some : (f : Format) (s : Kept) (v : SenderView) (p now later : PacketDraft) (d : Draft) (steps : ℕ) → (x : IsSoFar f s v p now d steps) → IsRefused f x.view now later → PutSomeOf f v p later
+pub loop_some : (f : Format) (s : Kept) (v : SenderView) (p now later : PacketDraft) (d : Stock) (steps : ℕ) → (x : IsSoFar f s v p now d steps) → IsRefused f x.view now later → PutSomeOf f v p later
 loop_some f s v p now later d steps x refused = record {
   wishes = x.wishes;
   view = x.view;

@@ -24,11 +24,11 @@ use Rattle.sctp_send.specs.SenderFields.{track_meaning}
 use Rattle.sctp_send.specs.inner.Walks.{total, one_if_rest}
 use Rattle.sctp_send.specs.inner.Wishing.{item_flight, lets_flow}
 use Rattle.sctp_send.specs.inner.Newcomers.{rest_at, has_rest, one_if}
-use Rattle.sctp_send.specs.inner.Drafting.{drafted, IsTried, IsFlying, NothingStands}
+use Rattle.sctp_send.specs.inner.Stocking.{stocked, IsTried, IsFlying, NothingStands}
 use Rattle.sctp_send.specs.PartsKept.{OutstandingKept}
 use Rattle.sctp_send.proofs.KeepLemmas.{kept_length}
 use Rattle.std.proofs.lemmas.List.{length-map}
-use Rattle.sctp_send.specs.declared.draft.Draft.{Draft}
+use Rattle.sctp_send.specs.declared.stock.Stock.{Stock}
 use Rattle.sctp_send.specs.declared.kept.message.Message.{Message as MessageFields}
 use Rattle.sctp_send.specs.declared.kept.entry.Entry.{Entry as EntryFields}
 use Rattle.sctp_send.specs.declared.kept.entry.Content.{Content}
@@ -37,12 +37,12 @@ use Rattle.sctp_send.proofs.fill.RoomLemmas.{has_room_is, go_new}
 
 -- ---- the tests, as the code makes them
 
--- these bytes may flow, by what a draft keeps
-abbrev pub flows : Kept → Draft → List ℕ → Bool
+-- these bytes may flow, by what a stock keeps
+abbrev pub flows : Kept → Stock → List ℕ → Bool
 flows s d bytes = lets_flow (item_flight (map (item_meaning s.fragment) d.outstanding.items)) (length bytes) s.rwnd
 
 -- the window has room for so many indexes more of a stream, whose message then has more fragments or not
-abbrev pub in_window : Kept → Draft → (count stream : ℕ) → (more : Bool) → Bool
+abbrev pub in_window : Kept → Stock → (count stream : ℕ) → (more : Bool) → Bool
 in_window s d count stream more =
     nat_le (length d.outstanding.items + count + (total (λ t. one_if_rest t.rest) (map (track_meaning s.fragment) d.streams.items) % 2 ^ 32 + one_if more))
     (WINDOW + one_if (has_rest (rest_at (map (track_meaning s.fragment) d.streams.items) stream)))
@@ -50,13 +50,13 @@ in_window s d count stream more =
 -- ---- may it go
 
 -- what is assigned next goes exactly where it may flow, fits, and keeps within the window
-pub new_may : (f : Format) (s : Kept) (v u : SenderView) (p : PacketDraft) (old : Draft) (c : ChunkMeaning) (bytes : List ℕ) → Keeps f (drafted s old) v → assigned f v ≡ Some u
+pub new_may : (f : Format) (s : Kept) (v u : SenderView) (p : PacketDraft) (old : Stock) (c : ChunkMeaning) (bytes : List ℕ) → Keeps f (stocked s old) v → assigned f v ≡ Some u
     → chunk_of f (newcomer v u) ≡ c → bytes_of_wish (newcomer v u) ≡ bytes
     → may_go f (room_in p) (newcomer v u) ≡ ((lets_flow (item_flight (map (item_meaning s.fragment) old.outstanding.items)) (length bytes) s.rwnd && has_room p c) && nat_le (outstanding u) WINDOW)
 new_may f s v u p old c bytes k is chunk said =
     let room : nat_le (room_of f (newcomer v u)) (room_in p) ≡ has_room p c = sym (has_room_is f p (newcomer v u)) ∙ ap (has_room p) chunk in
     let flight = item_flight (map (item_meaning s.fragment) old.outstanding.items) in
-    go_new f (drafted s old) v u (room_in p) k is
+    go_new f (stocked s old) v u (room_in p) k is
     ∙ ap (λ (b : Bool). b && (lets_flow flight (length (bytes_of_wish (newcomer v u))) s.rwnd && nat_le (outstanding u) WINDOW)) room
     ∙ ap (λ (ds : List ℕ). has_room p c && (lets_flow flight (length ds) s.rwnd && nat_le (outstanding u) WINDOW)) said
     ∙ regroup (has_room p c) (lets_flow flight (length bytes) s.rwnd) (nat_le (outstanding u) WINDOW)
@@ -105,12 +105,12 @@ and_off false b is = refl
 -- ---- what is in flight
 
 -- what is counted modulo 2^64 is all that is in flight: so few entries hold no more
-pub flying_is : (f : Format) (s : Kept) (v : SenderView) (d : Draft) (w : OutstandingKept) (flying : ℕ) → Keeps f (drafted s d) v → w ≡ d.outstanding → d.outstanding.size ≡ s.fragment
+pub flying_is : (f : Format) (s : Kept) (v : SenderView) (d : Stock) (w : OutstandingKept) (flying : ℕ) → Keeps f (stocked s d) v → w ≡ d.outstanding → d.outstanding.size ≡ s.fragment
     → flying ≡ item_flight (map (item_meaning w.size) w.items) % 2 ^ 64 → item_flight (map (item_meaning w.size) w.items) ≤ length w.items * 65535 → IsFlying s d flying
 flying_is f s v d w flying k same sized counted few =
     let here = ap (λ (y : OutstandingKept). item_flight (map (item_meaning y.size) y.items)) same ∙ ap (λ (n : ℕ). item_flight (map (item_meaning n) d.outstanding.items)) sized in
     let items = ap (λ (y : OutstandingKept). length y.items) same in
-    let count = kept_length f (drafted s d) v k in
+    let count = kept_length f (stocked s d) v k in
     let long = length-map d.outstanding.items (item_meaning s.fragment) in
     let most = is_windowed f v k.reached in
     let all : item_flight (map (item_meaning w.size) w.items) % 2 ^ 64 ≡ item_flight (map (item_meaning w.size) w.items) = omega (arith, few, items, count, long, most) in

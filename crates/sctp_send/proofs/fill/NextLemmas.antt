@@ -11,7 +11,7 @@ use Rattle.sctp_send.specs.SenderKept.{Rest, Track, Kept}
 use Rattle.sctp_send.specs.SenderStands.{Keeps}
 use Rattle.sctp_send.specs.inner.Walks.{total, one_if_rest, any_rest, rest_has}
 use Rattle.sctp_send.specs.inner.Newcomers.{rest_at, has_rest, IsNextPart}
-use Rattle.sctp_send.specs.inner.Drafting.{TurnAnswer, NewAnswer, FirstTurnAnswer}
+use Rattle.sctp_send.specs.inner.Stocking.{TurnAnswer, NewAnswer, FirstTurnAnswer}
 use Rattle.sctp_send.specs.inner.Seating.{IsNextOn}
 use Rattle.sctp_send.specs.declared.kept.seats.Found.{Found}
 use Rattle.sctp_send.specs.declared.fill.assigning.Beginning.{Beginning}

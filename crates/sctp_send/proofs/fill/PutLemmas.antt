@@ -20,8 +20,8 @@ use Rattle.sctp_send.specs.PartsKept.{OutstandingKept, changed_at, changed}
 use Rattle.sctp_send.specs.OutstandingFields.{item_meaning, lane_meaning, message_meaning, entry_meaning}
 use Rattle.sctp_send.specs.inner.Wishing.{first_offset, is_item_marked, is_item_unsent, item_flight, lets_flow}
 use Rattle.sctp_send.specs.inner.Newcomers.{gone_item}
-use Rattle.sctp_send.specs.inner.Drafting.{numbers_of, drafted, fragment_chunk, item_chunk, went_out, IsPut, IsStopped, IsRefused, IsTried, PutAnswer, IsNextEntry, IsNextUnsent, NothingStands}
-use Rattle.sctp_send.specs.declared.draft.Draft.{Draft}
+use Rattle.sctp_send.specs.inner.Stocking.{numbers_of, stocked, fragment_chunk, item_chunk, went_out, IsPut, IsStopped, IsRefused, IsTried, PutAnswer, IsNextEntry, IsNextUnsent, NothingStands}
+use Rattle.sctp_send.specs.declared.stock.Stock.{Stock}
 use Rattle.sctp_send.specs.declared.kept.entry.Entry.{Entry as EntryFields}
 use Rattle.sctp_send.proofs.kept.ItemLemmas.{item_read}
 use Rattle.sctp_send.proofs.fill.WishLemmas.{wish_marked, wish_unsent, wish_new}
@@ -65,8 +65,8 @@ kept_there f s v at d k low =
     record { entry = r.0; item = ap (λ (xs : List Item). get_or xs at d) k.holds.items ∙ rw index at r.2 }
 
 -- what a search in the outstanding entries answers, by what a sender with its size keeps
-pub searched : (s : Kept) (d : Draft) (w : OutstandingKept) (test : Item → Bool) (o : Option ℕ) → w ≡ d.outstanding → d.outstanding.size ≡ s.fragment → o ≡ first_offset test (map (item_meaning w.size) w.items)
-    → first_offset test (drafted s d).items ≡ o
+pub searched : (s : Kept) (d : Stock) (w : OutstandingKept) (test : Item → Bool) (o : Option ℕ) → w ≡ d.outstanding → d.outstanding.size ≡ s.fragment → o ≡ first_offset test (map (item_meaning w.size) w.items)
+    → first_offset test (stocked s d).items ≡ o
 searched s d w test o same sized is =
     sym (is ∙ ap (λ (y : OutstandingKept). first_offset test (map (item_meaning y.size) y.items)) same ∙ ap (λ (n : ℕ). first_offset test (map (item_meaning n) d.outstanding.items)) sized)
 
@@ -108,31 +108,31 @@ may_where_fits f s v p i k flows =
     let window = within_window f v k.reached in
     rw (flows, window) (and_true (nat_le (room_of f (standing v i)) (room_in p)) ∙ sym (has_room_is f p (standing v i)))
 
--- its chunk, by what the draft keeps
-standing_chunk : (f : Format) (s : Kept) (v : SenderView) (old : Draft) (at : ℕ) (x : EntryFields) → Keeps f (drafted s old) v → at < length old.outstanding.items → x ≡ get_or old.outstanding.items at x
+-- its chunk, by what the stock keeps
+standing_chunk : (f : Format) (s : Kept) (v : SenderView) (old : Stock) (at : ℕ) (x : EntryFields) → Keeps f (stocked s old) v → at < length old.outstanding.items → x ≡ get_or old.outstanding.items at x
     → chunk_of f (standing v (suc (v.cum + at))) ≡ fragment_chunk f s.fragment s.initial (suc (s.cum + at)) x.message.value x.number x.content
 standing_chunk f s v old at x k low read =
     let long = length-map old.outstanding.items (item_meaning s.fragment) in
     let item = item_read s.fragment old.outstanding.items at x read in
-    chunk_standing f (drafted s old) v at (item_meaning s.fragment x) k (omega arith) ∙ ap (λ (y : Item). data_chunk f (piece_said f s.initial (suc (s.cum + at)) y.entry y.message)) item
+    chunk_standing f (stocked s old) v at (item_meaning s.fragment x) k (omega arith) ∙ ap (λ (y : Item). data_chunk f (piece_said f s.initial (suc (s.cum + at)) y.entry y.message)) item
 
--- what a draft keeps when the entry at this offset went out
-abbrev pub with_gone : Kept → Draft → (at : ℕ) → EntryFields → Kept
-with_gone s d at x = record (drafted s d) { items = set (map (item_meaning s.fragment) d.outstanding.items) at (item_meaning s.fragment (went_out x)) }
+-- what a stock keeps when the entry at this offset went out
+abbrev pub with_gone : Kept → Stock → (at : ℕ) → EntryFields → Kept
+with_gone s d at x = record (stocked s d) { items = set (map (item_meaning s.fragment) d.outstanding.items) at (item_meaning s.fragment (went_out x)) }
 
-pub entry_goes : (f : Format) (s : Kept) (v : SenderView) (before after : PacketDraft) (old new : Draft) (at : ℕ) (x : EntryFields) → Keeps f (drafted s old) v → IsNextEntry f v at
+pub entry_goes : (f : Format) (s : Kept) (v : SenderView) (before after : PacketDraft) (old new : Stock) (at : ℕ) (x : EntryFields) → Keeps f (stocked s old) v → IsNextEntry f v at
     → at < length old.outstanding.items → x ≡ get_or old.outstanding.items at x → has_room before (fragment_chunk f s.fragment s.initial (suc (s.cum + at)) x.message.value x.number x.content) ≡ true
-    → after ≡ with_chunks before (fragment_chunk f s.fragment s.initial (suc (s.cum + at)) x.message.value x.number x.content ∷ []) → drafted s new ≡ with_gone s old at x
+    → after ≡ with_chunks before (fragment_chunk f s.fragment s.initial (suc (s.cum + at)) x.message.value x.number x.content ∷ []) → stocked s new ≡ with_gone s old at x
     → numbers_of new.tickets.items ≡ numbers_of old.tickets.items → IsPut f s v before after old new
 entry_goes f s v before after old new at x k premise low read room packet kept tickets =
     let w = standing v (suc (v.cum + at)) in
     let chunk = standing_chunk f s v old at x k low read in
-    let may = may_where_fits f (drafted s old) v before (suc (v.cum + at)) k premise.flows ∙ ap (has_room before) chunk ∙ room in
+    let may = may_where_fits f (stocked s old) v before (suc (v.cum + at)) k premise.flows ∙ ap (has_room before) chunk ∙ room in
     let goes_now = goes_is f (room_in before) v w premise.next may in
     let long = length-map old.outstanding.items (item_meaning s.fragment) in
     let item = item_read s.fragment old.outstanding.items at x read in
-    let gone_now = keeps_gone f (drafted s old) v (room_in before) at (item_meaning s.fragment x) k goes_now (omega arith) in
-    let same = ap (λ (y : Item). record (drafted s old) { items = set (map (item_meaning s.fragment) old.outstanding.items) at (gone_item y) }) item in
+    let gone_now = keeps_gone f (stocked s old) v (room_in before) at (item_meaning s.fragment x) k goes_now (omega arith) in
+    let same = ap (λ (y : Item). record (stocked s old) { items = set (map (item_meaning s.fragment) old.outstanding.items) at (gone_item y) }) item in
     record {
       wish = w;
       next = goes_now;
@@ -142,27 +142,27 @@ entry_goes f s v before after old new at x k premise low read room packet kept t
     }
 
 -- it doesn't where its chunk doesn't fit
-pub entry_stops : (f : Format) (s : Kept) (v : SenderView) (before after : PacketDraft) (old new : Draft) (at : ℕ) (x : EntryFields) → Keeps f (drafted s old) v → IsNextEntry f v at
+pub entry_stops : (f : Format) (s : Kept) (v : SenderView) (before after : PacketDraft) (old new : Stock) (at : ℕ) (x : EntryFields) → Keeps f (stocked s old) v → IsNextEntry f v at
     → at < length old.outstanding.items → x ≡ get_or old.outstanding.items at x → has_room before (fragment_chunk f s.fragment s.initial (suc (s.cum + at)) x.message.value x.number x.content) ≡ false
-    → after ≡ before → drafted s new ≡ drafted s old → new.tickets ≡ old.tickets → IsStopped f s v before after old new
+    → after ≡ before → stocked s new ≡ stocked s old → new.tickets ≡ old.tickets → IsStopped f s v before after old new
 entry_stops f s v before after old new at x k premise low read room packet kept tickets =
     let chunk = standing_chunk f s v old at x k low read in
-    let may = may_where_fits f (drafted s old) v before (suc (v.cum + at)) k premise.flows ∙ ap (has_room before) chunk ∙ room in
+    let may = may_where_fits f (stocked s old) v before (suc (v.cum + at)) k premise.flows ∙ ap (has_room before) chunk ∙ room in
     record { none = goes_not f (room_in before) v (standing v (suc (v.cum + at))) premise.next may; packet = packet; kept = kept; tickets = tickets }
 
 -- memory ran out for it
-pub entry_refused : (f : Format) (s : Kept) (v : SenderView) (before after : PacketDraft) (old : Draft) (at : ℕ) (x : EntryFields) → Keeps f (drafted s old) v → IsNextEntry f v at → at < length old.outstanding.items
+pub entry_refused : (f : Format) (s : Kept) (v : SenderView) (before after : PacketDraft) (old : Stock) (at : ℕ) (x : EntryFields) → Keeps f (stocked s old) v → IsNextEntry f v at → at < length old.outstanding.items
     → x ≡ get_or old.outstanding.items at x → has_room before (fragment_chunk f s.fragment s.initial (suc (s.cum + at)) x.message.value x.number x.content) ≡ true → after ≡ before → IsRefused f v before after
 entry_refused f s v before after old at x k premise low read room packet =
     let chunk = standing_chunk f s v old at x k low read in
-    let may = may_where_fits f (drafted s old) v before (suc (v.cum + at)) k premise.flows ∙ ap (has_room before) chunk ∙ room in
+    let may = may_where_fits f (stocked s old) v before (suc (v.cum + at)) k premise.flows ∙ ap (has_room before) chunk ∙ room in
     record { wish = standing v (suc (v.cum + at)); next = goes_is f (room_in before) v (standing v (suc (v.cum + at))) premise.next may; packet = packet }
 
 -- one of the two, as the packet answered
-pub entry_put : (f : Format) (s : Kept) (v : SenderView) (before after : PacketDraft) (old new : Draft) (at : ℕ) (x : EntryFields) (put : Bool) → Keeps f (drafted s old) v → IsNextEntry f v at
+pub entry_put : (f : Format) (s : Kept) (v : SenderView) (before after : PacketDraft) (old new : Stock) (at : ℕ) (x : EntryFields) (put : Bool) → Keeps f (stocked s old) v → IsNextEntry f v at
     → at < length old.outstanding.items → x ≡ get_or old.outstanding.items at x
     → IsTried before after (item_chunk f s.initial (suc (s.cum + at)) (get_or (map (item_meaning s.fragment) old.outstanding.items) at (item_meaning s.fragment x))) put
-    → (put ≡ true → (drafted s new ≡ with_gone s old at x) × (new.tickets ≡ old.tickets)) → (put ≡ false → (drafted s new ≡ drafted s old) × (new.tickets ≡ old.tickets)) → PutAnswer f s v before after old new put
+    → (put ≡ true → (stocked s new ≡ with_gone s old at x) × (new.tickets ≡ old.tickets)) → (put ≡ false → (stocked s new ≡ stocked s old) × (new.tickets ≡ old.tickets)) → PutAnswer f s v before after old new put
 entry_put f s v before after old new at x put k premise low read tried went stayed = by_put put refl
   where
     here : IsTried before after (fragment_chunk f s.fragment s.initial (suc (s.cum + at)) x.message.value x.number x.content) put
@@ -176,9 +176,9 @@ entry_put f s v before after old new at x put k premise low read tried went stay
         entry_stops f s v before after old new at x k premise low read (sym here.answer ∙ is)
         (here.packet ∙ ap (after_try before (fragment_chunk f s.fragment s.initial (suc (s.cum + at)) x.message.value x.number x.content)) is) (stayed is).0 (stayed is).1
 
--- the draft in which an entry went out
-pub sent_draft : (s : Kept) (old : Draft) (w : OutstandingKept) (at : ℕ) (x : EntryFields) → x ≡ get_or old.outstanding.items at x → w ≡ changed went_out at old.outstanding → drafted s (record old { outstanding = w }) ≡ with_gone s old at x
-sent_draft s old w at x read is = ap (λ (y : OutstandingKept). drafted s (record old { outstanding = y })) is ∙ ap (λ (xs : List Item). record (drafted s old) { items = xs }) (goes_out at old.outstanding.items read)
+-- the stock in which an entry went out
+pub sent_stock : (s : Kept) (old : Stock) (w : OutstandingKept) (at : ℕ) (x : EntryFields) → x ≡ get_or old.outstanding.items at x → w ≡ changed went_out at old.outstanding → stocked s (record old { outstanding = w }) ≡ with_gone s old at x
+sent_stock s old w at x read is = ap (λ (y : OutstandingKept). stocked s (record old { outstanding = y })) is ∙ ap (λ (xs : List Item). record (stocked s old) { items = xs }) (goes_out at old.outstanding.items read)
   where
     goes_out : (n : ℕ) (es : List EntryFields) → x ≡ get_or es n x → map (item_meaning s.fragment) (changed_at went_out n es) ≡ set (map (item_meaning s.fragment) es) n (item_meaning s.fragment (went_out x))
     goes_out n [] here = refl
@@ -187,27 +187,27 @@ sent_draft s old w at x read is = ap (λ (y : OutstandingKept). drafted s (recor
 
 -- ---- an entry that never went out
 
--- whether it may flow, by what the draft keeps
-unsent_flow : (f : Format) (s : Kept) (v : SenderView) (old : Draft) (at : ℕ) (x : EntryFields) → Keeps f (drafted s old) v → IsNextUnsent f v at → at < length old.outstanding.items → x ≡ get_or old.outstanding.items at x
+-- whether it may flow, by what the stock keeps
+unsent_flow : (f : Format) (s : Kept) (v : SenderView) (old : Stock) (at : ℕ) (x : EntryFields) → Keeps f (stocked s old) v → IsNextUnsent f v at → at < length old.outstanding.items → x ≡ get_or old.outstanding.items at x
     → is_let_flow (standing v (suc (v.cum + at)))
     ≡ lets_flow (item_flight (map (item_meaning s.fragment) old.outstanding.items)) (length (bytes_in (entry_meaning (lane_meaning x.message.value) x.number x.content) (Some (message_meaning s.fragment x.message.value)))) s.rwnd
 unsent_flow f s v old at x k premise low read =
     let long = length-map old.outstanding.items (item_meaning s.fragment) in
     let item = item_read s.fragment old.outstanding.items at x read in
-    let bytes = bytes_standing f (drafted s old) v at (item_meaning s.fragment x) k (omega arith) ∙ ap (λ (y : Item). bytes_in y.entry y.message) item in
-    let flight = flight_kept f (drafted s old) v k in
+    let bytes = bytes_standing f (stocked s old) v at (item_meaning s.fragment x) k (omega arith) ∙ ap (λ (y : Item). bytes_in y.entry y.message) item in
+    let flight = flight_kept f (stocked s old) v k in
     let rwnd = k.holds.rwnd in
     ap (λ (b : Bool). b || lets_flow (in_flight v) (length (bytes_of_wish (standing v (suc (v.cum + at))))) v.rwnd) premise.unsent ∙ rw (bytes, flight, ← rwnd) refl
 
-pub unsent_flows : (f : Format) (s : Kept) (v : SenderView) (old : Draft) (at : ℕ) (x : EntryFields) → Keeps f (drafted s old) v → IsNextUnsent f v at → at < length old.outstanding.items → x ≡ get_or old.outstanding.items at x
+pub unsent_flows : (f : Format) (s : Kept) (v : SenderView) (old : Stock) (at : ℕ) (x : EntryFields) → Keeps f (stocked s old) v → IsNextUnsent f v at → at < length old.outstanding.items → x ≡ get_or old.outstanding.items at x
     → lets_flow (item_flight (map (item_meaning s.fragment) old.outstanding.items)) (length (bytes_in (entry_meaning (lane_meaning x.message.value) x.number x.content) (Some (message_meaning s.fragment x.message.value)))) s.rwnd ≡ true
     → IsNextEntry f v at
 unsent_flows f s v old at x k premise low read flows = record { next = premise.next; flows = unsent_flow f s v old at x k premise low read ∙ flows }
 
-pub unsent_stops : (f : Format) (s : Kept) (v : SenderView) (before after : PacketDraft) (old new : Draft) (at : ℕ) (x : EntryFields) → Keeps f (drafted s old) v → IsNextUnsent f v at
+pub unsent_stops : (f : Format) (s : Kept) (v : SenderView) (before after : PacketDraft) (old new : Stock) (at : ℕ) (x : EntryFields) → Keeps f (stocked s old) v → IsNextUnsent f v at
     → at < length old.outstanding.items → x ≡ get_or old.outstanding.items at x
     → lets_flow (item_flight (map (item_meaning s.fragment) old.outstanding.items)) (length (bytes_in (entry_meaning (lane_meaning x.message.value) x.number x.content) (Some (message_meaning s.fragment x.message.value)))) s.rwnd ≡ false
-    → after ≡ before → drafted s new ≡ drafted s old → new.tickets ≡ old.tickets → IsStopped f s v before after old new
+    → after ≡ before → stocked s new ≡ stocked s old → new.tickets ≡ old.tickets → IsStopped f s v before after old new
 unsent_stops f s v before after old new at x k premise low read held packet kept tickets =
     let w = standing v (suc (v.cum + at)) in
     let off = unsent_flow f s v old at x k premise low read ∙ held in

@@ -22,7 +22,7 @@ use Rattle.sctp_model.proofs.sender.OwedLaws.{is_windowed}
 use Rattle.sctp_packet.specs.Draft.{Draft, room_in, has_room, with_chunks}
 use Rattle.sctp_send.specs.SenderKept.{Kept}
 use Rattle.sctp_send.specs.SenderStands.{items_from, Keeps}
-use Rattle.sctp_send.specs.inner.Drafting.{said_chunk}
+use Rattle.sctp_send.specs.inner.Stocking.{said_chunk}
 pub use Rattle.sctp_send.specs.inner.Wishing.{item_bytes, item_weight, item_flight, lets_flow}
 
 -- ---- room in the packet

@@ -15,7 +15,7 @@ use Rattle.sctp_model.specs.sender.Assigning.{with_message, is_on, first_on, wit
 use Rattle.sctp_model.specs.sender.Reached.{IsReached}
 use Rattle.sctp_model.proofs.sender.SetLaws.{AllFilled, is_filled}
 use Rattle.sctp_send.specs.inner.Newcomers.{rest_at, has_rest, fresh_track, without_place, IsFirstOn, IsBegun, IsContinued, IsTurnBegun, IsTurnContinued}
-use Rattle.sctp_send.specs.inner.Drafting.{TurnAnswer, NewAnswer}
+use Rattle.sctp_send.specs.inner.Stocking.{TurnAnswer, NewAnswer}
 use Rattle.sctp_send.specs.SenderKept.{Track, Kept}
 use Rattle.sctp_send.specs.SenderStands.{rest_here, track_here, Keeps}
 use Rattle.sctp_send.specs.declared.fill.assigning.Next.{Next}

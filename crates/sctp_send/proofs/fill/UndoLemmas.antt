@@ -7,11 +7,11 @@ use Rattle.std.specs.declared.sync.Arc.{Arc}
 use Rattle.std.specs.declared.alloc.Global.{Global}
 use Rattle.sctp_send.specs.PartsKept.{OutstandingKept, changed_at, changed}
 use Rattle.sctp_send.specs.inner.Changes.{stood}
-use Rattle.sctp_send.specs.inner.Drafting.{went_out}
+use Rattle.sctp_send.specs.inner.Stocking.{went_out}
 use Rattle.sctp_send.specs.inner.Undoing.{Parts, parts_of, stands_so, waits_again, waiting_again, undone, before_all, origin, IsSized, IsKeptRoom, IsBehind}
-use Rattle.sctp_send.specs.declared.draft.Change.{Change}
-use Rattle.sctp_send.specs.declared.draft.Change.TheVariants.{Out, Begun, Left, Continued}
-use Rattle.sctp_send.specs.declared.draft.Draft.{Draft}
+use Rattle.sctp_send.specs.declared.stock.Change.{Change}
+use Rattle.sctp_send.specs.declared.stock.Change.TheVariants.{Out, Begun, Left, Continued}
+use Rattle.sctp_send.specs.declared.stock.Stock.{Stock}
 use Rattle.sctp_send.specs.declared.kept.message.Message.{Message}
 use Rattle.sctp_send.specs.declared.kept.entry.Entry.{Entry as EntryFields}
 use Rattle.sctp_send.specs.declared.kept.entry.Standing.{Standing}
@@ -101,9 +101,9 @@ pub queue_grown : (cs : List Change) (p : Parts) → length p.queue ≤ length (
 queue_grown [] p = omega arith
 queue_grown (c ∷ cs) p = let rest = queue_grown cs p in let one = queue_grows c (before_all cs p) in omega arith
 
--- ---- drafts one behind the other
+-- ---- stocks one behind the other
 
-pub room_on : (a b c : Draft) → IsKeptRoom a b → IsKeptRoom b c → IsKeptRoom a c
+pub room_on : (a b c : Stock) → IsKeptRoom a b → IsKeptRoom b c → IsKeptRoom a c
 room_on a b c x y = record {
   window = y.window ∙ x.window;
   queue = y.queue ∙ x.queue;
@@ -112,30 +112,30 @@ room_on a b c x y = record {
   messages = omega (arith, x.messages, y.messages);
 }
 
-pub room_same : (d : Draft) → IsKeptRoom d d
+pub room_same : (d : Stock) → IsKeptRoom d d
 room_same d = record { window = refl; queue = refl; tracks = refl; entries = omega arith; messages = omega arith }
 
-pub behind_on : (a b c : Draft) → IsBehind a b → IsBehind b c → IsBehind a c
+pub behind_on : (a b c : Stock) → IsBehind a b → IsBehind b c → IsBehind a c
 behind_on a b c x y = record { origin = y.origin ∙ x.origin; room = room_on a b c x.room y.room }
 
-pub behind_same : (d : Draft) → IsBehind d d
+pub behind_same : (d : Stock) → IsBehind d d
 behind_same d = record { origin = refl; room = room_same d }
 
 -- and the sizes are the same
-pub sized_on : (size : ℕ) (a b : Draft) → IsSized size a → IsKeptRoom a b → IsSized size b
+pub sized_on : (size : ℕ) (a b : Stock) → IsSized size a → IsKeptRoom a b → IsSized size b
 sized_on size a b x y = record { some = x.some; short = x.short; window = y.window ∙ x.window; queue = y.queue ∙ x.queue; tracks = y.tracks ∙ x.tracks }
 
 -- ---- step by step
 
 -- So many changes are taken back.
-pub record IsTakenBack (old now : Draft) (steps : ℕ) : Type 0 where
+pub record IsTakenBack (old now : Stock) (steps : ℕ) : Type 0 where
   pub origin : origin now ≡ origin old
   pub tickets : now.tickets.items ≡ []
   pub left : length now.log.items + steps ≡ length old.log.items
   pub room : IsKeptRoom old now
 
 -- one more is
-pub taken_more : (old now next : Draft) (c : Change) (cs : List Change) (steps : ℕ) → IsTakenBack old now steps → now.log.items ≡ cs ++ c ∷ [] → next.log.items ≡ cs → parts_of next ≡ undone c (parts_of now)
+pub taken_more : (old now next : Stock) (c : Change) (cs : List Change) (steps : ℕ) → IsTakenBack old now steps → now.log.items ≡ cs ++ c ∷ [] → next.log.items ≡ cs → parts_of next ≡ undone c (parts_of now)
     → next.tickets.items ≡ now.tickets.items → IsKeptRoom now next → IsTakenBack old next (steps + 1)
 taken_more old now next c cs steps x last rest parts told room =
     let long = length-append cs (c ∷ []) in
@@ -150,7 +150,7 @@ taken_more old now next c cs steps x last rest parts told room =
     }
 
 -- there is room for a message that waits again
-pub taken_fits : (old now : Draft) (c : Change) (cs : List Change) (steps : ℕ) → IsTakenBack old now steps → now.log.items ≡ cs ++ c ∷ [] → length (origin old).queue ≤ old.queue.capacity
+pub taken_fits : (old now : Stock) (c : Change) (cs : List Change) (steps : ℕ) → IsTakenBack old now steps → now.log.items ≡ cs ++ c ∷ [] → length (origin old).queue ≤ old.queue.capacity
     → length (undone c (parts_of now)).queue ≤ now.queue.capacity
 taken_fits old now c cs steps x last fits =
     let all = queue_grown cs (undone c (parts_of now)) in
@@ -160,7 +160,7 @@ taken_fits old now c cs steps x last fits =
     omega (arith, all, same, more, fits)
 
 -- all are
-pub taken_all : (old now : Draft) (steps : ℕ) → IsTakenBack old now steps → length old.log.items ≤ steps → parts_of now ≡ origin old
+pub taken_all : (old now : Stock) (steps : ℕ) → IsTakenBack old now steps → length old.log.items ≤ steps → parts_of now ≡ origin old
 taken_all old now steps x all = let none : now.log.items ≡ [] = empty now.log.items (let left = x.left in omega arith) in sym (ap (λ (ds : List Change). before_all ds (parts_of now)) none) ∙ x.origin
   where
     empty : (ds : List Change) → length ds ≡ 0 → ds ≡ []

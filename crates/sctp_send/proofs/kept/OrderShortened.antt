@@ -7,7 +7,7 @@ use Rattle.sctp_model.specs.numbers.Lists.{Has, AreInOrder}
 use Rattle.sctp_send.specs.declared.kept.by_ticket.Spot.{Spot}
 use Rattle.sctp_send.specs.inner.TicketOrder.{offset_of, AreRising, IsOrderOf, IsRankOf, IsGone}
 use Rattle.sctp_send.proofs.kept.ListParts.{in_back, in_part, in_around, in_midst, halves, here_first, front_or_back, none_dropped, at_same, order_front, order_back, order_across, order_join, order_kept}
-use Rattle.sctp_send.proofs.kept.OrderLemmas.{before_is, get_shorter, get_within, is_before, searched}
+use Rattle.sctp_send.proofs.kept.OrderLemmas.{before_is, get_shorter, get_within, is_before}
 
 -- ---- an entry less
 

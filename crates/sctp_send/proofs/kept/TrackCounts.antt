@@ -8,7 +8,7 @@ use Rattle.sctp_send.specs.PartsKept.{changed_at}
 use Rattle.sctp_send.specs.SenderKept.{Rest, Track}
 use Rattle.sctp_send.specs.SenderFields.{counts_meaning, rests_meaning, track_meaning}
 use Rattle.sctp_send.specs.inner.Newcomers.{number_in, counted_in, rest_at, has_rest, track_of}
-use Rattle.sctp_send.specs.inner.Drafting.{counted_track, left_track}
+use Rattle.sctp_send.specs.inner.Stocking.{counted_track, left_track}
 use Rattle.sctp_send.specs.inner.PartSeats.{ticket_left, tickets_left, IsListed, IsStreamsOf}
 use Rattle.sctp_send.specs.inner.Undoing.{count_of, counted_to}
 use Rattle.sctp_send.specs.inner.Walks.{total, one_if_rest, rest_owes}

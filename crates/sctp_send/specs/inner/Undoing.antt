@@ -4,9 +4,9 @@ use Rattle.std.specs.declared.sync.Arc.{Arc}
 use Rattle.std.specs.declared.alloc.Global.{Global}
 use Rattle.sctp_model.specs.numbers.Limits.{GREATEST_FRAGMENT}
 use Rattle.sctp_send.specs.PartsKept.{changed_at}
-use Rattle.sctp_send.specs.declared.draft.Change.{Change}
-use Rattle.sctp_send.specs.declared.draft.Change.TheVariants.{Out, Begun, Left, Continued}
-use Rattle.sctp_send.specs.declared.draft.Draft.{Draft}
+use Rattle.sctp_send.specs.declared.stock.Change.{Change}
+use Rattle.sctp_send.specs.declared.stock.Change.TheVariants.{Out, Begun, Left, Continued}
+use Rattle.sctp_send.specs.declared.stock.Stock.{Stock}
 use Rattle.sctp_send.specs.declared.kept.message.Message.{Message}
 use Rattle.sctp_send.specs.declared.kept.entry.Entry.{Entry as EntryFields}
 use Rattle.sctp_send.specs.declared.kept.entry.Standing.{Standing}
@@ -22,8 +22,8 @@ pub record Parts : Type 0 where
   pub tracks : List Track
   pub turn : ℕ
 
--- the parts of a draft
-abbrev pub parts_of : Draft → Parts
+-- the parts of a stock
+abbrev pub parts_of : Stock → Parts
 parts_of d = record { items = d.outstanding.items; queue = d.queue.items; tracks = d.streams.items; turn = d.turn }
 
 -- an entry with this standing
@@ -70,12 +70,12 @@ abbrev pub before_all : List Change → Parts → Parts
 before_all [] p = p
 before_all (c ∷ cs) p = undone c (before_all cs p)
 
--- what the parts of a draft were before all that is noted
-abbrev pub origin : Draft → Parts
+-- what the parts of a stock were before all that is noted
+abbrev pub origin : Stock → Parts
 origin d = before_all d.log.items (parts_of d)
 
 -- all parts have fragments of the same size, which is within its limits
-pub record IsSized (size : ℕ) (d : Draft) : Type 0 where
+pub record IsSized (size : ℕ) (d : Stock) : Type 0 where
   pub some : 0 < size
   pub short : size ≤ GREATEST_FRAGMENT
   pub window : d.outstanding.size ≡ size
@@ -83,14 +83,14 @@ pub record IsSized (size : ℕ) (d : Draft) : Type 0 where
   pub tracks : d.streams.size ≡ size
 
 -- the sizes stay, and no room is lost
-pub record IsKeptRoom (old new : Draft) : Type 0 where
+pub record IsKeptRoom (old new : Stock) : Type 0 where
   pub window : new.outstanding.size ≡ old.outstanding.size
   pub queue : new.queue.size ≡ old.queue.size
   pub tracks : new.streams.size ≡ old.streams.size
   pub entries : old.outstanding.capacity ≤ new.outstanding.capacity
   pub messages : old.queue.capacity ≤ new.queue.capacity
 
--- A draft goes on from another: taking back what is noted leads to the same parts.
-pub record IsBehind (old new : Draft) : Type 0 where
+-- A stock goes on from another: taking back what is noted leads to the same parts.
+pub record IsBehind (old new : Stock) : Type 0 where
   pub origin : origin new ≡ origin old
   pub room : IsKeptRoom old new

@@ -9,15 +9,15 @@ ghost use Rattle.sctp_send.specs.SenderKept.{Kept, Track as KeptTrack};
 ghost use Rattle.sctp_send.specs.SenderStands.{Keeps};
 ghost use Rattle.sctp_send.specs.SenderFields.{track_meaning, rest_meaning};
 ghost use Rattle.sctp_send.specs.inner.Walks.{total, one_if_rest};
-ghost use Rattle.sctp_send.specs.inner.Drafting.{drafted, NewAnswer, FirstTurnAnswer, IsNextWithin};
+ghost use Rattle.sctp_send.specs.inner.Stocking.{stocked, NewAnswer, FirstTurnAnswer, IsNextWithin};
 ghost use Rattle.sctp_send.specs.inner.Newcomers.{rest_at, has_rest, one_if, track_of};
 
-use crate::draft::Draft;
 use crate::kept::looking::goes_on_at;
 use crate::kept::message::{fragments_of, shared};
 use crate::kept::outstanding::Outstanding;
 use crate::kept::streams::Streams;
 use crate::kept::track::{Rest, Track};
+use crate::stock::Stock;
 use sctp_framing::Framing;
 use sctp_values::{NoMemory, WINDOW};
 
@@ -40,71 +40,71 @@ pub(crate) enum Next {
 }
 
 /// What takes the next index: under DATA the message that has waited longest, whole; under I-DATA the streams take turns.
-pub(crate) fn next_new<F: Framing>(draft: &Draft, streams: u16, size: u16) -> Option<Next>
+pub(crate) fn next_new<F: Framing>(stock: &Stock, streams: u16, size: u16) -> Option<Next>
     requires { 0 < size }
-    ensures next { (s : Kept) (v : SenderView) → s.streams ≡ streams → s.fragment ≡ size → Keeps F.format (drafted s draft.now) v → NewAnswer F.format v result }
-    ensures within { IsNextWithin draft.now streams result }
+    ensures next { (s : Kept) (v : SenderView) → s.streams ≡ streams → s.fragment ≡ size → Keeps F.format (stocked s stock.now) v → NewAnswer F.format v result }
+    ensures within { IsNextWithin stock.now streams result }
 {
     if F::takes_turns() {
-        next_in_turn(draft, streams)
+        next_in_turn(stock, streams)
     } else {
-        next_whole(draft, size)
+        next_whole(stock, size)
     }
 }
 
 /// The message that has waited longest, whole.
-fn next_whole(draft: &Draft, size: u16) -> Option<Next>
+fn next_whole(stock: &Stock, size: u16) -> Option<Next>
     requires { 0 < size }
-    ensures next { (s : Kept) (v : SenderView) → s.fragment ≡ size → Keeps Plain (drafted s draft.now) v → NewAnswer Plain v result }
-    ensures within { (streams : ℕ) → IsNextWithin draft.now streams result }
+    ensures next { (s : Kept) (v : SenderView) → s.fragment ≡ size → Keeps Plain (stocked s stock.now) v → NewAnswer Plain v result }
+    ensures within { (streams : ℕ) → IsNextWithin stock.now streams result }
 {
-    if draft.queue.len() == 0 {
+    if stock.queue.len() == 0 {
         return None;
     }
-    let message = draft.queue.get(0);
+    let message = stock.queue.get(0);
     Some(Next::Begins(Beginning {
         place: 0,
         count: fragments_of(size, &message.bytes).max(1),
-        turn: draft.turn,
+        turn: stock.turn,
     }))
 }
 
 /// What the first stream in turn that has something to send does.
-fn next_in_turn(draft: &Draft, streams: u16) -> Option<Next>
-    ensures next { (s : Kept) (v : SenderView) → s.streams ≡ streams → Keeps Interleaved (drafted s draft.now) v → NewAnswer Interleaved v result }
-    ensures within { IsNextWithin draft.now streams result }
+fn next_in_turn(stock: &Stock, streams: u16) -> Option<Next>
+    ensures next { (s : Kept) (v : SenderView) → s.streams ≡ streams → Keeps Interleaved (stocked s stock.now) v → NewAnswer Interleaved v result }
+    ensures within { IsNextWithin stock.now streams result }
 {
-    let turn = draft.turn;
-    if let Some(next) = next_between(draft, turn, streams, streams) {
+    let turn = stock.turn;
+    if let Some(next) = next_between(stock, turn, streams, streams) {
         return Some(next);
     }
-    next_around(draft, turn.min(streams), streams)
+    next_around(stock, turn.min(streams), streams)
 }
 
 /// What the first stream below another does. It stands apart, so that the first search of a turn stays small.
 #[inline(never)]
-fn next_around(draft: &Draft, below: u16, streams: u16) -> Option<Next>
+fn next_around(stock: &Stock, below: u16, streams: u16) -> Option<Next>
     requires { below ≤ streams }
-    ensures does { (s : Kept) (v : SenderView) → s.streams ≡ streams → Keeps Interleaved (drafted s draft.now) v → FirstTurnAnswer v 0 below result }
-    ensures within { IsNextWithin draft.now streams result }
+    ensures does { (s : Kept) (v : SenderView) → s.streams ≡ streams → Keeps Interleaved (stocked s stock.now) v → FirstTurnAnswer v 0 below result }
+    ensures within { IsNextWithin stock.now streams result }
 {
-    next_between(draft, 0, below, streams)
+    next_between(stock, 0, below, streams)
 }
 
 /// What the first stream from one on, below another, that has something to send does: it goes on with its message in part, or else begins the
 /// message that has waited longest on it.
 #[inline(always)]
-fn next_between(draft: &Draft, from: u16, below: u16, streams: u16) -> Option<Next>
+fn next_between(stock: &Stock, from: u16, below: u16, streams: u16) -> Option<Next>
     requires { below ≤ streams }
-    ensures does { (s : Kept) (v : SenderView) → s.streams ≡ streams → Keeps Interleaved (drafted s draft.now) v → FirstTurnAnswer v from below result }
-    ensures within { IsNextWithin draft.now streams result }
+    ensures does { (s : Kept) (v : SenderView) → s.streams ≡ streams → Keeps Interleaved (stocked s stock.now) v → FirstTurnAnswer v from below result }
+    ensures within { IsNextWithin stock.now streams result }
 {
-    let Some(found) = draft.queue.next_on(from, below) else {
-        return part_between(draft, from, below, streams);
+    let Some(found) = stock.queue.next_on(from, below) else {
+        return part_between(stock, from, below, streams);
     };
     let stream = found.stream;
     let behind = stream_after(stream, streams);
-    let part = draft.streams.next_part(from, stream + 1);
+    let part = stock.streams.next_part(from, stream + 1);
     if part <= stream {
         return Some(Next::Continues(part));
     }
@@ -117,12 +117,12 @@ fn next_between(draft: &Draft, from: u16, below: u16, streams: u16) -> Option<Ne
 
 /// The same where no message waits on any of these streams.
 #[inline(never)]
-fn part_between(draft: &Draft, from: u16, below: u16, streams: u16) -> Option<Next>
+fn part_between(stock: &Stock, from: u16, below: u16, streams: u16) -> Option<Next>
     requires { below ≤ streams }
-    ensures does { (s : Kept) (v : SenderView) → s.streams ≡ streams → Keeps Interleaved (drafted s draft.now) v → ((j : ℕ) → from ≤ j → j < below → first_on j v.queue ≡ None) → FirstTurnAnswer v from below result }
-    ensures within { IsNextWithin draft.now streams result }
+    ensures does { (s : Kept) (v : SenderView) → s.streams ≡ streams → Keeps Interleaved (stocked s stock.now) v → ((j : ℕ) → from ≤ j → j < below → first_on j v.queue ≡ None) → FirstTurnAnswer v from below result }
+    ensures within { IsNextWithin stock.now streams result }
 {
-    let part = draft.streams.next_part(from, below);
+    let part = stock.streams.next_part(from, below);
     if part < below {
         return Some(Next::Continues(part));
     }

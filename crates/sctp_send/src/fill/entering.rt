@@ -1,4 +1,4 @@
-//! A message takes its number, or its next index: what becomes of a draft.
+//! A message takes its number, or its next index: what becomes of the stock.
 
 ghost use Rattle.std.specs.Prelude.{◌≡◌, ℕ, suc, ◌+◌, ◌<◌, ◌≤◌, ◌%◌, ◌^◌, ◌∷◌, [], ◌++◌, map, set, length, slice_set, slice_index_or, IfOk, OnOk};
 ghost use Rattle.std.specs.Vec.{vec_len, vec_capacity};
@@ -9,10 +9,9 @@ ghost use Rattle.sctp_send.specs.SenderKept.{Track as KeptTrack};
 ghost use Rattle.sctp_send.specs.PartsKept.{changed_at};
 ghost use Rattle.sctp_send.specs.SenderFields.{latest_in, track_meaning, rest_meaning, rests_meaning};
 ghost use Rattle.sctp_send.specs.inner.Newcomers.{number_in, number_on, track_of, begun, gone_on};
-ghost use Rattle.sctp_send.specs.inner.Drafting.{bare, numbers_of, drafted, rest_from, left_track};
+ghost use Rattle.sctp_send.specs.inner.Stocking.{bare, numbers_of, stocked, rest_from, left_track};
 ghost use Rattle.sctp_send.specs.inner.Undoing.{Parts, before_all, counted_to, IsSized, IsBehind};
 
-use crate::draft::{Change, Draft, note, reserve_changes, reserve_tickets};
 use crate::fill::assigning::{Beginning, stream_after};
 use crate::fill::pushing::{push_first, push_fragment, push_further};
 use crate::kept::entry::Standing;
@@ -20,6 +19,7 @@ use crate::kept::looking::goes_on_at;
 use crate::kept::message::Message;
 use crate::kept::streams::Streams;
 use crate::kept::track::{Rest, Track, rest_from};
+use crate::stock::{Change, Stock, note, reserve_changes, reserve_tickets};
 use crate::told::Told;
 use sctp_values::{Kind, NoMemory, Ticket};
 use std::alloc::Global;
@@ -34,44 +34,44 @@ impl Told {
     #[inline(always)]
     pub(crate) fn begin(
         &self,
-        draft: &mut Draft,
+        stock: &mut Stock,
         next: Beginning,
         rest: Option<Rest>,
     ) -> Result<(), NoMemory>
-        requires rest { (m : Arc Message Global) (t : KeptTrack) → m ≡ slice_index_or draft.old.queue.items next.place m
+        requires rest { (m : Arc Message Global) (t : KeptTrack) → m ≡ slice_index_or stock.old.queue.items next.place m
             → rests_meaning self.now.fragment t rest ≡ rest_from self.now.fragment m.value (latest_in (kind_meaning m.value.kind) t) next.count }
         requires some { 0 < next.count }
         requires few { next.count ≤ WINDOW + 1 }
-        requires place { next.place < length draft.old.queue.items }
-        requires stream { (m : Arc Message Global) → m ≡ slice_index_or draft.old.queue.items next.place m → m.value.stream < length draft.old.streams.items }
-        requires sized { IsSized self.now.fragment draft.old }
-        ensures kept { (m : Arc Message Global) → m ≡ slice_index_or draft.old.queue.items next.place m → suc (number_on (drafted (bare self.now) draft.old).tracks (lane_meaning m.value)) < 2 ^ 64
-            → OnOk result (drafted (bare self.now) draft.new
-            ≡ begun (drafted (bare self.now) draft.old) (queued_meaning self.now.fragment m.value) next.place next.count next.turn draft.new.outstanding.capacity) }
-        ensures room { OnOk result (self.now.streams + length draft.new.outstanding.items ≤ draft.new.outstanding.capacity) }
-        ensures told { (m : Arc Message Global) → m ≡ slice_index_or draft.old.queue.items next.place m → OnOk result (numbers_of draft.new.tickets.items ≡ numbers_of draft.old.tickets.items ++ m.value.ticket ∷ []) }
-        ensures more { OnOk result (length draft.old.outstanding.items < length draft.new.outstanding.items) }
-        ensures behind { IsBehind draft.old draft.new }
+        requires place { next.place < length stock.old.queue.items }
+        requires stream { (m : Arc Message Global) → m ≡ slice_index_or stock.old.queue.items next.place m → m.value.stream < length stock.old.streams.items }
+        requires sized { IsSized self.now.fragment stock.old }
+        ensures kept { (m : Arc Message Global) → m ≡ slice_index_or stock.old.queue.items next.place m → suc (number_on (stocked (bare self.now) stock.old).tracks (lane_meaning m.value)) < 2 ^ 64
+            → OnOk result (stocked (bare self.now) stock.new
+            ≡ begun (stocked (bare self.now) stock.old) (queued_meaning self.now.fragment m.value) next.place next.count next.turn stock.new.outstanding.capacity) }
+        ensures room { OnOk result (self.now.streams + length stock.new.outstanding.items ≤ stock.new.outstanding.capacity) }
+        ensures told { (m : Arc Message Global) → m ≡ slice_index_or stock.old.queue.items next.place m → OnOk result (numbers_of stock.new.tickets.items ≡ numbers_of stock.old.tickets.items ++ m.value.ticket ∷ []) }
+        ensures more { OnOk result (length stock.old.outstanding.items < length stock.new.outstanding.items) }
+        ensures behind { IsBehind stock.old stock.new }
     {
-        self.room_to_begin(draft, next.count)?;
-        let Some(message) = draft.queue.remove(next.place) else {
+        self.room_to_begin(stock, next.count)?;
+        let Some(message) = stock.queue.remove(next.place) else {
             return Err(NoMemory);
         };
         let stream = message.stream;
         let kind = message.kind;
-        let from = draft.outstanding.len();
-        tell(&mut draft.tickets, message.ticket);
-        let number = number_one(&mut draft.streams, stream, kind);
-        push_first(&mut draft.outstanding, message, number);
+        let from = stock.outstanding.len();
+        tell(&mut stock.tickets, message.ticket);
+        let number = number_one(&mut stock.streams, stream, kind);
+        push_first(&mut stock.outstanding, message, number);
         let change = Change::Begun {
             place: next.place,
             from,
-            turn: draft.turn,
+            turn: stock.turn,
         };
-        note(&mut draft.log, change);
-        leave_rest(&mut draft.streams, &mut draft.log, stream, rest);
-        draft.turn = next.turn;
-        push_further(&mut draft.outstanding, from, number, next.count)
+        note(&mut stock.log, change);
+        leave_rest(&mut stock.streams, &mut stock.log, stream, rest);
+        stock.turn = next.turn;
+        push_further(&mut stock.outstanding, from, number, next.count)
     }
 
     /// Room for what a message that begins with so many fragments comes to.
@@ -79,63 +79,63 @@ impl Told {
     /// # Errors
     /// `NoMemory`.
     #[inline(always)]
-    fn room_to_begin(&self, draft: &mut Draft, count: usize) -> Result<(), NoMemory>
+    fn room_to_begin(&self, stock: &mut Stock, count: usize) -> Result<(), NoMemory>
         requires { count ≤ WINDOW + 1 }
-        ensures same { draft.new ≡ record draft.old { outstanding = draft.new.outstanding; tickets = draft.new.tickets; log = draft.new.log } }
-        ensures size { draft.new.outstanding.size ≡ draft.old.outstanding.size }
-        ensures items { draft.new.outstanding.items ≡ draft.old.outstanding.items }
-        ensures capacity { draft.old.outstanding.capacity ≤ draft.new.outstanding.capacity }
-        ensures entries { OnOk result (self.now.streams + (length draft.new.outstanding.items + count) ≤ draft.new.outstanding.capacity) }
-        ensures tickets { draft.new.tickets.items ≡ draft.old.tickets.items }
-        ensures told { OnOk result (vec_len draft.new.tickets < vec_capacity draft.new.tickets) }
-        ensures log { draft.new.log.items ≡ draft.old.log.items }
-        ensures noted { OnOk result (vec_len draft.new.log + 2 ≤ vec_capacity draft.new.log) }
+        ensures same { stock.new ≡ record stock.old { outstanding = stock.new.outstanding; tickets = stock.new.tickets; log = stock.new.log } }
+        ensures size { stock.new.outstanding.size ≡ stock.old.outstanding.size }
+        ensures items { stock.new.outstanding.items ≡ stock.old.outstanding.items }
+        ensures capacity { stock.old.outstanding.capacity ≤ stock.new.outstanding.capacity }
+        ensures entries { OnOk result (self.now.streams + (length stock.new.outstanding.items + count) ≤ stock.new.outstanding.capacity) }
+        ensures tickets { stock.new.tickets.items ≡ stock.old.tickets.items }
+        ensures told { OnOk result (vec_len stock.new.tickets < vec_capacity stock.new.tickets) }
+        ensures log { stock.new.log.items ≡ stock.old.log.items }
+        ensures noted { OnOk result (vec_len stock.new.log + 2 ≤ vec_capacity stock.new.log) }
     {
-        reserve_changes(&mut draft.log)?;
-        reserve_tickets(&mut draft.tickets)?;
-        draft.outstanding.reserve(count + usize::from(self.streams))
+        reserve_changes(&mut stock.log)?;
+        reserve_tickets(&mut stock.tickets)?;
+        stock.outstanding.reserve(count + usize::from(self.streams))
     }
 
     /// The message in part of a stream takes its next index.
     ///
     /// # Errors
-    /// `NoMemory`: the draft has its parts as before.
-    pub(crate) fn go_on(&self, draft: &mut Draft, stream: u16, rest: &Rest) -> Result<(), NoMemory>
+    /// `NoMemory`: the stock has its parts as before.
+    pub(crate) fn go_on(&self, stock: &mut Stock, stream: u16, rest: &Rest) -> Result<(), NoMemory>
         requires within { stream < self.now.streams }
-        requires stream { stream < length draft.old.streams.items }
-        requires sized { IsSized self.now.fragment draft.old }
+        requires stream { stream < length stock.old.streams.items }
+        requires sized { IsSized self.now.fragment stock.old }
         ensures kept { suc rest.now.fragment < 2 ^ 32
-            → OnOk result (drafted (bare self.now) draft.new
-            ≡ gone_on (drafted (bare self.now) draft.old) (rest_meaning self.now.fragment (track_of (drafted (bare self.now) draft.old).tracks stream) rest.now) stream (suc stream % self.now.streams) draft.new.outstanding.capacity) }
-        ensures more { OnOk result (length draft.old.outstanding.items < length draft.new.outstanding.items) }
-        ensures room { OnOk result (self.now.streams + length draft.new.outstanding.items ≤ draft.new.outstanding.capacity) }
-        ensures told { OnOk result (draft.new.tickets ≡ draft.old.tickets) }
-        ensures behind { IsBehind draft.old draft.new }
+            → OnOk result (stocked (bare self.now) stock.new
+            ≡ gone_on (stocked (bare self.now) stock.old) (rest_meaning self.now.fragment (track_of (stocked (bare self.now) stock.old).tracks stream) rest.now) stream (suc stream % self.now.streams) stock.new.outstanding.capacity) }
+        ensures more { OnOk result (length stock.old.outstanding.items < length stock.new.outstanding.items) }
+        ensures room { OnOk result (self.now.streams + length stock.new.outstanding.items ≤ stock.new.outstanding.capacity) }
+        ensures told { OnOk result (stock.new.tickets ≡ stock.old.tickets) }
+        ensures behind { IsBehind stock.old stock.new }
     {
         let left = rest_from(&rest.message, rest.fragment.wrapping_add(1), self.fragment)?;
         let number = number_latest(
-            &draft.streams.tracks()[usize::from(stream)],
+            &stock.streams.tracks()[usize::from(stream)],
             rest.message.kind,
         );
-        draft.log.reserve(1).map_err(|_| NoMemory)?;
-        draft
+        stock.log.reserve(1).map_err(|_| NoMemory)?;
+        stock
             .outstanding
             .reserve(usize::from(self.streams).saturating_add(1))?;
         push_fragment(
-            &mut draft.outstanding,
+            &mut stock.outstanding,
             &rest.message,
             number,
             rest.fragment,
             Standing::Sent,
         )?;
-        let track = leave_on(&mut draft.streams, stream, left);
+        let track = leave_on(&mut stock.streams, stream, left);
         let change = Change::Continued {
             stream,
             track,
-            turn: draft.turn,
+            turn: stock.turn,
         };
-        note(&mut draft.log, change);
-        draft.turn = stream_after(stream, self.streams);
+        note(&mut stock.log, change);
+        stock.turn = stream_after(stream, self.streams);
         Ok(())
     }
 }

@@ -1,4 +1,4 @@
-//! What has its index goes into a packet: the chunk of an entry, where it fits, and what the draft keeps then (RFC 9260, 6.1 and 6.3.3).
+//! What has its index goes into a packet: the chunk of an entry, where it fits, and what the stock keeps then (RFC 9260, 6.1 and 6.3.3).
 
 ghost use Rattle.std.specs.Prelude.{◌≡◌, suc, ◌+◌, ◌<◌, length, map, slice_index_or, IfOk, OnErr};
 ghost use Rattle.sctp_model.specs.numbers.Serial.{tsn};
@@ -8,13 +8,13 @@ ghost use Rattle.sctp_send.specs.SenderStands.{Keeps};
 ghost use Rattle.sctp_send.specs.OutstandingFields.{item_meaning};
 ghost use Rattle.sctp_send.specs.PartsKept.{changed};
 ghost use Rattle.sctp_send.specs.inner.Undoing.{IsSized, IsBehind};
-ghost use Rattle.sctp_send.specs.inner.Drafting.{bare, drafted, went_out, item_chunk, IsTried, PutAnswer, IsRefused, IsFlying, IsNextEntry, IsNextUnsent};
+ghost use Rattle.sctp_send.specs.inner.Stocking.{bare, stocked, went_out, item_chunk, IsTried, PutAnswer, IsRefused, IsFlying, IsNextEntry, IsNextUnsent};
 
-use crate::draft::{Change, Draft, note};
 use crate::kept::entry::Standing;
 use crate::kept::outstanding::Outstanding;
 use crate::kept::pieces::{bytes_of, fits, put_fragment};
 use crate::kept::wishes::may_flow;
+use crate::stock::{Change, Stock, note};
 use crate::told::Told;
 use sctp_framing::Framing;
 use sctp_packet::PacketWriter;
@@ -26,29 +26,29 @@ impl Told {
     #[inline(always)]
     pub(crate) fn put_entry<F: Framing>(
         &self,
-        draft: &mut Draft,
+        stock: &mut Stock,
         at: usize,
         packet: &mut PacketWriter,
     ) -> Result<bool, NoMemory>
-        requires sized { IsSized self.now.fragment draft.old }
-        requires within { at < length draft.old.outstanding.items }
-        ensures put { (v : SenderView) → Keeps F.format (drafted (bare self.now) draft.old) v → IsNextEntry F.format v at
-            → IfOk result (λ put. PutAnswer F.format (bare self.now) v packet.old packet.new draft.old draft.new put) }
-        ensures refused { (v : SenderView) → Keeps F.format (drafted (bare self.now) draft.old) v → IsNextEntry F.format v at
+        requires sized { IsSized self.now.fragment stock.old }
+        requires within { at < length stock.old.outstanding.items }
+        ensures put { (v : SenderView) → Keeps F.format (stocked (bare self.now) stock.old) v → IsNextEntry F.format v at
+            → IfOk result (λ put. PutAnswer F.format (bare self.now) v packet.old packet.new stock.old stock.new put) }
+        ensures refused { (v : SenderView) → Keeps F.format (stocked (bare self.now) stock.old) v → IsNextEntry F.format v at
             → OnErr result (IsRefused F.format v packet.old packet.new) }
-        ensures behind { IsBehind draft.old draft.new }
+        ensures behind { IsBehind stock.old stock.new }
     {
-        let entry = draft.outstanding.get(at);
+        let entry = stock.outstanding.get(at);
         let bytes = bytes_of(&entry.message, entry.content, self.fragment).len();
         if !fits::<F>(bytes, packet) {
             return Ok(false);
         }
         let standing = entry.standing;
-        draft.log.reserve(1).map_err(|_| NoMemory)?;
-        let put = self.put_at::<F>(draft, at, packet)?;
+        stock.log.reserve(1).map_err(|_| NoMemory)?;
+        let put = self.put_at::<F>(stock, at, packet)?;
         if put {
-            note(&mut draft.log, Change::Out { at, standing });
-            send_out(&mut draft.outstanding, at);
+            note(&mut stock.log, Change::Out { at, standing });
+            send_out(&mut stock.outstanding, at);
         }
         Ok(put)
     }
@@ -56,25 +56,25 @@ impl Told {
     /// Puts the entry at this offset for the first time, where it fits and may flow.
     pub(crate) fn put_unsent<F: Framing>(
         &self,
-        draft: &mut Draft,
+        stock: &mut Stock,
         at: usize,
         flying: u64,
         packet: &mut PacketWriter,
     ) -> Result<bool, NoMemory>
-        requires sized { IsSized self.now.fragment draft.old }
-        requires within { at < length draft.old.outstanding.items }
-        ensures put { (v : SenderView) → Keeps F.format (drafted (bare self.now) draft.old) v → IsNextUnsent F.format v at → IsFlying (bare self.now) draft.old flying
-            → IfOk result (λ put. PutAnswer F.format (bare self.now) v packet.old packet.new draft.old draft.new put) }
-        ensures refused { (v : SenderView) → Keeps F.format (drafted (bare self.now) draft.old) v → IsNextUnsent F.format v at → IsFlying (bare self.now) draft.old flying
+        requires sized { IsSized self.now.fragment stock.old }
+        requires within { at < length stock.old.outstanding.items }
+        ensures put { (v : SenderView) → Keeps F.format (stocked (bare self.now) stock.old) v → IsNextUnsent F.format v at → IsFlying (bare self.now) stock.old flying
+            → IfOk result (λ put. PutAnswer F.format (bare self.now) v packet.old packet.new stock.old stock.new put) }
+        ensures refused { (v : SenderView) → Keeps F.format (stocked (bare self.now) stock.old) v → IsNextUnsent F.format v at → IsFlying (bare self.now) stock.old flying
             → OnErr result (IsRefused F.format v packet.old packet.new) }
-        ensures behind { IsBehind draft.old draft.new }
+        ensures behind { IsBehind stock.old stock.new }
     {
-        let entry = draft.outstanding.get(at);
+        let entry = stock.outstanding.get(at);
         let bytes = bytes_of(&entry.message, entry.content, self.fragment).len();
         if !may_flow(flying, bytes, self.rwnd) {
             return Ok(false);
         }
-        self.put_entry::<F>(draft, at, packet)
+        self.put_entry::<F>(stock, at, packet)
     }
 
     /// Puts the chunk of the entry at this offset, where it fits.
@@ -84,17 +84,17 @@ impl Told {
     #[inline(always)]
     pub(crate) fn put_at<F: Framing>(
         &self,
-        draft: &Draft,
+        stock: &Stock,
         at: usize,
         packet: &mut PacketWriter,
     ) -> Result<bool, NoMemory>
-        requires sized { IsSized self.now.fragment draft.now }
-        requires within { at < length draft.now.outstanding.items }
+        requires sized { IsSized self.now.fragment stock.now }
+        requires within { at < length stock.now.outstanding.items }
         ensures tried { (none : Item)
-            → IfOk result (λ put. IsTried packet.old packet.new (item_chunk F.format self.now.initial (suc (self.now.cum + at)) (slice_index_or (map (item_meaning self.now.fragment) draft.now.outstanding.items) at none)) put) }
+            → IfOk result (λ put. IsTried packet.old packet.new (item_chunk F.format self.now.initial (suc (self.now.cum + at)) (slice_index_or (map (item_meaning self.now.fragment) stock.now.outstanding.items) at none)) put) }
         ensures unchanged { OnErr result (packet.new ≡ packet.old) }
     {
-        let entry = draft.outstanding.get(at);
+        let entry = stock.outstanding.get(at);
         let tsn = self.tsn_at(at);
         put_fragment::<F>(
             &entry.message,

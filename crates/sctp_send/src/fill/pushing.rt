@@ -4,7 +4,7 @@ ghost use Rattle.std.specs.Prelude.{◌≡◌, ℕ, ◌+◌, ◌-◌, ◌<◌, �
 ghost use Rattle.sctp_send.specs.OutstandingFields.{item_meaning, lane_meaning, message_meaning};
 ghost use Rattle.sctp_send.specs.PartsKept.{IsSameRoom};
 ghost use Rattle.sctp_send.specs.inner.Newcomers.{begun_items};
-ghost use Rattle.sctp_send.specs.inner.Drafting.{fragment_item};
+ghost use Rattle.sctp_send.specs.inner.Stocking.{fragment_item};
 ghost use Rattle.sctp_send.specs.SenderKept.{Item};
 ghost use Rattle.sctp_send.specs.inner.Undoing.{fragment_entry};
 ghost use Rattle.sctp_send.specs.declared.kept.entry.Entry.{Entry as Fields};

@@ -1,5 +1,5 @@
-//! One wish after the other goes into a packet, and into a draft (RFC 9260, 6.1 and 6.3.3; RFC 8260, 2.2). Whether one may go is asked first,
-//! without memory; then the draft changes, for which memory may be wanted, and last its chunk is put.
+//! One wish after the other goes into a packet, out of the stock (RFC 9260, 6.1 and 6.3.3; RFC 8260, 2.2). Whether one may go is asked first,
+//! without memory; then the stock changes, for which memory may be wanted, and last its chunk is put.
 
 ghost use Rattle.std.specs.Prelude.{◌≡◌, ℕ, ◌<◌, Some, length, IfOk, OnErr};
 ghost use Rattle.sctp_model.specs.messages.Plan.{Part};
@@ -7,16 +7,16 @@ ghost use Rattle.sctp_model.specs.sender.SenderView.{SenderView};
 ghost use Rattle.sctp_send.specs.SenderStands.{Keeps};
 ghost use Rattle.sctp_send.specs.OutstandingFields.{lane_meaning, message_meaning};
 ghost use Rattle.sctp_send.specs.inner.Undoing.{IsSized, IsBehind};
-ghost use Rattle.sctp_send.specs.inner.Drafting.{bare, drafted, let_in, PutAnswer, IsRefused, IsFlying, NothingStands};
+ghost use Rattle.sctp_send.specs.inner.Stocking.{bare, stocked, let_in, PutAnswer, IsRefused, IsFlying, NothingStands};
 ghost use Rattle.sctp_send.specs.inner.Newcomers.{IsBegun, IsContinued};
 
-use crate::draft::Draft;
 use crate::fill::assigning::{Beginning, Next, copied, has_window, next_new, rest_of};
 use crate::kept::entry::Content;
 use crate::kept::message::{Message, fragments_of};
 use crate::kept::pieces::{bytes_of, fits};
 use crate::kept::track::rest_where;
 use crate::kept::wishes::may_flow;
+use crate::stock::Stock;
 use crate::told::Told;
 use sctp_framing::Framing;
 use sctp_packet::PacketWriter;
@@ -27,43 +27,43 @@ impl Told {
     /// Puts the next wish into the packet; false where there is none that may go.
     pub(crate) fn put_next<F: Framing>(
         &self,
-        draft: &mut Draft,
+        stock: &mut Stock,
         packet: &mut PacketWriter,
     ) -> Result<bool, NoMemory>
-        requires { IsSized self.now.fragment draft.old }
-        ensures put { (v : SenderView) → Keeps F.format (drafted (bare self.now) draft.old) v
-            → IfOk result (λ put. PutAnswer F.format (bare self.now) v packet.old packet.new draft.old draft.new put) }
-        ensures refused { (v : SenderView) → Keeps F.format (drafted (bare self.now) draft.old) v
+        requires { IsSized self.now.fragment stock.old }
+        ensures put { (v : SenderView) → Keeps F.format (stocked (bare self.now) stock.old) v
+            → IfOk result (λ put. PutAnswer F.format (bare self.now) v packet.old packet.new stock.old stock.new put) }
+        ensures refused { (v : SenderView) → Keeps F.format (stocked (bare self.now) stock.old) v
             → OnErr result (IsRefused F.format v packet.old packet.new) }
-        ensures behind { IsBehind draft.old draft.new }
+        ensures behind { IsBehind stock.old stock.new }
     {
-        if let Some(at) = draft.outstanding.first_marked() {
-            return self.put_entry::<F>(draft, at, packet);
+        if let Some(at) = stock.outstanding.first_marked() {
+            return self.put_entry::<F>(stock, at, packet);
         }
-        let flying = draft.outstanding.flight();
-        if let Some(at) = draft.outstanding.first_unsent() {
-            return self.put_unsent::<F>(draft, at, flying, packet);
+        let flying = stock.outstanding.flight();
+        if let Some(at) = stock.outstanding.first_unsent() {
+            return self.put_unsent::<F>(stock, at, flying, packet);
         }
-        self.put_new::<F>(draft, flying, packet)
+        self.put_new::<F>(stock, flying, packet)
     }
 
     /// What is to take the next index does, where its fragment may go.
     fn put_new<F: Framing>(
         &self,
-        draft: &mut Draft,
+        stock: &mut Stock,
         flying: u64,
         packet: &mut PacketWriter,
     ) -> Result<bool, NoMemory>
-        requires sized { IsSized self.now.fragment draft.old }
-        ensures put { (v : SenderView) → Keeps F.format (drafted (bare self.now) draft.old) v → NothingStands F.format v → IsFlying (bare self.now) draft.old flying
-            → IfOk result (λ put. PutAnswer F.format (bare self.now) v packet.old packet.new draft.old draft.new put) }
-        ensures refused { (v : SenderView) → Keeps F.format (drafted (bare self.now) draft.old) v → NothingStands F.format v → IsFlying (bare self.now) draft.old flying
+        requires sized { IsSized self.now.fragment stock.old }
+        ensures put { (v : SenderView) → Keeps F.format (stocked (bare self.now) stock.old) v → NothingStands F.format v → IsFlying (bare self.now) stock.old flying
+            → IfOk result (λ put. PutAnswer F.format (bare self.now) v packet.old packet.new stock.old stock.new put) }
+        ensures refused { (v : SenderView) → Keeps F.format (stocked (bare self.now) stock.old) v → NothingStands F.format v → IsFlying (bare self.now) stock.old flying
             → OnErr result (IsRefused F.format v packet.old packet.new) }
-        ensures behind { IsBehind draft.old draft.new }
+        ensures behind { IsBehind stock.old stock.new }
     {
-        match next_new::<F>(draft, self.streams, self.fragment) {
-            Some(Next::Begins(next)) => self.put_begun::<F>(draft, next, flying, packet),
-            Some(Next::Continues(stream)) => self.put_continued::<F>(draft, stream, flying, packet),
+        match next_new::<F>(stock, self.streams, self.fragment) {
+            Some(Next::Begins(next)) => self.put_begun::<F>(stock, next, flying, packet),
+            Some(Next::Continues(stream)) => self.put_continued::<F>(stock, stream, flying, packet),
             None => Ok(false),
         }
     }
@@ -71,28 +71,28 @@ impl Told {
     /// A message takes its number, where its first fragment fits and may flow, and the window has room for all that take an index.
     fn put_begun<F: Framing>(
         &self,
-        draft: &mut Draft,
+        stock: &mut Stock,
         next: Beginning,
         flying: u64,
         packet: &mut PacketWriter,
     ) -> Result<bool, NoMemory>
-        requires sized { IsSized self.now.fragment draft.old }
-        requires place { next.place < length draft.old.queue.items }
+        requires sized { IsSized self.now.fragment stock.old }
+        requires place { next.place < length stock.old.queue.items }
         requires some { 0 < next.count }
-        ensures put { (v : SenderView) → Keeps F.format (drafted (bare self.now) draft.old) v → NothingStands F.format v → IsBegun F.format v next.place next.count next.turn → IsFlying (bare self.now) draft.old flying
-            → IfOk result (λ put. PutAnswer F.format (bare self.now) v packet.old packet.new draft.old draft.new put) }
-        ensures refused { (v : SenderView) → Keeps F.format (drafted (bare self.now) draft.old) v → NothingStands F.format v → IsBegun F.format v next.place next.count next.turn → IsFlying (bare self.now) draft.old flying
+        ensures put { (v : SenderView) → Keeps F.format (stocked (bare self.now) stock.old) v → NothingStands F.format v → IsBegun F.format v next.place next.count next.turn → IsFlying (bare self.now) stock.old flying
+            → IfOk result (λ put. PutAnswer F.format (bare self.now) v packet.old packet.new stock.old stock.new put) }
+        ensures refused { (v : SenderView) → Keeps F.format (stocked (bare self.now) stock.old) v → NothingStands F.format v → IsBegun F.format v next.place next.count next.turn → IsFlying (bare self.now) stock.old flying
             → OnErr result (IsRefused F.format v packet.old packet.new) }
-        ensures behind { IsBehind draft.old draft.new }
+        ensures behind { IsBehind stock.old stock.new }
     {
-        let message = draft.queue.get(next.place);
-        if usize::from(message.stream) >= draft.streams.tracks().len() {
+        let message = stock.queue.get(next.place);
+        if usize::from(message.stream) >= stock.streams.tracks().len() {
             return Ok(false);
         }
         let more = next.count < fragments_of(self.fragment, &message.bytes);
         if !has_window(
-            &draft.outstanding,
-            &draft.streams,
+            &stock.outstanding,
+            &stock.streams,
             message.stream,
             next.count,
             more,
@@ -103,42 +103,42 @@ impl Told {
             return Ok(false);
         }
         let rest = rest_where(more, message, next.count as u32)?;
-        let at = draft.outstanding.len();
-        self.begin(draft, next, rest)?;
-        self.put_at::<F>(draft, at, packet)
+        let at = stock.outstanding.len();
+        self.begin(stock, next, rest)?;
+        self.put_at::<F>(stock, at, packet)
     }
 
     /// The message in part of a stream takes its next index, where its fragment fits and may flow.
     fn put_continued<F: Framing>(
         &self,
-        draft: &mut Draft,
+        stock: &mut Stock,
         stream: u16,
         flying: u64,
         packet: &mut PacketWriter,
     ) -> Result<bool, NoMemory>
-        requires sized { IsSized self.now.fragment draft.old }
+        requires sized { IsSized self.now.fragment stock.old }
         requires within { stream < self.now.streams }
-        ensures put { (v : SenderView) → Keeps F.format (drafted (bare self.now) draft.old) v → NothingStands F.format v → IsContinued F.format v stream → IsFlying (bare self.now) draft.old flying
-            → IfOk result (λ put. PutAnswer F.format (bare self.now) v packet.old packet.new draft.old draft.new put) }
-        ensures refused { (v : SenderView) → Keeps F.format (drafted (bare self.now) draft.old) v → NothingStands F.format v → IsContinued F.format v stream → IsFlying (bare self.now) draft.old flying
+        ensures put { (v : SenderView) → Keeps F.format (stocked (bare self.now) stock.old) v → NothingStands F.format v → IsContinued F.format v stream → IsFlying (bare self.now) stock.old flying
+            → IfOk result (λ put. PutAnswer F.format (bare self.now) v packet.old packet.new stock.old stock.new put) }
+        ensures refused { (v : SenderView) → Keeps F.format (stocked (bare self.now) stock.old) v → NothingStands F.format v → IsContinued F.format v stream → IsFlying (bare self.now) stock.old flying
             → OnErr result (IsRefused F.format v packet.old packet.new) }
-        ensures behind { IsBehind draft.old draft.new }
+        ensures behind { IsBehind stock.old stock.new }
     {
-        let Some(rest) = rest_of(draft.streams.tracks(), stream) else {
+        let Some(rest) = rest_of(stock.streams.tracks(), stream) else {
             return Ok(false);
         };
         let next = rest.fragment.wrapping_add(1);
         let more = (next as usize) < fragments_of(self.fragment, &rest.message.bytes);
-        if !has_window(&draft.outstanding, &draft.streams, stream, 1, more) {
+        if !has_window(&stock.outstanding, &stock.streams, stream, 1, more) {
             return Ok(false);
         }
         if !self.is_let_in::<F>(&rest.message, rest.fragment, flying, packet) {
             return Ok(false);
         }
         let rest = copied(rest)?;
-        let at = draft.outstanding.len();
-        self.go_on(draft, stream, &rest)?;
-        self.put_at::<F>(draft, at, packet)
+        let at = stock.outstanding.len();
+        self.go_on(stock, stream, &rest)?;
+        self.put_at::<F>(stock, at, packet)
     }
 
     /// A fragment that is to take the next index may flow, while so much is in flight, and fits.

@@ -8,7 +8,7 @@ ghost use Rattle.sctp_model.specs.numbers.Serial as serial;
 ghost use Rattle.sctp_model.specs.sender.Entries.{entry_fragment, bytes_in};
 ghost use Rattle.sctp_packet.specs.Draft.{has_room, after_try};
 ghost use Rattle.sctp_send.specs.OutstandingFields.{message_meaning, entry_meaning};
-ghost use Rattle.sctp_send.specs.inner.Drafting.{fragment_chunk, said_chunk};
+ghost use Rattle.sctp_send.specs.inner.Stocking.{fragment_chunk, said_chunk};
 
 use crate::kept::entry::Content;
 use crate::kept::message::{Message, fragments_of};

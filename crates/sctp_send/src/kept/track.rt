@@ -5,7 +5,7 @@ ghost use Rattle.sctp_model.specs.sender.Queueing.{cut};
 ghost use Rattle.sctp_values.specs.Meanings.{kind_meaning};
 ghost use Rattle.sctp_send.specs.SenderKept.{Track as KeptTrack};
 ghost use Rattle.sctp_send.specs.SenderFields.{latest_in, track_meaning, rests_meaning, endings_meaning};
-ghost use Rattle.sctp_send.specs.inner.Drafting.{rest_from};
+ghost use Rattle.sctp_send.specs.inner.Stocking.{rest_from};
 ghost use Rattle.sctp_send.specs.inner.Walks.{rest_owes};
 
 use crate::kept::message::{Message, fragments_of, owed, shared};

@@ -1,6 +1,6 @@
 use Rattle.std.proofs.Common.{◌≡◌, ℕ, ◌-◌, ◌<◌, ◌≤◌, List, length, get_or, arith, ◌∙◌}
 use Rattle.sctp_values.specs.declared.ticket.Ticket.{Ticket}
-use Rattle.sctp_send.specs.inner.Drafting.{numbers_of, AreOpen}
+use Rattle.sctp_send.specs.inner.Stocking.{numbers_of, AreOpen}
 use Rattle.sctp_send.proofs.fill.EnterLemmas.{numbered_more, numbered_end, open_at}
 use Rattle.sctp_send.proofs.fill.number_all.Goals as goal
 

@@ -1,5 +1,5 @@
 use Rattle.std.proofs.Common.{◌≡◌, drop}
-use Rattle.sctp_send.specs.inner.Drafting.{numbers_of, all_numbered, AreOpen}
+use Rattle.sctp_send.specs.inner.Stocking.{numbers_of, all_numbered, AreOpen}
 use Rattle.sctp_send.proofs.fill.number_all.Given as goal
 
 abbrev pub invariant-loop-ticket : goal.invariant-loop-ticket

@@ -1,7 +1,7 @@
 use Rattle.std.proofs.Common.{◌∙◌, ◌%◌, List, ◌+◌, suc, refl, ap, sym, arith}
 use Rattle.sctp_model.specs.sender.Assigning.{first_on}
 use Rattle.sctp_model.specs.sender.SenderView.{Queued}
-use Rattle.sctp_send.specs.inner.Drafting.{drafted}
+use Rattle.sctp_send.specs.inner.Stocking.{stocked}
 use Rattle.sctp_send.proofs.fill.NextLemmas.{part_first, waiting_first}
 use Rattle.sctp_send.proofs.fill.assigning.next_between.Goals as goal
 
@@ -13,7 +13,7 @@ pub returns-then-part-stream-clause-does : goal.returns-then-part-stream-clause-
 returns-then-part-stream-clause-does c = λ s v streams keeps.
     let found = c.in-Some.found in
     let on = c.in-Some.ensures.next s.fragment in
-    part_first (drafted s c.args.draft.now) v c.args.from c.args.below c.next_part-part.result (found.stream + 1) keeps (omega (arith, on.low, c.requires, streams, keeps.holds.streams)) (omega (arith, c.requires, streams, keeps.holds.streams))
+    part_first (stocked s c.args.stock.now) v c.args.from c.args.below c.next_part-part.result (found.stream + 1) keeps (omega (arith, on.low, c.requires, streams, keeps.holds.streams)) (omega (arith, c.requires, streams, keeps.holds.streams))
     (omega (arith, on.low, c.if-part-stream.true)) (omega (arith, c.if-part-stream.true)) (c.next_part-part.ensures s.fragment) (λ j lo hi. on.before j lo (omega (arith, hi, c.if-part-stream.true)))
 
 pub returns-clause-does : goal.returns-clause-does
@@ -21,7 +21,7 @@ returns-clause-does c = λ s v streams keeps.
     let found = c.in-Some.found in
     let on = c.in-Some.ensures.next s.fragment in
     let turn = c.stream_after-behind.ensures ∙ ap (λ n. suc found.stream % n) (sym streams ∙ keeps.holds.streams) in
-    waiting_first (drafted s c.args.draft.now) v c.args.from c.args.below c.next_part-part.result found (record { place = found.place; count = 1; turn = c.stream_after-behind.result }) keeps (omega (arith, c.requires, streams, keeps.holds.streams)) on (c.next_part-part.ensures s.fragment)
+    waiting_first (stocked s c.args.stock.now) v c.args.from c.args.below c.next_part-part.result found (record { place = found.place; count = 1; turn = c.stream_after-behind.result }) keeps (omega (arith, c.requires, streams, keeps.holds.streams)) on (c.next_part-part.ensures s.fragment)
     (omega (arith, c.if-part-stream.false)) refl refl turn
 
 pub stream_after-behind-requires : goal.stream_after-behind-requires

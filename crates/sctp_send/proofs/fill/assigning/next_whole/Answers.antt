@@ -11,13 +11,13 @@ use Rattle.sctp_send.proofs.fill.assigning.next_whole.Goals as goal
 
 pub returns-then-len-eq0-clause-next : goal.returns-then-len-eq0-clause-next
 returns-then-len-eq0-clause-next c = λ s v size keeps.
-    let long = length-map c.args.draft.now.queue.items (queued_by s.fragment) in
+    let long = length-map c.args.stock.now.queue.items (queued_by s.fragment) in
     let same = ap (λ (qs : List Queued). length qs) keeps.holds.queue in
     whole_none v (omega (arith, long, same))
 
 pub returns-clause-next : goal.returns-clause-next
 returns-clause-next c = λ s v size keeps.
-    let es = c.args.draft.now.queue.items in
+    let es = c.args.stock.now.queue.items in
     let x = c.get-message.result.now in
     let q = queued_by s.fragment x in
     let long = length-map es (queued_by s.fragment) in
@@ -27,4 +27,4 @@ returns-clause-next c = λ s v size keeps.
     let count : c.fragments_of.result ≡ length q.message.fragments = c.fragments_of.ensures ∙ ap (λ (b : List ℕ). length (cut c.args.size b)) bytes ∙ ap (λ (n : ℕ). length (cut n x.value.bytes.items)) (sym size) in
     let some = first_filled Plain v q keeps.reached read (omega (arith, long, same)) in
     let most : c.max.result ≡ length q.message.fragments = omega (arith, c.max.ensures, count, some) in
-    whole_begun v q c.max.result c.args.draft.now.turn read (omega (arith, long, same)) most (omega (arith, most, some)) keeps.holds.turn
+    whole_begun v q c.max.result c.args.stock.now.turn read (omega (arith, long, same)) most (omega (arith, most, some)) keeps.holds.turn

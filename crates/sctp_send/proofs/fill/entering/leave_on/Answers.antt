@@ -2,7 +2,7 @@ use Rattle.std.proofs.Common.{◌∙◌, List, map, get_or, ap, sym}
 use Rattle.sctp_send.specs.SenderFields.{track_meaning, rests_meaning}
 use Rattle.sctp_send.specs.PartsKept.{StreamsKept}
 use Rattle.sctp_send.specs.SenderKept.{Track as KeptTrack}
-use Rattle.sctp_send.specs.inner.Drafting.{left_track}
+use Rattle.sctp_send.specs.inner.Stocking.{left_track}
 use Rattle.sctp_send.specs.declared.kept.track.Track.{Track}
 use Rattle.sctp_send.proofs.fill.EnterLemmas.{set_on, track_there, replaced}
 use Rattle.sctp_send.proofs.fill.entering.leave_on.Goals as goal

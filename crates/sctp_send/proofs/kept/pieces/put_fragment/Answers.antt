@@ -3,7 +3,7 @@ use Rattle.sctp_model.specs.numbers.Serial.{tsn}
 use Rattle.sctp_model.specs.sender.Queueing.{cut}
 use Rattle.sctp_wire.specs.ChunkTree.{chunk_meaning}
 use Rattle.sctp_send.specs.OutstandingFields.{lane_meaning}
-use Rattle.sctp_send.specs.inner.Drafting.{fragment_chunk}
+use Rattle.sctp_send.specs.inner.Stocking.{fragment_chunk}
 use Rattle.sctp_send.proofs.fill.ChunkLemmas.{piece_fits}
 use Rattle.sctp_send.proofs.fill.EnterLemmas.{same_chunk}
 use Rattle.sctp_send.proofs.kept.pieces.put_fragment.Goals as goal

@@ -2,7 +2,7 @@ use Rattle.std.proofs.Common.{◌≡◌, List, refl, ap, sym, ◌∙◌, subst}
 use Rattle.sctp_values.specs.declared.ticket.Ticket.{Ticket}
 use Rattle.sctp_send.specs.SenderKept.{Kept}
 use Rattle.sctp_send.specs.SenderStands.{StandsFor, Keeps}
-use Rattle.sctp_send.specs.inner.Drafting.{bare, numbers_of, all_numbered, drafted, AreOpen}
+use Rattle.sctp_send.specs.inner.Stocking.{bare, numbers_of, all_numbered, stocked, AreOpen}
 use Rattle.sctp_send.proofs.OverKept.{open_newly}
 use Rattle.sctp_send.proofs.sender.Sender.fill_on.Goals as goal
 
@@ -11,11 +11,11 @@ unfolding StandsFor
 returns-in-Ok-clause-step g c = λ v stands.
     let s = c.self.inside in
     let keeps = subst (λ (k : Kept). Keeps g.F.Framing.format k v) (sym c.self.view_is) stands in
-    let begun : Keeps g.F.Framing.format (drafted (bare s.told) c.begin_anew.new.draft) v = rw (c.begin_anew.ensures.same, c.begin_anew.ensures.tickets) keeps in
+    let begun : Keeps g.F.Framing.format (stocked (bare s.told) c.begin_anew.new.stock) v = rw (c.begin_anew.ensures.same, c.begin_anew.ensures.tickets) keeps in
     let all = c.in-Ok.ensures.all v begun in
     let behind = subst (λ ts. AreOpen s.told.fates.ended ts) (sym all.told) (open_newly g.F.Framing.format _ _ v all.view keeps all.keeps refl) in
-    let told : c.deref.result.now ≡ c.put_all.new.draft.tickets.items = rw (c.deref.ensures.value, c.replace-tickets.ensures.value) refl in
-    let numbered : c.number_all.new.fates.items ≡ all_numbered s.told.fates.items (numbers_of c.put_all.new.draft.tickets.items) =
+    let told : c.deref.result.now ≡ c.put_all.new.stock.tickets.items = rw (c.deref.ensures.value, c.replace-tickets.ensures.value) refl in
+    let numbered : c.number_all.new.fates.items ≡ all_numbered s.told.fates.items (numbers_of c.put_all.new.stock.tickets.items) =
     c.number_all.ensures.items (subst (λ (ts : List Ticket). AreOpen s.told.fates.ended (numbers_of ts)) (sym told) behind) ∙ ap (λ (ts : List Ticket). all_numbered s.told.fates.items (numbers_of ts)) told in
     record {
       wishes = all.wishes;

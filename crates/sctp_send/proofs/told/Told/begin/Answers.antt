@@ -8,11 +8,11 @@ use Rattle.sctp_send.specs.PartsKept.{OutstandingKept, QueueKept, StreamsKept, c
 use Rattle.sctp_send.specs.OutstandingFields.{item_meaning, lane_meaning, message_meaning, queued_meaning}
 use Rattle.sctp_send.specs.SenderFields.{queued_by, rests_meaning, track_meaning}
 use Rattle.sctp_send.specs.inner.Newcomers.{track_of, number_on, counted_in, begun_items, without_place, begun}
-use Rattle.sctp_send.specs.inner.Drafting.{bare, numbers_of, drafted, rest_from}
+use Rattle.sctp_send.specs.inner.Stocking.{bare, numbers_of, stocked, rest_from}
 use Rattle.sctp_send.specs.inner.Undoing.{fragment_entry, counted_to}
-use Rattle.sctp_send.specs.declared.draft.Change.{Change}
-use Rattle.sctp_send.specs.declared.draft.Change.TheVariants.{Begun}
-use Rattle.sctp_send.specs.declared.draft.Draft.{Draft}
+use Rattle.sctp_send.specs.declared.stock.Change.{Change}
+use Rattle.sctp_send.specs.declared.stock.Change.TheVariants.{Begun}
+use Rattle.sctp_send.specs.declared.stock.Stock.{Stock}
 use Rattle.sctp_send.specs.declared.kept.entry.Entry.{Entry as EntryFields}
 use Rattle.sctp_send.specs.declared.kept.entry.Standing.TheVariants.{Sent}
 use Rattle.sctp_send.specs.declared.kept.message.Message.{Message as MessageFields}
@@ -25,30 +25,30 @@ use Rattle.sctp_send.proofs.told.Told.begin.Goals as goal
 pub leave_rest-requires-clause-stream : goal.leave_rest-requires-clause-stream
 leave_rest-requires-clause-stream c =
     let same = c.room_to_begin.ensures.same in
-    let old = c.args.draft.now in
+    let old = c.args.stock.now in
     let x = c.in-Some.message in
-    let ts = c.room_to_begin.new.draft.streams.items in
-    let read = c.in-Some.ensures.message.1 ∙ ap (λ (d : Draft). get_or d.queue.items c.args.next.place x) same in
+    let ts = c.room_to_begin.new.stock.streams.items in
+    let read = c.in-Some.ensures.message.1 ∙ ap (λ (d : Stock). get_or d.queue.items c.args.next.place x) same in
     let low = c.requires.stream x read in
     let stream = ap (λ (m : MessageFields). m.stream) c.deref.ensures in
     let many = (c.number_one-number.result + 1) % 2 ^ 64 in
     let wide = ap (λ (w : StreamsKept). length w.items) c.number_one-number.ensures.counted ∙ long_stays many c.deref.result.now.stream c.deref-2.result.now.kind ts in
-    let long = ap (λ (d : Draft). length d.streams.items) same in
+    let long = ap (λ (d : Stock). length d.streams.items) same in
     omega (arith, low, stream, wide, long)
 
 pub returns-clause-kept : goal.returns-clause-kept
 returns-clause-kept c = λ m is small.
     let s = bare c.args.self.now in
-    let old = c.args.draft.now in
-    let room = c.room_to_begin.new.draft in
+    let old = c.args.stock.now in
+    let room = c.room_to_begin.new.stock in
     let same = c.room_to_begin.ensures.same in
     let place = c.args.next.place in
     let count = c.args.next.count in
     let size = s.fragment in
     let x = c.in-Some.message in
     let lowR = c.in-Some.ensures.message.0 in
-    let queue = ap (λ (d : Draft). d.queue) same in
-    let tracks = ap (λ (d : Draft). d.streams) same in
+    let queue = ap (λ (d : Stock). d.queue) same in
+    let tracks = ap (λ (d : Stock). d.streams) same in
     let low : place < length old.queue.items = subst (λ (w : QueueKept). place < length w.items) queue lowR in
     let read : x ≡ get_or old.queue.items place x = c.in-Some.ensures.message.1 ∙ ap (λ (w : QueueKept). get_or w.items place x) queue in
     let own : m ≡ x = is ∙ any_default old.queue.items place m x low ∙ sym read in
@@ -77,15 +77,15 @@ returns-clause-kept c = λ m is small.
     ap (λ (w : StreamsKept). w.items) c.number_one-number.ensures.counted ∙ ap (λ (w : StreamsKept). changed_at (counted_to c.deref-2.result.now.kind many) c.deref.result.now.stream w.items) tracks in
     let streams = entered_tracks size n many x.value c.deref.result.now c.deref-2.result.now old.streams.items c.number_one-number.new.streams.items c.leave_rest.new.streams.items c.args.rest c.deref.ensures c.deref-2.ensures
     (c.requires.stream x read) counted (omega (arith, few, number)) number (c.leave_rest.ensures.items size) in
-    let d : Draft = record { outstanding = c.push_further.new.outstanding; queue = c.remove.new.self; streams = c.leave_rest.new.streams; turn = c.args.next.turn; tickets = c.tell.new.tickets; log = c.leave_rest.new.log } in
-    subst (λ (y : Arc MessageFields Global). OnOk c.push_further.result (drafted s d ≡ begun (drafted s old) (queued_meaning size y.value) place count c.args.next.turn c.push_further.new.outstanding.capacity)) (sym own)
+    let d : Stock = record { outstanding = c.push_further.new.outstanding; queue = c.remove.new.self; streams = c.leave_rest.new.streams; turn = c.args.next.turn; tickets = c.tell.new.tickets; log = c.leave_rest.new.log } in
+    subst (λ (y : Arc MessageFields Global). OnOk c.push_further.result (stocked s d ≡ begun (stocked s old) (queued_meaning size y.value) place count c.args.next.turn c.push_further.new.outstanding.capacity)) (sym own)
     (on_ok _ _ c.push_further.result (λ all. begun_is s old d x.value place count n c.args.next.turn left all waits streams rest told refl number)
     (c.push_further.ensures.items size (map (item_meaning size) old.outstanding.items) e there items))
 
 pub returns-clause-behind : goal.returns-clause-behind
 returns-clause-behind c =
-    let old = c.args.draft.now in
-    let room = c.room_to_begin.new.draft in
+    let old = c.args.stock.now in
+    let room = c.room_to_begin.new.stock in
     let same = c.room_to_begin.ensures.same in
     let place = c.args.next.place in
     let x = c.in-Some.message in
@@ -93,8 +93,8 @@ returns-clause-behind c =
     let e = fragment_entry x n 0 Sent in
     let lowR = c.in-Some.ensures.message.0 in
     let removed = c.remove.ensures.some lowR in
-    let queue = ap (λ (d : Draft). d.queue) same in
-    let tracks = ap (λ (d : Draft). d.streams) same in
+    let queue = ap (λ (d : Stock). d.queue) same in
+    let tracks = ap (λ (d : Stock). d.streams) same in
     let before = c.push_further.ensures.before in
     let first : c.push_first.new.outstanding.items ≡ old.outstanding.items ++ e ∷ [] =
     ap (λ (w : OutstandingKept). w.items) c.push_first.ensures ∙ ap (λ (es : List EntryFields). es ++ e ∷ []) c.room_to_begin.ensures.items in
@@ -103,7 +103,7 @@ returns-clause-behind c =
     let from : c.len-from.result ≡ length old.outstanding.items = c.len-from.ensures ∙ ap (λ (es : List EntryFields). length es) c.room_to_begin.ensures.items in
     let noted : c.note.new.log.items ≡ old.log.items ++ Begun place (length old.outstanding.items) old.turn ∷ [] =
     c.note.ensures.items ∙ ap (λ (cs : List Change). cs ++ Begun place c.len-from.result room.turn ∷ []) c.room_to_begin.ensures.log
-    ∙ ap (λ (j : ℕ). old.log.items ++ Begun place j room.turn ∷ []) from ∙ ap (λ (d : Draft). old.log.items ++ Begun place (length old.outstanding.items) d.turn ∷ []) same in
+    ∙ ap (λ (j : ℕ). old.log.items ++ Begun place j room.turn ∷ []) from ∙ ap (λ (d : Stock). old.log.items ++ Begun place (length old.outstanding.items) d.turn ∷ []) same in
     let back : changed_at (counted_to x.value.kind n) x.value.stream c.number_one-number.new.streams.items ≡ old.streams.items =
     ap (λ (m : MessageFields). changed_at (counted_to m.kind n) x.value.stream c.number_one-number.new.streams.items) (sym c.deref-2.ensures)
     ∙ ap (λ (m : MessageFields). changed_at (counted_to c.deref-2.result.now.kind n) m.stream c.number_one-number.new.streams.items) (sym c.deref.ensures)

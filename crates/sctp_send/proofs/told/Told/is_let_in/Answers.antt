@@ -3,7 +3,7 @@ use Rattle.sctp_model.specs.messages.Plan.{Part}
 use Rattle.sctp_packet.specs.Draft.{has_room}
 use Rattle.sctp_send.specs.OutstandingFields.{lane_meaning, message_meaning}
 use Rattle.sctp_send.specs.inner.Wishing.{lets_flow}
-use Rattle.sctp_send.specs.inner.Drafting.{bare, said_chunk}
+use Rattle.sctp_send.specs.inner.Stocking.{bare, said_chunk}
 use Rattle.sctp_send.proofs.fill.NewMayLemmas.{length_read, both_pass, first_fails}
 use Rattle.sctp_send.proofs.told.Told.is_let_in.Goals as goal
 

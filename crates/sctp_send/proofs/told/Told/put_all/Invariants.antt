@@ -1,6 +1,6 @@
 use Rattle.sctp_send.proofs.fill.FilledLemmas.{IsFilledSoFar}
-use Rattle.sctp_send.specs.inner.Drafting.{bare}
+use Rattle.sctp_send.specs.inner.Stocking.{bare}
 use Rattle.sctp_send.proofs.told.Told.put_all.Given as goal
 
 abbrev pub invariant-loop : goal.invariant-loop
-invariant-loop g l = IsFilledSoFar g.F.Framing.format (bare l.self) l.initial.packet l.packet l.initial.draft l.draft l.counter
+invariant-loop g l = IsFilledSoFar g.F.Framing.format (bare l.self) l.initial.packet l.packet l.initial.stock l.stock l.counter

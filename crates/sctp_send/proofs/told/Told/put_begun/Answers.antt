@@ -7,7 +7,7 @@ use Rattle.sctp_send.specs.OutstandingFields.{lane_meaning, message_meaning}
 use Rattle.sctp_values.specs.Meanings.{kind_meaning}
 use Rattle.sctp_send.specs.SenderFields.{latest_in, rests_meaning, track_meaning}
 use Rattle.sctp_send.specs.inner.Newcomers.{number_on}
-use Rattle.sctp_send.specs.inner.Drafting.{bare, drafted, let_in, rest_from, IsRefused}
+use Rattle.sctp_send.specs.inner.Stocking.{bare, stocked, let_in, rest_from, IsRefused}
 use Rattle.sctp_send.specs.declared.kept.message.Message.{Message as MessageFields}
 use Rattle.sctp_send.proofs.kept.SeatLemmas.{any_default}
 use Rattle.sctp_send.proofs.fill.NewMayLemmas.{left_over, of_ok, on_err, of_err, no_item}
@@ -17,7 +17,7 @@ use Rattle.sctp_send.proofs.told.Told.put_begun.Goals as goal
 pub begin-requires-clause-stream : goal.begin-requires-clause-stream
 begin-requires-clause-stream g c = λ m read.
     let x = c.get-message.result.now in
-    let same = read ∙ any_default c.args.draft.now.queue.items c.args.next.place m x c.requires.place ∙ sym c.get-message.ensures in
+    let same = read ∙ any_default c.args.stock.now.queue.items c.args.next.place m x c.requires.place ∙ sym c.get-message.ensures in
     let stream = ap (λ (y : Arc MessageFields Global). y.value.stream) same in
     let first = c.from.ensures ∙ ap (λ (y : MessageFields). y.stream) c.deref.ensures in
     let wide = ap length c.tracks.ensures in
@@ -27,10 +27,10 @@ pub returns-then-from-tracks-clause-put : goal.returns-then-from-tracks-clause-p
 returns-then-from-tracks-clause-put g c = λ v k stands next flying.
     let f = g.F.Framing.format in
     let s = bare c.args.self.now in
-    let d = c.args.draft.now in
+    let d = c.args.stock.now in
     let p = c.args.packet.now in
     let m = c.get-message.result.now.value in
-    let number = number_on (drafted s d).tracks (lane_meaning m) in
+    let number = number_on (stocked s d).tracks (lane_meaning m) in
     let mine = begun_message f s v d c.args.next.place c.args.next.count c.args.next.turn c.get-message.result.now k next c.get-message.ensures in
     let there = begun_there f s v d m c.args.next.place c.args.next.count c.args.next.turn k next mine in
     let stream = c.from.ensures ∙ ap (λ (y : MessageFields). y.stream) c.deref.ensures in
@@ -41,10 +41,10 @@ pub returns-then-not-has_window-clause-put : goal.returns-then-not-has_window-cl
 returns-then-not-has_window-clause-put g c = λ v k stands next flying.
     let f = g.F.Framing.format in
     let s = bare c.args.self.now in
-    let d = c.args.draft.now in
+    let d = c.args.stock.now in
     let p = c.args.packet.now in
     let m = c.get-message.result.now.value in
-    let number = number_on (drafted s d).tracks (lane_meaning m) in
+    let number = number_on (stocked s d).tracks (lane_meaning m) in
     let mine = begun_message f s v d c.args.next.place c.args.next.count c.args.next.turn c.get-message.result.now k next c.get-message.ensures in
     let more = left_over c.args.next.count c.args.self.now.fragment s.fragment c.fragments_of.result c.deref-3.result.now m c.deref-2.result.now c.fragments_of.ensures refl c.deref-3.ensures.value c.deref-2.ensures in
     let left = nat_lt c.args.next.count c.fragments_of.result in
@@ -55,10 +55,10 @@ pub returns-then-not-is_let_in-clause-put : goal.returns-then-not-is_let_in-clau
 returns-then-not-is_let_in-clause-put g c = λ v k stands next flying.
     let f = g.F.Framing.format in
     let s = bare c.args.self.now in
-    let d = c.args.draft.now in
+    let d = c.args.stock.now in
     let p = c.args.packet.now in
     let m = c.get-message.result.now.value in
-    let number = number_on (drafted s d).tracks (lane_meaning m) in
+    let number = number_on (stocked s d).tracks (lane_meaning m) in
     let mine = begun_message f s v d c.args.next.place c.args.next.count c.args.next.turn c.get-message.result.now k next c.get-message.ensures in
     let i = suc (s.cum + length d.outstanding.items) in
     let on = sym (c.is_let_in.ensures number i ∙ ap (λ (n : ℕ). let_in f n s i p (Part (lane_meaning m) number 0) (Some (message_meaning s.fragment m))) flying) ∙ c.if-not-is_let_in.true in
@@ -68,7 +68,7 @@ pub begin-requires-clause-rest : goal.begin-requires-clause-rest
 begin-requires-clause-rest g c = λ m t read.
     let size = c.args.self.now.fragment in
     let x = c.get-message.result.now in
-    let same = read ∙ any_default c.args.draft.now.queue.items c.args.next.place m x c.requires.place ∙ sym c.get-message.ensures in
+    let same = read ∙ any_default c.args.stock.now.queue.items c.args.next.place m x c.requires.place ∙ sym c.get-message.ensures in
     let more = left_over c.args.next.count size size c.fragments_of.result c.deref-3.result.now x.value c.deref-2.result.now c.fragments_of.ensures refl c.deref-3.ensures.value c.deref-2.ensures in
     subst (λ (y : Arc MessageFields Global). rests_meaning size t c.in_ok-rest.rest ≡ rest_from size y.value (latest_in (kind_meaning y.value.kind) t) c.args.next.count) (sym same) (c.in_ok-rest.ensures size t more)
 
@@ -76,10 +76,10 @@ pub returns-in_err-rest-clause-refused : goal.returns-in_err-rest-clause-refused
 returns-in_err-rest-clause-refused g c = λ v k stands next flying.
     let f = g.F.Framing.format in
     let s = bare c.args.self.now in
-    let d = c.args.draft.now in
+    let d = c.args.stock.now in
     let p = c.args.packet.now in
     let m = c.get-message.result.now.value in
-    let number = number_on (drafted s d).tracks (lane_meaning m) in
+    let number = number_on (stocked s d).tracks (lane_meaning m) in
     let mine = begun_message f s v d c.args.next.place c.args.next.count c.args.next.turn c.get-message.result.now k next c.get-message.ensures in
     let more = left_over c.args.next.count c.args.self.now.fragment s.fragment c.fragments_of.result c.deref-3.result.now m c.deref-2.result.now c.fragments_of.ensures refl c.deref-3.ensures.value c.deref-2.ensures in
     let left = nat_lt c.args.next.count c.fragments_of.result in
@@ -92,10 +92,10 @@ pub returns-in_err-begin-clause-refused : goal.returns-in_err-begin-clause-refus
 returns-in_err-begin-clause-refused g c = λ v k stands next flying.
     let f = g.F.Framing.format in
     let s = bare c.args.self.now in
-    let d = c.args.draft.now in
+    let d = c.args.stock.now in
     let p = c.args.packet.now in
     let m = c.get-message.result.now.value in
-    let number = number_on (drafted s d).tracks (lane_meaning m) in
+    let number = number_on (stocked s d).tracks (lane_meaning m) in
     let mine = begun_message f s v d c.args.next.place c.args.next.count c.args.next.turn c.get-message.result.now k next c.get-message.ensures in
     let more = left_over c.args.next.count c.args.self.now.fragment s.fragment c.fragments_of.result c.deref-3.result.now m c.deref-2.result.now c.fragments_of.ensures refl c.deref-3.ensures.value c.deref-2.ensures in
     let left = nat_lt c.args.next.count c.fragments_of.result in
@@ -108,10 +108,10 @@ pub returns-clause-put : goal.returns-clause-put
 returns-clause-put g c = λ v k stands next flying.
     let f = g.F.Framing.format in
     let s = bare c.args.self.now in
-    let d = c.args.draft.now in
+    let d = c.args.stock.now in
     let p = c.args.packet.now in
     let m = c.get-message.result.now.value in
-    let number = number_on (drafted s d).tracks (lane_meaning m) in
+    let number = number_on (stocked s d).tracks (lane_meaning m) in
     let mine = begun_message f s v d c.args.next.place c.args.next.count c.args.next.turn c.get-message.result.now k next c.get-message.ensures in
     let more = left_over c.args.next.count c.args.self.now.fragment s.fragment c.fragments_of.result c.deref-3.result.now m c.deref-2.result.now c.fragments_of.ensures refl c.deref-3.ensures.value c.deref-2.ensures in
     let left = nat_lt c.args.next.count c.fragments_of.result in
@@ -120,7 +120,7 @@ returns-clause-put g c = λ v k stands next flying.
     let on = sym (c.is_let_in.ensures number i ∙ ap (λ (n : ℕ). let_in f n s i p (Part (lane_meaning m) number 0) (Some (message_meaning s.fragment m))) flying) ∙ c.if-not-is_let_in.false in
     let x = c.get-message.result.now in
     let few = begun_few f s v d m c.args.next.place c.args.next.count c.args.next.turn number k stands next mine refl in
-    let new = c.begin.new.draft in
+    let new = c.begin.new.stock in
     of_ok _ _ c.put_at.result
     (λ put tried. begun_put f s v d m c.args.next.place c.args.next.count c.args.next.turn number k stands next mine refl p c.put_at.new.packet new left c.len-at.result new.outstanding.capacity no_item put more window on c.len-at.ensures (c.in_ok-begin.ensures.kept x c.get-message.ensures few) c.in_ok-begin.ensures.room (c.in_ok-begin.ensures.told x c.get-message.ensures) tried)
     (c.put_at.ensures.tried no_item)
@@ -129,10 +129,10 @@ pub returns-clause-refused : goal.returns-clause-refused
 returns-clause-refused g c = λ v k stands next flying.
     let f = g.F.Framing.format in
     let s = bare c.args.self.now in
-    let d = c.args.draft.now in
+    let d = c.args.stock.now in
     let p = c.args.packet.now in
     let m = c.get-message.result.now.value in
-    let number = number_on (drafted s d).tracks (lane_meaning m) in
+    let number = number_on (stocked s d).tracks (lane_meaning m) in
     let mine = begun_message f s v d c.args.next.place c.args.next.count c.args.next.turn c.get-message.result.now k next c.get-message.ensures in
     let more = left_over c.args.next.count c.args.self.now.fragment s.fragment c.fragments_of.result c.deref-3.result.now m c.deref-2.result.now c.fragments_of.ensures refl c.deref-3.ensures.value c.deref-2.ensures in
     let left = nat_lt c.args.next.count c.fragments_of.result in

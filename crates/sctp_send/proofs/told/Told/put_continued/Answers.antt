@@ -5,7 +5,7 @@ use Rattle.sctp_send.specs.SenderKept.{Rest}
 use Rattle.sctp_send.specs.OutstandingFields.{lane_meaning, message_meaning}
 use Rattle.sctp_send.specs.SenderFields.{number_left, track_meaning, rest_meaning}
 use Rattle.sctp_send.specs.inner.Newcomers.{rest_at, track_of, gone_on}
-use Rattle.sctp_send.specs.inner.Drafting.{bare, drafted, let_in, IsRefused}
+use Rattle.sctp_send.specs.inner.Stocking.{bare, stocked, let_in, IsRefused}
 use Rattle.sctp_send.specs.declared.kept.message.Message.{Message as MessageFields}
 use Rattle.sctp_send.specs.declared.kept.track.Track.{Track as TrackFields}
 use Rattle.sctp_send.proofs.fill.NewMayLemmas.{more_read, of_ok, on_err, of_err, no_item}
@@ -15,14 +15,14 @@ use Rattle.sctp_send.proofs.told.Told.put_continued.Goals as goal
 pub returns-in_default-clause-put : goal.returns-in_default-clause-put
 returns-in_default-clause-put g c = λ v k stands next flying.
     let n = c.args.self.now.fragment in
-    absurd (never_ended g.F.Framing.format (bare c.args.self.now) v c.args.draft.now c.args.stream k next
+    absurd (never_ended g.F.Framing.format (bare c.args.self.now) v c.args.stock.now c.args.stream k next
     (c.in_default.ensures.rest n ∙ ap (λ (ts : List TrackFields). rest_at (map (track_meaning n) ts) c.args.stream) c.tracks.ensures))
 
 pub returns-then-not-has_window-clause-put : goal.returns-then-not-has_window-clause-put
 returns-then-not-has_window-clause-put g c = λ v k stands next flying.
     let f = g.F.Framing.format in
     let s = bare c.args.self.now in
-    let d = c.args.draft.now in
+    let d = c.args.stock.now in
     let p = c.args.packet.now in
     let r = c.in-Some.rest.now in
     let t = track_of (map (track_meaning s.fragment) d.streams.items) c.args.stream in
@@ -38,7 +38,7 @@ pub returns-then-not-is_let_in-clause-put : goal.returns-then-not-is_let_in-clau
 returns-then-not-is_let_in-clause-put g c = λ v k stands next flying.
     let f = g.F.Framing.format in
     let s = bare c.args.self.now in
-    let d = c.args.draft.now in
+    let d = c.args.stock.now in
     let p = c.args.packet.now in
     let r = c.in-Some.rest.now in
     let t = track_of (map (track_meaning s.fragment) d.streams.items) c.args.stream in
@@ -52,7 +52,7 @@ pub returns-in_err-rest-clause-refused : goal.returns-in_err-rest-clause-refused
 returns-in_err-rest-clause-refused g c = λ v k stands next flying.
     let f = g.F.Framing.format in
     let s = bare c.args.self.now in
-    let d = c.args.draft.now in
+    let d = c.args.stock.now in
     let p = c.args.packet.now in
     let r = c.in-Some.rest.now in
     let t = track_of (map (track_meaning s.fragment) d.streams.items) c.args.stream in
@@ -71,7 +71,7 @@ pub returns-in_err-go_on-clause-refused : goal.returns-in_err-go_on-clause-refus
 returns-in_err-go_on-clause-refused g c = λ v k stands next flying.
     let f = g.F.Framing.format in
     let s = bare c.args.self.now in
-    let d = c.args.draft.now in
+    let d = c.args.stock.now in
     let p = c.args.packet.now in
     let r = c.in-Some.rest.now in
     let t = track_of (map (track_meaning s.fragment) d.streams.items) c.args.stream in
@@ -90,7 +90,7 @@ pub returns-clause-put : goal.returns-clause-put
 returns-clause-put g c = λ v k stands next flying.
     let f = g.F.Framing.format in
     let s = bare c.args.self.now in
-    let d = c.args.draft.now in
+    let d = c.args.stock.now in
     let p = c.args.packet.now in
     let r = c.in-Some.rest.now in
     let t = track_of (map (track_meaning s.fragment) d.streams.items) c.args.stream in
@@ -104,9 +104,9 @@ returns-clause-put g c = λ v k stands next flying.
     let e = Part (lane_meaning r.message.value) (number_left t r) r.fragment in
     let on = sym (c.is_let_in.ensures (number_left t r) i ∙ ap (λ (n : ℕ). let_in f n s i p e (Some (message_meaning s.fragment r.message.value))) flying) ∙ c.if-not-is_let_in.false in
     let small = subst (λ (n : ℕ). suc n < 2 ^ 32) (sym c.in_ok-rest.ensures.fragment) few in
-    let new = c.go_on.new.draft in
+    let new = c.go_on.new.stock in
     let kept = c.in_ok-go_on.ensures.kept small
-    ∙ ap (λ (x : Rest). gone_on (drafted s d) x c.args.stream (suc c.args.stream % s.streams) new.outstanding.capacity) (c.in_ok-rest.ensures.same s.fragment t) in
+    ∙ ap (λ (x : Rest). gone_on (stocked s d) x c.args.stream (suc c.args.stream % s.streams) new.outstanding.capacity) (c.in_ok-rest.ensures.same s.fragment t) in
     of_ok _ _ c.put_at.result
     (λ put tried. continued_put f s v d t r c.args.stream k stands next its p c.put_at.new.packet new left c.len-at.result new.outstanding.capacity no_item put more window on c.len-at.ensures kept c.in_ok-go_on.ensures.room c.in_ok-go_on.ensures.told tried)
     (c.put_at.ensures.tried no_item)
@@ -115,7 +115,7 @@ pub returns-clause-refused : goal.returns-clause-refused
 returns-clause-refused g c = λ v k stands next flying.
     let f = g.F.Framing.format in
     let s = bare c.args.self.now in
-    let d = c.args.draft.now in
+    let d = c.args.stock.now in
     let p = c.args.packet.now in
     let r = c.in-Some.rest.now in
     let t = track_of (map (track_meaning s.fragment) d.streams.items) c.args.stream in

@@ -3,7 +3,7 @@ use Rattle.std.specs.Prelude.{option_map}
 use Rattle.sctp_model.specs.sender.Filling.{newcomer}
 use Rattle.sctp_model.proofs.sender.FillLaws.{goes_none}
 use Rattle.sctp_packet.specs.Draft.{room_in}
-use Rattle.sctp_send.specs.inner.Drafting.{bare, NewAnswer}
+use Rattle.sctp_send.specs.inner.Stocking.{bare, NewAnswer}
 use Rattle.sctp_send.specs.declared.fill.assigning.Next.{Next}
 use Rattle.sctp_send.proofs.told.Told.put_new.Goals as goal
 

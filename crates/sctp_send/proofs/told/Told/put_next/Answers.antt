@@ -3,7 +3,7 @@ use Rattle.std.specs.Prelude.{IfOk, OnErr}
 use Rattle.sctp_send.specs.SenderStands.{Keeps}
 use Rattle.sctp_send.specs.PartsKept.{OutstandingKept}
 use Rattle.sctp_send.specs.inner.Wishing.{is_item_marked, is_item_unsent}
-use Rattle.sctp_send.specs.inner.Drafting.{bare, drafted, PutAnswer, IsRefused, IsNextEntry, IsNextUnsent, IsFlying, NothingStands}
+use Rattle.sctp_send.specs.inner.Stocking.{bare, stocked, PutAnswer, IsRefused, IsNextEntry, IsNextUnsent, IsFlying, NothingStands}
 use Rattle.sctp_send.specs.inner.Undoing.{IsBehind}
 use Rattle.sctp_send.proofs.fill.NewMayLemmas.{flying_is, no_item}
 use Rattle.sctp_send.proofs.fill.PutLemmas.{searched, marked_next, unsent_next, nothing_stands}
@@ -13,11 +13,11 @@ pub returns-in-Some-clause-put : goal.returns-in-Some-clause-put
 returns-in-Some-clause-put g c = λ v keeps.
     let f = g.F.Framing.format in
     let s = bare c.args.self.now in
-    let d = c.args.draft.now in
+    let d = c.args.stock.now in
     let at = c.in-Some.at in
     let found = searched s d d.outstanding is_item_marked (Some at) refl c.requires.window c.in-Some.ensures.first in
-    let next = (marked_next f (drafted s d) v at no_item keeps found).1 in
-    let put = subst (λ (w : OutstandingKept). Keeps f (drafted s (record d { outstanding = w })) v → IsNextEntry f v at → IfOk c.put_entry.result (λ put. PutAnswer f s v c.args.packet.now c.put_entry.new.packet (record d { outstanding = w }) c.put_entry.new.draft put))
+    let next = (marked_next f (stocked s d) v at no_item keeps found).1 in
+    let put = subst (λ (w : OutstandingKept). Keeps f (stocked s (record d { outstanding = w })) v → IsNextEntry f v at → IfOk c.put_entry.result (λ put. PutAnswer f s v c.args.packet.now c.put_entry.new.packet (record d { outstanding = w }) c.put_entry.new.stock put))
     c.first_marked.ensures.same (c.put_entry.ensures.put v) in
     put keeps next
 
@@ -25,30 +25,30 @@ pub returns-in-Some-clause-refused : goal.returns-in-Some-clause-refused
 returns-in-Some-clause-refused g c = λ v keeps.
     let f = g.F.Framing.format in
     let s = bare c.args.self.now in
-    let d = c.args.draft.now in
+    let d = c.args.stock.now in
     let at = c.in-Some.at in
     let found = searched s d d.outstanding is_item_marked (Some at) refl c.requires.window c.in-Some.ensures.first in
-    let next = (marked_next f (drafted s d) v at no_item keeps found).1 in
-    let refused = subst (λ (w : OutstandingKept). Keeps f (drafted s (record d { outstanding = w })) v → IsNextEntry f v at → OnErr c.put_entry.result (IsRefused f v c.args.packet.now c.put_entry.new.packet))
+    let next = (marked_next f (stocked s d) v at no_item keeps found).1 in
+    let refused = subst (λ (w : OutstandingKept). Keeps f (stocked s (record d { outstanding = w })) v → IsNextEntry f v at → OnErr c.put_entry.result (IsRefused f v c.args.packet.now c.put_entry.new.packet))
     c.first_marked.ensures.same (c.put_entry.ensures.refused v) in
     refused keeps next
 
 pub returns-in-Some-clause-behind : goal.returns-in-Some-clause-behind
-returns-in-Some-clause-behind g c = subst (λ (w : OutstandingKept). IsBehind (record c.args.draft.now { outstanding = w }) c.put_entry.new.draft) c.first_marked.ensures.same c.put_entry.ensures.behind
+returns-in-Some-clause-behind g c = subst (λ (w : OutstandingKept). IsBehind (record c.args.stock.now { outstanding = w }) c.put_entry.new.stock) c.first_marked.ensures.same c.put_entry.ensures.behind
 
 pub returns-in-Some-first_unsent-clause-put : goal.returns-in-Some-first_unsent-clause-put
 returns-in-Some-first_unsent-clause-put g c = λ v keeps.
     let f = g.F.Framing.format in
     let s = bare c.args.self.now in
-    let d = c.args.draft.now in
+    let d = c.args.stock.now in
     let first = c.first_marked.ensures.same in
     let at = c.in-Some-first_unsent.at in
     let nomark = searched s d d.outstanding is_item_marked None refl c.requires.window c.in_default.ensures.first in
     let found = searched s d c.first_marked.new.self is_item_unsent (Some at) first c.requires.window c.in-Some-first_unsent.ensures.first in
-    let next = (unsent_next f (drafted s d) v at no_item keeps nomark found).1 in
+    let next = (unsent_next f (stocked s d) v at no_item keeps nomark found).1 in
     let flying = flying_is f s v d c.first_marked.new.self c.flight-flying.result keeps first c.requires.window c.flight-flying.ensures.flight c.flight-flying.ensures.bound in
-    let put = subst (λ (w : OutstandingKept). Keeps f (drafted s (record d { outstanding = w })) v → IsNextUnsent f v at → IsFlying s (record d { outstanding = w }) c.flight-flying.result
-    → IfOk c.put_unsent.result (λ put. PutAnswer f s v c.args.packet.now c.put_unsent.new.packet (record d { outstanding = w }) c.put_unsent.new.draft put))
+    let put = subst (λ (w : OutstandingKept). Keeps f (stocked s (record d { outstanding = w })) v → IsNextUnsent f v at → IsFlying s (record d { outstanding = w }) c.flight-flying.result
+    → IfOk c.put_unsent.result (λ put. PutAnswer f s v c.args.packet.now c.put_unsent.new.packet (record d { outstanding = w }) c.put_unsent.new.stock put))
     (c.first_unsent.ensures.same ∙ first) (c.put_unsent.ensures.put v) in
     put keeps next flying
 
@@ -56,49 +56,49 @@ pub returns-in-Some-first_unsent-clause-refused : goal.returns-in-Some-first_uns
 returns-in-Some-first_unsent-clause-refused g c = λ v keeps.
     let f = g.F.Framing.format in
     let s = bare c.args.self.now in
-    let d = c.args.draft.now in
+    let d = c.args.stock.now in
     let first = c.first_marked.ensures.same in
     let at = c.in-Some-first_unsent.at in
     let nomark = searched s d d.outstanding is_item_marked None refl c.requires.window c.in_default.ensures.first in
     let found = searched s d c.first_marked.new.self is_item_unsent (Some at) first c.requires.window c.in-Some-first_unsent.ensures.first in
-    let next = (unsent_next f (drafted s d) v at no_item keeps nomark found).1 in
+    let next = (unsent_next f (stocked s d) v at no_item keeps nomark found).1 in
     let flying = flying_is f s v d c.first_marked.new.self c.flight-flying.result keeps first c.requires.window c.flight-flying.ensures.flight c.flight-flying.ensures.bound in
-    let refused = subst (λ (w : OutstandingKept). Keeps f (drafted s (record d { outstanding = w })) v → IsNextUnsent f v at → IsFlying s (record d { outstanding = w }) c.flight-flying.result
+    let refused = subst (λ (w : OutstandingKept). Keeps f (stocked s (record d { outstanding = w })) v → IsNextUnsent f v at → IsFlying s (record d { outstanding = w }) c.flight-flying.result
     → OnErr c.put_unsent.result (IsRefused f v c.args.packet.now c.put_unsent.new.packet))
     (c.first_unsent.ensures.same ∙ first) (c.put_unsent.ensures.refused v) in
     refused keeps next flying
 
 pub returns-in-Some-first_unsent-clause-behind : goal.returns-in-Some-first_unsent-clause-behind
 returns-in-Some-first_unsent-clause-behind g c =
-    subst (λ (w : OutstandingKept). IsBehind (record c.args.draft.now { outstanding = w }) c.put_unsent.new.draft) (c.first_unsent.ensures.same ∙ c.first_marked.ensures.same) c.put_unsent.ensures.behind
+    subst (λ (w : OutstandingKept). IsBehind (record c.args.stock.now { outstanding = w }) c.put_unsent.new.stock) (c.first_unsent.ensures.same ∙ c.first_marked.ensures.same) c.put_unsent.ensures.behind
 
 pub returns-clause-put : goal.returns-clause-put
 returns-clause-put g c = λ v keeps.
     let f = g.F.Framing.format in
     let s = bare c.args.self.now in
-    let d = c.args.draft.now in
+    let d = c.args.stock.now in
     let first = c.first_marked.ensures.same in
     let nomark = searched s d d.outstanding is_item_marked None refl c.requires.window c.in_default.ensures.first in
     let none = searched s d c.first_marked.new.self is_item_unsent None first c.requires.window c.in_default-first_unsent.ensures.first in
     let flying = flying_is f s v d c.first_marked.new.self c.flight-flying.result keeps first c.requires.window c.flight-flying.ensures.flight c.flight-flying.ensures.bound in
-    let put = subst (λ (w : OutstandingKept). Keeps f (drafted s (record d { outstanding = w })) v → NothingStands f v → IsFlying s (record d { outstanding = w }) c.flight-flying.result
-    → IfOk c.put_new.result (λ put. PutAnswer f s v c.args.packet.now c.put_new.new.packet (record d { outstanding = w }) c.put_new.new.draft put))
+    let put = subst (λ (w : OutstandingKept). Keeps f (stocked s (record d { outstanding = w })) v → NothingStands f v → IsFlying s (record d { outstanding = w }) c.flight-flying.result
+    → IfOk c.put_new.result (λ put. PutAnswer f s v c.args.packet.now c.put_new.new.packet (record d { outstanding = w }) c.put_new.new.stock put))
     (c.first_unsent.ensures.same ∙ first) (c.put_new.ensures.put v) in
-    put keeps (nothing_stands f (drafted s d) v keeps nomark none) flying
+    put keeps (nothing_stands f (stocked s d) v keeps nomark none) flying
 
 pub returns-clause-refused : goal.returns-clause-refused
 returns-clause-refused g c = λ v keeps.
     let f = g.F.Framing.format in
     let s = bare c.args.self.now in
-    let d = c.args.draft.now in
+    let d = c.args.stock.now in
     let first = c.first_marked.ensures.same in
     let nomark = searched s d d.outstanding is_item_marked None refl c.requires.window c.in_default.ensures.first in
     let none = searched s d c.first_marked.new.self is_item_unsent None first c.requires.window c.in_default-first_unsent.ensures.first in
     let flying = flying_is f s v d c.first_marked.new.self c.flight-flying.result keeps first c.requires.window c.flight-flying.ensures.flight c.flight-flying.ensures.bound in
-    let refused = subst (λ (w : OutstandingKept). Keeps f (drafted s (record d { outstanding = w })) v → NothingStands f v → IsFlying s (record d { outstanding = w }) c.flight-flying.result → OnErr c.put_new.result (IsRefused f v c.args.packet.now c.put_new.new.packet))
+    let refused = subst (λ (w : OutstandingKept). Keeps f (stocked s (record d { outstanding = w })) v → NothingStands f v → IsFlying s (record d { outstanding = w }) c.flight-flying.result → OnErr c.put_new.result (IsRefused f v c.args.packet.now c.put_new.new.packet))
     (c.first_unsent.ensures.same ∙ first) (c.put_new.ensures.refused v) in
-    refused keeps (nothing_stands f (drafted s d) v keeps nomark none) flying
+    refused keeps (nothing_stands f (stocked s d) v keeps nomark none) flying
 
 pub returns-clause-behind : goal.returns-clause-behind
 returns-clause-behind g c =
-    subst (λ (w : OutstandingKept). IsBehind (record c.args.draft.now { outstanding = w }) c.put_new.new.draft) (c.first_unsent.ensures.same ∙ c.first_marked.ensures.same) c.put_new.ensures.behind
+    subst (λ (w : OutstandingKept). IsBehind (record c.args.stock.now { outstanding = w }) c.put_new.new.stock) (c.first_unsent.ensures.same ∙ c.first_marked.ensures.same) c.put_new.ensures.behind

@@ -3,32 +3,32 @@ use Rattle.sctp_send.specs.OutstandingFields.{lane_meaning}
 use Rattle.sctp_send.specs.inner.Wishing.{lets_flow}
 use Rattle.sctp_send.proofs.fill.NewMayLemmas.{flow_read}
 use Rattle.sctp_send.proofs.fill.PutLemmas.{unsent_flows, unsent_stops}
-use Rattle.sctp_send.specs.inner.Drafting.{bare}
+use Rattle.sctp_send.specs.inner.Stocking.{bare}
 use Rattle.sctp_send.proofs.told.Told.put_unsent.Goals as goal
 
 pub returns-then-not-may_flow-clause-put : goal.returns-then-not-may_flow-clause-put
 returns-then-not-may_flow-clause-put g c = λ v k premise flying.
     let x = c.get-entry.result.now in
     let s = bare c.args.self.now in
-    let flow = flow_read c.args.self.now.fragment s.fragment c.args.self.now.rwnd s.rwnd c.args.draft.now.outstanding.items c.bytes_of-bytes.result.now (lane_meaning x.message.value) x.number x.content c.deref.result.now x.message.value
+    let flow = flow_read c.args.self.now.fragment s.fragment c.args.self.now.rwnd s.rwnd c.args.stock.now.outstanding.items c.bytes_of-bytes.result.now (lane_meaning x.message.value) x.number x.content c.deref.result.now x.message.value
     refl refl c.deref.ensures (c.bytes_of-bytes.ensures (lane_meaning x.message.value) x.number) in
     let may = c.may_flow.ensures ∙ ap (λ (n : ℕ). lets_flow n (length c.bytes_of-bytes.result.now) c.args.self.now.rwnd) flying in
-    unsent_stops g.F.Framing.format s v c.args.packet.now c.args.packet.now c.args.draft.now c.args.draft.now c.args.at x k premise c.requires.within c.get-entry.ensures (sym flow ∙ sym may ∙ c.if-not-may_flow.true) refl refl refl
+    unsent_stops g.F.Framing.format s v c.args.packet.now c.args.packet.now c.args.stock.now c.args.stock.now c.args.at x k premise c.requires.within c.get-entry.ensures (sym flow ∙ sym may ∙ c.if-not-may_flow.true) refl refl refl
 
 pub returns-clause-put : goal.returns-clause-put
 returns-clause-put g c = λ v k premise flying.
     let x = c.get-entry.result.now in
     let s = bare c.args.self.now in
-    let flow = flow_read c.args.self.now.fragment s.fragment c.args.self.now.rwnd s.rwnd c.args.draft.now.outstanding.items c.bytes_of-bytes.result.now (lane_meaning x.message.value) x.number x.content c.deref.result.now x.message.value
+    let flow = flow_read c.args.self.now.fragment s.fragment c.args.self.now.rwnd s.rwnd c.args.stock.now.outstanding.items c.bytes_of-bytes.result.now (lane_meaning x.message.value) x.number x.content c.deref.result.now x.message.value
     refl refl c.deref.ensures (c.bytes_of-bytes.ensures (lane_meaning x.message.value) x.number) in
     let may = c.may_flow.ensures ∙ ap (λ (n : ℕ). lets_flow n (length c.bytes_of-bytes.result.now) c.args.self.now.rwnd) flying in
-    c.put_entry.ensures.put v k (unsent_flows g.F.Framing.format s v c.args.draft.now c.args.at x k premise c.requires.within c.get-entry.ensures (sym flow ∙ sym may ∙ c.if-not-may_flow.false))
+    c.put_entry.ensures.put v k (unsent_flows g.F.Framing.format s v c.args.stock.now c.args.at x k premise c.requires.within c.get-entry.ensures (sym flow ∙ sym may ∙ c.if-not-may_flow.false))
 
 pub returns-clause-refused : goal.returns-clause-refused
 returns-clause-refused g c = λ v k premise flying.
     let x = c.get-entry.result.now in
     let s = bare c.args.self.now in
-    let flow = flow_read c.args.self.now.fragment s.fragment c.args.self.now.rwnd s.rwnd c.args.draft.now.outstanding.items c.bytes_of-bytes.result.now (lane_meaning x.message.value) x.number x.content c.deref.result.now x.message.value
+    let flow = flow_read c.args.self.now.fragment s.fragment c.args.self.now.rwnd s.rwnd c.args.stock.now.outstanding.items c.bytes_of-bytes.result.now (lane_meaning x.message.value) x.number x.content c.deref.result.now x.message.value
     refl refl c.deref.ensures (c.bytes_of-bytes.ensures (lane_meaning x.message.value) x.number) in
     let may = c.may_flow.ensures ∙ ap (λ (n : ℕ). lets_flow n (length c.bytes_of-bytes.result.now) c.args.self.now.rwnd) flying in
-    c.put_entry.ensures.refused v k (unsent_flows g.F.Framing.format s v c.args.draft.now c.args.at x k premise c.requires.within c.get-entry.ensures (sym flow ∙ sym may ∙ c.if-not-may_flow.false))
+    c.put_entry.ensures.refused v k (unsent_flows g.F.Framing.format s v c.args.stock.now c.args.at x k premise c.requires.within c.get-entry.ensures (sym flow ∙ sym may ∙ c.if-not-may_flow.false))

@@ -1,10 +1,10 @@
-//! What filling a packet changes of a sender: where memory runs out, the changes are taken back.
+//! The stock of a sender, which filling a packet changes: where memory runs out, the changes are taken back.
 
 ghost use Rattle.std.specs.Prelude.{◌≡◌, ℕ, ◌<◌, ◌≤◌, ◌+◌, ◌++◌, ◌∷◌, [], set, length, OnOk};
 ghost use Rattle.std.specs.Vec.{vec_len, vec_capacity};
 ghost use Rattle.sctp_send.specs.PartsKept.{changed_at, changed};
 ghost use Rattle.sctp_send.specs.inner.Undoing.{parts_of, undone, origin, stands_so, waits_again, counted_to, IsKeptRoom};
-ghost use Rattle.sctp_send.specs.declared.draft.Change.TheVariants.{Begun};
+ghost use Rattle.sctp_send.specs.declared.stock.Change.TheVariants.{Begun};
 
 use crate::kept::entry::{Entry, Standing};
 use crate::kept::message::Message;
@@ -15,10 +15,10 @@ use crate::kept::track::Track;
 use sctp_values::{Kind, NoMemory, Ticket};
 use std::sync::Arc;
 
-/// What filling changes: entries, the queue, streams and the turn as in a sender; the messages that took their numbers, in order; and what was
-/// changed, the last change last.
+/// The stock of a sender: entries, the queue, streams and the turn; and of the fill that goes on, the messages that took their numbers, in
+/// order, and what was changed, the last change last.
 #[derive(Drop)]
-pub(crate) struct Draft {
+pub(crate) struct Stock {
     pub(crate) outstanding: Outstanding,
     pub(crate) queue: Queue,
     pub(crate) streams: Streams,
@@ -58,15 +58,15 @@ pub(crate) enum Change {
 const TICKETS: usize = 32;
 
 /// Nothing is noted yet, and nothing is told.
-pub(crate) fn begin_anew(draft: &mut Draft)
-    ensures same { draft.new ≡ record draft.old { tickets = draft.new.tickets; log = draft.new.log } }
-    ensures tickets { draft.new.tickets.items ≡ [] }
-    ensures log { draft.new.log.items ≡ [] }
-    ensures room { length draft.new.queue.items ≤ draft.new.queue.capacity }
+pub(crate) fn begin_anew(stock: &mut Stock)
+    ensures same { stock.new ≡ record stock.old { tickets = stock.new.tickets; log = stock.new.log } }
+    ensures tickets { stock.new.tickets.items ≡ [] }
+    ensures log { stock.new.log.items ≡ [] }
+    ensures room { length stock.new.queue.items ≤ stock.new.queue.capacity }
 {
-    let _waiting = draft.queue.len();
-    draft.tickets.clear();
-    forget_changes(&mut draft.log);
+    let _waiting = stock.queue.len();
+    stock.tickets.clear();
+    forget_changes(&mut stock.log);
 }
 
 /// Nothing is noted any more.
@@ -122,40 +122,40 @@ pub(crate) fn note(log: &mut Vec<Change>, change: Change)
 }
 
 /// All changes are taken back, the last one first.
-pub(crate) fn undo_all(draft: &mut Draft)
-    requires { length (origin draft.old).queue ≤ draft.old.queue.capacity }
-    ensures parts { parts_of draft.new ≡ origin draft.old }
-    ensures tickets { draft.new.tickets.items ≡ [] }
-    ensures room { IsKeptRoom draft.old draft.new }
+pub(crate) fn undo_all(stock: &mut Stock)
+    requires { length (origin stock.old).queue ≤ stock.old.queue.capacity }
+    ensures parts { parts_of stock.new ≡ origin stock.old }
+    ensures tickets { stock.new.tickets.items ≡ [] }
+    ensures room { IsKeptRoom stock.old stock.new }
 {
-    draft.tickets.clear();
-    for _ in 0..draft.log.len() {
-        if let Some(change) = draft.log.pop() {
-            undo(draft, change);
+    stock.tickets.clear();
+    for _ in 0..stock.log.len() {
+        if let Some(change) = stock.log.pop() {
+            undo(stock, change);
         }
     }
 }
 
 /// A change is taken back.
-fn undo(draft: &mut Draft, change: Change)
-    requires { length (undone change (parts_of draft.old)).queue ≤ draft.old.queue.capacity }
-    ensures parts { parts_of draft.new ≡ undone change (parts_of draft.old) }
-    ensures log { draft.new.log ≡ draft.old.log }
-    ensures tickets { draft.new.tickets ≡ draft.old.tickets }
-    ensures room { IsKeptRoom draft.old draft.new }
+fn undo(stock: &mut Stock, change: Change)
+    requires { length (undone change (parts_of stock.old)).queue ≤ stock.old.queue.capacity }
+    ensures parts { parts_of stock.new ≡ undone change (parts_of stock.old) }
+    ensures log { stock.new.log ≡ stock.old.log }
+    ensures tickets { stock.new.tickets ≡ stock.old.tickets }
+    ensures room { IsKeptRoom stock.old stock.new }
 {
     match change {
-        Change::Out { at, standing } => stand_again(&mut draft.outstanding, at, standing),
-        Change::Begun { place, from, turn } => wait_again(draft, place, from, turn),
-        Change::Left { stream, track } => go_on_again(&mut draft.streams, stream, track),
+        Change::Out { at, standing } => stand_again(&mut stock.outstanding, at, standing),
+        Change::Begun { place, from, turn } => wait_again(stock, place, from, turn),
+        Change::Left { stream, track } => go_on_again(&mut stock.streams, stream, track),
         Change::Continued {
             stream,
             track,
             turn,
         } => {
-            let _last = draft.outstanding.pop_back();
-            go_on_again(&mut draft.streams, stream, track);
-            draft.turn = turn;
+            let _last = stock.outstanding.pop_back();
+            go_on_again(&mut stock.streams, stream, track);
+            stock.turn = turn;
         }
     }
 }
@@ -173,26 +173,26 @@ fn stand_again(outstanding: &mut Outstanding, at: usize, standing: Standing)
 }
 
 /// The message whose entries stand from an offset on, where there are such, waits again at its place.
-fn wait_again(draft: &mut Draft, place: usize, from: usize, turn: u16)
-    requires { length (undone (Begun place from turn) (parts_of draft.old)).queue ≤ draft.old.queue.capacity }
-    ensures parts { parts_of draft.new ≡ undone (Begun place from turn) (parts_of draft.old) }
-    ensures log { draft.new.log ≡ draft.old.log }
-    ensures tickets { draft.new.tickets ≡ draft.old.tickets }
-    ensures room { IsKeptRoom draft.old draft.new }
+fn wait_again(stock: &mut Stock, place: usize, from: usize, turn: u16)
+    requires { length (undone (Begun place from turn) (parts_of stock.old)).queue ≤ stock.old.queue.capacity }
+    ensures parts { parts_of stock.new ≡ undone (Begun place from turn) (parts_of stock.old) }
+    ensures log { stock.new.log ≡ stock.old.log }
+    ensures tickets { stock.new.tickets ≡ stock.old.tickets }
+    ensures room { IsKeptRoom stock.old stock.new }
 {
-    if from >= draft.outstanding.len() {
+    if from >= stock.outstanding.len() {
         return;
     }
-    draft.outstanding.truncate(from + 1);
-    if let Some(entry) = draft.outstanding.pop_back() {
+    stock.outstanding.truncate(from + 1);
+    if let Some(entry) = stock.outstanding.pop_back() {
         let Entry {
             message,
             number,
             ..
         } = entry;
-        number_again(&mut draft.streams, message.stream, message.kind, number);
-        queue_again(&mut draft.queue, place, message);
-        draft.turn = turn;
+        number_again(&mut stock.streams, message.stream, message.kind, number);
+        queue_again(&mut stock.queue, place, message);
+        stock.turn = turn;
     }
 }
 

@@ -2,7 +2,7 @@ use Rattle.std.proofs.Common.{List, length, ap, arith}
 use Rattle.sctp_send.specs.inner.Undoing.{counted_to}
 use Rattle.sctp_send.specs.declared.kept.track.Track.{Track}
 use Rattle.sctp_send.proofs.fill.UndoLemmas.{changed_at_past}
-use Rattle.sctp_send.proofs.draft.number_again.Goals as goal
+use Rattle.sctp_send.proofs.stock.number_again.Goals as goal
 
 pub returns-else-at-tracks : goal.returns-else-at-tracks
 returns-else-at-tracks c =

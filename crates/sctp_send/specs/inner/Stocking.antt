@@ -1,4 +1,4 @@
--- What a draft of a sender keeps, and what each wish makes of it and of the packet.
+-- What a sender's stock keeps, and what each wish makes of it and of the packet.
 use Rattle.std.specs.Prelude.{◌≡◌, ℕ, suc, nat_lt, ◌-◌, ◌<◌, ◌≤◌, Bool, true, false, List, [], ◌∷◌, ◌++◌, ◌+◌, ◌&&◌, map, length, slice_set, Option, None, Some, option_map}
 use Rattle.sctp_model.specs.messages.Format.{Format, Kind}
 use Rattle.sctp_model.specs.messages.Plan.{Message, Entry, Part}
@@ -21,7 +21,7 @@ use Rattle.sctp_send.specs.SenderFields.{queued_by, track_meaning}
 use Rattle.sctp_send.specs.inner.Newcomers.{counted_in, IsBegun, IsContinued, IsTurnBegun, IsTurnContinued}
 use Rattle.sctp_send.specs.declared.fill.assigning.Next.{Next}
 use Rattle.sctp_send.specs.declared.fill.assigning.Next.TheVariants.{Begins, Continues}
-use Rattle.sctp_send.specs.declared.draft.Draft.{Draft}
+use Rattle.sctp_send.specs.declared.stock.Stock.{Stock}
 use Rattle.sctp_send.specs.declared.told.Told.{Told}
 use Rattle.sctp_send.specs.declared.kept.message.Fate.{Fate}
 use Rattle.sctp_send.specs.declared.kept.message.Fate.TheVariants.{Numbered}
@@ -32,7 +32,7 @@ use Rattle.sctp_send.specs.declared.kept.entry.Standing.{Standing}
 use Rattle.sctp_send.specs.declared.kept.entry.Standing.TheVariants.{Sent}
 use Rattle.sctp_send.specs.declared.kept.entry.Entry.{Entry as EntryFields}
 
--- ---- what a draft keeps
+-- ---- what a stock keeps
 
 -- the numbers of tickets
 abbrev pub numbers_of : List Ticket → List ℕ
@@ -70,9 +70,9 @@ bare h = record {
   asleep = h.dues.asleep;
 }
 
--- what a sender keeps, with a draft's parts instead of its own
-abbrev pub drafted : Kept → Draft → Kept
-drafted s d = record s {
+-- what a sender keeps, with a stock's parts instead of its own
+abbrev pub stocked : Kept → Stock → Kept
+stocked s d = record s {
   turn = d.turn;
   items = map (item_meaning s.fragment) d.outstanding.items;
   queue = map (queued_by s.fragment) d.queue.items;
@@ -122,19 +122,19 @@ left_track rest t = record t { rest = rest }
 abbrev pub went_out : EntryFields → EntryFields
 went_out e = record e { standing = Sent }
 
--- The next wish went: its chunk is in the packet, and the draft keeps what it leaves.
-pub record IsPut (f : Format) (s : Kept) (v : SenderView) (before after : PacketDraft) (old new : Draft) : Type 0 where
+-- The next wish went: its chunk is in the packet, and the stock keeps what it leaves.
+pub record IsPut (f : Format) (s : Kept) (v : SenderView) (before after : PacketDraft) (old new : Stock) : Type 0 where
   pub wish : Wish
   pub next : goes f (room_in before) v ≡ Some wish
   pub chunk : after ≡ with_chunks before (chunk_of f wish ∷ [])
-  pub keeps : Keeps f (drafted s new) (gone wish)
+  pub keeps : Keeps f (stocked s new) (gone wish)
   pub told : numbers_of new.tickets.items ≡ numbers_of old.tickets.items ++ newly_numbered v (gone wish)
 
 -- No wish may go.
-pub record IsStopped (f : Format) (s : Kept) (v : SenderView) (before after : PacketDraft) (old new : Draft) : Type 0 where
+pub record IsStopped (f : Format) (s : Kept) (v : SenderView) (before after : PacketDraft) (old new : Stock) : Type 0 where
   pub none : goes f (room_in before) v ≡ None
   pub packet : after ≡ before
-  pub kept : drafted s new ≡ drafted s old
+  pub kept : stocked s new ≡ stocked s old
   pub tickets : new.tickets ≡ old.tickets
 
 -- Memory ran out for a wish that may go; the packet is as before.
@@ -144,7 +144,7 @@ pub record IsRefused (f : Format) (v : SenderView) (before after : PacketDraft) 
   pub packet : after ≡ before
 
 -- the first or the second
-abbrev pub PutAnswer : Format → Kept → SenderView → (before after : PacketDraft) → (old new : Draft) → (put : Bool) → Type 0
+abbrev pub PutAnswer : Format → Kept → SenderView → (before after : PacketDraft) → (old new : Stock) → (put : Bool) → Type 0
 PutAnswer f s v before after old new true = IsPut f s v before after old new
 PutAnswer f s v before after old new false = IsStopped f s v before after old new
 
@@ -174,16 +174,16 @@ pub record IsTried (before after : PacketDraft) (chunk : ChunkMeaning) (put : Bo
 -- ---- what is in flight, and all of FILL
 
 -- so many bytes are in flight
-abbrev pub IsFlying : Kept → Draft → ℕ → Type 0
+abbrev pub IsFlying : Kept → Stock → ℕ → Type 0
 IsFlying s d flying = flying ≡ item_flight (map (item_meaning s.fragment) d.outstanding.items)
 
--- All of FILL is in the packet, and the draft keeps what it leaves.
-pub record AllPut (f : Format) (s : Kept) (v : SenderView) (before after : PacketDraft) (d : Draft) : Type 0 where
+-- All of FILL is in the packet, and the stock keeps what it leaves.
+pub record AllPut (f : Format) (s : Kept) (v : SenderView) (before after : PacketDraft) (d : Stock) : Type 0 where
   pub wishes : List Wish
   pub view : SenderView
   pub fill : IsFill f v (room_in before) wishes view
   pub chunks : after ≡ with_chunks before (map (chunk_of f) wishes)
-  pub keeps : Keeps f (drafted s d) view
+  pub keeps : Keeps f (stocked s d) view
   pub told : numbers_of d.tickets.items ≡ newly_numbered v view
 
 -- what takes an index next
@@ -193,7 +193,7 @@ NewAnswer f v (Some (Begins next)) = IsBegun f v next.place next.count next.turn
 NewAnswer f v (Some (Continues stream)) = IsContinued f v stream
 
 -- its place, its count or its stream is there
-abbrev pub IsNextWithin : Draft → (streams : ℕ) → Option Next → Type 0
+abbrev pub IsNextWithin : Stock → (streams : ℕ) → Option Next → Type 0
 IsNextWithin d streams None = Unit {0}
 IsNextWithin d streams (Some (Begins next)) = (next.place < length d.queue.items) × (0 < next.count)
 IsNextWithin d streams (Some (Continues stream)) = stream < streams
