@@ -13,37 +13,14 @@ ghost use Rattle.sctp_c.specs.Told.{IsPut, AreTold, PollTold, Polled, HeardTold,
 use crate::codes::{BAD_DRAW, BAD_STATE, MISUSE, NEEDS_ROOM, NO_MEMORY, OK, TOO_LONG};
 use crate::crossing::{SctpDraw, SctpSent, SctpVerdict};
 use crate::handle::SctpEndpoint;
-use sctp_endpoint::{AbortFault, Draw, Endpoint, NoMemory, Sent, Ticket, Verdict};
-use std::alloc::Global;
+use crate::rooms::{put_bytes, put_tickets};
+use sctp_endpoint::{AbortFault, Draw, Endpoint, NoMemory, Sent, Verdict};
 
 /// The most bytes of a packet of this end.
 fn limit_of(end: &Endpoint) -> usize
     ensures { (v : EndView) → EndpointStands end.now v → result ≡ v.configuration.limit }
 {
     usize::from(end.config().limit())
-}
-
-/// Bytes go to the beginning of a room, as far as it goes.
-pub(crate) fn put_bytes(bytes: &[u8], room: &mut [u8]) -> usize
-    ensures { length bytes.now ≤ length room.old → IsPut bytes.now result room.old room.new }
-{
-    let count = bytes.len().min(room.len());
-    room[..count].copy_from_slice(&bytes[..count]);
-    bytes.len()
-}
-
-/// Tickets go to the beginning of a room, as far as it goes.
-fn put_tickets(tickets: &[Ticket], room: &mut [u64]) -> u64
-    ensures { AreTold tickets.now result room.old room.new }
-{
-    if tickets.is_empty() {
-        return 0;
-    }
-    let count = tickets.len().min(room.len());
-    for place in 0..count {
-        room[place] = tickets[place].0;
-    }
-    tickets.len() as u64
 }
 
 /// What C is told where there is no packet.
@@ -78,12 +55,22 @@ fn tell_poll(
             *sent = no_packet();
             OK
         }
-        Ok(Some(packet)) => {
+        Ok(
+            Some(
+                Sent {
+                    packet,
+                    tickets: begun,
+                },
+            ),
+        ) => {
             *sent = SctpSent {
-                length: put_bytes(&packet.packet, room),
-                tickets: put_tickets(&packet.tickets, tickets),
+                length: packet.len(),
+                tickets: put_tickets(&begun, tickets),
             };
-            end.recycle(packet.packet);
+            // Before the copy, which is a call: so nothing of them has to outlive it.
+            drop(begun);
+            let _ = put_bytes(&packet, room);
+            end.recycle(packet);
             OK
         }
     }
@@ -93,7 +80,6 @@ fn tell_poll(
 /// no bytes where there is no packet. The room has place for the longest packet of the end, or nothing happens.
 #[unsafe(no_mangle)]
 pub extern "C" fn sctp_endpoint_poll_transmit(
-    alloc: Global,
     handle: &mut SctpEndpoint,
     now: u64,
     room: &mut [u8],
@@ -108,12 +94,12 @@ pub extern "C" fn sctp_endpoint_poll_transmit(
     ensures did { (v : EndView) → Holds handle.old.slot.endpoint v → v.configuration.limit ≤ length room.old
         → Polled v now handle.new.slot.endpoint result sent.new room.old room.new tickets.old tickets.new }
 {
-    let Some(mut end) = handle.take(alloc) else {
+    if !handle.is_full() {
         return MISUSE;
-    };
-    let limit = limit_of(&end);
+    }
+    let end = handle.slot.lend();
+    let limit = limit_of(end);
     if room.len() < limit {
-        handle.put(end);
         *sent = SctpSent {
             length: limit,
             tickets: 0,
@@ -121,8 +107,7 @@ pub extern "C" fn sctp_endpoint_poll_transmit(
         return NEEDS_ROOM;
     }
     let answer = end.poll_transmit(now);
-    let told = tell_poll(&mut end, answer, room, tickets, sent);
-    handle.put(end);
+    let told = tell_poll(end, answer, room, tickets, sent);
     told
 }
 
@@ -156,7 +141,6 @@ fn tell_heard(answer: Result<Verdict, NoMemory>, room: &mut [u8], told: &mut Sct
 /// is an INIT and the end listens; it is always a fresh one. The room has place for the longest packet of the end, or nothing happens.
 #[unsafe(no_mangle)]
 pub extern "C" fn sctp_endpoint_handle_packet(
-    alloc: Global,
     handle: &mut SctpEndpoint,
     now: u64,
     packet: &[u8],
@@ -178,12 +162,12 @@ pub extern "C" fn sctp_endpoint_handle_packet(
     let Some(draw) = Draw::new(tag, tsn) else {
         return BAD_DRAW;
     };
-    let Some(mut end) = handle.take(alloc) else {
+    if !handle.is_full() {
         return MISUSE;
-    };
-    let limit = limit_of(&end);
+    }
+    let end = handle.slot.lend();
+    let limit = limit_of(end);
     if room.len() < limit {
-        handle.put(end);
         *told = SctpVerdict {
             length: limit,
             verdict: 0,
@@ -192,7 +176,6 @@ pub extern "C" fn sctp_endpoint_handle_packet(
         return NEEDS_ROOM;
     }
     let answer = end.handle_packet(now, packet, draw);
-    handle.put(end);
     tell_heard(answer, room, told)
 }
 
@@ -217,7 +200,6 @@ fn tell_abort(answer: Result<Vec<u8>, AbortFault>, room: &mut [u8], count: &mut 
 /// has place for the longest packet of the end, or nothing happens.
 #[unsafe(no_mangle)]
 pub extern "C" fn sctp_endpoint_abort(
-    alloc: Global,
     handle: &mut SctpEndpoint,
     reason: &[u8],
     room: &mut [u8],
@@ -231,16 +213,15 @@ pub extern "C" fn sctp_endpoint_abort(
         → Aborted v reason.now handle.new.slot.endpoint result count.new room.old room.new }
     ensures notes { (v : EndView) → Holds handle.old.slot.endpoint v → v.configuration.limit ≤ length room.old → KeepsNotes v handle.new.slot.endpoint }
 {
-    let Some(mut end) = handle.take(alloc) else {
+    if !handle.is_full() {
         return MISUSE;
-    };
-    let limit = limit_of(&end);
+    }
+    let end = handle.slot.lend();
+    let limit = limit_of(end);
     if room.len() < limit {
-        handle.put(end);
         *count = limit;
         return NEEDS_ROOM;
     }
     let answer = end.abort(reason);
-    handle.put(end);
     tell_abort(answer, room, count)
 }
