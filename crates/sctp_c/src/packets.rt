@@ -13,7 +13,7 @@ ghost use Rattle.sctp_c.specs.Told.{IsPut, AreTold, PollTold, Polled, HeardTold,
 use crate::codes::{BAD_DRAW, BAD_STATE, MISUSE, NEEDS_ROOM, NO_MEMORY, OK, TOO_LONG};
 use crate::crossing::{SctpDraw, SctpSent, SctpVerdict};
 use crate::handle::SctpEndpoint;
-use crate::rooms::{put_bytes, put_tickets};
+use crate::rooms::{put_answer, put_bytes, put_tickets};
 use sctp_endpoint::{AbortFault, Draw, Endpoint, NoMemory, Sent, Verdict};
 
 /// The most bytes of a packet of this end.
@@ -131,7 +131,7 @@ fn tell_heard(answer: Result<Verdict, NoMemory>, room: &mut [u8], told: &mut Sct
         }
         Ok(Verdict::Answer(packet)) => {
             told.verdict = 1;
-            told.length = put_bytes(&packet, room);
+            told.length = put_answer(&packet, room);
             OK
         }
     }

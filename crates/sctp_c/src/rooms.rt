@@ -5,16 +5,26 @@ ghost use Rattle.sctp_c.specs.Told.{IsPut, AreTold};
 
 use sctp_endpoint::Ticket;
 
-/// Bytes go to the beginning of a room, as far as it goes.
+/// Bytes go to the beginning of a room that has place for them.
 pub(crate) fn put_bytes(bytes: &[u8], room: &mut [u8]) -> usize
     ensures { length bytes.now ≤ length room.old → IsPut bytes.now result room.old room.new }
 {
-    let count = bytes.len().min(room.len());
-    room[..count].copy_from_slice(&bytes[..count]);
+    if bytes.len() <= room.len() {
+        room[..bytes.len()].copy_from_slice(bytes);
+    }
     bytes.len()
 }
 
+/// The same of an answer, which most packets don't have: apart, so that a packet without one does nothing for it.
+#[inline(never)]
+pub(crate) fn put_answer(bytes: &[u8], room: &mut [u8]) -> usize
+    ensures { length bytes.now ≤ length room.old → IsPut bytes.now result room.old room.new }
+{
+    put_bytes(bytes, room)
+}
+
 /// Tickets go to the beginning of a room, as far as it goes.
+#[inline(never)]
 fn put_all(tickets: &[Ticket], room: &mut [u64]) -> u64
     ensures { AreTold tickets.now result room.old room.new }
 {
