@@ -57,3 +57,11 @@ impl SctpEndpoint {
         Some(slot.into_box())
     }
 }
+
+/// Is called for types alone that another thread may be given.
+fn may_go_to_another_thread<T: Send>() {}
+
+/// A law: a handle may go to another thread. It does nothing: that its call is proved says so.
+pub fn handles_may_go_to_another_thread() {
+    may_go_to_another_thread::<SctpEndpoint>();
+}

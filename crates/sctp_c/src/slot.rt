@@ -22,6 +22,9 @@ impl Model for Slot {
     ghost also_owns = { λ s. slot_owns s.alloc s.at s.endpoint };
 }
 
+// It alone reaches its endpoint, which may go to another thread.
+unsafe impl Send for Slot {}
+
 impl Slot {
     ghost use Rattle.std.specs.Borrow.{sem};
     ghost use Rattle.sctp_c.specs.Lending.{LendsEndpoint};
