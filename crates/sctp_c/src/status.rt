@@ -7,7 +7,7 @@ ghost use Rattle.sctp_terms.specs.Meanings.{end_meaning, state_meaning};
 ghost use Rattle.sctp_endpoint.specs.EndpointStands.{EndpointStands};
 ghost use Rattle.sctp_c.specs.Holds.{Holds};
 ghost use Rattle.sctp_c.specs.Codes.{moment_code, state_number, ended_number};
-ghost use Rattle.sctp_c.specs.Status.{IsStatus};
+ghost use Rattle.sctp_c.specs.Status.{IsStatus, IsWithin};
 
 use crate::codes::{MISUSE, OK};
 use crate::handle::SctpEndpoint;
@@ -90,7 +90,8 @@ fn moment_told(moment: Option<u64>) -> u64
 
 /// What an end tells of itself.
 fn status_of(end: &Endpoint) -> SctpStatus
-    ensures { (v : EndView) → EndpointStands end.now v → IsStatus result v }
+    ensures told { (v : EndView) → EndpointStands end.now v → IsStatus result v }
+    ensures within { (v : EndView) → EndpointStands end.now v → IsWithin result v }
 {
     SctpStatus {
         next_moment: moment_told(end.next_moment()),
@@ -116,6 +117,7 @@ pub extern "C" fn sctp_endpoint_status(handle: &mut SctpEndpoint, status: &mut S
     ensures misuse { handle.old.slot.endpoint ≡ None → result ≡ MISUSE }
     ensures untold { ((result ≡ OK) → ⊥) → status.new ≡ status.old }
     ensures answer { (v : EndView) → Holds handle.old.slot.endpoint v → (result ≡ OK) × IsStatus status.new v }
+    ensures within { (v : EndView) → Holds handle.old.slot.endpoint v → IsWithin status.new v }
     ensures kept { handle.new.slot.endpoint ≡ handle.old.slot.endpoint }
 {
     if !handle.is_full() {
