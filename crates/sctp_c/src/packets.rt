@@ -50,10 +50,12 @@ fn tell_poll(
         *sent = no_packet();
         return NO_MEMORY;
     };
-    let Some(Sent {
-        packet,
-        tickets: begun,
-    }) = next
+    let Some(
+        Sent {
+            packet,
+            tickets: begun,
+        },
+    ) = next
     else {
         *sent = no_packet();
         return OK;
