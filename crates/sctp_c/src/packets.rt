@@ -50,16 +50,14 @@ fn tell_poll(
         *sent = no_packet();
         return NO_MEMORY;
     };
-    let Some(
-        Sent {
-            packet,
-            tickets: begun,
-        },
-    ) = next
-    else {
+    let Some(next) = next else {
         *sent = no_packet();
         return OK;
     };
+    let Sent {
+        packet,
+        tickets: begun,
+    } = next;
     *sent = SctpSent {
         length: packet.len(),
         tickets: put_tickets(&begun, tickets),
