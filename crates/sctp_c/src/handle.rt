@@ -1,4 +1,4 @@
-//! What C keeps of an endpoint, and how a call takes the endpoint out of it and puts it back.
+//! What C keeps of an endpoint, and how an endpoint comes into it and out of it.
 
 ghost use Rattle.std.specs.Prelude.{◌≡◌, nat_lt, Some, None, MatchOption};
 ghost use Rattle.sctp_c.specs.Slot.{is_full};

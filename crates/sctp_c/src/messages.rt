@@ -56,6 +56,16 @@ fn tell_head(head: Option<SctpMessage>, message: &mut SctpMessage) -> u32
     }
 }
 
+/// `Message::copy_into`, apart: so a message of one fragment saves no registers for it.
+#[inline(never)]
+fn copy_parts(whole: &Message, room: &mut [u8]) -> Result<usize, usize>
+    ensures copied { IfOk result (λ many. (many ≡ length (message_bytes whole.now)) × (room.new ≡ message_bytes whole.now ++ drop many room.old)) }
+    ensures wanted { IfErr result (λ many. (many ≡ min (length (message_bytes whole.now)) (2 ^ 64 - 1)) × (length room.old < many)) }
+    ensures refused { OnErr result (room.new ≡ room.old) }
+{
+    whole.copy_into(room)
+}
+
 /// A message's bytes go to the beginning of a room that has place for them: `Message::copy_into`, which most messages, of one fragment, do without.
 fn copy_whole(whole: &Message, room: &mut [u8]) -> Result<usize, usize>
     ensures copied { IfOk result (λ many. (many ≡ length (message_bytes whole.now)) × (room.new ≡ message_bytes whole.now ++ drop many room.old)) }
@@ -67,7 +77,7 @@ fn copy_whole(whole: &Message, room: &mut [u8]) -> Result<usize, usize>
             return Ok(put_bytes(part, room));
         }
     }
-    whole.copy_into(room)
+    copy_parts(whole, room)
 }
 
 /// A message's bytes go to the beginning of a room that has place for them, and what C is told beside them to `message`.

@@ -46,34 +46,27 @@ fn tell_poll(
     ensures few { IfOk answer (λ sent. TellsFew sent) → sent.new.tickets ≤ MOST_TICKETS }
     ensures keeps { (v : EndView) → EndpointStands end.old v → EndpointStands end.new v }
 {
-    match answer {
-        Err(_) => {
-            *sent = no_packet();
-            NO_MEMORY
-        }
-        Ok(None) => {
-            *sent = no_packet();
-            OK
-        }
-        Ok(
-            Some(
-                Sent {
-                    packet,
-                    tickets: begun,
-                },
-            ),
-        ) => {
-            *sent = SctpSent {
-                length: packet.len(),
-                tickets: put_tickets(&begun, tickets),
-            };
-            // Before the copy, which is a call: so nothing of them has to outlive it.
-            drop(begun);
-            let _ = put_bytes(&packet, room);
-            end.recycle(packet);
-            OK
-        }
-    }
+    let Ok(next) = answer else {
+        *sent = no_packet();
+        return NO_MEMORY;
+    };
+    let Some(next) = next else {
+        *sent = no_packet();
+        return OK;
+    };
+    let Sent {
+        packet,
+        tickets: begun,
+    } = next;
+    *sent = SctpSent {
+        length: packet.len(),
+        tickets: put_tickets(&begun, tickets),
+    };
+    // Before the copy, which is a call: so nothing of them has to outlive it.
+    drop(begun);
+    let _ = put_bytes(&packet, room);
+    end.recycle(packet);
+    OK
 }
 
 /// The next packet goes to `room`, the tickets of the messages that it begins to `tickets`, and how many bytes and tickets there are to `sent`:

@@ -65,7 +65,7 @@ impl Slot {
         self.into_block().into_box()
     }
 
-    /// Lends the endpoint of a slot that has one, where it lies.
+    /// Lends the endpoint of a slot that has one: a call works on it where it lies.
     pub(crate) fn lend(&mut self) -> &mut Endpoint
         requires { IsFull self.old.endpoint }
         ensures* writes_back { sem 𝓛 (LendsEndpoint self.entry result) }
