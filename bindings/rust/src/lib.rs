@@ -239,7 +239,7 @@ pub struct Status {
 /// One end of an association; what it holds is freed when it is dropped.
 pub struct Endpoint(raw::Handle);
 
-// SAFETY: the library's calls keep nothing of a thread, and two endpoints share nothing; the handle goes by `&mut` or is read alone.
+// SAFETY: that a handle may go to another thread is proved of the library (`handles_may_go_to_another_thread`); it goes by `&mut` here, or is read alone.
 unsafe impl Send for Endpoint {}
 
 impl Drop for Endpoint {

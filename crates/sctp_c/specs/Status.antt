@@ -1,5 +1,6 @@
 -- What C is told of an end.
-use Rattle.std.specs.Prelude.{◌≡◌, [], ◌∷◌, length}
+use Rattle.std.specs.Prelude.{◌≡◌, ◌≤◌, ◌*◌, [], ◌∷◌, length}
+use Rattle.sctp_model.specs.numbers.Limits.{WINDOW, QUEUE_LIMIT, LONGEST_MESSAGE}
 use Rattle.sctp_model.specs.sender.Readers.{outstanding}
 use Rattle.sctp_model.specs.receiver.ReceiverView.{held_bytes}
 use Rattle.sctp_model.specs.end.EndView.{EndView, state_of, ended_of}
@@ -24,3 +25,10 @@ pub record IsStatus (s : SctpStatus) (v : EndView) : Type 0 where
   pub interleaved : s.interleaved ≡ v.terms.interleave
   pub partial : s.partial ≡ v.terms.partial
   pub reserved : s.reserved ≡ 0 ∷ 0 ∷ 0 ∷ 0 ∷ []
+
+-- and none of these is larger: what is outstanding, what waits to go out and its bytes, and what came and wasn't taken
+pub record IsWithin (s : SctpStatus) (v : EndView) : Type 0 where
+  pub outstanding : s.outstanding ≤ WINDOW
+  pub queued : s.queued ≤ QUEUE_LIMIT
+  pub bytes : s.queued_bytes ≤ QUEUE_LIMIT * LONGEST_MESSAGE
+  pub held : s.held_bytes ≤ v.configuration.buffer

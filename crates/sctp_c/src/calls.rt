@@ -13,16 +13,10 @@ use crate::codes::{BAD_DRAW, BAD_STATE, MISUSE, NOT_OPEN, OK};
 use crate::crossing::SctpDraw;
 use crate::handle::SctpEndpoint;
 use sctp_endpoint::{Draw, Ticket};
-use std::alloc::Global;
 
 /// Calls the peer: an INIT is due.
 #[unsafe(no_mangle)]
-pub extern "C" fn sctp_endpoint_connect(
-    alloc: Global,
-    handle: &mut SctpEndpoint,
-    now: u64,
-    draw: &SctpDraw,
-) -> u32
+pub extern "C" fn sctp_endpoint_connect(handle: &mut SctpEndpoint, now: u64, draw: &SctpDraw) -> u32
     ensures undrawn { draw.now.tag ≡ 0 → (result ≡ BAD_DRAW) × (handle.new ≡ handle.old) }
     ensures misuse { 0 < draw.now.tag → handle.old.slot.endpoint ≡ None → (result ≡ MISUSE) × (handle.new.slot.endpoint ≡ None) }
     ensures answer { (v : EndView) → Holds handle.old.slot.endpoint v → 0 < draw.now.tag → result ≡ connect_code (connect_answer v.phase) }
@@ -33,11 +27,11 @@ pub extern "C" fn sctp_endpoint_connect(
     let Some(draw) = Draw::new(draw.tag, draw.tsn) else {
         return BAD_DRAW;
     };
-    let Some(mut end) = handle.take(alloc) else {
+    if !handle.is_full() {
         return MISUSE;
-    };
+    }
+    let end = handle.slot.lend();
     let answer = end.connect(now, draw);
-    handle.put(end);
     match answer {
         Ok(()) => OK,
         Err(_) => BAD_STATE,
@@ -46,17 +40,17 @@ pub extern "C" fn sctp_endpoint_connect(
 
 /// Shuts the association.
 #[unsafe(no_mangle)]
-pub extern "C" fn sctp_endpoint_shutdown(alloc: Global, handle: &mut SctpEndpoint) -> u32
+pub extern "C" fn sctp_endpoint_shutdown(handle: &mut SctpEndpoint) -> u32
     ensures misuse { handle.old.slot.endpoint ≡ None → (result ≡ MISUSE) × (handle.new.slot.endpoint ≡ None) }
     ensures answer { (v : EndView) → Holds handle.old.slot.endpoint v → result ≡ shutdown_code (shutdown_answer v.phase) }
     ensures step { (v : EndView) → Holds handle.old.slot.endpoint v → Holds handle.new.slot.endpoint (shut v) }
     ensures notes { (v : EndView) → Holds handle.old.slot.endpoint v → KeepsNotes v handle.new.slot.endpoint }
 {
-    let Some(mut end) = handle.take(alloc) else {
+    if !handle.is_full() {
         return MISUSE;
-    };
+    }
+    let end = handle.slot.lend();
     let answer = end.shutdown();
-    handle.put(end);
     match answer {
         Ok(()) => OK,
         Err(_) => NOT_OPEN,
@@ -65,23 +59,22 @@ pub extern "C" fn sctp_endpoint_shutdown(alloc: Global, handle: &mut SctpEndpoin
 
 /// Time has come to this moment, in milliseconds.
 #[unsafe(no_mangle)]
-pub extern "C" fn sctp_endpoint_on_moment(alloc: Global, handle: &mut SctpEndpoint, now: u64) -> u32
+pub extern "C" fn sctp_endpoint_on_moment(handle: &mut SctpEndpoint, now: u64) -> u32
     ensures misuse { handle.old.slot.endpoint ≡ None → (result ≡ MISUSE) × (handle.new.slot.endpoint ≡ None) }
     ensures step { (v : EndView) → Holds handle.old.slot.endpoint v → (result ≡ OK) × Holds handle.new.slot.endpoint (ticked v now) }
     ensures notes { (v : EndView) → Holds handle.old.slot.endpoint v → KeepsNotes v handle.new.slot.endpoint }
 {
-    let Some(mut end) = handle.take(alloc) else {
+    if !handle.is_full() {
         return MISUSE;
-    };
+    }
+    let end = handle.slot.lend();
     end.on_moment(now);
-    handle.put(end);
     OK
 }
 
 /// Gives a message up; what has become of it, 1 to 5, goes to `fate`.
 #[unsafe(no_mangle)]
 pub extern "C" fn sctp_endpoint_abandon(
-    alloc: Global,
     handle: &mut SctpEndpoint,
     ticket: u64,
     fate: &mut u32,
@@ -92,11 +85,11 @@ pub extern "C" fn sctp_endpoint_abandon(
     ensures step { (v : EndView) → Holds handle.old.slot.endpoint v → Holds handle.new.slot.endpoint (abandoned_at v ticket) }
     ensures notes { (v : EndView) → Holds handle.old.slot.endpoint v → KeepsNotes v handle.new.slot.endpoint }
 {
-    let Some(mut end) = handle.take(alloc) else {
+    if !handle.is_full() {
         return MISUSE;
-    };
+    }
+    let end = handle.slot.lend();
     let answer = end.abandon(Ticket(ticket));
-    handle.put(end);
     *fate = u32::from(answer.code());
     OK
 }

@@ -1,4 +1,4 @@
-//! What C keeps of an endpoint, and how a call takes the endpoint out of it and puts it back.
+//! What C keeps of an endpoint, and how an endpoint comes into it and out of it.
 
 ghost use Rattle.std.specs.Prelude.{◌≡◌, nat_lt, Some, None, MatchOption};
 ghost use Rattle.sctp_c.specs.Slot.{is_full};
@@ -56,4 +56,12 @@ impl SctpEndpoint {
         let SctpEndpoint { slot, .. } = std::mem::replace(self, SctpEndpoint::empty(alloc));
         Some(slot.into_box())
     }
+}
+
+/// Is called for types alone that another thread may be given.
+fn may_go_to_another_thread<T: Send>() {}
+
+/// A law: a handle may go to another thread. It does nothing: that its call is proved says so.
+pub fn handles_may_go_to_another_thread() {
+    may_go_to_another_thread::<SctpEndpoint>();
 }

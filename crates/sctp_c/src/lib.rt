@@ -10,6 +10,7 @@ mod handle;
 mod making;
 mod messages;
 mod packets;
+mod rooms;
 mod sending;
 mod slot;
 mod status;

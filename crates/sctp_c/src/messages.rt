@@ -14,9 +14,8 @@ ghost use Rattle.sctp_c.specs.Told.{IsHead, IsTold, Takes};
 use crate::codes::{MISUSE, NEEDS_ROOM, NOTHING, OK};
 use crate::crossing::SctpMessage;
 use crate::handle::SctpEndpoint;
-use crate::packets::put_bytes;
+use crate::rooms::put_bytes;
 use sctp_endpoint::{Endpoint, Message};
-use std::alloc::Global;
 
 /// What C is told of a message beside its bytes, of which there are so many.
 fn head_of(message: &Message, many: usize) -> SctpMessage
@@ -57,6 +56,16 @@ fn tell_head(head: Option<SctpMessage>, message: &mut SctpMessage) -> u32
     }
 }
 
+/// `Message::copy_into`, apart: so a message of one fragment saves no registers for it.
+#[inline(never)]
+fn copy_parts(whole: &Message, room: &mut [u8]) -> Result<usize, usize>
+    ensures copied { IfOk result (λ many. (many ≡ length (message_bytes whole.now)) × (room.new ≡ message_bytes whole.now ++ drop many room.old)) }
+    ensures wanted { IfErr result (λ many. (many ≡ min (length (message_bytes whole.now)) (2 ^ 64 - 1)) × (length room.old < many)) }
+    ensures refused { OnErr result (room.new ≡ room.old) }
+{
+    whole.copy_into(room)
+}
+
 /// A message's bytes go to the beginning of a room that has place for them: `Message::copy_into`, which most messages, of one fragment, do without.
 fn copy_whole(whole: &Message, room: &mut [u8]) -> Result<usize, usize>
     ensures copied { IfOk result (λ many. (many ≡ length (message_bytes whole.now)) × (room.new ≡ message_bytes whole.now ++ drop many room.old)) }
@@ -68,7 +77,7 @@ fn copy_whole(whole: &Message, room: &mut [u8]) -> Result<usize, usize>
             return Ok(put_bytes(part, room));
         }
     }
-    whole.copy_into(room)
+    copy_parts(whole, room)
 }
 
 /// A message's bytes go to the beginning of a room that has place for them, and what C is told beside them to `message`.
@@ -80,12 +89,16 @@ fn tell_whole(whole: &Message, message: &mut SctpMessage, room: &mut [u8]) -> u3
         → (result ≡ OK) × (room.new ≡ message_bytes whole.now ++ drop (length (message_bytes whole.now)) room.old) }
     ensures untold { ((result ≡ OK) → ⊥) → room.new ≡ room.old }
 {
-    let (many, answer) = match copy_whole(whole, room) {
-        Ok(many) => (many, OK),
-        Err(many) => (many, NEEDS_ROOM),
-    };
-    *message = head_of(whole, many);
-    answer
+    match copy_whole(whole, room) {
+        Ok(many) => {
+            *message = head_of(whole, many);
+            OK
+        }
+        Err(many) => {
+            *message = head_of(whole, many);
+            NEEDS_ROOM
+        }
+    }
 }
 
 /// The same of what waits next on a stream, which goes on waiting.
@@ -120,7 +133,6 @@ fn drop_next(end: &mut Endpoint, stream: u16)
 /// waits, goes round all streams.
 #[unsafe(no_mangle)]
 pub extern "C" fn sctp_endpoint_readable(
-    alloc: Global,
     handle: &mut SctpEndpoint,
     from: u16,
     stream: &mut u16,
@@ -132,11 +144,11 @@ pub extern "C" fn sctp_endpoint_readable(
     ensures none { (v : EndView) → Holds handle.old.slot.endpoint v → result ≡ NOTHING → ReadableAnswer v.receiver.waiting from None }
     ensures kept { handle.new.slot.endpoint ≡ handle.old.slot.endpoint }
 {
-    let Some(end) = handle.take(alloc) else {
+    if !handle.is_full() {
         return MISUSE;
-    };
+    }
+    let end = handle.slot.lend();
     let found = end.readable(from);
-    handle.put(end);
     match found {
         Some(number) => {
             *stream = number;
@@ -149,7 +161,6 @@ pub extern "C" fn sctp_endpoint_readable(
 /// What waits next on a stream, beside its bytes; it goes on waiting.
 #[unsafe(no_mangle)]
 pub extern "C" fn sctp_endpoint_peek(
-    alloc: Global,
     handle: &mut SctpEndpoint,
     stream: u16,
     message: &mut SctpMessage,
@@ -161,18 +172,17 @@ pub extern "C" fn sctp_endpoint_peek(
         → (result ≡ OK) × IsHead message.new h }
     ensures kept { handle.new.slot.endpoint ≡ handle.old.slot.endpoint }
 {
-    let Some(end) = handle.take(alloc) else {
+    if !handle.is_full() {
         return MISUSE;
-    };
-    let head = next_head(&end, stream);
-    handle.put(end);
+    }
+    let end = handle.slot.lend();
+    let head = next_head(end, stream);
     tell_head(head, message)
 }
 
 /// Takes what waits next on a stream: its bytes go to `room`. Where that is too small it goes on waiting, and the head says its length.
 #[unsafe(no_mangle)]
 pub extern "C" fn sctp_endpoint_take(
-    alloc: Global,
     handle: &mut SctpEndpoint,
     stream: u16,
     message: &mut SctpMessage,
@@ -188,15 +198,14 @@ pub extern "C" fn sctp_endpoint_take(
     ensures taken { (v : EndView) (h : Handed) → Holds handle.old.slot.endpoint v → slice_get (v.receiver.waiting stream) 0 ≡ Some h
         → length h.bytes ≤ length room.old → (result ≡ OK) × Takes v stream h handle.new.slot.endpoint message.new room.old room.new }
 {
-    let Some(mut end) = handle.take(alloc) else {
+    if !handle.is_full() {
         return MISUSE;
-    };
-    let answer = tell_next(&end, stream, message, room);
+    }
+    let end = handle.slot.lend();
+    let answer = tell_next(end, stream, message, room);
     if answer != OK {
-        handle.put(end);
         return answer;
     }
-    drop_next(&mut end, stream);
-    handle.put(end);
+    drop_next(end, stream);
     OK
 }

@@ -13,37 +13,14 @@ ghost use Rattle.sctp_c.specs.Told.{IsPut, AreTold, PollTold, Polled, HeardTold,
 use crate::codes::{BAD_DRAW, BAD_STATE, MISUSE, NEEDS_ROOM, NO_MEMORY, OK, TOO_LONG};
 use crate::crossing::{SctpDraw, SctpSent, SctpVerdict};
 use crate::handle::SctpEndpoint;
-use sctp_endpoint::{AbortFault, Draw, Endpoint, NoMemory, Sent, Ticket, Verdict};
-use std::alloc::Global;
+use crate::rooms::{put_answer, put_bytes, put_tickets};
+use sctp_endpoint::{AbortFault, Draw, Endpoint, NoMemory, Sent, Verdict};
 
 /// The most bytes of a packet of this end.
 fn limit_of(end: &Endpoint) -> usize
     ensures { (v : EndView) → EndpointStands end.now v → result ≡ v.configuration.limit }
 {
     usize::from(end.config().limit())
-}
-
-/// Bytes go to the beginning of a room, as far as it goes.
-pub(crate) fn put_bytes(bytes: &[u8], room: &mut [u8]) -> usize
-    ensures { length bytes.now ≤ length room.old → IsPut bytes.now result room.old room.new }
-{
-    let count = bytes.len().min(room.len());
-    room[..count].copy_from_slice(&bytes[..count]);
-    bytes.len()
-}
-
-/// Tickets go to the beginning of a room, as far as it goes.
-fn put_tickets(tickets: &[Ticket], room: &mut [u64]) -> u64
-    ensures { AreTold tickets.now result room.old room.new }
-{
-    if tickets.is_empty() {
-        return 0;
-    }
-    let count = tickets.len().min(room.len());
-    for place in 0..count {
-        room[place] = tickets[place].0;
-    }
-    tickets.len() as u64
 }
 
 /// What C is told where there is no packet.
@@ -69,31 +46,33 @@ fn tell_poll(
     ensures few { IfOk answer (λ sent. TellsFew sent) → sent.new.tickets ≤ MOST_TICKETS }
     ensures keeps { (v : EndView) → EndpointStands end.old v → EndpointStands end.new v }
 {
-    match answer {
-        Err(_) => {
-            *sent = no_packet();
-            NO_MEMORY
-        }
-        Ok(None) => {
-            *sent = no_packet();
-            OK
-        }
-        Ok(Some(packet)) => {
-            *sent = SctpSent {
-                length: put_bytes(&packet.packet, room),
-                tickets: put_tickets(&packet.tickets, tickets),
-            };
-            end.recycle(packet.packet);
-            OK
-        }
-    }
+    let Ok(next) = answer else {
+        *sent = no_packet();
+        return NO_MEMORY;
+    };
+    let Some(next) = next else {
+        *sent = no_packet();
+        return OK;
+    };
+    let Sent {
+        packet,
+        tickets: begun,
+    } = next;
+    *sent = SctpSent {
+        length: packet.len(),
+        tickets: put_tickets(&begun, tickets),
+    };
+    // Before the copy, which is a call: so nothing of them has to outlive it.
+    drop(begun);
+    let _ = put_bytes(&packet, room);
+    end.recycle(packet);
+    OK
 }
 
 /// The next packet goes to `room`, the tickets of the messages that it begins to `tickets`, and how many bytes and tickets there are to `sent`:
 /// no bytes where there is no packet. The room has place for the longest packet of the end, or nothing happens.
 #[unsafe(no_mangle)]
 pub extern "C" fn sctp_endpoint_poll_transmit(
-    alloc: Global,
     handle: &mut SctpEndpoint,
     now: u64,
     room: &mut [u8],
@@ -108,12 +87,12 @@ pub extern "C" fn sctp_endpoint_poll_transmit(
     ensures did { (v : EndView) → Holds handle.old.slot.endpoint v → v.configuration.limit ≤ length room.old
         → Polled v now handle.new.slot.endpoint result sent.new room.old room.new tickets.old tickets.new }
 {
-    let Some(mut end) = handle.take(alloc) else {
+    if !handle.is_full() {
         return MISUSE;
-    };
-    let limit = limit_of(&end);
+    }
+    let end = handle.slot.lend();
+    let limit = limit_of(end);
     if room.len() < limit {
-        handle.put(end);
         *sent = SctpSent {
             length: limit,
             tickets: 0,
@@ -121,8 +100,7 @@ pub extern "C" fn sctp_endpoint_poll_transmit(
         return NEEDS_ROOM;
     }
     let answer = end.poll_transmit(now);
-    let told = tell_poll(&mut end, answer, room, tickets, sent);
-    handle.put(end);
+    let told = tell_poll(end, answer, room, tickets, sent);
     told
 }
 
@@ -146,7 +124,7 @@ fn tell_heard(answer: Result<Verdict, NoMemory>, room: &mut [u8], told: &mut Sct
         }
         Ok(Verdict::Answer(packet)) => {
             told.verdict = 1;
-            told.length = put_bytes(&packet, room);
+            told.length = put_answer(&packet, room);
             OK
         }
     }
@@ -156,7 +134,6 @@ fn tell_heard(answer: Result<Verdict, NoMemory>, room: &mut [u8], told: &mut Sct
 /// is an INIT and the end listens; it is always a fresh one. The room has place for the longest packet of the end, or nothing happens.
 #[unsafe(no_mangle)]
 pub extern "C" fn sctp_endpoint_handle_packet(
-    alloc: Global,
     handle: &mut SctpEndpoint,
     now: u64,
     packet: &[u8],
@@ -178,12 +155,12 @@ pub extern "C" fn sctp_endpoint_handle_packet(
     let Some(draw) = Draw::new(tag, tsn) else {
         return BAD_DRAW;
     };
-    let Some(mut end) = handle.take(alloc) else {
+    if !handle.is_full() {
         return MISUSE;
-    };
-    let limit = limit_of(&end);
+    }
+    let end = handle.slot.lend();
+    let limit = limit_of(end);
     if room.len() < limit {
-        handle.put(end);
         *told = SctpVerdict {
             length: limit,
             verdict: 0,
@@ -192,7 +169,6 @@ pub extern "C" fn sctp_endpoint_handle_packet(
         return NEEDS_ROOM;
     }
     let answer = end.handle_packet(now, packet, draw);
-    handle.put(end);
     tell_heard(answer, room, told)
 }
 
@@ -217,7 +193,6 @@ fn tell_abort(answer: Result<Vec<u8>, AbortFault>, room: &mut [u8], count: &mut 
 /// has place for the longest packet of the end, or nothing happens.
 #[unsafe(no_mangle)]
 pub extern "C" fn sctp_endpoint_abort(
-    alloc: Global,
     handle: &mut SctpEndpoint,
     reason: &[u8],
     room: &mut [u8],
@@ -231,16 +206,15 @@ pub extern "C" fn sctp_endpoint_abort(
         → Aborted v reason.now handle.new.slot.endpoint result count.new room.old room.new }
     ensures notes { (v : EndView) → Holds handle.old.slot.endpoint v → v.configuration.limit ≤ length room.old → KeepsNotes v handle.new.slot.endpoint }
 {
-    let Some(mut end) = handle.take(alloc) else {
+    if !handle.is_full() {
         return MISUSE;
-    };
-    let limit = limit_of(&end);
+    }
+    let end = handle.slot.lend();
+    let limit = limit_of(end);
     if room.len() < limit {
-        handle.put(end);
         *count = limit;
         return NEEDS_ROOM;
     }
     let answer = end.abort(reason);
-    handle.put(end);
     tell_abort(answer, room, count)
 }

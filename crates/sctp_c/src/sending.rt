@@ -77,15 +77,14 @@ pub extern "C" fn sctp_endpoint_send(
         → Sends v (call_of (lane_for stream ordered) payload_id (take 65537 bytes.now) (moment_of until)) handle.new.slot.endpoint result ticket.new
         ⊎ (result ≡ NO_MEMORY) × (handle.new.slot.endpoint ≡ handle.old.slot.endpoint) }
 {
-    let Some(mut end) = handle.take(alloc) else {
+    if !handle.is_full() {
         return MISUSE;
-    };
+    }
+    let end = handle.slot.lend();
     let count = LONGEST_LOOK.min(bytes.len());
     let Ok(bytes) = Vec::from_slice(alloc, &bytes[..count]) else {
-        handle.put(end);
         return NO_MEMORY;
     };
     let answer = end.send(stream, ordered, payload_id, bytes, until_of(until));
-    handle.put(end);
     tell_send(answer, ticket)
 }

@@ -22,7 +22,13 @@ impl Model for Slot {
     ghost also_owns = { λ s. slot_owns s.alloc s.at s.endpoint };
 }
 
+// It alone reaches its endpoint, which may go to another thread.
+unsafe impl Send for Slot {}
+
 impl Slot {
+    ghost use Rattle.std.specs.Borrow.{sem};
+    ghost use Rattle.sctp_c.specs.Lending.{LendsEndpoint};
+
     /// A slot with nothing in it.
     pub(crate) fn empty(alloc: Global) -> Slot
         ensures { result.endpoint ≡ None }
@@ -57,6 +63,16 @@ impl Slot {
         ensures { self.endpoint ≡ Some result.value }
     {
         self.into_block().into_box()
+    }
+
+    /// Lends the endpoint of a slot that has one: a call works on it where it lies.
+    pub(crate) fn lend(&mut self) -> &mut Endpoint
+        requires { IsFull self.old.endpoint }
+        ensures* writes_back { sem 𝓛 (LendsEndpoint self.entry result) }
+        ensures value { self.old.endpoint ≡ Some result.now }
+    {
+        let at = self.at as *mut Endpoint;
+        unsafe { &mut *at }
     }
 
     /// The block of a slot that has one.

@@ -7,12 +7,11 @@ ghost use Rattle.sctp_terms.specs.Meanings.{end_meaning, state_meaning};
 ghost use Rattle.sctp_endpoint.specs.EndpointStands.{EndpointStands};
 ghost use Rattle.sctp_c.specs.Holds.{Holds};
 ghost use Rattle.sctp_c.specs.Codes.{moment_code, state_number, ended_number};
-ghost use Rattle.sctp_c.specs.Status.{IsStatus};
+ghost use Rattle.sctp_c.specs.Status.{IsStatus, IsWithin};
 
 use crate::codes::{MISUSE, OK};
 use crate::handle::SctpEndpoint;
 use sctp_endpoint::{End, Endpoint, State, Ticket};
-use std::alloc::Global;
 
 /// Where an end stands, in one look.
 #[repr(C)]
@@ -91,7 +90,8 @@ fn moment_told(moment: Option<u64>) -> u64
 
 /// What an end tells of itself.
 fn status_of(end: &Endpoint) -> SctpStatus
-    ensures { (v : EndView) → EndpointStands end.now v → IsStatus result v }
+    ensures told { (v : EndView) → EndpointStands end.now v → IsStatus result v }
+    ensures within { (v : EndView) → EndpointStands end.now v → IsWithin result v }
 {
     SctpStatus {
         next_moment: moment_told(end.next_moment()),
@@ -113,28 +113,24 @@ fn status_of(end: &Endpoint) -> SctpStatus
 
 /// Where the end stands.
 #[unsafe(no_mangle)]
-pub extern "C" fn sctp_endpoint_status(
-    alloc: Global,
-    handle: &mut SctpEndpoint,
-    status: &mut SctpStatus,
-) -> u32
+pub extern "C" fn sctp_endpoint_status(handle: &mut SctpEndpoint, status: &mut SctpStatus) -> u32
     ensures misuse { handle.old.slot.endpoint ≡ None → result ≡ MISUSE }
     ensures untold { ((result ≡ OK) → ⊥) → status.new ≡ status.old }
     ensures answer { (v : EndView) → Holds handle.old.slot.endpoint v → (result ≡ OK) × IsStatus status.new v }
+    ensures within { (v : EndView) → Holds handle.old.slot.endpoint v → IsWithin status.new v }
     ensures kept { handle.new.slot.endpoint ≡ handle.old.slot.endpoint }
 {
-    let Some(end) = handle.take(alloc) else {
+    if !handle.is_full() {
         return MISUSE;
-    };
-    *status = status_of(&end);
-    handle.put(end);
+    }
+    let end = handle.slot.lend();
+    *status = status_of(end);
     OK
 }
 
 /// Whether the peer has acknowledged all of a message that wasn't abandoned goes to `is`.
 #[unsafe(no_mangle)]
 pub extern "C" fn sctp_endpoint_acknowledged(
-    alloc: Global,
     handle: &mut SctpEndpoint,
     ticket: u64,
     is: &mut bool,
@@ -144,18 +140,17 @@ pub extern "C" fn sctp_endpoint_acknowledged(
     ensures answer { (v : EndView) → Holds handle.old.slot.endpoint v → (result ≡ OK) × (is.new ≡ sender.acknowledged v.sender ticket) }
     ensures kept { handle.new.slot.endpoint ≡ handle.old.slot.endpoint }
 {
-    let Some(end) = handle.take(alloc) else {
+    if !handle.is_full() {
         return MISUSE;
-    };
+    }
+    let end = handle.slot.lend();
     *is = end.acknowledged(Ticket(ticket));
-    handle.put(end);
     OK
 }
 
 /// Whether a message has gone out, in part at least, and was abandoned goes to `is`.
 #[unsafe(no_mangle)]
 pub extern "C" fn sctp_endpoint_abandoned(
-    alloc: Global,
     handle: &mut SctpEndpoint,
     ticket: u64,
     is: &mut bool,
@@ -165,10 +160,10 @@ pub extern "C" fn sctp_endpoint_abandoned(
     ensures answer { (v : EndView) → Holds handle.old.slot.endpoint v → (result ≡ OK) × (is.new ≡ sender.abandoned v.sender ticket) }
     ensures kept { handle.new.slot.endpoint ≡ handle.old.slot.endpoint }
 {
-    let Some(end) = handle.take(alloc) else {
+    if !handle.is_full() {
         return MISUSE;
-    };
+    }
+    let end = handle.slot.lend();
     *is = end.abandoned(Ticket(ticket));
-    handle.put(end);
     OK
 }

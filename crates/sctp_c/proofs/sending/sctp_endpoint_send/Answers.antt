@@ -7,9 +7,9 @@ use Rattle.sctp_c.proofs.sending.sctp_endpoint_send.Goals as goal
 
 pub returns-clause-did : goal.returns-clause-did
 returns-clause-did c = λ v holds.
-    let stands : EndpointStands c.deref_mut.result.now v = rw c.deref_mut.ensures.value (rw c.in-Some.ensures.taken at holds) in
+    let stands : EndpointStands c.lend-end.result.now v = rw c.lend-end.ensures.value at holds in
     let bytes : c.in-Ok.bytes.items ≡ take 65537 c.args.bytes.now =
     c.in-Ok.ensures.items ∙ (ap (λ (n : ℕ). take n c.args.bytes.now) c.min-count.ensures ∙ take_min 65537 c.args.bytes.now) in
     let said = c.send-answer.ensures in
     inl (sends_same v (lane_for c.args.stream c.args.ordered) c.args.payload_id _ _ _ _ c.send-answer.result _ _ _ bytes c.until_of.ensures
-    (said.answer v stands) (rw c.put-2.ensures (said.step v stands)) (rw c.put-2.ensures (said.logs v stands)) c.tell_send.ensures.told)
+    (said.answer v stands) (said.step v stands) (said.logs v stands) c.tell_send.ensures.told)

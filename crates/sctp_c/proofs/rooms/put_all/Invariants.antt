@@ -1,6 +1,6 @@
 use Rattle.std.proofs.Common.{◌≡◌, length}
 use Rattle.sctp_c.proofs.TicketLemmas.{told}
-use Rattle.sctp_c.proofs.packets.put_tickets.Given as goal
+use Rattle.sctp_c.proofs.rooms.put_all.Given as goal
 
 abbrev pub invariant-loop-place : goal.invariant-loop-place
 invariant-loop-place l = record {
