@@ -29,6 +29,9 @@ say "$(wc -l < "$at/header") calls in header, static and shared library"
 "$at/layout"
 "$cc" "${flags[@]}" -o "$at/refused" tests/c/refused.c "$prefix/lib/libsctp_endpoint.a"
 told=$("$at/refused"); say "$told"
+"$cc" "${flags[@]}" -o "$at/kept" tests/c/kept.c "$prefix/lib/libsctp_endpoint.a"
+kept=$("$at/kept" 10000000); say "ten million messages that are over leave $kept bytes at both ends"
+[ "$kept" -le 65536 ]
 if there "${CXX:-c++}" "the header in C++"; then
     printf '#include "sctp_endpoint.h"\nint main() { struct sctp_endpoint e = SCTP_ENDPOINT_INIT; sctp_endpoint_free(&e); return sctp_endpoint_abi() != SCTP_EP_ABI; }\n' > "$at/plus.cc"
     "${CXX:-c++}" -std=c++11 -Wall -Wextra -Werror -I"$prefix/include" -o "$at/plus" "$at/plus.cc" "${static[@]}"

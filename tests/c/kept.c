@@ -1,0 +1,83 @@
+/* What stays of messages that are over: kept MANY. After MANY messages of a byte, each acknowledged and taken, it prints how many bytes both ends
+ * hold more than after the first 19 of them. The allocator is the program's own, which counts, so no libsctp_endpoint_malloc.a is linked. */
+#include "sctp_endpoint.h"
+#include <stdio.h>
+#include <stdlib.h>
+#include <string.h>
+
+enum { AT_A_TIME = 19, HEAD = 16 }; /* messages; bytes before a block, where its size stands */
+
+struct sctp_endpoint_block rattle_alloc(size_t size, size_t alignment);
+struct sctp_endpoint_block rattle_realloc(void *at, size_t old_size, size_t size, size_t alignment);
+void rattle_dealloc(void *at);
+
+static long held;
+static struct sctp_endpoint ends[2];
+
+static struct sctp_endpoint_block counted(char *at, size_t size) {
+    struct sctp_endpoint_block block = { at != NULL, at ? at + HEAD : (char *)&held };
+    if (at) memcpy(at, &size, sizeof size), held += (long)size;
+    return block;
+}
+
+static char *uncounted(void *at) {
+    char *begin = (char *)at - HEAD;
+    size_t size;
+    memcpy(&size, begin, sizeof size);
+    held -= (long)size;
+    return begin;
+}
+
+struct sctp_endpoint_block rattle_alloc(size_t size, size_t alignment) {
+    (void)alignment;
+    return counted(malloc(HEAD + size), size);
+}
+
+struct sctp_endpoint_block rattle_realloc(void *at, size_t old_size, size_t size, size_t alignment) {
+    (void)old_size, (void)alignment;
+    return counted(realloc(uncounted(at), HEAD + size), size);
+}
+
+void rattle_dealloc(void *at) { free(uncounted(at)); }
+
+static bool carry(struct sctp_endpoint *from, struct sctp_endpoint *to) {
+    static const struct sctp_endpoint_draw draw = { 9, 500 };
+    uint8_t packet[SCTP_EP_LONGEST_PACKET], answer[SCTP_EP_LONGEST_PACKET];
+    uint64_t tickets[SCTP_EP_MOST_TICKETS];
+    struct sctp_endpoint_sent sent = { 0, 0 };
+    struct sctp_endpoint_verdict verdict = { 0, 0, 0 };
+    return sctp_endpoint_poll_transmit(from, 0, packet, sizeof packet, tickets, SCTP_EP_MOST_TICKETS, &sent) == SCTP_EP_OK && sent.length > 0
+        && sctp_endpoint_handle_packet(to, 0, packet, sent.length, &draw, answer, sizeof answer, &verdict) == SCTP_EP_OK;
+}
+
+/* So many messages go, are taken and are acknowledged; how many were. */
+static long turn(long many) {
+    struct sctp_endpoint_message told = { 0 };
+    uint8_t byte = 7;
+    uint64_t ticket = 0;
+    long taken = 0;
+    for (long i = 0; i < many; i++)
+        if (sctp_endpoint_send(&ends[0], 0, true, 0, &byte, 1, SCTP_EP_NEVER, &ticket)) return 0;
+    while (carry(&ends[0], &ends[1]) || carry(&ends[1], &ends[0])) {}
+    while (sctp_endpoint_take(&ends[1], 0, &told, &byte, 1) == SCTP_EP_OK) taken++;
+    return taken;
+}
+
+int main(int argc, char **argv) {
+    static const struct sctp_endpoint_draw draws[2] = { { 7, 100 }, { 9, 500 } };
+    struct sctp_endpoint_config config = SCTP_ENDPOINT_CONFIG(5000, 5001);
+    long many = argc > 1 ? atol(argv[1]) : 0, taken;
+    if (sctp_endpoint_opened(&ends[0], &config, &draws[0], &draws[1])) return 1;
+    config.own_port = 5001, config.peer_port = 5000;
+    if (sctp_endpoint_opened(&ends[1], &config, &draws[1], &draws[0])) return 1;
+    taken = turn(AT_A_TIME);
+    long first = held;
+    while (taken < many) {
+        long more = turn(many - taken < AT_A_TIME ? many - taken : AT_A_TIME);
+        if (more == 0) return 1;
+        taken += more;
+    }
+    printf("%ld\n", held - first);
+    sctp_endpoint_free(&ends[0]), sctp_endpoint_free(&ends[1]);
+    return held != 0;
+}
