@@ -3,7 +3,7 @@
 use crate::parts::{bytes_of, mixed};
 use anyhow::Result;
 use sctp_packet::{PacketWriter, crc32c};
-use sctp_wire::{Rule, read_chunks, write_chunk};
+use sctp_wire::{Chunk, Rule, read_chunks, write_chunk};
 use std::alloc::Global;
 use std::fmt::Write;
 
@@ -39,16 +39,20 @@ pub fn again(alloc: Global, bytes: &str, out: &mut String) -> Result<()> {
     };
     write!(out, "chunks")?;
     for chunk in read_chunks(&bytes)? {
-        if !chunk.fits() {
-            write!(out, " unfit")?;
-            continue;
-        }
-        let mut copy = Vec::new(alloc);
-        write_chunk(&chunk, &mut copy)?;
-        let length = chunk.written_length();
-        write!(out, " {length}:{}", hex::encode(alloc, copy.as_slice())?)?;
+        write_again(alloc, &chunk, out)?;
     }
     Ok(())
+}
+
+/// A chunk is written again, if it may be.
+fn write_again(alloc: Global, chunk: &Chunk<'_>, out: &mut String) -> Result<()> {
+    if !chunk.fits() {
+        return Ok(write!(out, " unfit")?);
+    }
+    let mut copy = Vec::new(alloc);
+    write_chunk(chunk, &mut copy)?;
+    let length = chunk.written_length();
+    Ok(write!(out, " {length}:{}", hex::encode(alloc, copy.as_slice())?)?)
 }
 
 /// What is done about an unknown type of a chunk or of a parameter.
@@ -71,12 +75,28 @@ pub fn packed(
         return Ok(());
     };
     let mut packet = PacketWriter::new(alloc, limit, source, destination, tag);
+    match put_chunks(&bytes, &mut packet, out) {
+        Ok(()) => show_packed(alloc, packet.finish(), out),
+        Err(fault) => {
+            drop(packet);
+            Err(fault)
+        }
+    }
+}
+
+/// Chunks go into a packet as far as they fit: how many bytes are left behind each.
+fn put_chunks(bytes: &[u8], packet: &mut PacketWriter, out: &mut String) -> Result<()> {
     write!(out, "room {}", packet.room())?;
-    for chunk in read_chunks(&bytes)? {
+    for chunk in read_chunks(bytes)? {
         let put = chunk.fits() && packet.try_chunk(&chunk)?;
         write!(out, " {put} {}", packet.room())?;
     }
-    match packet.finish() {
+    Ok(())
+}
+
+/// The packet that chunks made, or none.
+fn show_packed(alloc: Global, packet: Option<Vec<u8>>, out: &mut String) -> Result<()> {
+    match packet {
         Some(bytes) => write!(out, ": {}", hex::encode(alloc, bytes.as_slice())?)?,
         None => write!(out, ": none")?,
     }

@@ -50,8 +50,13 @@ pub fn opened(
     let (Some(key), Some(bytes)) = (key_of(alloc, key)?, bytes_of(alloc, cookie)?) else {
         return Ok(());
     };
-    match open(&key, &bytes, now, ports, tag) {
-        Ok(body) => show(&body, out)?,
+    show_opened(&open(&key, &bytes, now, ports, tag), out)
+}
+
+/// The body of a cookie, or why it isn't opened.
+fn show_opened(opened: &Result<CookieBody, CookieFault>, out: &mut String) -> Result<()> {
+    match opened {
+        Ok(body) => show(body, out)?,
         Err(CookieFault::Form) => write!(out, "form")?,
         Err(CookieFault::Mac) => write!(out, "mac")?,
         Err(CookieFault::Ports) => write!(out, "ports")?,

@@ -183,9 +183,18 @@ pub fn carry<F: Framing>(
 
 /// A message that was taken, or none.
 pub fn taken(alloc: Global, message: Option<Message>, out: &mut String) -> Result<()> {
-    let Some(message) = message else {
-        return Ok(write!(out, "nothing")?);
-    };
+    match message {
+        Some(message) => {
+            let shown = show_message(alloc, &message, out);
+            drop(message);
+            shown
+        }
+        None => Ok(write!(out, "nothing")?),
+    }
+}
+
+/// A message's fields, and its bytes.
+fn show_message(alloc: Global, message: &Message, out: &mut String) -> Result<()> {
     let kind = if message.ordered { 'o' } else { 'u' };
     write!(out, "stream {} {kind} number ", message.stream)?;
     match message.number {

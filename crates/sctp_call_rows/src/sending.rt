@@ -80,14 +80,19 @@ pub fn fill<F: Framing>(
         Some(bytes) => packets.keep(alloc, bytes, out)?,
         None => write!(out, "nothing")?,
     }
-    if !filled.tickets.is_empty() {
+    show_tickets(&filled.tickets, out)
+}
+
+/// The tickets that were newly numbered, the first ones of many.
+fn show_tickets(tickets: &[Ticket], out: &mut String) -> Result<()> {
+    if !tickets.is_empty() {
         write!(out, ", tickets")?;
     }
-    for Ticket(ticket) in filled.tickets.iter().take(SHOWN_TICKETS) {
+    for Ticket(ticket) in tickets.iter().take(SHOWN_TICKETS) {
         write!(out, " {ticket}")?;
     }
-    if filled.tickets.len() > SHOWN_TICKETS {
-        write!(out, " ..{}", filled.tickets.len())?;
+    if tickets.len() > SHOWN_TICKETS {
+        write!(out, " ..{}", tickets.len())?;
     }
     Ok(())
 }

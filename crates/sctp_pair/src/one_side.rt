@@ -47,14 +47,21 @@ impl OneSide {
     pub(crate) fn new(alloc: Global, end: Endpoint) -> Result<OneSide, NoMemory>
         ensures { (v : EndView) → EndpointStands end v → HasNoLogs v → IfOk result (λ side. SideStands side (record { end = v; bag = []; log = no_log })) }
     {
-        let taken = fresh_logs(alloc, end.config().inbound())?;
-        Ok(OneSide {
-            end,
-            bag: Vec::new(alloc),
-            numbered: Vec::new(alloc),
-            abandoned: Vec::new(alloc),
-            taken,
-        })
+        let inbound = end.config().inbound();
+        match fresh_logs(alloc, inbound) {
+            Ok(taken) => Ok(OneSide {
+                end,
+                bag: Vec::new(alloc),
+                numbered: Vec::new(alloc),
+                abandoned: Vec::new(alloc),
+                taken,
+            }),
+            // Each place at which an end goes is proved: it goes here by name, and at no `?`.
+            Err(refused) => {
+                drop(end);
+                Err(refused)
+            }
+        }
     }
 
     /// Puts another end, of which nothing is noted, in place of the one that is there. The bag stays, and what was abandoned.

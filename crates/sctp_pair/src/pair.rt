@@ -73,15 +73,21 @@ impl Pair {
             unreachable!()
         };
         let a = OneSide::new(alloc, Endpoint::caller(alloc, config.caller()))?;
-        let b = OneSide::new(alloc, Endpoint::listener(alloc, config.listener(), key))?;
-        Ok(Pair {
-            alloc,
-            a,
-            b,
-            clock: 0,
-            draw,
-            openable: true,
-        })
+        match OneSide::new(alloc, Endpoint::listener(alloc, config.listener(), key)) {
+            Ok(b) => Ok(Pair {
+                alloc,
+                a,
+                b,
+                clock: 0,
+                draw,
+                openable: true,
+            }),
+            // A side goes by name, and at no `?`, as an end does.
+            Err(refused) => {
+                drop(a);
+                Err(refused)
+            }
+        }
     }
 
     /// Something happens. Whatever it is, the pair goes on as two ends and the network between them may: in both directions each stream hands

@@ -48,13 +48,27 @@ fn program<'a>(alloc: Global) -> Result<Command<'a>, AllocError>
     ensures { IfOk result (λ program. app_of program ≡ commands) }
 {
     let run = Command::new(alloc, "run");
-    let packet = with_hex(alloc, "packet")?;
-    let chunks = with_hex(alloc, "chunks")?;
     let bare = Command::new(alloc, "sctp-trace").subcommand_required(true);
     let running = bare.subcommand(run)?;
+    // Each place at which a command goes is proved: it goes by name, and at no `?`.
+    let packet = match with_hex(alloc, "packet") {
+        Ok(packet) => packet,
+        Err(error) => {
+            drop(running);
+            return Err(error);
+        }
+    };
     let printing = running.subcommand(packet)?;
-    let program = printing.subcommand(chunks)?;
-    Ok(program)
+    match with_hex(alloc, "chunks") {
+        Ok(chunks) => {
+            let program = printing.subcommand(chunks)?;
+            Ok(program)
+        }
+        Err(error) => {
+            drop(printing);
+            Err(error)
+        }
+    }
 }
 
 /// A subcommand of this name, with HEX.

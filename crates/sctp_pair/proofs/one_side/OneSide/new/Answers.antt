@@ -4,10 +4,10 @@ use Rattle.sctp_pair.specs.Sides.{SideStands}
 use Rattle.sctp_pair.proofs.NotesLemmas.{notes_none}
 use Rattle.sctp_pair.proofs.one_side.OneSide.new.Goals as goal
 
-pub returns : goal.returns
+pub returns-in-Ok : goal.returns-in-Ok
 unfolding SideStands
-returns c = λ v stands none. record {
+returns-in-Ok c = λ v stands none. record {
   end = stands;
   bag = rw c.new.ensures.items tt;
-  notes = rw (c.new-2.ensures.items, c.new-3.ensures.items) (notes_none [] c.in_ok-taken.taken.items v no_log refl c.in_ok-taken.ensures none);
+  notes = rw (c.new-in-Ok.ensures.items, c.new-in-Ok-2.ensures.items) (notes_none [] c.in-Ok.taken.items v no_log refl c.in-Ok.ensures none);
 }
