@@ -1,5 +1,6 @@
 -- What one line of a script leaves.
-use Rattle.std.proofs.Common.{◌≡◌, ℕ, Bool, true, List, Option, Some, None, Result, Ok, Err, refl, ap, ◌∙◌, subst}
+use Rattle.std.proofs.Common.{◌≡◌, ℕ, Bool, true, List, Option, Some, None, Result, Ok, Err, refl, sym, ap, ◌∙◌, subst}
+use Rattle.std.proofs.lemmas.Option.{none-some, same_Some}
 use Rattle.std.specs.Prelude.{MatchResult}
 use Rattle.std.specs.Result.{IsErrAnd}
 use Rattle.std.specs.Option.{is_some}
@@ -36,14 +37,13 @@ pub says_here : (pair : Option Pair) (state : Option World) (b : Bool) (line : L
     → StandsAt pair state → b ≡ is_some pair → Says b line m → Says (is_paired state) line m
 says_here pair state b line m stands e says = subst (λ (x : Bool). Says x line m) (e ∙ paired pair state stands) says
 
--- the world of a pair that is there
+-- The world of a pair that is there. The equations of pairs go to lemmas on any type: `cc` would go through all of a pair's parts.
 pub world_of : (option : Option Pair) (pair : Pair) (state : Option World) → option ≡ Some pair → StandsAt option state
     → (w : World) × (state ≡ Some w) × PairStands pair w
-world_of None pair state e stands = cc
+world_of None pair state e stands = absurd (none-some pair e)
 world_of (Some other) pair None e stands = absurd stands
 world_of (Some other) pair (Some w) e stands =
-    let same : other ≡ pair = cc in
-    (w, refl, subst (λ (p : Pair). PairStands p w) same stands)
+    (w, refl, subst (λ (p : Pair). PairStands p w) (same_Some other pair e) stands)
 
 -- what is wanted came to pass, and what was written of its outcome
 pub outcome_leaves : (result : Result (Unit {0}) ScriptFault) (n : ℕ) (state : Option World) (w x : World) (line : List ℕ) (wanted : Wanted) (e : meaning.Event)
@@ -78,4 +78,4 @@ finds_pair b line found a config f e finds =
 
 pub no_pair : (b : Bool) (option : Option Pair) → b ≡ true → b ≡ is_some option → option ≡ None → ⊥
 no_pair b None t e n = cc
-no_pair b (Some pair) t e n = cc
+no_pair b (Some pair) t e n = none-some pair (sym n)

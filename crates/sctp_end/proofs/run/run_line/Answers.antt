@@ -1,5 +1,6 @@
-use Rattle.std.proofs.Common.{◌≡◌, [], ◌∷◌, ◌++◌, Err, sym, ◌∙◌, append-nil, arith}
+use Rattle.std.proofs.Common.{[], ◌∷◌, ◌++◌, sym, ◌∙◌, append-nil, arith}
 use Rattle.std.proofs.lemmas.Grind.{common_steps}
+use Rattle.std.proofs.lemmas.Result.{err_from_is_err_and}
 use Rattle.sctp_end.proofs.RunLemmas.{gives_on, lines_behind, lines_so_far, goes_on, ends_with, ends_there, stops_before, stops_within, moved_on}
 use Rattle.sctp_end.proofs.run.run_line.Goals as goal
 
@@ -17,13 +18,12 @@ returns-in_err-answer-in-Ok-Ended-clause-runs g c = λ first text written lines 
     let b = i.ensures.bytes in
     let got = gives_on c.line_after_line.ensures text lines _ b.0 i.field-0 _ _ i.field-0-is so.given b.3 i.ensures.given i.ensures.answer in
     let out = rw c.deref.ensures.value at (c.in_err-answer-in-Ok-Ended.ensures.answers so.view so.stands) in
-    let fault = c.in_err-answer-in-Ok-Ended.field-0.0 in
-    let same : c.from_residual.result ≡ Err fault = grind (arith, common_steps) in (
+    let p = err_from_is_err_and c.from_residual.result c.from_residual.ensures.1 in (
       b.0,
       out.0,
       b.1,
       out.1,
-      rw same (stops_within first _ _ text written lines _ (text ++ b.0) i.line.items out.2.0 out.0 out.2.1 so
+      rw p.1 (stops_within first _ _ text written lines _ (text ++ b.0) i.line.items out.2.0 out.0 out.2.1 so
           (lines_so_far c.lines_in_one_way.ensures.split _ _ _ got.0) out.2.2 out.2.3),
     )
 
@@ -42,13 +42,12 @@ returns-in_err-answer-in-Ok-Last-clause-runs g c = λ first text written lines s
     let b = i.ensures.bytes in
     let got = gives_on c.line_after_line.ensures text lines _ b.0 i.field-0 _ _ i.field-0-is so.given b.3 i.ensures.given i.ensures.answer in
     let out = rw c.deref-in-Ok-Last.ensures.value at (c.in_err-answer-in-Ok-Last.ensures.answers so.view so.stands) in
-    let fault = c.in_err-answer-in-Ok-Last.field-0.0 in
-    let same : c.from_residual-in_err-answer-in-Ok-Last.result ≡ Err fault = grind (arith, common_steps) in (
+    let p = err_from_is_err_and c.from_residual-in_err-answer-in-Ok-Last.result c.from_residual-in_err-answer-in-Ok-Last.ensures.1 in (
       b.0,
       out.0,
       b.1,
       out.1,
-      rw same (stops_within first _ _ text written lines [] (text ++ b.0) i.line.items out.2.0 out.0 out.2.1 so
+      rw p.1 (stops_within first _ _ text written lines [] (text ++ b.0) i.line.items out.2.0 out.0 out.2.1 so
           (got.0.1 ∙ sym (append-nil (lines ++ i.line.items ∷ []))) out.2.2 out.2.3),
     )
 
@@ -77,3 +76,18 @@ pub returns-in-Err-NoMemory-clause-runs : goal.returns-in-Err-NoMemory-clause-ru
 returns-in-Err-NoMemory-clause-runs g c = λ first text written lines so.
     let b = c.in-Err-NoMemory.ensures.bytes in
     (b.0, [], b.1, g.met.W.Sink.writes_none _, stops_before first _ _ text written lines _ (text ++ b.0) so (lines_behind c.lines_in_one_way.ensures.split text lines _ b.0 so.given))
+
+pub returns-in_ok-answer-in-Ok-Ended-clause-forth : goal.returns-in_ok-answer-in-Ok-Ended-clause-forth
+returns-in_ok-answer-in-Ok-Ended-clause-forth g c = grind (arith, common_steps)
+
+pub returns-in_err-answer-in-Ok-Ended-clause-small : goal.returns-in_err-answer-in-Ok-Ended-clause-small
+returns-in_err-answer-in-Ok-Ended-clause-small g c = let p = err_from_is_err_and c.from_residual.result c.from_residual.ensures.1 in rw p.1 tt
+
+pub returns-in_err-answer-in-Ok-Ended-clause-forth : goal.returns-in_err-answer-in-Ok-Ended-clause-forth
+returns-in_err-answer-in-Ok-Ended-clause-forth g c = let p = err_from_is_err_and c.from_residual.result c.from_residual.ensures.1 in rw p.1 tt
+
+pub returns-in_err-answer-in-Ok-Last-clause-small : goal.returns-in_err-answer-in-Ok-Last-clause-small
+returns-in_err-answer-in-Ok-Last-clause-small g c = let p = err_from_is_err_and c.from_residual-in_err-answer-in-Ok-Last.result c.from_residual-in_err-answer-in-Ok-Last.ensures.1 in rw p.1 tt
+
+pub returns-in_err-answer-in-Ok-Last-clause-forth : goal.returns-in_err-answer-in-Ok-Last-clause-forth
+returns-in_err-answer-in-Ok-Last-clause-forth g c = let p = err_from_is_err_and c.from_residual-in_err-answer-in-Ok-Last.result c.from_residual-in_err-answer-in-Ok-Last.ensures.1 in rw p.1 tt

@@ -1,10 +1,26 @@
-use Rattle.sctp_end.proofs.SetUpLemmas.{settings_not, faulty, settings}
+use Rattle.sctp_end.proofs.SetUpLemmas.{settings_not, settings}
 use Rattle.std.proofs.Common.{refl}
 use Rattle.sctp_end.proofs.set_up.config_of.Goals as goal
+
+pub returns-in_err-limit-clause-exact : goal.returns-in_err-limit-clause-exact
+returns-in_err-limit-clause-exact c =
+    rw c.from_residual.ensures (settings_not _ _ _ _ _ _ _ _ refl (λ vs says fine. c.in_err-limit.ensures vs.0 says.limit))
+
+pub returns-in_err-fragment-clause-exact : goal.returns-in_err-fragment-clause-exact
+returns-in_err-fragment-clause-exact c =
+    rw c.from_residual-in_err-fragment.ensures (settings_not _ _ _ _ _ _ _ _ refl (λ vs says fine. c.in_err-fragment.ensures vs.1.0 says.fragment))
+
+pub returns-in_err-buffer-clause-exact : goal.returns-in_err-buffer-clause-exact
+returns-in_err-buffer-clause-exact c =
+    rw c.from_residual-in_err-buffer.ensures (settings_not _ _ _ _ _ _ _ _ refl (λ vs says fine. c.in_err-buffer.ensures vs.1.1.0 says.buffer))
 
 pub returns-in_err-streams-clause-exact : goal.returns-in_err-streams-clause-exact
 returns-in_err-streams-clause-exact c =
     rw c.from_residual-in_err-streams.ensures (settings_not _ _ _ _ _ _ _ _ refl (λ vs says fine. c.in_err-streams.ensures vs.1.1.1.0 says.streams))
+
+pub returns-in_err-mode-clause-exact : goal.returns-in_err-mode-clause-exact
+returns-in_err-mode-clause-exact c =
+    rw c.from_residual-in_err-mode.ensures (settings_not _ _ _ _ _ _ _ _ refl (λ vs says fine. c.in_err-mode.ensures vs.1.1.1.1.0 says.mode))
 
 pub returns-in_err-own_port-clause-exact : goal.returns-in_err-own_port-clause-exact
 returns-in_err-own_port-clause-exact c =
