@@ -1,5 +1,6 @@
 -- What is written word by word and byte by byte is the whole line.
 use Rattle.std.proofs.Common.{◌≡◌, ℕ, ◌+◌, ◌/◌, ◌%◌, ◌<◌, List, [], ◌∷◌, ◌++◌, length, take, get_or, map, slice_index, refl, sym, ap, ◌∙◌, append_assoc}
+use Rattle.std.specs.Prelude.{Result, Ok, Err, IsErr, OnOk}
 use Rattle.std.proofs.lemmas.List.{append-nil, take_more, map-append}
 use Rattle.hex.specs.Hex.{encode_with}
 use Rattle.sctp_text.specs.SpacedWords.{each_behind_space}
@@ -37,3 +38,10 @@ pub behind_more : {X : Type 0} (f : X → List ℕ) (xs : List X) (i : ℕ) (d :
     → (old ++ SPACE ∷ []) ++ f (get_or xs i d) ≡ front ++ each_behind_space (map f (take (i + 1) xs))
 behind_more {X} f xs i d old front lt so_far =
     rw (take_more xs i d lt, map-append f (take i xs) (get_or xs i d ∷ []), behind-append (map f (take i xs)) (f (get_or xs i d) ∷ []), so_far, append-nil (f (get_or xs i d))) (simp append_assoc)
+
+-- ---- where memory is wanting
+
+-- what holds where all was written is not asked
+pub not_written : {X E : Type 0} (r : Result X E) (P : Type 0) → IsErr r → OnOk r P
+not_written (Ok x) P failed = cc
+not_written (Err e) P failed = tt

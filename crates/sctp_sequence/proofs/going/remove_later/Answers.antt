@@ -1,4 +1,5 @@
 use Rattle.std.proofs.Common.{◌≡◌, ℕ, ◌+◌, ◌-◌, ◌<◌, ◌≤◌, List, [], length, get_or, set, take, sym, ap, subst, ◌∙◌, length-set, arith}
+use Rattle.std.proofs.lemmas.Grind.{common_steps}
 use Rattle.std.specs.List.{remove}
 use Rattle.std.specs.Vec.{vec_len}
 use Rattle.std.specs.VecDeque.{deque_len}
@@ -105,3 +106,9 @@ returns-else-is_empty-clause-starts g c = λ n d within.
     let each : length c.deref_mut.result.now ≡ m = omega (arith, c.deref_mut.ensures.len, c.requires.each) in
     let lowered = starts_lowered m k c.deref_mut.result.now c.lower.new.starts bs b c.remove-item.new.self less c.index_mut-block.ensures.value each old c.lower.ensures.before fewer c.lower.ensures.later in
     read_front (vec_len ss) c.lower.new.starts _ n d (omega (arith, within, c.requires.each)) (omega (arith, within, c.lower.ensures.len, each)) ∙ lowered n d within
+
+pub recount-requires-clause-before : goal.recount-requires-clause-before
+recount-requires-clause-before g c = grind (arith, common_steps)
+
+pub returns-then-is_empty-clause-blocks : goal.returns-then-is_empty-clause-blocks
+returns-then-is_empty-clause-blocks g c = grind (arith, common_steps)

@@ -1,4 +1,5 @@
 use Rattle.std.proofs.Common.{◌≡◌, ◌-◌, ◌<◌, ◌≤◌, ◌++◌, List, length, get_or, refl, sym, ap, ◌∙◌, arith}
+use Rattle.std.proofs.lemmas.Grind.{common_steps}
 use Rattle.std.specs.VecDeque.{deque_len, deque_with_item}
 use Rattle.std.specs.Vec.{with_item}
 use Rattle.std.proofs.lemmas.List.{get_or_append_left, get_or-append_right}
@@ -47,3 +48,9 @@ returns g c =
       (refl, λ w i. record { items = (ap (λ (l : List g.row.T.Denot). s.first.items ++ l) (set w) ∙ sym (set_behind s.first.items (joined bs) n c.args.at w long c.if-at-before.false)) i; room = has_room s.count s.first s.rest s.starts s.spare }),
       record { writes_back = tt; value = c.index_mut-3.ensures.value ∙ there ∙ sym (get_or-append_right s.first.items (joined bs) n c.args.at item long c.if-at-before.false) },
     )
+
+pub invariant_of-self-lent : goal.invariant_of-self-lent
+invariant_of-self-lent g c w = grind (arith, common_steps)
+
+pub find-place-requires-clause-at : goal.find-place-requires-clause-at
+find-place-requires-clause-at g c = grind (arith, common_steps)

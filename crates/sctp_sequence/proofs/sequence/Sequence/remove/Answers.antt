@@ -1,4 +1,5 @@
 use Rattle.std.proofs.Common.{◌≡◌, ◌-◌, ◌<◌, ◌≤◌, ◌++◌, List, is_some, length, sym, ap, ◌∙◌, arith}
+use Rattle.std.proofs.lemmas.Grind.{common_steps}
 use Rattle.std.specs.Vec.{vec_len, vec_capacity}
 use Rattle.std.specs.VecDeque.{deque_len, deque_capacity}
 use Rattle.std.proofs.lemmas.List.Edits.{remove-append_right}
@@ -27,3 +28,30 @@ returns-clause-room g c = λ room.
     let memory : vec_len s.rest ≡ 0 → deque_capacity f ≡ deque_capacity s.first = λ none. ap deque_capacity (c.move_up.ensures.alone none) ∙ c.remove-item.ensures.capacity in
     room_kept (deque_len s.first) (deque_capacity s.first) (vec_len s.rest) (vec_capacity s.rest) (vec_capacity s.starts) s.count (deque_len f) (deque_capacity f) (vec_len r) (vec_capacity r) (vec_capacity c.move_up.new.starts) (s.count - 1) (is_some s.spare)
     s.first.small.1 c.move_up.ensures.capacity c.move_up.ensures.starts_capacity c.move_up.ensures.len (omega arith) wide short memory (rw (← c.self.view_is) at room)
+
+pub invariant_of-self : goal.invariant_of-self
+invariant_of-self g c = grind (arith, common_steps)
+
+pub invariant_of-self-2 : goal.invariant_of-self-2
+invariant_of-self-2 g c = grind (arith, common_steps)
+
+pub returns-then-before-at-clause-room : goal.returns-then-before-at-clause-room
+returns-then-before-at-clause-room g c = grind (arith, common_steps)
+
+pub returns-then-before-at-clause-value : goal.returns-then-before-at-clause-value
+returns-then-before-at-clause-value g c = grind (arith, common_steps)
+
+pub returns-clause-items : goal.returns-clause-items
+returns-clause-items g c = grind (arith, common_steps)
+
+pub returns-clause-value : goal.returns-clause-value
+returns-clause-value g c = grind (arith, common_steps)
+
+pub remove_later-requires-clause-at : goal.remove_later-requires-clause-at
+remove_later-requires-clause-at g c = grind (arith, common_steps)
+
+pub remove_later-requires-clause-small : goal.remove_later-requires-clause-small
+remove_later-requires-clause-small g c = grind (arith, common_steps)
+
+pub move_up-requires-clause-small : goal.move_up-requires-clause-small
+move_up-requires-clause-small g c = grind (arith, common_steps)

@@ -1,4 +1,5 @@
 use Rattle.std.proofs.Common.{◌≡◌, ◌-◌, ◌<◌, ◌≤◌, ◌++◌, List, length, get_or, set, refl, sym, ap, subst, ◌∙◌, arith}
+use Rattle.std.proofs.lemmas.Grind.{common_steps}
 use Rattle.std.specs.VecDeque.{deque_len, deque_with_item}
 use Rattle.std.proofs.lemmas.List.{get_or-append_right}
 use Rattle.sctp_sequence.specs.Blocks.{joined}
@@ -54,3 +55,12 @@ returns-clause-items g c =
     let x = c.replace-2.new.dest in
     let there = set_there bs k (c.args.at - n) offset b less c.index_mut-block.ensures.value c.find-place.ensures.place x (deque_with_item b offset x) within refl in
     rw (← c.self.view_is) (ap (λ (l : List g.row.T.Denot). s.first.items ++ l) there ∙ sym (set_behind s.first.items (joined bs) n c.args.at x long c.if-at-before.false) ∙ ap (λ (y : g.row.T.Denot). set (s.first.items ++ joined bs) c.args.at y) c.replace-2.ensures.after)
+
+pub invariant_of-self : goal.invariant_of-self
+invariant_of-self g c = grind (arith, common_steps)
+
+pub returns-then-at-before-clause-value : goal.returns-then-at-before-clause-value
+returns-then-at-before-clause-value g c = grind (arith, common_steps)
+
+pub find-place-requires-clause-at : goal.find-place-requires-clause-at
+find-place-requires-clause-at g c = grind (arith, common_steps)
