@@ -19,3 +19,6 @@ returns-else-waited-waits g c = λ old h long but waited waits.
     let same : c.args.waits ≡ c.args.waited = sym (same_bools c.args.waited c.args.waits c.if-waited-waits.false) in
     shown_still c.args.ready.now.words.items old (map stream_of items) c.args.stream (if c.args.waited then 1 else 0) h (omega (arith, n, long)) but waited
     (waits ∙ ap (λ (b : Bool). if b then 1 else 0) same)
+
+pub returns-then-waited-waits : goal.returns-then-waited-waits
+returns-then-waited-waits g c = λ old h long but waited waits. c.show.ensures old h long but

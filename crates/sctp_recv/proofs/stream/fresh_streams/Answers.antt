@@ -1,4 +1,4 @@
-use Rattle.std.proofs.Common.{◌≡◌, ◌∷◌, ◌++◌, [], None, refl, sym, subst, arith, rules}
+use Rattle.std.proofs.Common.{◌≡◌, ◌∷◌, ◌++◌, [], None, refl, sym, subst, arith}
 use Rattle.std.proofs.lemmas.Grind.{common_steps}
 use Rattle.sctp_recv.proofs.FiledLemmas.{AreFresh, fresh_more, fresh_filed}
 use Rattle.sctp_recv.proofs.stream.fresh_streams.Goals as goal
@@ -7,7 +7,7 @@ pub loop-preserved : goal.loop-preserved
 loop-preserved g c =
     let put : c.push.new.self.items ≡ c.loop.streams.items ++ record { inbound = None } ∷ [] = grind (arith, common_steps) in
     record {
-      streams = first_of (search rules, grind (arith, common_steps));
+      streams = grind (arith, common_steps);
       fresh = subst AreFresh (sym put) (fresh_more c.loop.streams.items _ c.loop.invariant.fresh refl);
     }
 

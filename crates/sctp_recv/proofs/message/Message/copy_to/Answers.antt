@@ -30,3 +30,9 @@ returns-then-is_err-clause-memory c = λ fits.
     let done = c.extend_from_slice.ensures.succeeds (omega (arith, fits, whole, more, within, before, part, c.loop-part.invariant.capacity, c.loop-part.out.ok, c.args.out.now.ok)) in
     let failed = sym c.is_err.ensures.value ∙ c.if-is_err.true in
     absurd (no_both c.extend_from_slice.result done failed)
+
+pub returns-then-is_err-clause-refused : goal.returns-then-is_err-clause-refused
+returns-then-is_err-clause-refused c = grind (arith, common_steps)
+
+pub returns-clause-copied : goal.returns-clause-copied
+returns-clause-copied c = grind (arith, common_steps)

@@ -1,4 +1,5 @@
 use Rattle.std.proofs.Common.{◌≡◌, ℕ, min, suc, ◌+◌, ◌-◌, ◌<◌, ◌≤◌, false, List, Option, Some, ◌∷◌, length, map, set, inl, inr, refl, sym, ◌∙◌, ap, subst, arith}
+use Rattle.std.proofs.lemmas.Grind.{common_steps}
 use Rattle.std.proofs.lemmas.Option.{slice_get_read}
 use Rattle.sctp_model.specs.numbers.Limits.{WINDOW}
 use Rattle.sctp_model.specs.numbers.Serial.{COUNTS}
@@ -154,3 +155,6 @@ returns-clause-kept g c = λ v w want.
     let list = c.show_change.ensures k.streams (shown_list f ws k v w.0 w.1.1.1.1) (omega (arith, long, size, count)) but waited waits in
     let shown = shown_view f _ _ _ m.0 there put list in
     (m.0, m.1, (rw (set_mapped made at (boxed new) ∙ ap (λ (ss : List StreamKept). set ss at (inbound_of new.value)) same) there, files), shown)
+
+pub returns-then-stream-len-clause-kept : goal.returns-then-stream-len-clause-kept
+returns-then-stream-len-clause-kept g c = grind (arith, common_steps)

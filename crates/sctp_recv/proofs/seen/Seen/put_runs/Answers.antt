@@ -1,4 +1,6 @@
 use Rattle.std.proofs.Common.{◌≡◌, ◌+◌, ◌<◌, ◌≤◌, ℕ, length, map, take, min, sym, subst, ap, ◌∙◌, arith}
+use Rattle.std.proofs.lemmas.Grind.{common_steps}
+use Rattle.std.proofs.lemmas.Result.{IfOk-from_err}
 use Rattle.std.specs.List.{AllByRecursion}
 use Rattle.std.proofs.lemmas.List.{take_min}
 use Rattle.sctp_model.specs.numbers.Limits.{WINDOW}
@@ -52,3 +54,15 @@ returns-clause-few c =
     let few = told_few c.loop-i.i s.cumulative s.runs.items in
     let count : length (blocks_in c.loop-i.list.items) ≡ length (map (block_of_run s.cumulative) (take c.loop-i.i s.runs.items)) = ap length told in
     omega (arith, count, few, c.min-told.ensures, c.loop-i.auto.i-end)
+
+pub returns-in_err-put_block-clause-blocks : goal.returns-in_err-put_block-clause-blocks
+returns-in_err-put_block-clause-blocks c = IfOk-from_err c.from_residual.result _ c.from_residual.ensures.0
+
+pub returns-in_err-put_block-clause-in_range : goal.returns-in_err-put_block-clause-in_range
+returns-in_err-put_block-clause-in_range c = IfOk-from_err c.from_residual.result _ c.from_residual.ensures.0
+
+pub returns-in_err-put_block-clause-few : goal.returns-in_err-put_block-clause-few
+returns-in_err-put_block-clause-few c = IfOk-from_err c.from_residual.result _ c.from_residual.ensures.0
+
+pub loop-i-preserved : goal.loop-i-preserved
+loop-i-preserved c = grind (arith, common_steps)
