@@ -1,5 +1,5 @@
-//! What every crate shares and no crate owns: the limits as numbers of Rust, the name of a message, its kind, want of memory, and two small
-//! calls on lengths and queues.
+//! What every crate shares and no crate owns: the limits as numbers of Rust, the name of a message, its kind, want of memory, and a length as
+//! a number of 32 bits.
 #![tactic(auto)]
 
 mod kind;
@@ -7,7 +7,6 @@ mod laws;
 mod lengths;
 mod limits;
 mod no_memory;
-mod queues;
 mod ticket;
 
 pub use kind::Kind;
@@ -20,5 +19,4 @@ pub use limits::{
     STREAM_LIMIT, TICKET_LIMIT, TSN_LIMIT, WINDOW,
 };
 pub use no_memory::NoMemory;
-pub use queues::put_at;
 pub use ticket::Ticket;
