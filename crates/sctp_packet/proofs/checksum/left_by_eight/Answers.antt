@@ -1,5 +1,6 @@
 use Rattle.std.proofs.Common.{◌≡◌, ℕ, ◌+◌, ◌*◌, ◌<◌, bit_xor, arith, ◌∙◌, ap, sym}
 use Rattle.std.specs.Prelude.{slice_index}
+use Rattle.std.proofs.lemmas.Nat.{xor_of_32}
 use Rattle.byteorder.specs.Endian.{little_number}
 use Rattle.sctp_packet.specs.Tables.{steps}
 use Rattle.sctp_packet.proofs.StepLemmas.{eight_left, eight_apart}
@@ -47,3 +48,6 @@ returns c =
     )
     (eight_left_by m register bytes (bit_xor register c.read_u32.result) (omega arith) ranged (ap (bit_xor register) c.read_u32.ensures)) in
     left ∙ sym (ap (λ (n : ℕ). steps n (bit_xor register (little_number 8 bytes))) count ∙ eight_apart m (bit_xor register (little_number 8 bytes)))
+
+pub entry-requires-5-clause-byte : goal.entry-requires-5-clause-byte
+entry-requires-5-clause-byte c = grind (arith, xor_of_32)

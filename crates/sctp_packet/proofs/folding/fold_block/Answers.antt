@@ -1,4 +1,5 @@
 use Rattle.std.proofs.Common.{◌+◌, ◌-◌, arith, ◌∙◌, length}
+use Rattle.std.proofs.lemmas.Grind.{common_steps}
 use Rattle.std.proofs.lemmas.List.{length-take-le}
 use Rattle.sctp_packet.proofs.BlockLemmas.{part_byte, block_of, joined_here, joined_behind}
 use Rattle.sctp_packet.proofs.folding.fold_block.Goals as goal
@@ -25,3 +26,6 @@ pub returns-clause-behind : goal.returns-clause-behind
 returns-clause-behind c = λ j high.
     let split = c.split_at_mut-before.ensures in
     joined_behind c.split_at_mut-before.result.0.now c.set_block.new.block c.split_at_mut-before.result.1.now c.args.room.now (216 + c.args.at) j split.front_len c.set_block.ensures.length (λ k. split.by_index.1 k 0) high
+
+pub returns-clause-before : goal.returns-clause-before
+returns-clause-before c = grind (arith, common_steps)

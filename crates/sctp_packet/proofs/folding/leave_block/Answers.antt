@@ -1,4 +1,5 @@
 use Rattle.std.proofs.Common.{ℕ, ◌+◌, ◌-◌, arith, ◌∙◌, ap, bit_xor, slice_index}
+use Rattle.std.proofs.lemmas.Grind.{common_steps}
 use Rattle.std.specs.Int.Bits.{xor_zero_r}
 use Rattle.sctp_packet.specs.Folding.{reaching}
 use Rattle.sctp_packet.proofs.RoomLemmas.{byte_none}
@@ -14,3 +15,6 @@ returns-clause-here c = λ k few.
     ∙ (c.set_block.ensures.set k few
     ∙ (block_of 0 c.args.bytes.now c.args.room.now _ _ from k few (λ j lt. part_byte c.args.bytes.now from (from + 32 - from) j (omega (arith, lt))) (λ j lt. part_byte c.args.room.now from (from + 216 - from) j (omega (arith, lt)))
     ∙ ap (λ (b : ℕ). bit_xor b (reaching c.args.room.now (216 + from + k))) (ap (bit_xor byte) (byte_none k) ∙ xor_zero_r byte)))
+
+pub returns-clause-before : goal.returns-clause-before
+returns-clause-before c = grind (arith, common_steps)

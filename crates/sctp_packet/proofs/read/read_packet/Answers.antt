@@ -1,4 +1,5 @@
 use Rattle.std.proofs.Common.{◌≡◌, ◌-◌, take, length, drop, arith, ◌∙◌, ap, rules}
+use Rattle.std.proofs.lemmas.Grind.{common_steps}
 use Rattle.byteorder.specs.Endian.{big_number}
 use Rattle.sctp_packet.specs.declared.fault.PacketFault.TheVariants.{Wire}
 use Rattle.sctp_packet.specs.PacketBytes.{IsChecked}
@@ -44,3 +45,9 @@ returns-in-Err-clause-exact c =
 
 pub returns-in-Err-clause-fault : goal.returns-in-Err-clause-fault
 returns-in-Err-clause-fault c = λ f h. one_fault_of c.args.bytes.now (c.one_reading.ensures (drop 12 c.args.bytes.now)) (Wire c.moved_by.result) f (returns-in-Err-clause-exact c) h
+
+pub returns-in-Err-clause-packet : goal.returns-in-Err-clause-packet
+returns-in-Err-clause-packet c = grind (arith, common_steps)
+
+pub returns-in-Ok-clause-packet : goal.returns-in-Ok-clause-packet
+returns-in-Ok-clause-packet c = grind (arith, common_steps)

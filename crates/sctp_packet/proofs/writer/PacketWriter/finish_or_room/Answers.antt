@@ -1,4 +1,5 @@
 use Rattle.std.proofs.Common.{◌≡◌, ℕ, List, [], ◌++◌, ◌∙◌, ap, length, take, drop, refl, arith}
+use Rattle.std.proofs.lemmas.Grind.{common_steps}
 use Rattle.sctp_model.specs.wire.Packet.{Packet, HEADER_ROOM}
 use Rattle.sctp_wire.specs.Reading.{chunks_of}
 use Rattle.sctp_packet.specs.Checksum.{crc32c}
@@ -34,3 +35,6 @@ returns-clause-packet c = rw (written c) (is_finished c).packet
 
 pub returns-clause-size : goal.returns-clause-size
 returns-clause-size c = rw (written c) (is_finished c).size
+
+pub returns-clause-within : goal.returns-clause-within
+returns-clause-within c = grind (arith, common_steps)
