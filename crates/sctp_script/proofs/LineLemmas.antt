@@ -130,7 +130,7 @@ pair_words t u v w x limit fragment buffer streams mode is_limit is_fragment is_
     (_, _, refl, is_limit, (_, _, refl, is_fragment, (_, _, refl, is_buffer, (_, _, refl, are_streams, (_, _, refl, is_mode, refl)))))
 
 -- what is said with more fields behind these five, word by word
-each_of_five : (fs : List Field) (t u v w x : List ℕ) (more : List (List ℕ)) (vs : Given (pair_fields ++ fs))
+pub each_of_five : (fs : List Field) (t u v w x : List ℕ) (more : List (List ℕ)) (vs : Given (pair_fields ++ fs))
     → AreGiven (pair_fields ++ fs) (t ∷ u ∷ v ∷ w ∷ x ∷ more) vs
     → IsNumber 16 t vs.0 × IsNumber 16 u vs.1.0 × IsNumber 32 v vs.1.1.0 × IsNumber 16 w vs.1.1.1.0 × IsValue AMode x vs.1.1.1.1.0
     × AreGiven fs more vs.1.1.1.1.1
