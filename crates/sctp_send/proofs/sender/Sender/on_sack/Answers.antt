@@ -1,4 +1,5 @@
 use Rattle.std.proofs.Common.{◌≡◌, ◌-◌, ◌≤◌, ◌∙◌, List, length, map, drop, subst, sym, refl, ap, arith}
+use Rattle.std.proofs.lemmas.Grind.{common_steps}
 use Rattle.std.proofs.lemmas.List.{length-map, drop-map}
 use Rattle.sctp_wire.specs.ChunkTree.{sack_meaning}
 use Rattle.sctp_model.specs.messages.Acknowledgement.{in_blocks}
@@ -100,3 +101,12 @@ returns-clause-step g c = λ v stands.
     let items : map (item_meaning s.told.fragment) c.cover_blocks-self-inside.new.outstanding.items ≡ items_told (in_blocks 0 c.args.sack.now.blocks) 1 (drop n (map (item_meaning s.told.fragment) s.parts.outstanding.items)) =
     rw (told, all_told_meaning, gone, drop-map) refl in
     rw (c.from.ensures, c.wake_for.ensures.passed, items, c.cover_blocks-self-inside.ensures.kept.capacity, c.forget.ensures.kept.capacity, c.lend_runs.ensures.same) taken
+
+pub overflow_sub-left : goal.overflow_sub-left
+overflow_sub-left g c = grind (arith, common_steps)
+
+pub forget-requires : goal.forget-requires
+forget-requires g c = grind (arith, common_steps)
+
+pub cover_blocks-self-inside-requires : goal.cover_blocks-self-inside-requires
+cover_blocks-self-inside-requires g c = grind (arith, common_steps)

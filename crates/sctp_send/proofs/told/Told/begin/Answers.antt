@@ -1,5 +1,6 @@
 use Rattle.std.proofs.Common.{◌≡◌, ◌∙◌, ℕ, ◌+◌, ◌%◌, ◌^◌, ◌<◌, suc, List, [], ◌∷◌, ◌++◌, length, map, take, get_or, remove, refl, sym, ap, subst, arith, length-append}
 use Rattle.std.specs.Prelude.{OnOk}
+use Rattle.std.proofs.lemmas.Grind.{common_steps}
 use Rattle.std.proofs.lemmas.List.{map-append}
 use Rattle.std.specs.declared.sync.Arc.{Arc}
 use Rattle.std.specs.declared.alloc.Global.{Global}
@@ -123,3 +124,6 @@ returns-clause-behind c =
         messages = let out = ap (λ (w : QueueKept). w.capacity) removed in let was = ap (λ (w : QueueKept). w.capacity) queue in omega (arith, out, was);
       };
     }
+
+pub push_further-requires-clause-last : goal.push_further-requires-clause-last
+push_further-requires-clause-last c = grind (arith, common_steps)
