@@ -1,4 +1,5 @@
 use Rattle.std.proofs.Common.{ℕ, ◌<◌, ◌≤◌, ◌+◌, List, Option, sym, subst, length, get_or, map, arith}
+use Rattle.std.proofs.lemmas.Grind.{common_steps}
 use Rattle.sctp_chains.specs.declared.chain.Chain.{Chain}
 use Rattle.sctp_chains.specs.Links.{chain_of, one_of, join, whole_in}
 use Rattle.sctp_chains.proofs.ListLemmas.{at_same}
@@ -116,3 +117,6 @@ pub returns-in_ok-insert-in-None-None-clause-passed : goal.returns-in_ok-insert-
 returns-in_ok-insert-in-None-None-clause-passed c =
     kept_insert c.args.chains.now.items c.insert.new.self.items c.place-at.result c.in_ok-chain-in-None-None.chain c.whole-whole.result c.place-at.ensures.bound
     c.in_ok-insert-in-None-None.ensures.items c.whole-whole.ensures
+
+pub returns-in_ok-insert-in-None-None-clause-few : goal.returns-in_ok-insert-in-None-None-clause-few
+returns-in_ok-insert-in-None-None-clause-few c = grind (arith, common_steps)

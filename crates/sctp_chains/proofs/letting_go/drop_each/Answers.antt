@@ -1,4 +1,5 @@
 use Rattle.std.proofs.Common.{◌≡◌, ◌<◌, ◌≤◌, ◌-◌, List, length, map, set, ap, sym, ◌∙◌, subst, arith}
+use Rattle.std.proofs.lemmas.Grind.{elements}
 use Rattle.sctp_chains.specs.declared.chain.Chain.{Chain}
 use Rattle.sctp_chains.specs.Links.{chain_of, whole_in}
 use Rattle.sctp_chains.specs.inner.Finding.{AreOpen}
@@ -97,3 +98,6 @@ returns-then-first-upto-clause-passed c = λ n h.
     subst (λ (xs : List Chain). AreOpen (n - (length c.args.chains.now.items - length c.replace.new.self.items)) (map chain_of xs)) (sym (put c))
     (open_less _ _ (map chain_of (set cs c.args.at y)) (kept_cut cs c.args.at _ c.replace-chain.result y l c.replace-chain.ensures.value c.trim-left.ensures.whole (c.loop-chains.invariant.passed n h))
     (omega (arith, all, same)))
+
+pub loop-chains-smaller-in-Some : goal.loop-chains-smaller-in-Some
+loop-chains-smaller-in-Some c = grind (arith, elements)

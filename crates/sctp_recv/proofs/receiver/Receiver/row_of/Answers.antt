@@ -1,4 +1,5 @@
 use Rattle.std.proofs.Common.{◌+◌, ◌<◌, ◌≤◌, length, arith}
+use Rattle.std.proofs.lemmas.Grind.{common_steps}
 use Rattle.sctp_values.specs.Meanings.{kind_meaning}
 use Rattle.sctp_wire.specs.ChunkTree.{piece_meaning}
 use Rattle.sctp_recv.specs.StandsFor.{StandsFor}
@@ -40,3 +41,11 @@ returns g c = λ v w.
     c.cumulative.ensures.value c.cumulative.ensures.within c.in-At.ensures c.is_reached.ensures c.if-is_reached.false c.from-stream.ensures within c.index-known.ensures c.number_near-number.ensures c.is_late.ensures in
     let fits : c.args.self.now.held + length p.bytes ≤ c.args.self.now.buffer = let room = w.0.room in omega (arith, room, c.saturating_sub.ensures, c.if-piece-saturating_sub.false) in
     read_taken read (omega arith) c.if-is_late.false c.is_held.result c.is_held.ensures c.if-is_held.false fits
+
+pub returns-then-is_reached : goal.returns-then-is_reached
+unfolding StandsFor
+returns-then-is_reached g c = grind (arith, common_steps)
+
+pub returns-then-stream-len : goal.returns-then-stream-len
+unfolding StandsFor
+returns-then-stream-len g c = grind (arith, common_steps)
