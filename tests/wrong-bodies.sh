@@ -6,10 +6,13 @@
 #   tests/wrong-bodies.sh sctp_send/NAME ..    this one alone (of must-fail too), NAME without its ending
 #   tests/wrong-bodies.sh --look [CRATE ..]    tries none, and says which of all edits, of must-fail too, don't fit: an edit fits where its
 #                                              file is there, and each of its old texts stands in it once
+#   tests/wrong-bodies.sh --compile [CRATE, CRATE/NAME ..]
+#                                              proves none, and says which of all edits, of must-fail too, don't fit or don't compile (some ten
+#                                              seconds an edit)
 #   tests/wrong-bodies.sh --list [CRATE ..]    tries none, and prints all edits, of must-fail too, crate by crate: the gate's or beside it,
 #                                              what is wrong (its name as a sentence), the files that it changes
 # It works on a copy of what the crates stand on, with the libraries that earlier checks left in out/ (`rt all check` makes those that are
-# missing or old in the checkout; here they would be made again). It ends with 0 where each was refused, or fits.
+# missing or old in the checkout; here they would be made again). It ends with 0 where each was refused, or fits, or compiles.
 
 root=$(CDPATH='' cd -- "$(dirname -- "$0")/.." && pwd -P) || exit 3
 cd -- "$root" || exit 3
@@ -29,9 +32,9 @@ closure() {
     ' crates.txt
 }
 
-# Whether the edit of this file fits the crate in this folder; else it says why not.
+# Whether the edit of this file fits the crate in this folder; else it says why not. Where a third folder is given, the edited texts go there.
 fits() {
-    awk -v folder="$1" -v edit="$2" '
+    awk -v folder="$1" -v edit="$2" -v into="${3:-}" '
         function refuse(why) { printf "%s: %s\n", edit, why; refused = 1; exit 1 }
         function text_of(path,   line, text, got) {
             while ((got = (getline line < path)) > 0) text = text line "\n"
@@ -55,7 +58,10 @@ fits() {
             texts[path] = substr(texts[path], 1, at - 1) new substr(texts[path], at + length(old))
             pairs++; old = ""
         }
-        END { if (!refused && !pairs) refuse("it has no old and new text") }
+        END {
+            if (!refused && !pairs) refuse("it has no old and new text")
+            if (!refused && into != "") for (path in texts) printf "%s", texts[path] > (into substr(path, length(folder) + 1))
+        }
     ' "$2"
 }
 
@@ -111,6 +117,33 @@ lay() {
     done <"$room/names"
 }
 
+# Whether the crate compiles with this edit; else it says why not.
+compiles() {
+    of=crates/$1
+    for part in src specs proofs; do
+        rm -rf -- "$room/$of/$part"
+        if [ -e "$of/$part" ]; then cp -a -- "$of/$part" "$room/$of/$part" || exit 3; fi
+    done
+    fits "$of" "$2" "$room/$of" || return 1
+    (cd -- "$room/$of" && rt check --only '') >"$room/said" 2>&1
+    if grep -q '^only=' "$room/said" && ! grep -qE 'error(:|\[)' "$room/said"; then return 0; fi
+    echo "$2: it doesn't compile: $(grep -m 1 -E 'error(:|\[)' "$room/said" || tail -n 1 "$room/said")"
+    return 1
+}
+
+# Each of these edits of a crate, laid on it: whether it compiles.
+compile() {
+    crate=$1
+    shift
+    count=0 failed=0
+    for edit in "$@"; do
+        count=$((count + 1))
+        compiles "$crate" "$edit" || failed=$((failed + 1))
+    done
+    echo "$crate: $((count - failed)) of $count edits compile"
+    [ $failed = 0 ]
+}
+
 # Tries these edits of a crate.
 try() {
     crate=$1
@@ -123,13 +156,13 @@ try() {
     return $ended
 }
 
-# The edits of a crate that are meant by these words, each a crate or one of its edits.
+# The edits of a crate that are meant by these words, each a crate (its edits in the folders of the task) or one of its edits.
 edits_of() {
     crate=$1
     shift
     for word in "$@"; do
         case $word in
-            "$crate") set -- crates/"$crate"/wrong-bodies/*.edit ;;
+            "$crate") set -- crates/"$crate"/$folders/*.edit ;;
             "$crate"/*) set -- crates/"$crate"/[mw]*/"${word#*/}".edit ;;
             *) continue ;;
         esac
@@ -138,7 +171,7 @@ edits_of() {
     done
 }
 
-all=$(for folder in crates/*/wrong-bodies; do [ -d "$folder" ] && basename "$(dirname "$folder")"; done)
+task=try folders=wrong-bodies
 case "${1:-}" in
     --look | --list)
         task=${1#--}
@@ -147,8 +180,12 @@ case "${1:-}" in
         $task "$@"
         exit
         ;;
+    --compile)
+        task=compile folders='[mw]*'
+        shift
+        ;;
 esac
-[ $# -gt 0 ] || set -- $all
+[ $# -gt 0 ] || set -- $(for folder in crates/*/$folders; do basename "$(dirname "$folder")"; done | sort -u)
 room=$(mktemp -d) || exit 3
 trap 'rm -rf -- "$room"' EXIT
 trap 'exit 130' HUP INT TERM
@@ -156,6 +193,6 @@ lay $(printf '%s\n' "$@" | sed 's,/.*,,')
 status=0
 for crate in $(printf '%s\n' "$@" | sed 's,/.*,,' | sort -u); do
     edits=$(edits_of "$crate" "$@") || exit 2
-    try "$crate" $edits || status=1
+    $task "$crate" $edits || status=1
 done
 exit $status
