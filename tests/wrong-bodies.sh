@@ -1,14 +1,14 @@
 #!/bin/sh
 # Tries the wrong bodies that stand beside the gate, crates/NAME/wrong-bodies/*.edit: the prover must refuse each. They have the form of
 # crates/NAME/must-fail/*.edit, which the gate tries. To be run by hand, before a crate's contracts change and at the end of a stage:
-#   tests/wrong-bodies.sh                      all of them (some two hours of processor time)
+#   tests/wrong-bodies.sh                      all of them (hours of processor time)
 #   tests/wrong-bodies.sh sctp_send ..         those of these crates
 #   tests/wrong-bodies.sh sctp_send/NAME ..    this one alone (of must-fail too), NAME without its ending
 #   tests/wrong-bodies.sh --look [CRATE ..]    tries none, and says which of all edits, of must-fail too, don't fit: an edit fits where its
 #                                              file is there, and each of its old texts stands in it once
 #   tests/wrong-bodies.sh --compile [CRATE, CRATE/NAME ..]
-#                                              proves none, and says which of all edits, of must-fail too, don't fit or don't compile (some ten
-#                                              seconds an edit)
+#                                              proves none, and says which of all edits, of must-fail too, don't fit or don't compile (some
+#                                              minutes a crate)
 #   tests/wrong-bodies.sh --list [CRATE ..]    tries none, and prints all edits, of must-fail too, crate by crate: the gate's or beside it,
 #                                              what is wrong (its name as a sentence), the files that it changes
 # It works on a copy of what the crates stand on, with the libraries that earlier checks left in out/ (`rt all check` makes those that are
@@ -117,28 +117,53 @@ lay() {
     done <"$room/names"
 }
 
+# Lays the crate's sources into the copy as they are.
+fresh() {
+    for part in src specs proofs; do
+        rm -rf -- "$room/crates/$1/$part"
+        if [ -e "crates/$1/$part" ]; then cp -a -- "crates/$1/$part" "$room/crates/$1/$part" || exit 3; fi
+    done
+}
+
+# Whether the crate compiles as it lies in the copy.
+reads() {
+    (cd -- "$room/crates/$1" && rt check --only '') >"$room/said" 2>&1
+    grep -q '^only=' "$room/said" && ! grep -qE ': error(:|\[)' "$room/said"
+}
+
 # Whether the crate compiles with this edit; else it says why not.
 compiles() {
-    of=crates/$1
-    for part in src specs proofs; do
-        rm -rf -- "$room/$of/$part"
-        if [ -e "$of/$part" ]; then cp -a -- "$of/$part" "$room/$of/$part" || exit 3; fi
-    done
-    fits "$of" "$2" "$room/$of" || return 1
-    (cd -- "$room/$of" && rt check --only '') >"$room/said" 2>&1
-    if grep -q '^only=' "$room/said" && ! grep -qE 'error(:|\[)' "$room/said"; then return 0; fi
-    echo "$2: it doesn't compile: $(grep -m 1 -E 'error(:|\[)' "$room/said" || tail -n 1 "$room/said")"
+    fresh "$1"
+    fits "crates/$1" "$2" "$room/crates/$1" || return 1
+    reads "$1" && return 0
+    echo "$2: it doesn't compile: $(grep -m 1 -E ': error(:|\[)' "$room/said" || tail -n 1 "$room/said")"
     return 1
 }
 
-# Each of these edits of a crate, laid on it: whether it compiles.
+# Whether each of these edits of a crate compiles. Many are laid on it at once, no two on one file; where they don't compile so, one by one.
 compile() {
     crate=$1
     shift
-    count=0 failed=0
-    for edit in "$@"; do
-        count=$((count + 1))
-        compiles "$crate" "$edit" || failed=$((failed + 1))
+    left=$* count=$# failed=0
+    while [ -n "$left" ]; do
+        batch='' later=''
+        fresh "$crate"
+        : >"$room/changed"
+        for edit in $left; do
+            sed -n 's/^file: //p' "$edit" | sort -u >"$room/files"
+            if grep -qxFf "$room/changed" "$room/files"; then
+                later="$later $edit"
+            elif fits "crates/$crate" "$edit" "$room/crates/$crate"; then
+                cat "$room/files" >>"$room/changed"
+                batch="$batch $edit"
+            else
+                failed=$((failed + 1))
+            fi
+        done
+        if [ -n "$batch" ] && ! reads "$crate"; then
+            for edit in $batch; do compiles "$crate" "$edit" || failed=$((failed + 1)); done
+        fi
+        left=$later
     done
     echo "$crate: $((count - failed)) of $count edits compile"
     [ $failed = 0 ]
