@@ -4,17 +4,17 @@ ghost use Rattle.std.specs.Prelude.{◌≡◌};
 ghost use Rattle.sctp_model.specs.messages.Framing.{lane_kind};
 ghost use Rattle.sctp_values.specs.Meanings.{kind_meaning};
 
-/// When a message is handed over (RFC 9260, 6.6).
+/// Ordered or unordered delivery of a message (RFC 9260, 6.6).
 #[derive(Clone, Copy, Debug, PartialEq, Eq)]
 pub enum Kind {
-    /// In the order of sending on its stream.
+    /// Delivered in the order of sending on its stream.
     Ordered,
-    /// As soon as it is whole.
+    /// Delivered as soon as all its fragments have arrived.
     Unordered,
 }
 
 impl Kind {
-    /// The kind that a U flag says, which is set for an unordered message (RFC 9260, 3.3.1).
+    /// The kind that a U flag says: the flag is set for an unordered message (RFC 9260, 3.3.1).
     pub fn of_flag(unordered: bool) -> Kind
         ensures { kind_meaning result ≡ lane_kind unordered }
     {
@@ -25,7 +25,7 @@ impl Kind {
         }
     }
 
-    /// Its U flag.
+    /// The U flag of this kind.
     pub fn flag(self) -> bool
         ensures { lane_kind result ≡ kind_meaning self }
     {

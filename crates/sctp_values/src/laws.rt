@@ -1,4 +1,4 @@
-//! The limits and the definitions say the same.
+//! Law: the constants of this crate are the limits of the definitions.
 
 ghost use Rattle.sctp_values.specs.SameLimits.{AreTheLimits};
 

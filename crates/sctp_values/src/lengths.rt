@@ -1,8 +1,8 @@
-//! Lengths as numbers of 32 bits.
+//! Lengths as 32-bit numbers.
 
 ghost use Rattle.std.specs.Prelude.{◌≡◌, ◌-◌, ◌^◌, min};
 
-/// A number of bytes, at most 2^32 - 1.
+/// A number of bytes as a 32-bit number: 2^32 - 1 if there are more.
 pub fn small_len(bytes: usize) -> u32
     ensures { result ≡ min bytes (2 ^ 32 - 1) }
 {

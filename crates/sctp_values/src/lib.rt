@@ -1,5 +1,14 @@
-//! What every crate shares and no crate owns: the limits as numbers of Rust, the name of a message, its kind, want of memory, and a length as
-//! a number of 32 bits.
+//! What all crates share: the limits of this profile as constants, the ticket of a message, ordered or unordered, the allocation error, and
+//! lengths as 32-bit numbers.
+//!
+//! | public item | what is promised |
+//! |---|---|
+//! | the constants | each is the limit of that name in the definitions (`sctp_model/specs/numbers/Limits`): [`limits_are_the_definitions`], a law |
+//! | [`small_len`] | the number of bytes, at most 2^32 - 1 |
+//! | [`Kind::of_flag`], [`Kind::flag`] | the kind that a U flag says (RFC 9260, 3.3.1), and the flag that says it: `lane_kind` of the definitions |
+//! | [`Ticket`], [`NoMemory`] | plain values: no calls |
+//!
+//! A law is a function that does nothing: its contract is the theorem.
 #![tactic(auto)]
 
 mod kind;

@@ -1,8 +1,8 @@
-//! Want of memory.
+//! The allocation error.
 
 use thiserror::Error;
 
-/// Memory ran out: a growth was refused.
+/// An allocation failed.
 #[derive(Clone, Copy, Debug, PartialEq, Eq, Error)]
 #[error("out of memory")]
 pub struct NoMemory;

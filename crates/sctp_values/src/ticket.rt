@@ -1,5 +1,5 @@
-//! The name that a user has for a message.
+//! The ticket of a message.
 
-/// The name of an accepted message at its sender: 1 for the first one, and so on.
+/// The number by which a user names a message that was accepted for sending: 1 for the first one, 2 for the next, and so on.
 #[derive(Clone, Copy, Debug, PartialEq, Eq)]
 pub struct Ticket(pub u64);
