@@ -1,8 +1,8 @@
-//! The trait of wire values, with its laws.
+//! The trait of serial numbers, with its laws.
 
-/// A wire value of a count: the count modulo a power of two.
+/// A serial number: the wire value of a count, which is the count modulo a power of two.
 ///
-/// The contracts speak of `bits`, its width, and of `wire`, its value as a number.
+/// The contracts name `bits`, its width, and `wire`, its value as a number.
 pub trait Serial: Copy {
     ghost use Rattle.std.specs.Prelude.{◌≡◌, ℕ, ◌<◌, ◌^◌, Option, Some};
     ghost use Rattle.sctp_model.specs.numbers.Serial.{COUNTS, wire_value, ahead, before, near, IsWithinHalf, IsNear, IsNearAnswer};
@@ -17,19 +17,20 @@ pub trait Serial: Copy {
     fn of_count(count: u64) -> Self
         ensures { wire result ≡ wire_value bits count };
 
-    /// How far the other value lies ahead of this one: so many steps forward on the circle lead to it (RFC 1982, 3.2).
+    /// How far the other value is ahead of this one: the number of increments, modulo the space, that lead to it (RFC 1982, 3.2).
     fn ahead(self, other: Self) -> u32
         ensures { result ≡ ahead bits (wire self) (wire other) };
 
-    /// Whether this value comes before the other on the circle, by less than half the space (RFC 1982, 3.2).
+    /// Whether this value is less than the other in serial number arithmetic: the other is ahead of it by less than half the space
+    /// (RFC 1982, 3.2).
     ///
     /// Of two values that are half the space apart neither is before the other.
     fn before(self, other: Self) -> bool
         ensures { result ≡ before bits (wire self) (wire other) };
 
-    /// The count that has this wire value and lies less than half the space from the reference.
+    /// The count that has this wire value and differs from the reference by less than half the space.
     ///
-    /// None where there is no such count: at half the space, and where it would be below 0 or above the largest count.
+    /// None if there is no such count: at exactly half the space, and if it would be below 0 or above the largest count.
     fn near(self, reference: u64) -> Option<u64>
         ensures answer { IsNearAnswer bits (wire self) reference result }
         ensures exact { result ≡ near bits (wire self) reference };

@@ -1,4 +1,4 @@
-//! TSNs and the indexes that they stand for: the first TSN of an association has index 1 (RFC 9260, 2.6 and 3.3.2).
+//! TSNs and their indexes, which count them without wrapping: the initial TSN of an association has index 1 (RFC 9260, 2.6 and 3.3.2).
 
 ghost use Rattle.std.specs.Prelude.{◌≡◌, ◌+◌};
 ghost use Rattle.sctp_model.specs.numbers.Serial.{tsn, ahead, as_count};
@@ -6,7 +6,7 @@ ghost use Rattle.sctp_model.specs.numbers.Serial.{tsn, ahead, as_count};
 use crate::counts::Serial;
 use crate::widths::S32;
 
-/// The TSN of an index, where `initial` is the TSN of index 1. Index 0 stands for the TSN before that one.
+/// The TSN of an index; `initial` is the TSN of index 1. Index 0 is that of the TSN before it.
 pub fn tsn_of(initial: u32, index: u64) -> u32
     ensures { result ≡ tsn initial index }
 {
@@ -14,10 +14,10 @@ pub fn tsn_of(initial: u32, index: u64) -> u32
     initial.wrapping_add(steps).wrapping_sub(1)
 }
 
-/// The index as far ahead of a known one as a TSN lies ahead of that one's.
+/// The index of a TSN: as far ahead of the index `known` as the TSN `wire` is ahead of the TSN of `known`.
 ///
-/// None where no count is so large. A TSN that comes before that of the known index lies more than half the space ahead of it:
-/// ask `before` first.
+/// None if that index would be 2^64 or more. A TSN before that of the known index is taken as one far ahead of it: use
+/// [`Serial::before`] first.
 pub fn index_ahead(initial: u32, known: u64, wire: u32) -> Option<u64>
     ensures { result ≡ as_count (known + ahead 32 (tsn initial known) wire) }
 {

@@ -1,15 +1,15 @@
-//! The two widths: SSNs have 16 bits (RFC 9260, 3.3.1), TSNs and MIDs 32 (RFC 9260, 3.3.1; RFC 8260, 2.1).
+//! The two widths of serial numbers: SSNs have 16 bits (RFC 9260, 3.3.1), TSNs and MIDs 32 (RFC 9260, 3.3.1; RFC 8260, 2.1).
 
 ghost use Rattle.std.specs.Prelude.{◌≡◌, ◌+◌, ◌-◌, nat_lt, nat_le, ◌&&◌, if◌then◌else◌, Some, None};
 ghost use Rattle.sctp_model.specs.numbers.Serial.{as_count};
 
 use crate::counts::Serial;
 
-/// A wire value of 16 bits, as an SSN.
+/// A serial number of 16 bits: an SSN.
 #[derive(Clone, Copy, Debug, PartialEq, Eq)]
 pub struct S16(pub u16);
 
-/// A wire value of 32 bits, as a TSN or a MID.
+/// A serial number of 32 bits: a TSN or a MID.
 #[derive(Clone, Copy, Debug, PartialEq, Eq)]
 pub struct S32(pub u32);
 
@@ -87,7 +87,7 @@ impl Serial for S32 {
     }
 }
 
-/// The count so far ahead of a reference, or else so far behind it, by less than `half`.
+/// The count that is `ahead` above the reference, if that is less than `half`; else the one `behind` below it, if that is less than `half`.
 fn count_near(reference: u64, ahead: u32, behind: u32, half: u32) -> Option<u64>
     ensures { result ≡ (if nat_lt ahead half then as_count (reference + ahead)
         else if nat_lt behind half && nat_le behind reference then Some (reference - behind) else None) }
