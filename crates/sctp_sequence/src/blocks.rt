@@ -1,4 +1,4 @@
-//! Where an item stands among blocks, and how many stand before each. Nothing here knows of a first block.
+//! The position of an item among blocks, and the number of items before each block. The list's first block isn't among these.
 
 ghost use Rattle.std.specs.Prelude.{◌≡◌, ℕ, ◌+◌, ◌-◌, ◌^◌, ◌<◌, ◌≤◌, length, take, slice_index_or};
 ghost use Rattle.std.specs.Vec.{vec_len, vec_capacity};
@@ -7,14 +7,14 @@ ghost use Rattle.sctp_sequence.specs.Blocks.{joined, AreStarts};
 
 use std::collections::VecDeque;
 
-/// A block, and a place in it.
+/// A block, by its index, and a position in it.
 #[derive(Clone, Copy)]
 pub(crate) struct Place {
     pub(crate) block: usize,
     pub(crate) offset: usize,
 }
 
-/// Where the item stands that has this place among all of them.
+/// The block and the position in it of the item that has the position `at` among all of them.
 pub(crate) fn find<T>(blocks: &Vec<VecDeque<T>>, starts: &Vec<usize>, at: usize) -> Place
     requires each { vec_len starts.now ≡ vec_len blocks.now }
     requires starts { AreStarts (vec_len blocks.now) starts.now.items blocks.now.items }
@@ -26,7 +26,8 @@ pub(crate) fn find<T>(blocks: &Vec<VecDeque<T>>, starts: &Vec<usize>, at: usize)
     find_for(blocks, starts, at)
 }
 
-/// The same for an item that comes: behind all others in the last block.
+/// The block and the position in it at which an item is inserted so that it gets the position `at` among all of them; at the end that is
+/// after the last item of the last block.
 pub(crate) fn find_for<T>(blocks: &Vec<VecDeque<T>>, starts: &Vec<usize>, at: usize) -> Place
     requires each { vec_len starts.now ≡ vec_len blocks.now }
     requires starts { AreStarts (vec_len blocks.now) starts.now.items blocks.now.items }
@@ -53,7 +54,7 @@ pub(crate) fn find_for<T>(blocks: &Vec<VecDeque<T>>, starts: &Vec<usize>, at: us
     }
 }
 
-/// An item came into the block before this one.
+/// Adds 1 to the counts from this block on: an item was inserted into the block before it.
 pub(crate) fn raise(starts: &mut [usize], from: usize)
     requires { (k d : ℕ) → k < length starts.old → slice_index_or starts.old k d < 2 ^ 64 - 1 }
     ensures len { length starts.new ≡ length starts.old }
@@ -65,7 +66,7 @@ pub(crate) fn raise(starts: &mut [usize], from: usize)
     }
 }
 
-/// An item went from the block before this one.
+/// Takes 1 from the counts from this block on: an item was removed from the block before it.
 pub(crate) fn lower(starts: &mut [usize], from: usize)
     requires { (k d : ℕ) → from ≤ k → k < length starts.old → 0 < slice_index_or starts.old k d }
     ensures len { length starts.new ≡ length starts.old }
@@ -77,7 +78,7 @@ pub(crate) fn lower(starts: &mut [usize], from: usize)
     }
 }
 
-/// Blocks came or went from this one on, before which so many items stand.
+/// Computes the counts from the block `from` on anew, after blocks were added or removed there; `before` items are before that block.
 pub(crate) fn recount<T>(
     blocks: &Vec<VecDeque<T>>,
     starts: &mut Vec<usize>,

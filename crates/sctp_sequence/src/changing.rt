@@ -1,4 +1,4 @@
-//! Items come, and are replaced.
+//! Inserting and replacing items.
 
 ghost use Rattle.std.specs.Prelude.{◌≡◌, ◌<◌, ◌≤◌, ◌++◌, ◌∷◌, [], true, length, slice_index_or, slice_set, OnOk, OnErr, IsOk};
 ghost use Rattle.std.specs.List.{insert};
@@ -10,10 +10,10 @@ use sctp_values::NoMemory;
 use std::mem::replace;
 
 impl<T: Drop> Sequence<T> {
-    /// Takes memory for one item more, wherever it comes.
+    /// Allocates memory for one more item, wherever it is inserted.
     ///
     /// # Errors
-    /// Memory ran out.
+    /// Allocation failed; the items are as they were.
     pub fn reserve(&mut self) -> Result<(), NoMemory>
         ensures items { self.new.items ≡ self.old.items }
         ensures room { OnOk result (self.new.room ≡ true) }
@@ -31,7 +31,7 @@ impl<T: Drop> Sequence<T> {
         self.starts.reserve(1).map_err(|_| NoMemory)
     }
 
-    /// Puts an item in at a place, before what stands there. There is room for it.
+    /// Inserts an item at a position, before the item that is there. Memory for it was reserved.
     pub fn insert_reserved(&mut self, at: usize, item: T)
         requires at { at ≤ length self.old.items }
         requires room { self.old.room ≡ true }
@@ -65,10 +65,10 @@ impl<T: Drop> Sequence<T> {
         );
     }
 
-    /// Puts an item in at a place, before what stands there.
+    /// Inserts an item at a position, before the item that is there.
     ///
     /// # Errors
-    /// Memory ran out, and nothing changed.
+    /// Allocation failed; the items are as they were.
     pub fn insert(&mut self, at: usize, item: T) -> Result<(), NoMemory>
         requires { at ≤ length self.old.items }
         ensures items { OnOk result (self.new.items ≡ insert self.old.items at item) }
@@ -80,10 +80,10 @@ impl<T: Drop> Sequence<T> {
         Ok(())
     }
 
-    /// Puts an item in behind all others.
+    /// Appends an item at the end.
     ///
     /// # Errors
-    /// Memory ran out, and nothing changed.
+    /// Allocation failed; the items are as they were.
     pub fn push_back(&mut self, item: T) -> Result<(), NoMemory>
         ensures items { OnOk result (self.new.items ≡ self.old.items ++ item ∷ []) }
         ensures unchanged { OnErr result (self.new.items ≡ self.old.items) }
@@ -95,7 +95,7 @@ impl<T: Drop> Sequence<T> {
         Ok(())
     }
 
-    /// Puts an item in the place of another, which it hands back.
+    /// Replaces the item at a position, and returns the old one.
     pub fn replace(&mut self, at: usize, item: T) -> T
         requires { at < length self.old.items }
         ensures value { result ≡ slice_index_or self.old.items at result }

@@ -1,4 +1,4 @@
-//! An item comes among blocks, and a full one is halved for it.
+//! Inserting an item into blocks; a full block is split for it.
 
 ghost use Rattle.std.specs.Prelude.{◌≡◌, ◌<◌, ◌≤◌, ◌+◌, ◌^◌, ◌++◌, ◌&&◌, true, length, nat_lt, is_some, IfSome, IsSome, OnOk, IsOk, ◌==◌};
 ghost use Rattle.std.specs.List.{insert, AllByRecursion};
@@ -14,10 +14,10 @@ use sctp_values::NoMemory;
 use std::alloc::Global;
 use std::collections::VecDeque;
 
-/// Takes memory for a block, where none is in reserve.
+/// Allocates a spare block, if there is none.
 ///
 /// # Errors
-/// Memory ran out.
+/// Allocation failed.
 pub(crate) fn reserve_block<T: Drop>(
     spare: &mut Option<VecDeque<T>>,
     alloc: Global,
@@ -33,7 +33,7 @@ pub(crate) fn reserve_block<T: Drop>(
     Ok(())
 }
 
-/// An item comes into the first block, which is full. Its later half is the first of the others then.
+/// Inserts an item into the list's first block, which is full: its later half becomes the first of the further blocks.
 pub(crate) fn insert_halving_first<T: Drop>(
     first: &mut VecDeque<T>,
     rest: &mut Vec<VecDeque<T>>,
@@ -66,7 +66,7 @@ pub(crate) fn insert_halving_first<T: Drop>(
     }
 }
 
-/// An item comes into one of the other blocks, and into the last one where it comes behind all others.
+/// Inserts an item into one of the further blocks; into the last one if it is appended at the end.
 pub(crate) fn insert_later<T: Drop>(
     rest: &mut Vec<VecDeque<T>>,
     starts: &mut Vec<usize>,

@@ -1,4 +1,4 @@
-//! An item goes from blocks, and a block that becomes empty with it.
+//! Removing an item from blocks; a block that becomes empty is dropped.
 
 ghost use Rattle.std.specs.Prelude.{◌≡◌, ◌^◌, ◌<◌, ◌≤◌, ◌++◌, length, slice_index_or, IfSome, IsSome};
 ghost use Rattle.std.specs.List.{remove, AllByRecursion};
@@ -10,7 +10,7 @@ ghost use Rattle.sctp_sequence.specs.declared.sequence.TheConstants.{BLOCK};
 use crate::blocks::{find, lower, recount};
 use std::collections::VecDeque;
 
-/// Where the first block is empty, the next becomes the first.
+/// If the first block is empty, the next becomes the first.
 pub(crate) fn move_up<T: Drop>(
     first: &mut VecDeque<T>,
     rest: &mut Vec<VecDeque<T>>,
@@ -40,7 +40,7 @@ pub(crate) fn move_up<T: Drop>(
     }
 }
 
-/// Takes out the item that has this place among those of the blocks.
+/// Removes the item that has the position `at` among those of the blocks, and returns it.
 pub(crate) fn remove_later<T: Drop>(
     rest: &mut Vec<VecDeque<T>>,
     starts: &mut Vec<usize>,

@@ -1,4 +1,4 @@
-//! A full block becomes two.
+//! Splitting a full block into two.
 
 ghost use Rattle.std.specs.Prelude.{◌≡◌, ◌<◌, ◌≤◌, ◌++◌};
 ghost use Rattle.std.specs.List.{insert};
@@ -27,8 +27,8 @@ fn halve<T>(block: &mut VecDeque<T>, later: &mut VecDeque<T>)
     }
 }
 
-/// Halves a full block, and puts an item into the half in which its place lies. One behind all others stands alone in the later block, so that a
-/// list to which items come at its end has full blocks.
+/// Splits a full block and inserts an item into the half in which its position is. An item at the end is alone in the later block, so that a
+/// list that grows at its end has full blocks.
 pub(crate) fn insert_halving<T: Drop>(
     block: &mut VecDeque<T>,
     later: &mut VecDeque<T>,

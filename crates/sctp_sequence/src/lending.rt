@@ -1,4 +1,4 @@
-//! An item is lent, to be changed where it stands.
+//! Borrowing an item mutably.
 
 ghost use Rattle.std.specs.Prelude.{◌≡◌, ◌<◌, length, slice_index_or};
 ghost use Rattle.std.specs.Borrow.{sem};
@@ -9,7 +9,7 @@ use crate::sequence::Sequence;
 impl<T> Sequence<T> {
     ghost use Rattle.sctp_sequence.specs.Lending.{LendsItem};
 
-    /// The item at a place, to be changed there.
+    /// The item at a position, to be changed there.
     #[inline(always)]
     pub fn get_mut(&mut self, at: usize) -> &mut T
         requires { at < length self.old.items }

@@ -1,7 +1,42 @@
-//! A list in blocks: an item comes and goes amid many others, and a block's worth of them moves at the most.
+//! A list stored in blocks: an insertion or a removal in the middle moves the items of one block at most. It knows nothing of SCTP.
 //!
 //! A [`Sequence`] is used as a `VecDeque` is. As long as it is short it has one block, which grows as a `VecDeque` does; from 512 items on it
-//! has several, each of at most 512, and a full one is halved where an item comes into it, but at the end of all.
+//! has several, each of at most 512, and a full one is split in halves when an item is inserted into it, except at the end of the list.
+//!
+//! A caller sees the list of items and whether there is memory for one more (`specs/Kept`: `items`, `room`); no clause says that there are
+//! blocks.
+//!
+//! | public function | what is promised |
+//! |---|---|
+//! | [`Sequence::new`] | no items, and no memory allocated |
+//! | [`Sequence::len`], [`Sequence::is_empty`], [`Sequence::get`] | the number of items, and the item at a position |
+//! | [`Sequence::insert`], [`Sequence::push_back`] | `items`: the item is before the one that was at the position, or at the end; `unchanged`: if allocation fails, the list is as it was; `memory`: that can't happen if there was memory for one more item |
+//! | [`Sequence::reserve`] | allocates memory for one more item, changes no item, and doesn't fail if there was memory already |
+//! | [`Sequence::insert_reserved`] | inserts as `insert` does, for a caller that has reserved; it can't fail |
+//! | [`Sequence::replace`] | another item at a position, and the old one is returned |
+//! | [`Sequence::get_mut`] | `writes_back` (`specs/Lending`): the item at the position is what was last written there, the others and the memory stay; `value`: what it is at first |
+//! | [`Sequence::remove`], [`Sequence::pop_front`] | the item at a position, or the first one, is taken out; None if and only if there is none; memory for one more item stays |
+//! | [`Sequence::clear`] | no items; memory for one more item stays |
+//! | [`Sequence::partition_point`] | `partitioned`: how many items at the front satisfy a predicate that none after them satisfies |
+//!
+//! # Cost
+//!
+//! With one block it is a `VecDeque` and one comparison. With more, a position is found by binary search over the number of items before each
+//! block; the partition point by binary search over the blocks' first items and then within one block. An insertion or removal moves items of
+//! its block alone and adds 1 to, or takes 1 from, the counts of the blocks after it. If a block is added or removed, the counts from there on
+//! are computed anew. A full block is split into an empty one that `reserve` has allocated, so no step has to be undone; an item appended at
+//! the end begins a block of its own, so a list that grows at its end has full blocks. A block that becomes empty is dropped.
+//!
+//! # Representation
+//!
+//! The items are those of the first block and then of each further one (`joined`, `specs/Blocks`). The invariant is `AreBlocks`: each further
+//! block has an item, no block has more than 512, and each has capacity for 512 as soon as there are several, so that an insertion allocates
+//! only to split. Kept beside them are the number of items and how many items are before each further block (`AreStarts`); capacity for one
+//! count more is part of the memory for one more item.
+//!
+//! # What a body may still get away with
+//!
+//! `reserve`, and so `insert` and `push_back` without memory reserved, may answer [`NoMemory`] although there was some.
 #![tactic(auto)]
 
 mod blocks;

@@ -1,4 +1,4 @@
-//! Items go.
+//! Removing items.
 
 ghost use Rattle.std.specs.Prelude.{◌≡◌, ◌<◌, ◌≤◌, ◌↔◌, [], true, length, drop, slice_index_or, IfNone, IfSome, IsSome, OnSome};
 ghost use Rattle.std.specs.List.{remove};
@@ -7,7 +7,7 @@ use crate::going::{move_up, remove_later};
 use crate::sequence::Sequence;
 
 impl<T: Drop> Sequence<T> {
-    /// Takes out the item at a place.
+    /// Removes the item at a position, and returns it; None if there is none.
     pub fn remove(&mut self, at: usize) -> Option<T>
         ensures value { IfSome result (λ item. item ≡ slice_index_or self.old.items at item) }
         ensures items { OnSome result (self.new.items ≡ remove self.old.items at) }
@@ -28,7 +28,7 @@ impl<T: Drop> Sequence<T> {
         item
     }
 
-    /// Takes out the first item. Its callers have it in line, since some take out one after another.
+    /// Removes the first item, and returns it; None if there is none. It is inlined, since callers remove one after another.
     #[inline(always)]
     pub fn pop_front(&mut self) -> Option<T>
         ensures value { IfSome result (λ item. item ≡ slice_index_or self.old.items 0 item) }
@@ -44,7 +44,7 @@ impl<T: Drop> Sequence<T> {
         item
     }
 
-    /// Lets go of all items.
+    /// Removes all items.
     pub fn clear(&mut self)
         ensures items { self.new.items ≡ [] }
         ensures room { self.old.room ≡ true → self.new.room ≡ true }

@@ -1,4 +1,4 @@
-//! Where a test changes its answer.
+//! Searching a list that is partitioned by a predicate.
 
 ghost use Rattle.std.specs.Prelude.{◌≡◌, ◌≤◌, Bool, true, false, length};
 ghost use Rattle.std.specs.Fn.{ComputesKey};
@@ -7,7 +7,7 @@ ghost use Rattle.std.specs.List.Sorted.{IsPartitionedBy, IsPartitionPoint};
 use crate::sequence::Sequence;
 
 impl<T> Sequence<T> {
-    /// How many items at the front pass a test that none behind them passes.
+    /// How many items at the front satisfy the predicate, if none after them satisfies it.
     pub fn partition_point<P: FnMut(&T) -> bool>(&self, mut pred: P) -> usize
         requires { P.IsAlwaysCallable pred }
         ensures bound { result ≤ length self.now.items }

@@ -1,4 +1,4 @@
-//! A list in blocks, and what is read of it.
+//! The list in blocks, and its readers.
 
 ghost use Rattle.std.specs.Prelude.{◌≡◌, ◌<◌, ◌==◌, [], length, slice_index_or};
 
@@ -7,11 +7,11 @@ use std::alloc::Global;
 use std::collections::VecDeque;
 use std::marker::Model;
 
-/// How many items a block has at the most.
+/// The most items of a block.
 pub(crate) const BLOCK: usize = 512;
 
-/// A list of items. The first block is empty only if there is no other; each other block has an item. Beside those others stands how many of
-/// their items come before each, so that a place is found by halves.
+/// A list of items. The first block is empty only if there is no other; each further block has an item. `starts` has, for each further block,
+/// the number of their items before it, so that a position is found by binary search.
 #[derive(Debug, Drop)]
 pub struct Sequence<T> {
     pub(crate) count: usize,
@@ -36,7 +36,7 @@ impl<T> Model for Sequence<T> {
 }
 
 impl<T> Sequence<T> {
-    /// No item. It takes no memory.
+    /// An empty list. Nothing is allocated.
     pub fn new(alloc: Global) -> Sequence<T>
         ensures { result.items ≡ [] }
     {
@@ -49,7 +49,7 @@ impl<T> Sequence<T> {
         }
     }
 
-    /// How many items there are.
+    /// The number of items.
     pub fn len(&self) -> usize
         ensures { result ≡ length self.now.items }
     {
@@ -63,7 +63,7 @@ impl<T> Sequence<T> {
         self.count == 0
     }
 
-    /// The item at a place.
+    /// The item at a position.
     pub fn get(&self, at: usize) -> &T
         requires { at < length self.now.items }
         ensures { result.now ≡ slice_index_or self.now.items at result.now }
