@@ -1,4 +1,4 @@
-//! Whether parameters or causes stand as they are written (RFC 9260, 3.2.1).
+//! Whether the bytes of parameters or causes are those that are written for them (RFC 9260, 3.2.1).
 
 ghost use Rattle.std.specs.Prelude.{◌≡◌, ◌↔◌, true, IsTrue, EachIndex, slice_index};
 ghost use Rattle.sctp_model.specs.numbers.Numbers.{AreBytes};
@@ -8,8 +8,8 @@ ghost use Rattle.sctp_wire.specs.inner.FirstAsWritten.{IsFirstAsWritten};
 use crate::numbers::padded;
 use crate::typed::{length_field, split_first, starts_typed};
 
-/// Whether a list is as its items are written.
-pub fn are_as_written(bytes: &[u8]) -> bool
+/// Whether the bytes of a list are those that are written for its items.
+pub(crate) fn are_as_written(bytes: &[u8]) -> bool
     requires list { are_typed bytes.now ≡ true }
     requires bytes { AreBytes bytes.now }
     ensures { IsTrue result ↔ AreAsWritten bytes.now }
@@ -24,7 +24,7 @@ pub fn are_as_written(bytes: &[u8]) -> bool
     true
 }
 
-/// Whether the first item ends a list, or zeros fill it and another one follows.
+/// Whether the first item ends the list without padding, or has zero padding and another item follows.
 fn is_first_as_written(bytes: &[u8]) -> bool
     requires { starts_typed bytes.now ≡ true }
     ensures { IsTrue result ↔ IsFirstAsWritten bytes.now }

@@ -1,4 +1,4 @@
-//! What stands behind a chunk's header: which layout is whose.
+//! The value of a chunk, after its header: which layout is whose.
 
 ghost use Rattle.std.specs.Prelude.{◌≡◌, ℕ, true};
 ghost use Rattle.sctp_wire.specs.ChunkTree.{chunk_meaning};
@@ -27,7 +27,7 @@ use crate::numbers::read_u32;
 use crate::typed::Causes;
 
 /// Whether a value has the layout of its type.
-pub fn has_layout(kind: u8, value: &[u8]) -> bool
+pub(crate) fn has_layout(kind: u8, value: &[u8]) -> bool
     ensures { result ≡ has_layout kind value.now }
 {
     match kind {
@@ -45,8 +45,8 @@ pub fn has_layout(kind: u8, value: &[u8]) -> bool
     }
 }
 
-/// Whether what should be a list of parameters or causes, in a value of the layout, is one.
-pub fn has_list(kind: u8, value: &[u8]) -> bool
+/// Whether the parameters or causes in a value of the layout are a list of items; true for a type that has none.
+pub(crate) fn has_list(kind: u8, value: &[u8]) -> bool
     requires { has_layout kind value.now ≡ true }
     ensures { result ≡ has_list kind value.now }
 {
@@ -58,20 +58,20 @@ pub fn has_list(kind: u8, value: &[u8]) -> bool
     }
 }
 
-/// What a SACK says, in a value of its layout.
+/// The SACK in a value of its layout.
 #[inline(always)]
 #[tactic(auto, unfolding(crate::specs::Reading::body_at))]
-pub fn read_seen(value: &[u8]) -> Chunk<'_>
+pub(crate) fn read_seen(value: &[u8]) -> Chunk<'_>
     requires { has_layout SACK value.now ≡ true }
     ensures { (flags : ℕ) → chunk_meaning result ≡ body_at SACK flags value.now }
 {
     Chunk::Sack(read_sack(value))
 }
 
-/// What any other type, its flags and a value of its layout say.
+/// The chunk of any other type, with these flags and a value of its layout.
 #[inline(never)]
 #[tactic(auto, unfolding(crate::specs::Reading::body_at))]
-pub fn read_value(kind: u8, flags: u8, value: &[u8]) -> Chunk<'_>
+pub(crate) fn read_value(kind: u8, flags: u8, value: &[u8]) -> Chunk<'_>
     requires layout { has_layout kind value.now ≡ true }
     requires list { has_list kind value.now ≡ true }
     requires other { kind ≡ SACK → ⊥ }

@@ -1,4 +1,4 @@
-//! Chunks, with their data and lists where they lie in the bytes that were read; what each takes, and how it is written.
+//! Chunks, whose data and lists are slices of the bytes that were parsed; the size of each, and how it is written.
 
 ghost use Rattle.std.specs.Prelude.{◌≡◌, ◌+◌, ◌≤◌, ◌<◌, ◌^◌, ◌↔◌, ◌++◌, IsTrue, true, false, length, vec_len, vec_capacity};
 ghost use Rattle.sctp_model.specs.wire.Chunk.{kind_of, chunk_length, size_of_chunk};
@@ -22,9 +22,9 @@ use crate::chunks::sack::{Sack, sack_fits};
 use crate::chunks::shutdown::shutdown_fits;
 use crate::chunks::user_data::data_fits;
 use crate::codes::{
-    ABORT, COOKIE_ACK, COOKIE_ECHO, DATA, DATA_HEADER, ERROR, FORWARD_TSN, HEARTBEAT,
-    HEARTBEAT_ACK, I_DATA, I_DATA_HEADER, I_FORWARD_TSN, INIT, INIT_ACK, SACK, SHUTDOWN,
-    SHUTDOWN_ACK, SHUTDOWN_COMPLETE,
+    ABORT, COOKIE_ACK, COOKIE_ECHO, DATA, DATA_HEADER, ERROR, FORWARD_HEADER, FORWARD_TSN,
+    HEARTBEAT, HEARTBEAT_ACK, I_DATA, I_DATA_HEADER, I_FORWARD_TSN, INIT, INIT_ACK, INIT_HEADER,
+    SACK, SACK_HEADER, SHUTDOWN, SHUTDOWN_ACK, SHUTDOWN_COMPLETE,
 };
 use crate::numbers::{append, append_u32, padded};
 use crate::skips::SkipForm;
@@ -35,13 +35,13 @@ use crate::typed::Causes;
 pub enum Chunk<'a> {
     /// User data (RFC 9260, 3.3.1).
     Data(Piece<'a>),
-    /// An association begins (RFC 9260, 3.3.2).
+    /// Asks to open an association (RFC 9260, 3.3.2).
     Init(Init<'a>),
     /// The answer to INIT (RFC 9260, 3.3.3).
     InitAck(Init<'a>),
-    /// What was seen (RFC 9260, 3.3.4).
+    /// Which TSNs were received (RFC 9260, 3.3.4).
     Sack(Sack<'a>),
-    /// Asks for an answer with the same bytes (RFC 9260, 3.3.5).
+    /// Asks for a HEARTBEAT ACK with the same bytes (RFC 9260, 3.3.5).
     Heartbeat {
         info: &'a [u8],
     },
@@ -49,38 +49,39 @@ pub enum Chunk<'a> {
     HeartbeatAck {
         info: &'a [u8],
     },
-    /// The association is over (RFC 9260, 3.3.7). `reflected` is the flag T: the packet's tag is the one that came.
+    /// The association is aborted (RFC 9260, 3.3.7). `reflected` is the flag T: the packet has the verification tag of the packet that it
+    /// answers.
     Abort {
         reflected: bool,
         causes: Causes<'a>,
     },
-    /// No more is sent (RFC 9260, 3.3.8): all up to this TSN came.
+    /// The sender has no more data to send, and all TSNs up to `cumulative` were received (RFC 9260, 3.3.8).
     Shutdown {
         cumulative: u32,
     },
     /// The answer to SHUTDOWN (RFC 9260, 3.3.9).
     ShutdownAck,
-    /// Something is wrong (RFC 9260, 3.3.10).
+    /// Reports errors (RFC 9260, 3.3.10).
     Error {
         causes: Causes<'a>,
     },
-    /// The cookie of an INIT ACK comes back (RFC 9260, 3.3.11).
+    /// Returns the cookie of an INIT ACK (RFC 9260, 3.3.11).
     CookieEcho {
         cookie: &'a [u8],
     },
     /// The answer to COOKIE ECHO (RFC 9260, 3.3.12).
     CookieAck,
-    /// The answer to SHUTDOWN ACK (RFC 9260, 3.3.13). `reflected` is the flag T.
+    /// The answer to SHUTDOWN ACK (RFC 9260, 3.3.13). `reflected` is the flag T, as in ABORT.
     ShutdownComplete {
         reflected: bool,
     },
     /// User data with a message identifier (RFC 8260, 2.1).
     IData(Piece<'a>),
-    /// What was given up of messages in DATA (RFC 3758, 3.2).
+    /// Skips TSNs of abandoned messages in DATA (RFC 3758, 3.2).
     ForwardTsn(Forward<'a>),
-    /// What was given up of messages in I-DATA (RFC 8260, 2.3.1).
+    /// Skips TSNs of abandoned messages in I-DATA (RFC 8260, 2.3.1).
     IForwardTsn(Forward<'a>),
-    /// A type that has no case of its own, with its flags and its value.
+    /// A chunk of any other type, with its flags and its value.
     Unknown {
         kind: u8,
         flags: u8,
@@ -90,7 +91,7 @@ pub enum Chunk<'a> {
 
 impl Chunk<'_> {
     /// Whether the chunk can be written: its length is at most 65,535, its fields are within their bits, its
-    /// lists have zero padding and none behind the last item, its reserved bits are zero, and an unknown type is
+    /// lists have zero padding and none after the last item, its reserved bits are zero, and an unknown type is
     /// none that has a case of its own. Empty data and lists fit.
     pub fn fits(&self) -> bool
         ensures { IsTrue result ↔ (Fits (chunk_meaning self.now) × HasZeroReserved self.now) }
@@ -112,7 +113,7 @@ impl Chunk<'_> {
         }
     }
 
-    /// How many bytes `write_chunk` appends, with the padding: the one size of a chunk.
+    /// How many bytes `write_chunk` appends, padding included: the one size of a chunk.
     pub fn written_length(&self) -> usize
         requires { Fits (chunk_meaning self.now) }
         ensures size { result ≡ size_of_chunk (chunk_meaning self.now) }
@@ -124,7 +125,7 @@ impl Chunk<'_> {
 }
 
 /// The length of header and value, without padding.
-pub fn length_of(chunk: &Chunk<'_>) -> usize
+pub(crate) fn length_of(chunk: &Chunk<'_>) -> usize
     requires { Fits (chunk_meaning chunk.now) }
     ensures size { result ≡ chunk_length (chunk_meaning chunk.now) }
     ensures small { result < 2 ^ 16 }
@@ -132,21 +133,21 @@ pub fn length_of(chunk: &Chunk<'_>) -> usize
     match chunk {
         Chunk::Data(piece) => DATA_HEADER + piece.bytes.len(),
         Chunk::IData(piece) => I_DATA_HEADER + piece.bytes.len(),
-        Chunk::Init(offer) | Chunk::InitAck(offer) => 20 + offer.parameters.size(),
-        Chunk::Sack(sack) => 16 + 4 * (sack.blocks.len() + sack.duplicates.len()),
+        Chunk::Init(offer) | Chunk::InitAck(offer) => INIT_HEADER + offer.parameters.size(),
+        Chunk::Sack(sack) => SACK_HEADER + 4 * (sack.blocks.len() + sack.duplicates.len()),
         Chunk::Heartbeat { info } | Chunk::HeartbeatAck { info } => 4 + info.len(),
         Chunk::Abort { causes, .. } | Chunk::Error { causes } => 4 + causes.size(),
         Chunk::CookieEcho { cookie } => 4 + cookie.len(),
         Chunk::Shutdown { .. } => 8,
         Chunk::ShutdownAck | Chunk::CookieAck | Chunk::ShutdownComplete { .. } => 4,
-        Chunk::ForwardTsn(point) => 8 + 4 * point.skips.len(),
-        Chunk::IForwardTsn(point) => 8 + 8 * point.skips.len(),
+        Chunk::ForwardTsn(point) => FORWARD_HEADER + 4 * point.skips.len(),
+        Chunk::IForwardTsn(point) => FORWARD_HEADER + 8 * point.skips.len(),
         Chunk::Unknown { value, .. } => 4 + value.len(),
     }
 }
 
-/// The type.
-pub fn kind_of(chunk: &Chunk<'_>) -> u8
+/// The type of a chunk.
+pub(crate) fn kind_of(chunk: &Chunk<'_>) -> u8
     ensures { result ≡ kind_of (chunk_meaning chunk.now) }
 {
     match chunk {
@@ -170,8 +171,8 @@ pub fn kind_of(chunk: &Chunk<'_>) -> u8
     }
 }
 
-/// The flags, unused ones zero.
-pub fn flags_of(chunk: &Chunk<'_>) -> u8
+/// The flags of a chunk, unused ones zero.
+pub(crate) fn flags_of(chunk: &Chunk<'_>) -> u8
     ensures { result ≡ flags_of (chunk_meaning chunk.now) }
 {
     match chunk {
@@ -184,8 +185,8 @@ pub fn flags_of(chunk: &Chunk<'_>) -> u8
     }
 }
 
-/// Appends the value of a chunk that isn't written at once, by its layout.
-pub fn append_value(out: &mut Vec<u8>, chunk: &Chunk<'_>)
+/// Appends the value of a chunk other than DATA, I-DATA and SACK, by its layout.
+pub(crate) fn append_value(out: &mut Vec<u8>, chunk: &Chunk<'_>)
     requires fits { Fits (chunk_meaning chunk.now) }
     requires other { is_at_once (chunk_meaning chunk.now) ≡ false }
     requires spare { vec_len out.old + chunk_length (chunk_meaning chunk.now) ≤ vec_capacity out.old + 4 }

@@ -1,5 +1,5 @@
-//! A file for each chunk: its layout, what fits it, how it is read and written. INIT and INIT ACK have one layout, and so have HEARTBEAT
-//! and HEARTBEAT ACK; what the two chunks of data and the two FORWARDs share stands in `piece` and `forward`.
+//! A file for each chunk: its layout, which values fit it, how it is read and written. INIT and INIT ACK have one layout, and so have HEARTBEAT
+//! and HEARTBEAT ACK; what DATA and I-DATA share is in `piece`, what FORWARD-TSN and I-FORWARD-TSN share in `forward`.
 
 pub mod abort;
 pub mod cookie_ack;

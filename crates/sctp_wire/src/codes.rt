@@ -1,4 +1,4 @@
-//! Every number of the wire formats, by name.
+//! The numbers of the wire formats, by name: chunk types, flags, causes, parameters, lengths.
 
 /// The type of DATA (RFC 9260, 3.3.1).
 pub const DATA: u8 = 0;
@@ -33,36 +33,37 @@ pub const FORWARD_TSN: u8 = 192;
 /// The type of I-FORWARD-TSN (RFC 8260, 2.3.1).
 pub const I_FORWARD_TSN: u8 = 194;
 
-/// The flag I of DATA and I-DATA: the peer should acknowledge at once.
+/// The flag I of DATA and I-DATA: the receiver should not delay the SACK (RFC 9260, 3.3.1).
 pub const IMMEDIATE: u8 = 8;
-/// The flag U of DATA and I-DATA: the message is unordered.
+/// The flag U of DATA and I-DATA: the message is unordered (RFC 9260, 3.3.1).
 pub const UNORDERED: u8 = 4;
-/// The flag B of DATA and I-DATA: the first fragment of a message.
+/// The flag B of DATA and I-DATA: the first fragment of a message (RFC 9260, 3.3.1).
 pub const BEGIN: u8 = 2;
-/// The flag E of DATA and I-DATA: the last fragment of a message.
+/// The flag E of DATA and I-DATA: the last fragment of a message (RFC 9260, 3.3.1).
 pub const END: u8 = 1;
-/// The flag T of ABORT and SHUTDOWN COMPLETE: the packet's tag is the one that came, not the peer's.
+/// The flag T of ABORT and SHUTDOWN COMPLETE: the packet has the verification tag of the packet that it answers, not the peer's
+/// (RFC 9260, 3.3.7 and 3.3.13).
 pub const REFLECTED: u8 = 1;
 
-/// The cause of a chunk on a stream that there isn't (RFC 9260, 3.3.10.1).
+/// The cause Invalid Stream Identifier: user data on a stream that doesn't exist (RFC 9260, 3.3.10.1).
 pub const INVALID_STREAM: u16 = 1;
-/// The cause of a mandatory parameter that is missing (RFC 9260, 3.3.10.2).
+/// The cause Missing Mandatory Parameter (RFC 9260, 3.3.10.2).
 pub const MISSING_PARAMETER: u16 = 2;
-/// The cause of a cookie that came too late (RFC 9260, 3.3.10.3).
+/// The cause Stale Cookie: a cookie was received after its lifetime (RFC 9260, 3.3.10.3).
 pub const STALE_COOKIE: u16 = 3;
-/// The cause of want of room or memory (RFC 9260, 3.3.10.4).
+/// The cause Out of Resource: no buffer space or memory is left (RFC 9260, 3.3.10.4).
 pub const OUT_OF_RESOURCE: u16 = 4;
-/// The cause of a chunk of an unknown type (RFC 9260, 3.3.10.6).
+/// The cause Unrecognized Chunk Type (RFC 9260, 3.3.10.6).
 pub const UNRECOGNIZED_CHUNK: u16 = 6;
-/// The cause of a mandatory parameter with a wrong value (RFC 9260, 3.3.10.7).
+/// The cause Invalid Mandatory Parameter: one with an invalid value (RFC 9260, 3.3.10.7).
 pub const INVALID_PARAMETER: u16 = 7;
-/// The cause of parameters of unknown types, in an INIT ACK (RFC 9260, 3.3.10.8).
+/// The cause Unrecognized Parameters: parameters of unknown types, in an INIT ACK (RFC 9260, 3.3.10.8).
 pub const UNRECOGNIZED_PARAMETERS: u16 = 8;
-/// The cause of DATA or I-DATA without data (RFC 9260, 3.3.10.9).
+/// The cause No User Data: a DATA or I-DATA without data (RFC 9260, 3.3.10.9).
 pub const NO_USER_DATA: u16 = 9;
-/// The cause of a user who aborts (RFC 9260, 3.3.10.12).
+/// The cause User-Initiated Abort (RFC 9260, 3.3.10.12).
 pub const USER_ABORT: u16 = 12;
-/// The cause of a peer that broke a rule (RFC 9260, 3.3.10.13).
+/// The cause Protocol Violation (RFC 9260, 3.3.10.13).
 pub const PROTOCOL_VIOLATION: u16 = 13;
 
 /// The parameter IPv4 Address, which is passed over (RFC 9260, 3.3.2.1).
@@ -71,7 +72,7 @@ pub const IPV4_ADDRESS: u16 = 5;
 pub const IPV6_ADDRESS: u16 = 6;
 /// The parameter State Cookie (RFC 9260, 3.3.3.1).
 pub const STATE_COOKIE: u16 = 7;
-/// The parameter that reports another one of an unknown type (RFC 9260, 3.3.3.1).
+/// The parameter Unrecognized Parameter, which reports one of an unknown type (RFC 9260, 3.3.3.1).
 pub const UNRECOGNIZED_PARAMETER: u16 = 8;
 /// The parameter Cookie Preservative, which is passed over (RFC 9260, 3.3.2.1).
 pub const COOKIE_PRESERVATIVE: u16 = 9;
@@ -86,9 +87,15 @@ pub const FORWARD_TSN_SUPPORTED: u16 = 0xc000;
 
 /// The longest chunk, without its padding: the length field has 16 bits (RFC 9260, 3.2).
 pub const LONGEST: usize = 65_535;
-/// The longest value of a chunk, a parameter or a cause: what `LONGEST` leaves behind type and length.
+/// The longest value of a chunk, a parameter or a cause: `LONGEST` less 4 bytes of type and length.
 pub const LONGEST_VALUE: usize = 65_531;
 /// The bytes of a DATA before its data (RFC 9260, 3.3.1).
 pub const DATA_HEADER: usize = 16;
 /// The bytes of an I-DATA before its data (RFC 8260, 2.1).
 pub const I_DATA_HEADER: usize = 20;
+/// The bytes of an INIT or INIT ACK before its parameters (RFC 9260, 3.3.2).
+pub const INIT_HEADER: usize = 20;
+/// The bytes of a SACK before its lists (RFC 9260, 3.3.4).
+pub const SACK_HEADER: usize = 16;
+/// The bytes of a FORWARD-TSN or I-FORWARD-TSN before its entries (RFC 3758, 3.2; RFC 8260, 2.3.1).
+pub const FORWARD_HEADER: usize = 8;

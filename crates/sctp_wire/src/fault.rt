@@ -1,11 +1,11 @@
-//! What is wrong with bytes, and want of memory.
+//! Why bytes aren't a list of chunks.
 
 ghost use Rattle.std.specs.Prelude.{◌≡◌, ◌+◌, ◌<◌, ◌^◌};
 ghost use Rattle.sctp_wire.specs.FaultTree.{moved, offset_of, fault_at};
 
 use thiserror::Error;
 
-/// Why bytes are no list of chunks: the first check that fails, in this order at each chunk, with the offset
+/// Why bytes aren't a list of chunks: the first check that fails, in this order at each chunk, with the offset
 /// of that chunk's first byte.
 #[derive(Clone, Copy, Debug, PartialEq, Eq, Error)]
 pub enum WireFault {
@@ -15,17 +15,17 @@ pub enum WireFault {
     /// The length field is below 4, the header's own length.
     #[error("the chunk at byte {offset} has a length below 4")]
     LengthTooSmall { offset: usize },
-    /// The padding to a multiple of 4 isn't there.
+    /// The padding to a multiple of 4 is missing.
     #[error("the chunk at byte {offset} lacks its padding")]
     PaddingMissing { offset: usize },
-    /// The value isn't of the layout of the chunk's type.
+    /// The value doesn't have the layout of the chunk's type.
     #[error("the chunk at byte {offset} isn't of its type's layout")]
     ChunkBody { offset: usize },
-    /// The parameters or causes of the chunk aren't a list.
+    /// The parameters or causes of the chunk aren't a list of whole items.
     #[error("the parameters or causes of the chunk at byte {offset} aren't a list")]
     ParameterLength { offset: usize },
-    /// All chunks are whole, and this is the first one that stands beside another where it may stand alone only,
-    /// or behind another where it may stand first only.
+    /// All chunks are right by themselves, and this is the first one that is bundled though its type must be alone in a packet, or that
+    /// follows another though its type must be first.
     #[error("the chunk at byte {offset} isn't alone or first")]
     NotAlone { offset: usize },
 }
@@ -41,7 +41,7 @@ pub(crate) enum Reason {
 }
 
 impl Reason {
-    /// The fault of the chunk that begins there.
+    /// This fault of the chunk that begins at `offset`.
     pub(crate) fn at(self, offset: usize) -> WireFault
         ensures { result ≡ fault_at self offset }
     {
@@ -56,7 +56,7 @@ impl Reason {
 }
 
 impl WireFault {
-    /// The same fault, where so many bytes stand before those that were read.
+    /// This fault with `distance` added to its offset, if that many bytes precede those that were parsed.
     pub fn moved_by(self, distance: usize) -> WireFault
         requires { offset_of self + distance < 2 ^ 64 }
         ensures { result ≡ moved distance self }

@@ -1,4 +1,4 @@
-//! The first chunk of bytes: what is tested of it, and how it is parted from what follows (RFC 9260, 3.2).
+//! The first chunk of bytes: what is checked of it, and how it is separated from what follows (RFC 9260, 3.2).
 
 ghost use Rattle.std.specs.Prelude.{◌≡◌, ◌==◌, ◌||◌, ◌<◌, ◌≤◌, ◌^◌, ◌∷◌, length, MatchOption, MatchResult, IfOk, None, Ok, Err};
 ghost use Rattle.sctp_model.specs.wire.Chunk as meaning;
@@ -20,7 +20,7 @@ use crate::numbers::{padded, read_u16};
 
 /// What follows the first chunk, or what is wrong with it.
 #[tactic(auto, unfolding(crate::specs::Reading::chunk_at))]
-pub fn behind_first(bytes: &[u8]) -> Result<&[u8], Reason>
+pub(crate) fn behind_first(bytes: &[u8]) -> Result<&[u8], Reason>
     ensures { MatchResult result (λ behind. chunk_at bytes.now ≡ Ok (first_of bytes.now, behind.now))
         (λ reason. chunk_at bytes.now ≡ Err reason) }
 {
@@ -36,7 +36,7 @@ pub fn behind_first(bytes: &[u8]) -> Result<&[u8], Reason>
 }
 
 /// The value of the first of whole chunks, and what follows this one.
-pub fn parted(chunks: &[u8]) -> (&[u8], &[u8])
+pub(crate) fn parted(chunks: &[u8]) -> (&[u8], &[u8])
     requires some { 0 < length chunks.now }
     requires chunks { AreChunks chunks.now }
     ensures { IsParted chunks.now result.0.now result.1.now }
@@ -45,7 +45,7 @@ pub fn parted(chunks: &[u8]) -> (&[u8], &[u8])
     (&chunks[4..size], &chunks[padded(size)..])
 }
 
-/// The length field of the first chunk, whose header is tested once.
+/// The length field of the first chunk; its header's length is checked once.
 #[inline(always)]
 fn stated_length(bytes: &[u8]) -> usize
     requires { 4 ≤ length bytes.now }
@@ -56,7 +56,7 @@ fn stated_length(bytes: &[u8]) -> usize
 }
 
 /// Whether the first of whole chunks is an INIT.
-pub fn starts_with_init(chunks: &[u8]) -> bool
+pub(crate) fn starts_with_init(chunks: &[u8]) -> bool
     requires { AreChunks chunks.now }
     ensures { result ≡ starts_with_init (chunks_of chunks.now) }
 {
@@ -67,7 +67,7 @@ pub fn starts_with_init(chunks: &[u8]) -> bool
 }
 
 /// Whether the first of whole chunks is an ABORT or a SHUTDOWN COMPLETE with the flag T.
-pub fn starts_reflected(chunks: &[u8]) -> bool
+pub(crate) fn starts_reflected(chunks: &[u8]) -> bool
     requires { AreChunks chunks.now }
     ensures { result ≡ starts_reflected (chunks_of chunks.now) }
 {
@@ -87,8 +87,8 @@ fn has_reflected(kind: u8) -> bool
     kind == ABORT || kind == SHUTDOWN_COMPLETE
 }
 
-/// The first of whole chunks and what follows it, where it is a DATA.
-pub fn split_data(chunks: &[u8]) -> Option<(Piece<'_>, &[u8])>
+/// The first of whole chunks and what follows it, if it is a DATA.
+pub(crate) fn split_data(chunks: &[u8]) -> Option<(Piece<'_>, &[u8])>
     requires { AreChunks chunks.now }
     ensures { MatchOption result (first_data (chunks_of chunks.now) ≡ None)
         (λ found. (chunks_of chunks.now ≡ meaning.Data (piece_meaning found.0) ∷ chunks_of found.1.now)
@@ -105,8 +105,8 @@ pub fn split_data(chunks: &[u8]) -> Option<(Piece<'_>, &[u8])>
     Some((piece, behind))
 }
 
-/// The first of whole chunks and what follows it, where it is an I-DATA.
-pub fn split_i_data(chunks: &[u8]) -> Option<(Piece<'_>, &[u8])>
+/// The first of whole chunks and what follows it, if it is an I-DATA.
+pub(crate) fn split_i_data(chunks: &[u8]) -> Option<(Piece<'_>, &[u8])>
     requires { AreChunks chunks.now }
     ensures { MatchOption result (first_i_data (chunks_of chunks.now) ≡ None)
         (λ found. (chunks_of chunks.now ≡ meaning.IData (piece_meaning found.0) ∷ chunks_of found.1.now)
@@ -123,7 +123,7 @@ pub fn split_i_data(chunks: &[u8]) -> Option<(Piece<'_>, &[u8])>
     Some((piece, behind))
 }
 
-/// The length field of the first chunk, where the header, the length and the padding are right.
+/// The length field of the first chunk, if the header, the length and the padding are right; else what is wrong.
 #[tactic(auto, unfolding(crate::specs::Reading::frame_at))]
 fn frame(bytes: &[u8]) -> Result<usize, Reason>
     ensures exact { result ≡ frame_at bytes.now }

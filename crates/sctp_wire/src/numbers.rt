@@ -1,4 +1,4 @@
-//! Numbers as bytes, the most significant byte first (RFC 9260, 3), and the length with its padding.
+//! Numbers as bytes in network byte order (RFC 9260, 3), and padded lengths.
 
 ghost use Rattle.std.specs.Prelude.{◌≡◌, ◌+◌, ◌<◌, ◌≤◌, ◌^◌, ◌++◌, IsOk, OnOk, OnErr, length, replicate, vec_len, vec_capacity};
 ghost use Rattle.sctp_model.specs.wire.Chunk.{padded, padding_after};
@@ -9,7 +9,7 @@ use sctp_values::NoMemory;
 
 /// The number in the first two bytes.
 #[tactic(auto, unfolding(sctp_model::specs::numbers::Numbers::u16_at))]
-pub fn read_u16(bytes: &[u8]) -> u16
+pub(crate) fn read_u16(bytes: &[u8]) -> u16
     requires { 2 ≤ length bytes.now }
     ensures { result ≡ u16_at bytes.now }
 {
@@ -18,14 +18,14 @@ pub fn read_u16(bytes: &[u8]) -> u16
 
 /// The number in the first four bytes.
 #[tactic(auto, unfolding(sctp_model::specs::numbers::Numbers::u32_at))]
-pub fn read_u32(bytes: &[u8]) -> u32
+pub(crate) fn read_u32(bytes: &[u8]) -> u32
     requires { 4 ≤ length bytes.now }
     ensures { result ≡ u32_at bytes.now }
 {
     BigEndian::read_u32(bytes)
 }
 
-/// A length filled up to a multiple of 4 (RFC 9260, 3.2), as a chunk's, a parameter's or a cause's.
+/// A length rounded up to a multiple of 4, as that of a chunk, a parameter or a cause with its padding (RFC 9260, 3.2).
 pub fn padded(size: usize) -> usize
     requires { size + 3 < 2 ^ 64 }
     ensures { result ≡ padded size }
@@ -33,8 +33,8 @@ pub fn padded(size: usize) -> usize
     (size + 3) / 4 * 4
 }
 
-/// Appends bytes, for which there is room.
-pub fn append(out: &mut Vec<u8>, bytes: &[u8])
+/// Appends bytes, for which there is capacity.
+pub(crate) fn append(out: &mut Vec<u8>, bytes: &[u8])
     requires { vec_len out.old + length bytes.now ≤ vec_capacity out.old }
     ensures items { out.new.items ≡ out.old.items ++ bytes.now }
     ensures len { vec_len out.new ≡ vec_len out.old + length bytes.now }
@@ -45,9 +45,9 @@ pub fn append(out: &mut Vec<u8>, bytes: &[u8])
     }
 }
 
-/// The same of a list's bytes: most lists are empty, and then nothing is done.
+/// Appends the bytes of a list, for which there is capacity. Most lists are empty: then nothing is called.
 #[inline(always)]
-pub fn append_list(out: &mut Vec<u8>, bytes: &[u8])
+pub(crate) fn append_list(out: &mut Vec<u8>, bytes: &[u8])
     requires { vec_len out.old + length bytes.now ≤ vec_capacity out.old }
     ensures items { out.new.items ≡ out.old.items ++ bytes.now }
     ensures len { vec_len out.new ≡ vec_len out.old + length bytes.now }
@@ -58,12 +58,12 @@ pub fn append_list(out: &mut Vec<u8>, bytes: &[u8])
     }
 }
 
-/// Appends a head, what stands behind it, and zeros up to a multiple of 4: all after one test of room.
+/// Appends a head, the rest, and zeros up to a multiple of 4, with one check of the capacity.
 ///
 /// # Errors
-/// `NoMemory` where there was no room and none was got; `out` is then as before.
+/// `NoMemory` if allocation fails; `out` is then unchanged.
 #[inline(always)]
-pub fn write_padded(out: &mut Vec<u8>, head: &[u8], rest: &[u8]) -> Result<(), NoMemory>
+pub(crate) fn write_padded(out: &mut Vec<u8>, head: &[u8], rest: &[u8]) -> Result<(), NoMemory>
     requires { length head.now + length rest.now < 2 ^ 16 }
     ensures written { OnOk result (out.new.items ≡ out.old.items
         ++ (head.now ++ (rest.now ++ replicate (padding_after (length head.now + length rest.now)) 0))) }
@@ -81,12 +81,12 @@ pub fn write_padded(out: &mut Vec<u8>, head: &[u8], rest: &[u8]) -> Result<(), N
     Ok(())
 }
 
-/// Makes room for so many bytes more, where it isn't there.
+/// Reserves capacity for `size` more bytes, if it isn't there.
 ///
 /// # Errors
-/// `NoMemory` where there was no room and none was got.
+/// `NoMemory` if allocation fails.
 #[inline(always)]
-pub fn make_room(out: &mut Vec<u8>, size: usize) -> Result<(), NoMemory>
+pub(crate) fn make_room(out: &mut Vec<u8>, size: usize) -> Result<(), NoMemory>
     ensures items { out.new.items ≡ out.old.items }
     ensures len { vec_len out.new ≡ vec_len out.old }
     ensures ok { OnOk result (vec_len out.new + size ≤ vec_capacity out.new) }
@@ -99,9 +99,9 @@ pub fn make_room(out: &mut Vec<u8>, size: usize) -> Result<(), NoMemory>
     out.reserve(size).map_err(|_| NoMemory)
 }
 
-/// Appends a number of 16 bits, for which there is room.
+/// Appends a 16-bit number, for which there is capacity.
 #[tactic(auto, unfolding(sctp_model::specs::numbers::Numbers::u16_bytes))]
-pub fn append_u16(out: &mut Vec<u8>, number: u16)
+pub(crate) fn append_u16(out: &mut Vec<u8>, number: u16)
     requires { vec_len out.old + 2 ≤ vec_capacity out.old }
     ensures items { out.new.items ≡ out.old.items ++ u16_bytes number }
     ensures len { vec_len out.new ≡ vec_len out.old + 2 }
@@ -112,9 +112,9 @@ pub fn append_u16(out: &mut Vec<u8>, number: u16)
     append(out, &bytes);
 }
 
-/// Appends a number of 32 bits, for which there is room.
+/// Appends a 32-bit number, for which there is capacity.
 #[tactic(auto, unfolding(sctp_model::specs::numbers::Numbers::u32_bytes))]
-pub fn append_u32(out: &mut Vec<u8>, number: u32)
+pub(crate) fn append_u32(out: &mut Vec<u8>, number: u32)
     requires { vec_len out.old + 4 ≤ vec_capacity out.old }
     ensures items { out.new.items ≡ out.old.items ++ u32_bytes number }
     ensures len { vec_len out.new ≡ vec_len out.old + 4 }
@@ -125,8 +125,8 @@ pub fn append_u32(out: &mut Vec<u8>, number: u32)
     append(out, &bytes);
 }
 
-/// Appends at most three zeros, for which there is room.
-pub fn append_zeros(out: &mut Vec<u8>, count: usize)
+/// Appends at most three zeros, for which there is capacity.
+pub(crate) fn append_zeros(out: &mut Vec<u8>, count: usize)
     requires few { count < 4 }
     requires spare { vec_len out.old + count ≤ vec_capacity out.old }
     ensures items { out.new.items ≡ out.old.items ++ replicate count 0 }

@@ -1,4 +1,4 @@
-//! Chunks from bytes: header, length, padding, body and list of each in the stated order, then where they stand
+//! Parsing chunks: header, length, padding, layout and list of each are checked in this order, then which chunks are bundled
 //! (RFC 9260, 3.2).
 
 ghost use Rattle.std.specs.Prelude.{◌≡◌, ◌*◌, ◌==◌, ◌≤◌, length, MatchOption, MatchResult, IfOk, IfErr, List, ◌∷◌, Some, None};
@@ -22,7 +22,7 @@ use crate::first::{
 use crate::places::found_by;
 use std::marker::Model;
 
-/// The chunks that are still to come.
+/// An iterator over the chunks of a packet, which are known to be right.
 #[derive(Drop)]
 pub struct Chunks<'a> {
     rest: &'a [u8],
@@ -42,35 +42,35 @@ impl<'a> Model for Chunks<'a> {
 }
 
 impl<'a> Chunks<'a> {
-    /// Whether none is left.
+    /// Whether no chunk is left.
     pub fn is_empty(&self) -> bool
         ensures { result ≡ (length self.now == 0) }
     {
         self.rest.is_empty()
     }
 
-    /// Whether the first one is an INIT.
+    /// Whether the next chunk is an INIT.
     pub fn starts_with_init(&self) -> bool
         ensures { result ≡ starts_with_init self.now }
     {
         starts_with_init(self.rest)
     }
 
-    /// Whether the first one is an ABORT or a SHUTDOWN COMPLETE with the flag T (RFC 9260, 8.5.1).
+    /// Whether the next chunk is an ABORT or a SHUTDOWN COMPLETE with the flag T (RFC 9260, 8.5.1).
     pub fn starts_reflected(&self) -> bool
         ensures { result ≡ starts_reflected self.now }
     {
         starts_reflected(self.rest)
     }
 
-    /// The same chunks once more: whoever looks for one of them first can still go over all.
+    /// A second iterator over the chunks that are left, for a caller that looks for one of them before it handles all.
     pub fn again(&self) -> Chunks<'a>
         ensures { result ≡ self.now }
     {
         Chunks { rest: self.rest }
     }
 
-    /// Takes the first one where it is a DATA; else it is left.
+    /// Takes the next chunk if it is a DATA; any other is left.
     pub fn next_data(&mut self) -> Option<Piece<'a>>
         ensures { MatchOption result ((self.new ≡ self.old) × (first_data self.old ≡ None))
             (λ piece. self.old ≡ meaning.Data (piece_meaning piece) ∷ self.new) }
@@ -84,7 +84,7 @@ impl<'a> Chunks<'a> {
         }
     }
 
-    /// Takes the first one where it is an I-DATA; else it is left.
+    /// Takes the next chunk if it is an I-DATA; any other is left.
     pub fn next_i_data(&mut self) -> Option<Piece<'a>>
         ensures { MatchOption result ((self.new ≡ self.old) × (first_i_data self.old ≡ None))
             (λ piece. self.old ≡ meaning.IData (piece_meaning piece) ∷ self.new) }
@@ -113,7 +113,7 @@ impl<'a> Iterator for Chunks<'a> {
         let (value, behind) = parted(self.rest);
         let (kind, flags) = (self.rest[0], self.rest[1]);
         self.rest = behind;
-        // These come again and again: they are read here, and the others apart.
+        // SACKs are frequent: they are read here, and the others apart.
         if kind == SACK {
             return Some(read_seen(value));
         }
@@ -121,22 +121,22 @@ impl<'a> Iterator for Chunks<'a> {
     }
 }
 
-/// The chunks that bytes hold, one after another, each with its padding and where it may stand.
+/// The chunks in these bytes, one after another, each with its padding, and bundled only as they may be.
 ///
 /// # Errors
-/// The fault of the first chunk that isn't whole, not of its layout or without a list of parameters or causes, by
-/// the first check that fails; where all are right, `NotAlone` at the first misplaced one.
+/// The fault of the first chunk that is cut off, doesn't have its type's layout or has a broken list of parameters or causes, by
+/// the first check that fails; if all are right, `NotAlone` at the first misplaced one.
 pub fn read_chunks(bytes: &[u8]) -> Result<Chunks<'_>, WireFault>
-    // It answers one of the two, with the chunks that the bytes are or with their fault.
+    // It returns the chunks that the bytes are, or their fault.
     ensures exact { MatchResult result (λ chunks. Reads bytes.now chunks) (λ fault. Faults bytes.now fault) }
-    // Each takes four bytes at least.
+    // Each chunk has at least four bytes.
     ensures few { IfOk result (λ chunks. 4 * length chunks ≤ length bytes.now) }
     // A fault is within the bytes.
     ensures within { IfErr result (λ fault. offset_of fault ≤ length bytes.now) }
-    // Where the bytes are chunks, it is these.
+    // If the bytes are chunks, it is these.
     ensures chunks { (ms : List ChunkMeaning) → Reads bytes.now ms
         → MatchResult result (λ chunks. chunks ≡ ms) (λ _. ⊥) }
-    // Where they have a fault, it is this one.
+    // If they have a fault, it is this one.
     ensures fault { (f : WireFault) → Faults bytes.now f
         → MatchResult result (λ _. ⊥) (λ fault. fault ≡ f) }
 {

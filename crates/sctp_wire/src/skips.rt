@@ -1,4 +1,4 @@
-//! The entries of a FORWARD-TSN or of an I-FORWARD-TSN: bytes that were checked once to be whole entries.
+//! The entries of a FORWARD-TSN or of an I-FORWARD-TSN: bytes that are known to be whole entries.
 
 ghost use Rattle.std.specs.Prelude.{◌≡◌, ◌↔◌, ◌+◌, ◌*◌, ◌%◌, ◌≤◌, ◌<◌, ◌^◌, [], ◌∷◌, ◌++◌, true, length, vec_len, vec_capacity, IsTrue, IsOk, OnOk, OnErr};
 ghost use Rattle.std.specs.List.{flat_map, AllByRecursion};
@@ -10,7 +10,7 @@ use crate::numbers::{append_u16, append_u32, read_u16, read_u32};
 use sctp_values::NoMemory;
 use std::marker::Model;
 
-/// How an entry lies in bytes.
+/// The layout of an entry.
 #[derive(Clone, Copy)]
 pub enum SkipForm {
     /// FORWARD-TSN's: stream 16 bits, stream sequence number 16 (RFC 3758, 3.2).
@@ -20,7 +20,7 @@ pub enum SkipForm {
 }
 
 impl SkipForm {
-    /// How many bytes an entry takes.
+    /// The bytes of an entry, 4 or 8.
     pub fn size(self) -> usize
         ensures { result ≡ skip_size self }
     {
@@ -31,17 +31,18 @@ impl SkipForm {
     }
 }
 
-/// An entry: the largest number that is skipped of a stream's ordered or unordered messages.
+/// An entry of a FORWARD-TSN or I-FORWARD-TSN: the largest stream sequence number or message identifier skipped among the ordered, or among the
+/// unordered, messages of a stream (RFC 3758, 3.2; RFC 8260, 2.3.1).
 #[derive(Clone, Copy, Debug, PartialEq, Eq)]
 pub struct Skip {
     pub stream: u16,
-    /// Of the unordered messages, which FORWARD-TSN has no entries for.
+    /// Whether it is of the unordered messages; FORWARD-TSN has no entries for those.
     pub unordered: bool,
-    /// The stream sequence number, of 16 bits, or the message identifier.
+    /// The stream sequence number, of 16 bits, or the message identifier, of 32.
     pub number: u32,
 }
 
-/// The entries of a FORWARD.
+/// The entries of a FORWARD-TSN or I-FORWARD-TSN.
 #[derive(Drop)]
 pub struct Skips<'a> {
     form: SkipForm,
@@ -61,7 +62,7 @@ impl<'a> Model for Skips<'a> {
 }
 
 impl<'a> Skips<'a> {
-    /// The entries that stand in these bytes.
+    /// The entries in these bytes.
     pub fn new(form: SkipForm, bytes: &'a [u8]) -> Skips<'a>
         requires { length bytes.now % skip_size form ≡ 0 }
         ensures { result ≡ skip_list form bytes.now }
@@ -106,7 +107,7 @@ impl<'a> Skips<'a> {
     }
 }
 
-/// Whether the reserved bits of wide entries are zero.
+/// Whether the reserved bits of all I-FORWARD-TSN entries are zero.
 fn are_reserved_zero(bytes: &[u8]) -> bool
     ensures { result ≡ are_reserved_zero SkipForm.Wide bytes.now }
 {
@@ -120,7 +121,7 @@ fn are_reserved_zero(bytes: &[u8]) -> bool
     true
 }
 
-/// The entries that are still to come.
+/// An iterator over entries.
 #[derive(Drop)]
 pub struct SkipIter<'a> {
     form: SkipForm,
@@ -196,7 +197,7 @@ fn skip_fits(form: SkipForm, skip: Skip) -> bool
     }
 }
 
-/// Appends an entry, for which there is room, its reserved bits zero.
+/// Appends an entry, for which there is capacity, its reserved bits zero.
 fn append_skip(form: SkipForm, out: &mut Vec<u8>, skip: Skip)
     requires in_range { IsSkip form (skip_meaning skip) }
     requires spare { vec_len out.old + skip_size form ≤ vec_capacity out.old }
@@ -214,7 +215,7 @@ fn append_skip(form: SkipForm, out: &mut Vec<u8>, skip: Skip)
     }
 }
 
-/// Appends entries, for which there is room, their reserved bits zero.
+/// Appends entries, for which there is capacity, their reserved bits zero.
 pub(crate) fn append_skips(form: SkipForm, out: &mut Vec<u8>, skips: &Skips<'_>)
     requires in_range { AllByRecursion (IsSkip form) skips.now.skips }
     requires spare { vec_len out.old + skip_size form * length skips.now.skips ≤ vec_capacity out.old }
@@ -230,11 +231,11 @@ pub(crate) fn append_skips(form: SkipForm, out: &mut Vec<u8>, skips: &Skips<'_>)
 /// Appends an entry to the bytes of `Skips` (RFC 3758, 3.2; RFC 8260, 2.3.1).
 ///
 /// # Errors
-/// `NoMemory` where there was no room and none was got; the list is then as before.
+/// `NoMemory` if allocation fails; the list is then unchanged.
 pub fn put_skip(form: SkipForm, skip: Skip, list: &mut Vec<u8>) -> Result<(), NoMemory>
     requires { IsSkip form (skip_meaning skip) }
     ensures bytes { OnOk result (list.new.items ≡ list.old.items ++ skip_bytes form (skip_meaning skip)) }
-    // Behind whole entries there are then these and this one.
+    // Appended to whole entries, the list is these and this one.
     ensures skips { length list.old.items % skip_size form ≡ 0
         → OnOk result (skips_in form list.new.items ≡ skips_in form list.old.items ++ skip_meaning skip ∷ []) }
     ensures len { OnOk result (vec_len list.new ≡ vec_len list.old + skip_size form) }

@@ -1,4 +1,4 @@
-//! Lists of items with type and length: parameters and causes (RFC 9260, 3.2.1 and 3.3.10).
+//! Type-length-value lists: parameters and error causes (RFC 9260, 3.2.1 and 3.3.10).
 
 ghost use Rattle.std.specs.Prelude.{◌≡◌, ◌↔◌, ◌<◌, ◌≤◌, ◌^◌, [], true, IsTrue, length, drop};
 ghost use Rattle.std.specs.Iterator.{YieldsFirstBy, item_count};
@@ -14,13 +14,13 @@ use std::marker::Model;
 /// A parameter or a cause, without its padding.
 #[derive(Clone, Copy)]
 pub struct TypedItem<'a> {
-    /// Its type.
+    /// The type of the parameter, or the code of the cause.
     pub kind: u16,
-    /// What stands behind type and length.
+    /// The value, after type and length.
     pub value: &'a [u8],
 }
 
-/// Parameters or causes, one behind another: bytes that were checked once to be such a list.
+/// Parameters or causes, one after another: bytes that are known to be such a list.
 #[derive(Drop)]
 pub struct TypedItems<'a> {
     bytes: &'a [u8],
@@ -48,7 +48,7 @@ impl<'a> Model for TypedItems<'a> {
 }
 
 impl<'a> TypedItems<'a> {
-    /// The items of these bytes, which are a list: `is_typed_list` tells.
+    /// The items in these bytes, which must be a list: `is_typed_list` says whether they are.
     pub fn new(bytes: &'a [u8]) -> TypedItems<'a>
         requires { are_typed bytes.now ≡ true }
         ensures { result ≡ bytes.now }
@@ -63,7 +63,7 @@ impl<'a> TypedItems<'a> {
         TypedItems::new(&[])
     }
 
-    /// How many bytes they take, with the padding between them.
+    /// The number of bytes, with the padding between the items.
     pub fn size(&self) -> usize
         ensures size { result ≡ length self.now }
         ensures list { are_typed self.now ≡ true }
@@ -72,21 +72,21 @@ impl<'a> TypedItems<'a> {
         self.bytes.len()
     }
 
-    /// Goes over them in order.
+    /// Goes over the items in order.
     pub fn iter(&self) -> TypedIter<'a>
         ensures { result ≡ typed_in self.now }
     {
         TypedIter { rest: self.bytes }
     }
 
-    /// Their bytes, with the padding between them.
+    /// The bytes, with the padding between the items.
     pub fn bytes(&self) -> &'a [u8]
         ensures { result.now ≡ self.now }
     {
         self.bytes
     }
 
-    /// Whether the bytes are as these items are written: the padding between them is zero, and none stands behind
+    /// Whether the bytes are those that are written for these items: the padding between them is zero, and there is none after
     /// the last.
     pub fn is_plain(&self) -> bool
         ensures { IsTrue result ↔ AreAsWritten self.now }
@@ -95,7 +95,7 @@ impl<'a> TypedItems<'a> {
     }
 }
 
-/// The items that are still to come.
+/// An iterator over parameters or causes.
 #[derive(Drop)]
 pub struct TypedIter<'a> {
     rest: &'a [u8],
@@ -129,7 +129,7 @@ impl<'a> Iterator for TypedIter<'a> {
     }
 }
 
-/// Whether bytes are a list of parameters or causes: behind each item its padding, of any value, which the last may
+/// Whether bytes are a list of parameters or causes: each item is followed by its padding, of any value, which the last may
 /// lack.
 pub fn is_typed_list(bytes: &[u8]) -> bool
     ensures { result ≡ are_typed bytes.now }
@@ -141,9 +141,9 @@ pub fn is_typed_list(bytes: &[u8]) -> bool
     rest.is_empty()
 }
 
-/// Whether an item begins bytes, behind which nothing stands, or its padding at least.
+/// Whether bytes begin with a whole item, which nothing follows, or its padding at least.
 #[tactic(auto, unfolding(sctp_model::specs::wire::Typed::starts_typed))]
-pub fn starts_typed(bytes: &[u8]) -> bool
+pub(crate) fn starts_typed(bytes: &[u8]) -> bool
     ensures { result ≡ starts_typed bytes.now }
 {
     if bytes.len() < 4 {
@@ -153,8 +153,8 @@ pub fn starts_typed(bytes: &[u8]) -> bool
     size >= 4 && (bytes.len() == size || padded(size) <= bytes.len())
 }
 
-/// The length field of the item that begins bytes.
-pub fn length_field(bytes: &[u8]) -> usize
+/// The length field of the first item.
+pub(crate) fn length_field(bytes: &[u8]) -> usize
     requires { 4 ≤ length bytes.now }
     ensures exact { result ≡ length_field bytes.now }
     ensures small { result < 2 ^ 16 }
@@ -162,8 +162,8 @@ pub fn length_field(bytes: &[u8]) -> usize
     usize::from(read_u16(&bytes[2..]))
 }
 
-/// The item that begins bytes, and what stands behind it and its padding.
-pub fn split_first(bytes: &[u8]) -> (TypedItem<'_>, &[u8])
+/// The first item, and the bytes after it and its padding.
+pub(crate) fn split_first(bytes: &[u8]) -> (TypedItem<'_>, &[u8])
     requires { starts_typed bytes.now ≡ true }
     ensures item { typed_meaning result.0 ≡ typed_at bytes.now }
     ensures rest { result.1.now ≡ drop (padded (length_field bytes.now)) bytes.now }

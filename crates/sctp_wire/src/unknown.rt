@@ -1,13 +1,13 @@
-//! What is done about a chunk or a parameter of an unknown type (RFC 9260, 3.2 and 3.2.1).
+//! How a chunk or a parameter of an unknown type is treated (RFC 9260, 3.2 and 3.2.1).
 
 ghost use Rattle.std.specs.Prelude.{◌≡◌};
 ghost use Rattle.sctp_model.specs.wire.Unknown.{chunk_rule, parameter_rule};
 ghost use Rattle.sctp_wire.specs.RuleTree.{rule_meaning};
 
-/// What is done about an unknown type.
+/// How an unknown type is treated.
 #[derive(Clone, Copy, Debug, PartialEq, Eq)]
 pub struct Rule {
-    /// Nothing behind it is looked at: of a chunk the rest of the packet, of a parameter the rest of its chunk.
+    /// What follows it isn't processed: of a chunk the rest of the packet, of a parameter the rest of its chunk.
     pub stop: bool,
     /// It is reported to the peer.
     pub report: bool,

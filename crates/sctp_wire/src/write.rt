@@ -1,4 +1,4 @@
-//! Chunks as bytes (RFC 9260, 3.2).
+//! Writing chunks (RFC 9260, 3.2).
 
 ghost use Rattle.std.specs.Prelude.{◌≡◌, ◌+◌, ◌≤◌, [], ◌∷◌, ◌++◌, false, length, vec_len, vec_capacity, IsOk, OnOk, OnErr};
 ghost use Rattle.sctp_model.specs.wire.Chunk.{size_of_chunk};
@@ -18,18 +18,18 @@ use sctp_values::NoMemory;
 /// Appends the bytes of a chunk that fits, with its padding: unused flags, reserved bits and padding are zero.
 ///
 /// # Errors
-/// `NoMemory` where there was no room and none was got; `out` is then as before.
+/// `NoMemory` if allocation fails; `out` is then unchanged.
 pub fn write_chunk(chunk: &Chunk<'_>, out: &mut Vec<u8>) -> Result<(), NoMemory>
     requires { Fits (chunk_meaning chunk.now) }
     ensures written { OnOk result (out.new.items ≡ out.old.items ++ written (chunk_meaning chunk.now)) }
     ensures writes { OnOk result (Writes (written (chunk_meaning chunk.now)) (chunk_meaning chunk.now ∷ [])) }
-    // The bytes read alone give the chunk.
+    // Parsing these bytes alone gives the chunk.
     ensures reads { OnOk result (Reads (written (chunk_meaning chunk.now)) (chunk_meaning chunk.now ∷ [])) }
     ensures refused { OnErr result (out.new.items ≡ out.old.items) }
-    // It fails only where that room was missing.
+    // It can't fail if there was capacity for them.
     ensures memory { vec_len out.old + length (written (chunk_meaning chunk.now)) ≤ vec_capacity out.old
         → IsOk result }
-    // What room there is stays.
+    // Capacity isn't lost.
     ensures capacity { vec_capacity out.old ≤ vec_capacity out.new }
 {
     match chunk {
@@ -40,7 +40,7 @@ pub fn write_chunk(chunk: &Chunk<'_>, out: &mut Vec<u8>) -> Result<(), NoMemory>
     }
 }
 
-/// Appends the bytes of a chunk that isn't written at once: header, value and padding.
+/// Appends the bytes of a chunk other than DATA, I-DATA and SACK: header, value and padding.
 fn write_by_parts(out: &mut Vec<u8>, chunk: &Chunk<'_>) -> Result<(), NoMemory>
     requires fits { Fits (chunk_meaning chunk.now) }
     requires other { is_at_once (chunk_meaning chunk.now) ≡ false }

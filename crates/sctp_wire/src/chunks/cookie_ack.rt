@@ -3,8 +3,8 @@
 ghost use Rattle.std.specs.Prelude.{◌≡◌};
 ghost use Rattle.sctp_wire.specs.chunks.CookieAck.{is_cookie_ack_value};
 
-/// Whether there is no value.
-pub fn is_cookie_ack(value: &[u8]) -> bool
+/// Whether this is the value of a COOKIE ACK: it is empty.
+pub(crate) fn is_cookie_ack(value: &[u8]) -> bool
     ensures { result ≡ is_cookie_ack_value value.now }
 {
     value.is_empty()

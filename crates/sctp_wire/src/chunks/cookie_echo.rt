@@ -1,4 +1,4 @@
-//! COOKIE ECHO: the listener's cookie comes back (RFC 9260, 3.3.11).
+//! COOKIE ECHO: returns the listener's cookie (RFC 9260, 3.3.11).
 //!
 //! | at | size | field |
 //! |---|---|---|
@@ -10,8 +10,8 @@ ghost use Rattle.sctp_wire.specs.Layouts.{Fits};
 
 use crate::codes::LONGEST_VALUE;
 
-/// Whether the length has 16 bits.
-pub fn cookie_echo_fits(cookie: &[u8]) -> bool
+/// Whether the length fits 16 bits.
+pub(crate) fn cookie_echo_fits(cookie: &[u8]) -> bool
     ensures { IsTrue result ↔ Fits (meaning.CookieEcho cookie.now) }
 {
     cookie.len() <= LONGEST_VALUE

@@ -1,4 +1,4 @@
-//! ERROR: something was wrong (RFC 9260, 3.3.10).
+//! ERROR: reports errors of the peer (RFC 9260, 3.3.10).
 //!
 //! | at | size | field |
 //! |---|---|---|
@@ -12,15 +12,15 @@ ghost use Rattle.sctp_wire.specs.chunks.Error.{has_error_list};
 use crate::codes::LONGEST_VALUE;
 use crate::typed::{Causes, is_typed_list};
 
-/// Whether the length has 16 bits, and the causes are as they are written.
-pub fn error_fits(causes: &Causes<'_>) -> bool
+/// Whether the length fits 16 bits, and the causes are the bytes that are written for them.
+pub(crate) fn error_fits(causes: &Causes<'_>) -> bool
     ensures { IsTrue result ↔ Fits (meaning.Error causes.now) }
 {
     causes.size() <= LONGEST_VALUE && causes.is_plain()
 }
 
 /// Whether a value is a list of causes.
-pub fn is_error_list(value: &[u8]) -> bool
+pub(crate) fn is_error_list(value: &[u8]) -> bool
     ensures { result ≡ has_error_list value.now }
 {
     is_typed_list(value)

@@ -1,4 +1,4 @@
-//! FORWARD-TSN: what a sender gave up of messages in DATA (RFC 3758, 3.2).
+//! FORWARD-TSN: skips TSNs of abandoned messages in DATA (RFC 3758, 3.2).
 //!
 //! | at | size | field |
 //! |---|---|---|
@@ -13,22 +13,22 @@ ghost use Rattle.sctp_wire.specs.chunks.ForwardTsn.{forward_tsn_at, is_forward_t
 use crate::chunks::forward::{Forward, forward_fits, is_forward, read_forward};
 use crate::skips::SkipForm;
 
-/// Whether the length has 16 bits, and the entries are within their bits, none of unordered messages.
-pub fn forward_tsn_fits(point: &Forward<'_>) -> bool
+/// Whether the length fits 16 bits, and the entries are within their bits, none of unordered messages.
+pub(crate) fn forward_tsn_fits(point: &Forward<'_>) -> bool
     ensures { IsTrue result ↔ (FitsForward SkipForm.Narrow (forward_meaning point.now) × (point.now.skips.plain ≡ true)) }
 {
     forward_fits(SkipForm::Narrow, point)
 }
 
 /// Whether a value is a TSN and whole entries.
-pub fn is_forward_tsn(value: &[u8]) -> bool
+pub(crate) fn is_forward_tsn(value: &[u8]) -> bool
     ensures { result ≡ is_forward_tsn_value value.now }
 {
     is_forward(SkipForm::Narrow, value)
 }
 
-/// The point of a value.
-pub fn read_forward_tsn(value: &[u8]) -> Forward<'_>
+/// The FORWARD-TSN of a value.
+pub(crate) fn read_forward_tsn(value: &[u8]) -> Forward<'_>
     requires { is_forward_tsn_value value.now ≡ true }
     ensures { forward_meaning result ≡ forward_tsn_at value.now }
 {

@@ -1,4 +1,4 @@
-//! HEARTBEAT, which asks for its bytes again, and HEARTBEAT ACK, which gives them (RFC 9260, 3.3.5 and 3.3.6).
+//! HEARTBEAT, and HEARTBEAT ACK, which returns its information (RFC 9260, 3.3.5 and 3.3.6).
 //!
 //! | at | size | field |
 //! |---|---|---|
@@ -10,8 +10,8 @@ ghost use Rattle.sctp_wire.specs.Layouts.{Fits};
 
 use crate::codes::LONGEST_VALUE;
 
-/// Whether the length has 16 bits.
-pub fn heartbeat_fits(info: &[u8]) -> bool
+/// Whether the length fits 16 bits.
+pub(crate) fn heartbeat_fits(info: &[u8]) -> bool
     ensures heartbeat { IsTrue result ↔ Fits (meaning.Heartbeat info.now) }
     ensures heartbeat_ack { IsTrue result ↔ Fits (meaning.HeartbeatAck info.now) }
 {

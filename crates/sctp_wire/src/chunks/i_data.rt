@@ -1,4 +1,4 @@
-//! I-DATA: a piece of user data by message identifier (RFC 8260, 2.1).
+//! I-DATA: user data with a message identifier (RFC 8260, 2.1).
 
 ghost use Rattle.std.specs.Prelude.{◌≡◌, ◌↔◌, ◌+◌, ◌≤◌, ◌++◌, IsTrue, IsOk, OnOk, OnErr, length, vec_len, vec_capacity};
 ghost use Rattle.sctp_model.specs.wire.Chunk as meaning;
@@ -14,8 +14,8 @@ use crate::codes::{BEGIN, END, I_DATA, I_DATA_HEADER, IMMEDIATE, LONGEST, UNORDE
 use crate::numbers::{read_u16, read_u32, write_padded};
 use sctp_values::NoMemory;
 
-/// Whether an I-DATA's length has 16 bits.
-pub fn i_data_fits(piece: &Piece<'_>) -> bool
+/// Whether the length of an I-DATA fits 16 bits.
+pub(crate) fn i_data_fits(piece: &Piece<'_>) -> bool
     ensures { IsTrue result ↔ Fits (meaning.IData (piece_meaning piece.now)) }
 {
     let (_tsn, _stream) = (piece.tsn, piece.stream);
@@ -24,7 +24,7 @@ pub fn i_data_fits(piece: &Piece<'_>) -> bool
 }
 
 /// Whether a value has the layout.
-pub fn is_i_data(value: &[u8]) -> bool
+pub(crate) fn is_i_data(value: &[u8]) -> bool
     ensures { result ≡ is_i_data_value value.now }
 {
     value.len() >= 16
@@ -38,10 +38,10 @@ pub fn is_i_data(value: &[u8]) -> bool
 /// | 4 | 2 | stream |
 /// | 6 | 2 | reserved |
 /// | 8 | 4 | message identifier |
-/// | 12 | 4 | payload protocol identifier where B is set, else fragment sequence number |
+/// | 12 | 4 | payload protocol identifier if B is set, else fragment sequence number |
 /// | 16 | any | data |
 #[tactic(auto, unfolding(crate::specs::chunks::IData::i_data_at))]
-pub fn read_i_data(flags: u8, value: &[u8]) -> Piece<'_>
+pub(crate) fn read_i_data(flags: u8, value: &[u8]) -> Piece<'_>
     requires { 16 ≤ length value.now }
     ensures { piece_meaning result ≡ i_data_at flags value.now }
 {
@@ -63,8 +63,8 @@ pub fn read_i_data(flags: u8, value: &[u8]) -> Piece<'_>
 /// Appends an I-DATA: its header and numbers at once, then the data and its padding.
 ///
 /// # Errors
-/// `NoMemory` where there was no room and none was got; `out` is then as before.
-pub fn write_i_data(out: &mut Vec<u8>, piece: &Piece<'_>) -> Result<(), NoMemory>
+/// `NoMemory` if allocation fails; `out` is then unchanged.
+pub(crate) fn write_i_data(out: &mut Vec<u8>, piece: &Piece<'_>) -> Result<(), NoMemory>
     requires { Fits (meaning.IData (piece_meaning piece.now)) }
     ensures written { OnOk result (out.new.items ≡ out.old.items ++ written (meaning.IData (piece_meaning piece.now))) }
     ensures refused { OnErr result (out.new.items ≡ out.old.items) }

@@ -1,4 +1,4 @@
-//! I-FORWARD-TSN: what a sender gave up of messages in I-DATA (RFC 8260, 2.3.1).
+//! I-FORWARD-TSN: skips TSNs of abandoned messages in I-DATA (RFC 8260, 2.3.1).
 //!
 //! | at | size | field |
 //! |---|---|---|
@@ -13,22 +13,22 @@ ghost use Rattle.sctp_wire.specs.chunks.IForwardTsn.{i_forward_tsn_at, is_i_forw
 use crate::chunks::forward::{Forward, forward_fits, is_forward, read_forward};
 use crate::skips::SkipForm;
 
-/// Whether the length has 16 bits, and the entries are within their bits and the reserved ones zero.
-pub fn i_forward_tsn_fits(point: &Forward<'_>) -> bool
+/// Whether the length fits 16 bits, and the entries are within their bits and the reserved ones zero.
+pub(crate) fn i_forward_tsn_fits(point: &Forward<'_>) -> bool
     ensures { IsTrue result ↔ (FitsForward SkipForm.Wide (forward_meaning point.now) × (point.now.skips.plain ≡ true)) }
 {
     forward_fits(SkipForm::Wide, point)
 }
 
 /// Whether a value is a TSN and whole entries.
-pub fn is_i_forward_tsn(value: &[u8]) -> bool
+pub(crate) fn is_i_forward_tsn(value: &[u8]) -> bool
     ensures { result ≡ is_i_forward_tsn_value value.now }
 {
     is_forward(SkipForm::Wide, value)
 }
 
-/// The point of a value.
-pub fn read_i_forward_tsn(value: &[u8]) -> Forward<'_>
+/// The I-FORWARD-TSN of a value.
+pub(crate) fn read_i_forward_tsn(value: &[u8]) -> Forward<'_>
     requires { is_i_forward_tsn_value value.now ≡ true }
     ensures { forward_meaning result ≡ i_forward_tsn_at value.now }
 {

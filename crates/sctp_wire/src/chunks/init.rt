@@ -1,4 +1,4 @@
-//! INIT and INIT ACK: how an end offers to open an association (RFC 9260, 3.3.2 and 3.3.3).
+//! INIT and INIT ACK: an endpoint's offer to open an association (RFC 9260, 3.3.2 and 3.3.3).
 //!
 //! | at | size | field |
 //! |---|---|---|
@@ -19,28 +19,28 @@ use crate::codes::LONGEST_VALUE;
 use crate::numbers::{append, append_u16, append_u32, read_u16, read_u32};
 use crate::typed::{Parameters, is_typed_list};
 
-/// The bytes of the numbers, before the parameters.
+/// The bytes of the fixed fields in the value, before the parameters.
 const NUMBERS: usize = 16;
 
-/// What an end offers.
+/// What an endpoint offers in an INIT or INIT ACK.
 #[derive(Drop)]
 pub struct Init<'a> {
-    /// The verification tag of packets to this end (initiate tag).
+    /// The verification tag of packets to this endpoint (initiate tag).
     pub tag: u32,
-    /// The room of its receiver in bytes (a_rwnd).
+    /// Its receive buffer in bytes (a_rwnd).
     pub rwnd: u32,
-    /// The streams that it sends on.
+    /// The number of streams that it wants to send on.
     pub outbound: u16,
-    /// The most streams that it takes messages on.
+    /// The most streams that it accepts messages on.
     pub inbound: u16,
-    /// Its first TSN.
+    /// Its initial TSN.
     pub tsn: u32,
-    /// Its options, and in INIT ACK its cookie.
+    /// Its parameters; one of an INIT ACK is its cookie.
     pub parameters: Parameters<'a>,
 }
 
-/// Whether an offer can be written, as INIT or INIT ACK: the length has 16 bits, and the parameters are as written.
-pub fn init_fits(offer: &Init<'_>) -> bool
+/// Whether an offer can be written, as INIT or INIT ACK: the length fits 16 bits, and the parameters are the bytes that are written for them.
+pub(crate) fn init_fits(offer: &Init<'_>) -> bool
     ensures init { IsTrue result ↔ Fits (meaning.Init (init_meaning offer.now)) }
     ensures init_ack { IsTrue result ↔ Fits (meaning.InitAck (init_meaning offer.now)) }
 {
@@ -49,24 +49,24 @@ pub fn init_fits(offer: &Init<'_>) -> bool
     offer.parameters.size() <= LONGEST_VALUE - NUMBERS && offer.parameters.is_plain()
 }
 
-/// Whether a value has room for the numbers.
-pub fn is_init(value: &[u8]) -> bool
+/// Whether a value has the fixed fields.
+pub(crate) fn is_init(value: &[u8]) -> bool
     ensures { result ≡ has_init_numbers value.now }
 {
     value.len() >= NUMBERS
 }
 
-/// Whether what stands behind the numbers is a list.
-pub fn has_parameters(value: &[u8]) -> bool
+/// Whether what follows the fixed fields is a list of parameters.
+pub(crate) fn has_parameters(value: &[u8]) -> bool
     requires { has_init_numbers value.now ≡ true }
     ensures { result ≡ has_init_list value.now }
 {
     is_typed_list(&value[NUMBERS..])
 }
 
-/// The offer of a value.
+/// The offer in a value.
 #[tactic(auto, unfolding(crate::specs::chunks::Init::init_at))]
-pub fn read_init(value: &[u8]) -> Init<'_>
+pub(crate) fn read_init(value: &[u8]) -> Init<'_>
     requires numbers { has_init_numbers value.now ≡ true }
     requires parameters { has_init_list value.now ≡ true }
     ensures { init_meaning result ≡ init_at value.now }
@@ -81,8 +81,8 @@ pub fn read_init(value: &[u8]) -> Init<'_>
     }
 }
 
-/// Appends the value, for which there is room.
-pub fn append_init(out: &mut Vec<u8>, offer: &Init<'_>)
+/// Appends the value, for which there is capacity.
+pub(crate) fn append_init(out: &mut Vec<u8>, offer: &Init<'_>)
     requires { vec_len out.old + 16 + length offer.now.parameters ≤ vec_capacity out.old }
     ensures items { out.new.items ≡ out.old.items ++ init_value (init_meaning offer.now) }
     ensures len { vec_len out.new ≡ vec_len out.old + 16 + length offer.now.parameters }

@@ -13,8 +13,8 @@ use crate::codes::{
     COOKIE_ACK, FORWARD_TSN, I_DATA, I_FORWARD_TSN, LONGEST_VALUE, SHUTDOWN_COMPLETE,
 };
 
-/// Whether a type has no case of its own, and the length has 16 bits.
-pub fn other_fits(kind: u8, flags: u8, value: &[u8]) -> bool
+/// Whether a type has no case of its own, and the length fits 16 bits.
+pub(crate) fn other_fits(kind: u8, flags: u8, value: &[u8]) -> bool
     ensures { IsTrue result ↔ Fits (meaning.Unknown kind flags value.now) }
 {
     !is_known(kind) && value.len() <= LONGEST_VALUE

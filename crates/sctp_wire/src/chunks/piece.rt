@@ -1,4 +1,4 @@
-//! What DATA and I-DATA have in common: a piece of user data, and its four flags (RFC 9260, 3.3.1; RFC 8260, 2.1).
+//! What DATA and I-DATA have in common: the fields of a chunk of user data, and its four flags (RFC 9260, 3.3.1; RFC 8260, 2.1).
 
 ghost use Rattle.std.specs.Prelude.{◌≡◌};
 ghost use Rattle.sctp_wire.specs.ChunkTree.{piece_meaning};
@@ -7,10 +7,10 @@ ghost use Rattle.sctp_wire.specs.chunks.Piece.{data_flags};
 use crate::chunks::flags::flag;
 use crate::codes::{BEGIN, END, IMMEDIATE, UNORDERED};
 
-/// A piece of user data, as a DATA or an I-DATA chunk has it.
+/// A DATA or I-DATA chunk.
 #[derive(Clone, Copy)]
 pub struct Piece<'a> {
-    /// I: the peer should acknowledge at once.
+    /// I: the receiver should not delay the SACK.
     pub immediate: bool,
     /// U: the message is unordered.
     pub unordered: bool,
@@ -22,14 +22,14 @@ pub struct Piece<'a> {
     pub stream: u16,
     /// DATA's stream sequence number, which has 16 bits, or I-DATA's message identifier.
     pub number: u32,
-    /// The payload protocol identifier, or the fragment sequence number of an I-DATA without B.
+    /// The payload protocol identifier, or the fragment sequence number in an I-DATA without B.
     pub word: u32,
-    /// The data, which may be empty here.
+    /// The data; a chunk without data can be read and written here, and is refused by the receiver.
     pub bytes: &'a [u8],
 }
 
 /// The flags of DATA and I-DATA, unused ones zero.
-pub fn data_flags(piece: &Piece<'_>) -> u8
+pub(crate) fn data_flags(piece: &Piece<'_>) -> u8
     ensures { result ≡ data_flags (piece_meaning piece.now) }
 {
     flag(IMMEDIATE, piece.immediate)

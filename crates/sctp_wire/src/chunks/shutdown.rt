@@ -1,4 +1,4 @@
-//! SHUTDOWN: no more is sent, and all up to a TSN came (RFC 9260, 3.3.8).
+//! SHUTDOWN: no more data is sent, and all TSNs up to one were received (RFC 9260, 3.3.8).
 //!
 //! | at | size | field |
 //! |---|---|---|
@@ -9,8 +9,8 @@ ghost use Rattle.sctp_model.specs.wire.Chunk as meaning;
 ghost use Rattle.sctp_wire.specs.Layouts.{Fits};
 ghost use Rattle.sctp_wire.specs.chunks.Shutdown.{is_shutdown_value};
 
-/// It always fits: a TSN has its 32 bits.
-pub fn shutdown_fits(cumulative: u32) -> bool
+/// A SHUTDOWN always fits: its TSN has 32 bits.
+pub(crate) fn shutdown_fits(cumulative: u32) -> bool
     ensures { IsTrue result ↔ Fits (meaning.Shutdown cumulative) }
 {
     let _cumulative = cumulative;
@@ -18,7 +18,7 @@ pub fn shutdown_fits(cumulative: u32) -> bool
 }
 
 /// Whether a value is a TSN alone.
-pub fn is_shutdown(value: &[u8]) -> bool
+pub(crate) fn is_shutdown(value: &[u8]) -> bool
     ensures { result ≡ is_shutdown_value value.now }
 {
     value.len() == 4

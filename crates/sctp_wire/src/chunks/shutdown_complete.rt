@@ -3,8 +3,8 @@
 ghost use Rattle.std.specs.Prelude.{◌≡◌};
 ghost use Rattle.sctp_wire.specs.chunks.ShutdownComplete.{is_shutdown_complete_value};
 
-/// Whether there is no value.
-pub fn is_shutdown_complete(value: &[u8]) -> bool
+/// Whether this is the value of a SHUTDOWN COMPLETE: it is empty.
+pub(crate) fn is_shutdown_complete(value: &[u8]) -> bool
     ensures { result ≡ is_shutdown_complete_value value.now }
 {
     value.is_empty()

@@ -1,4 +1,4 @@
-//! DATA: a piece of user data by stream sequence number (RFC 9260, 3.3.1).
+//! DATA: user data with a stream sequence number (RFC 9260, 3.3.1).
 
 ghost use Rattle.std.specs.Prelude.{◌≡◌, ◌↔◌, ◌+◌, ◌≤◌, ◌++◌, IsTrue, IsOk, OnOk, OnErr, length, vec_len, vec_capacity};
 ghost use Rattle.sctp_model.specs.wire.Chunk as meaning;
@@ -14,8 +14,8 @@ use crate::codes::{BEGIN, DATA, DATA_HEADER, END, IMMEDIATE, LONGEST, UNORDERED}
 use crate::numbers::{read_u16, read_u32, write_padded};
 use sctp_values::NoMemory;
 
-/// Whether a DATA's number has 16 bits, and its length too.
-pub fn data_fits(piece: &Piece<'_>) -> bool
+/// Whether the stream sequence number and the length of a DATA fit 16 bits.
+pub(crate) fn data_fits(piece: &Piece<'_>) -> bool
     ensures { IsTrue result ↔ Fits (meaning.Data (piece_meaning piece.now)) }
 {
     let (_tsn, _stream, _word) = (piece.tsn, piece.stream, piece.word);
@@ -23,7 +23,7 @@ pub fn data_fits(piece: &Piece<'_>) -> bool
 }
 
 /// Whether a value has the layout.
-pub fn is_data(value: &[u8]) -> bool
+pub(crate) fn is_data(value: &[u8]) -> bool
     ensures { result ≡ is_data_value value.now }
 {
     value.len() >= 12
@@ -39,7 +39,7 @@ pub fn is_data(value: &[u8]) -> bool
 /// | 8 | 4 | payload protocol identifier |
 /// | 12 | any | data |
 #[tactic(auto, unfolding(crate::specs::chunks::Data::data_at))]
-pub fn read_data(flags: u8, value: &[u8]) -> Piece<'_>
+pub(crate) fn read_data(flags: u8, value: &[u8]) -> Piece<'_>
     requires { 12 ≤ length value.now }
     ensures { piece_meaning result ≡ data_at flags value.now }
 {
@@ -61,8 +61,8 @@ pub fn read_data(flags: u8, value: &[u8]) -> Piece<'_>
 /// Appends a DATA: its header and numbers at once, then the data and its padding.
 ///
 /// # Errors
-/// `NoMemory` where there was no room and none was got; `out` is then as before.
-pub fn write_data(out: &mut Vec<u8>, piece: &Piece<'_>) -> Result<(), NoMemory>
+/// `NoMemory` if allocation fails; `out` is then unchanged.
+pub(crate) fn write_data(out: &mut Vec<u8>, piece: &Piece<'_>) -> Result<(), NoMemory>
     requires { Fits (meaning.Data (piece_meaning piece.now)) }
     ensures written { OnOk result (out.new.items ≡ out.old.items ++ written (meaning.Data (piece_meaning piece.now))) }
     ensures refused { OnErr result (out.new.items ≡ out.old.items) }
