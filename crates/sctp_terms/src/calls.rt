@@ -1,11 +1,11 @@
-//! Why a call of an endpoint's user is refused. A refused call changes nothing.
+//! Why a call of an endpoint's user is refused. A refused call leaves the endpoint unchanged.
 
 use thiserror::Error;
 
 /// Why `connect` is refused.
 #[derive(Clone, Copy, Debug, PartialEq, Eq, Error)]
 pub enum ConnectFault {
-    /// 1: the endpoint isn't a caller to which nothing happened yet.
+    /// 1: the endpoint is a listener, or has been used already.
     #[error("the endpoint has been used")]
     State,
 }
@@ -13,21 +13,21 @@ pub enum ConnectFault {
 /// Why `shutdown` is refused.
 #[derive(Clone, Copy, Debug, PartialEq, Eq, Error)]
 pub enum ShutdownFault {
-    /// 1: there is no association with both its ends.
+    /// 1: no association is open: none was opened, it is still being opened, or it is over.
     #[error("there is no open association")]
     NotOpen,
 }
 
-/// Why `abort` is refused: the first of these that holds.
+/// Why `abort` is refused: the first of these that applies.
 #[derive(Clone, Copy, Debug, PartialEq, Eq, Error)]
 pub enum AbortFault {
-    /// 1: there is no peer to tell: Closed, Listen or CookieWait.
+    /// 1: there is no peer to send an ABORT to: the state is Closed, Listen or CookieWait.
     #[error("there is no peer to tell")]
     State,
     /// 2: the reason doesn't fit one packet.
     #[error("the reason is too long for one packet")]
     TooLong,
-    /// 3: memory ran out for the packet.
+    /// 3: allocation of the packet failed.
     #[error("out of memory")]
     NoMemory,
 }

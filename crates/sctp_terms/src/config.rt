@@ -1,4 +1,4 @@
-//! What an endpoint is set up with.
+//! The configuration of an endpoint.
 
 ghost use Rattle.std.specs.Prelude.{◌≡◌, true, ◌&&◌, Some, None, MatchResult};
 ghost use Rattle.sctp_model.specs.end.EndView.{Configuration};
@@ -13,8 +13,8 @@ use sctp_values::{
 };
 use std::marker::Model;
 
-/// The configuration of an endpoint: both ports, sizes in bytes, streams each way, which extensions it asks for, whether its SACKs may wait, and by
-/// which timers it closes. Contracts see the definitions' `Configuration`, which is within its limits.
+/// The configuration of an endpoint: both ports, sizes in bytes, streams each way, which extensions it asks for, whether it delays its SACKs, and
+/// by which timers it closes. Contracts see the definitions' `Configuration`, which is within its limits.
 #[derive(Clone, Copy, Debug, PartialEq, Eq)]
 pub struct Config {
     pub(crate) own_port: u16,
@@ -80,12 +80,12 @@ impl Model for Config {
 }
 
 impl Config {
-    /// The configuration of an endpoint at `own_port` whose peer is at `peer_port`: it sends packets of at most `limit` bytes, cuts messages at
-    /// `fragment` bytes, has a receive buffer of `buffer` bytes, and asks for `outbound` streams to its peer and `inbound` from it. Neither
-    /// extension is asked for, its SACKs don't wait, and it closes by this profile's timers.
+    /// The configuration of an endpoint at `own_port` whose peer is at `peer_port`: it sends packets of at most `limit` bytes, cuts messages into
+    /// fragments of `fragment` bytes, has a receive buffer of `buffer` bytes, and asks for `outbound` streams to its peer and `inbound` from it.
+    /// Neither extension is asked for, SACKs aren't delayed, and it closes by this profile's timers.
     ///
     /// # Errors
-    /// The fault with the smallest code.
+    /// Of the faults that these values have, the one with the smallest code.
     pub fn new(
         own_port: u16,
         peer_port: u16,
@@ -130,7 +130,7 @@ impl Config {
         })
     }
 
-    /// The same, asking for partial reliability (RFC 3758).
+    /// This configuration, asking for partial reliability (RFC 3758).
     pub fn with_partial(self) -> Config
         ensures { result ≡ record self { partial = true } }
     {
@@ -140,7 +140,7 @@ impl Config {
         }
     }
 
-    /// The same, asking for I-DATA (RFC 8260).
+    /// This configuration, asking for I-DATA (RFC 8260).
     pub fn with_interleave(self) -> Config
         ensures { result ≡ record self { interleave = true } }
     {
@@ -150,7 +150,7 @@ impl Config {
         }
     }
 
-    /// The same, whose SACKs may wait: for a second packet, or 200 ms at most (RFC 9260, 6.2).
+    /// This configuration, with delayed SACKs: a SACK waits for a second packet, or 200 ms at most (RFC 9260, 6.2).
     pub fn with_delay(self) -> Config
         ensures { result ≡ record self { delay = true } }
     {
@@ -160,8 +160,9 @@ impl Config {
         }
     }
 
-    /// The same, closing by the RFC's timers: a SHUTDOWN that acknowledges more renews the data timer as a SACK does, and user data that comes in
-    /// ShutdownSent renews the SHUTDOWN's timer and its count of repeats, without end as long as it comes (RFC 9260, 6.3.2, 8.1 and 9.2).
+    /// This configuration, closing by the RFC's timers: a SHUTDOWN that acknowledges more restarts the data timer as a SACK does, and user data
+    /// received in ShutdownSent restarts the SHUTDOWN's timer and its count of retransmissions. So there is no limit on how long a peer that keeps
+    /// sending can delay closing (RFC 9260, 6.3.2, 8.1 and 9.2).
     pub fn with_standard_closing(self) -> Config
         ensures { result ≡ record self { standard_closing = true } }
     {
@@ -172,14 +173,14 @@ impl Config {
     }
 }
 
-/// Whether packets may have this limit.
+/// Whether this is a permitted packet limit.
 fn is_packet_limit(limit: u16) -> bool
     ensures { result ≡ is_between limits.LEAST_PACKET limits.GREATEST_PACKET limit }
 {
     LEAST_PACKET <= limit && limit <= GREATEST_PACKET
 }
 
-/// Whether fragments may have this size where packets have this limit.
+/// Whether this is a permitted size of fragments if packets have this limit.
 fn is_fragment(limit: u16, fragment: u16) -> bool
     ensures { result ≡ is_fragment limit fragment }
 {
@@ -188,14 +189,14 @@ fn is_fragment(limit: u16, fragment: u16) -> bool
         && FRAGMENT_OVERHEAD + fragment.div_ceil(4) * 4 <= limit
 }
 
-/// Whether a receiver may have this room.
+/// Whether this is a permitted size of the receive buffer.
 fn is_buffer(buffer: u32) -> bool
     ensures { result ≡ is_between limits.LEAST_BUFFER limits.GREATEST_BUFFER buffer }
 {
     LEAST_BUFFER <= buffer && buffer <= GREATEST_BUFFER
 }
 
-/// Whether there may be so many streams each way.
+/// Whether these are permitted numbers of streams each way.
 fn are_streams(outbound: u16, inbound: u16) -> bool
     ensures { result ≡ (is_between 1 limits.STREAM_LIMIT outbound && is_between 1 limits.STREAM_LIMIT inbound) }
 {

@@ -1,6 +1,7 @@
-//! What a configuration says. Each is within its limits.
+//! The readers of a configuration. Each value is within its limits.
 
 ghost use Rattle.std.specs.Prelude.{◌≡◌, ◌≤◌, ◌<◌, ◌+◌};
+ghost use Rattle.sctp_model.specs.numbers.Limits.{STREAM_LIMIT, LEAST_PACKET, GREATEST_PACKET, LEAST_FRAGMENT, GREATEST_FRAGMENT, FRAGMENT_OVERHEAD, LEAST_BUFFER, GREATEST_BUFFER};
 ghost use Rattle.sctp_model.specs.wire.Chunk.{padded};
 ghost use Rattle.sctp_model.specs.end.Configured.{IsConfiguration};
 
@@ -26,20 +27,20 @@ impl Config {
     /// The bytes of the longest packet that it sends, 576 to 1,500.
     pub fn limit(&self) -> u16
         ensures exact { result ≡ self.now.limit }
-        ensures least { 576 ≤ result }
-        ensures greatest { result ≤ 1500 }
+        ensures least { LEAST_PACKET ≤ result }
+        ensures greatest { result ≤ GREATEST_PACKET }
         // Every configuration is within its limits.
         ensures configured { IsConfiguration self.now }
     {
         self.limit
     }
 
-    /// The bytes of every fragment but a message's last, 4 to 1,400.
+    /// The data bytes of every fragment but a message's last, 4 to 1,400.
     pub fn fragment(&self) -> u16
         ensures exact { result ≡ self.now.fragment }
-        ensures least { 4 ≤ result }
-        ensures greatest { result ≤ 1400 }
-        ensures fits { 32 + padded result ≤ self.now.limit }
+        ensures least { LEAST_FRAGMENT ≤ result }
+        ensures greatest { result ≤ GREATEST_FRAGMENT }
+        ensures fits { FRAGMENT_OVERHEAD + padded result ≤ self.now.limit }
     {
         self.fragment
     }
@@ -47,26 +48,26 @@ impl Config {
     /// The bytes of its receive buffer, 65,536 to 16,777,216.
     pub fn buffer(&self) -> u32
         ensures exact { result ≡ self.now.buffer }
-        ensures least { 65536 ≤ result }
-        ensures greatest { result ≤ 16777216 }
+        ensures least { LEAST_BUFFER ≤ result }
+        ensures greatest { result ≤ GREATEST_BUFFER }
     {
         self.buffer
     }
 
-    /// The streams that it asks for to its peer, 1 to 1,024.
+    /// The number of streams that it asks for to its peer, 1 to 1,024.
     pub fn outbound(&self) -> u16
         ensures exact { result ≡ self.now.outbound }
         ensures some { 0 < result }
-        ensures greatest { result ≤ 1024 }
+        ensures greatest { result ≤ STREAM_LIMIT }
     {
         self.outbound
     }
 
-    /// The streams that it allows from its peer, 1 to 1,024.
+    /// The number of streams that it accepts from its peer, 1 to 1,024.
     pub fn inbound(&self) -> u16
         ensures exact { result ≡ self.now.inbound }
         ensures some { 0 < result }
-        ensures greatest { result ≤ 1024 }
+        ensures greatest { result ≤ STREAM_LIMIT }
     {
         self.inbound
     }
@@ -85,14 +86,14 @@ impl Config {
         self.partial
     }
 
-    /// Whether its SACKs may wait for a second packet.
+    /// Whether it delays its SACKs: one may wait for a second packet, or 200 ms.
     pub fn delay(&self) -> bool
         ensures { result ≡ self.now.delay }
     {
         self.delay
     }
 
-    /// Whether it closes by the RFC's timers.
+    /// Whether it closes by the RFC's timers, not by this profile's.
     pub fn standard_closing(&self) -> bool
         ensures { result ≡ self.now.standard_closing }
     {

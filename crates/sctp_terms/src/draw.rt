@@ -1,11 +1,12 @@
-//! What chance gives to an end that begins.
+//! The random values of an endpoint that opens an association.
 
 ghost use Rattle.std.specs.Prelude.{◌≡◌, ◌<◌, MatchOption};
 ghost use Rattle.sctp_model.specs.end.EndView.{IsDraw};
 
 use std::marker::Model;
 
-/// A verification tag, which is never 0, and a first TSN (RFC 9260, 5.3.1 and 3.3.2). Contracts see the definitions' `Draw`.
+/// The random values that an endpoint needs to open an association: its verification tag, which is never 0, and its initial TSN
+/// (RFC 9260, 5.3.1 and 3.3.2). The caller generates them. Contracts see the definitions' `Draw`.
 #[derive(Clone, Copy, Debug, PartialEq, Eq)]
 pub struct Draw {
     tag: u32,
@@ -26,7 +27,7 @@ impl Model for Draw {
 }
 
 impl Draw {
-    /// The draw of these two, None exactly where the tag is 0.
+    /// The random values with this verification tag and this initial TSN; None if and only if the tag is 0.
     pub fn new(tag: u32, tsn: u32) -> Option<Draw>
         ensures { MatchOption result (tag ≡ 0) (λ draw. (draw ≡ record { tag = tag; tsn = tsn }) × (0 < tag)) }
     {
@@ -36,7 +37,7 @@ impl Draw {
         Some(Draw { tag, tsn })
     }
 
-    /// The tag of packets to this end (RFC 9260, 8.5), which isn't 0.
+    /// The verification tag of packets to this endpoint (RFC 9260, 8.5), which isn't 0.
     pub fn tag(&self) -> u32
         ensures exact { result ≡ self.now.tag }
         ensures some { 0 < result }
@@ -46,7 +47,7 @@ impl Draw {
         self.tag
     }
 
-    /// The TSN that it sends first.
+    /// The initial TSN: that of the first DATA or I-DATA chunk that it sends.
     pub fn tsn(&self) -> u32
         ensures { result ≡ self.now.tsn }
     {

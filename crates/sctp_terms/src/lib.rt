@@ -1,5 +1,23 @@
-//! What a script and an endpoint both speak of: how an end is set up and what it asks for, what it draws, where it stands and how it ended, and why a packet or a
-//! call is refused.
+//! The vocabulary that an endpoint and its users share: its configuration, the random values that it needs, its state and how its association
+//! ended, and why a packet or a call is refused.
+//!
+//! Contracts see a [`Config`] as the definitions' `Configuration` (`sctp_model/specs/end/EndView`), which is within its limits
+//! (`IsConfiguration`, `end/Configured`), and a [`Draw`] as their `Draw`, whose tag isn't 0 (`IsDraw`). What the other types mean in the
+//! definitions is in `specs/Meanings`.
+//!
+//! | public function | what is promised |
+//! |---|---|
+//! | [`Config::new`] | the configuration with just these values, if it has no fault: neither extension asked for, a SACK for each packet, closing by this profile's timers; otherwise the first fault that it has (`configuration_fault`, in the order of the codes) |
+//! | [`Config::with_partial`], [`Config::with_interleave`] | this configuration, asking also for partial reliability, for I-DATA |
+//! | [`Config::with_delay`], [`Config::with_standard_closing`] | this configuration, with delayed SACKs; closing by the RFC's timers |
+//! | [`Config::limit`] and the other readers | the value that it was made with, within its limits |
+//! | [`faultless_is_configured`] (law) | a configuration with ports of 16 bits has no fault if and only if it is within its limits |
+//! | [`Draw::new`] | these random values; None if and only if the tag is 0 |
+//! | [`Draw::tag`], [`Draw::tsn`] | the value that it was made with; the tag is never 0, and both have 32 bits |
+//! | [`Mode::asked`] | this configuration, asking also for what the mode says: for neither extension, for one, or for both |
+//! | [`ConfigFault::code`], [`Reason::code`] | the number that is printed, 1 to 5 |
+//!
+//! [`State`], [`End`] and the refusals [`ConnectFault`], [`ShutdownFault`] and [`AbortFault`] have no calls.
 #![tactic(auto)]
 
 mod calls;

@@ -1,39 +1,39 @@
-//! Where an endpoint stands in its life, and how it ended.
+//! The states of an endpoint, and how an association ended.
 
 /// The state of an endpoint (RFC 9260, 4).
 #[derive(Clone, Copy, Debug, PartialEq, Eq)]
 pub enum State {
-    /// Nothing happened yet, or the association is over.
+    /// There is no association: none was opened yet, or it is over.
     Closed,
-    /// It waits for a peer, and keeps nothing.
+    /// It waits for an INIT, and keeps no state of any peer.
     Listen,
-    /// INIT was sent, and isn't answered.
+    /// INIT was sent, and no INIT ACK received yet.
     CookieWait,
-    /// The cookie was sent back, and isn't answered.
+    /// COOKIE ECHO was sent, and no COOKIE ACK received yet.
     CookieEchoed,
-    /// Both users may send.
+    /// The association is open: both users may send.
     Established,
-    /// Its user has no more to send; what is queued still goes out.
+    /// Its user asked for shutdown; messages that are queued or outstanding are still sent.
     ShutdownPending,
-    /// All that it sent was acknowledged, and SHUTDOWN tells the peer.
+    /// All that it sent was acknowledged, and SHUTDOWN was sent.
     ShutdownSent,
-    /// The peer has no more to send; what is queued here still goes out.
+    /// SHUTDOWN was received; messages that are queued or outstanding here are still sent.
     ShutdownReceived,
-    /// All was acknowledged here too, and SHUTDOWN ACK answers the peer.
+    /// All that was sent here is acknowledged too, and SHUTDOWN ACK was sent.
     ShutdownAckSent,
 }
 
 /// How an association ended, as this endpoint saw it.
 #[derive(Clone, Copy, Debug, PartialEq, Eq)]
 pub enum End {
-    /// Both ends shut it (RFC 9260, 9.2).
+    /// It was shut down gracefully by both endpoints (RFC 9260, 9.2).
     Completed,
     /// The peer aborted it (RFC 9260, 9.1).
     Aborted,
-    /// This endpoint aborted it, for its user or for a fault of the peer (RFC 9260, 9.1).
+    /// This endpoint aborted it, at its user's request or because of an error of the peer (RFC 9260, 9.1).
     AbortedHere,
-    /// A packet was repeated as often as may be, and not answered (RFC 9260, 8.1).
+    /// A packet was retransmitted as often as allowed, and not answered (RFC 9260, 8.1).
     TimedOut,
-    /// The listener found the cookie too old (RFC 9260, 5.2.6).
+    /// The listener reported that the cookie had expired (RFC 9260, 5.2.6).
     StaleCookie,
 }

@@ -1,25 +1,25 @@
-//! What an end asks for when it opens.
+//! Which extensions an endpoint asks for when it opens an association.
 
 ghost use Rattle.std.specs.Prelude.{◌≡◌};
 ghost use Rattle.sctp_terms.specs.Modes.{asked};
 
 use crate::config::Config;
 
-/// The format of user data, and whether messages may be abandoned.
+/// The format of user data, DATA or I-DATA, and whether messages may be abandoned (partial reliability).
 #[derive(Clone, Copy, Debug, PartialEq, Eq)]
 pub enum Mode {
-    /// DATA chunks, nothing is abandoned (RFC 9260, 3.3.1).
+    /// DATA chunks, no message is abandoned (RFC 9260, 3.3.1).
     Data,
     /// DATA chunks, and partial reliability (RFC 3758).
     PartialData,
-    /// I-DATA chunks, nothing is abandoned (RFC 8260, 2.1).
+    /// I-DATA chunks, no message is abandoned (RFC 8260, 2.1).
     IData,
     /// I-DATA chunks, and partial reliability (RFC 8260, 2.3).
     PartialIData,
 }
 
 impl Mode {
-    /// The configuration that also asks for what this mode says.
+    /// This configuration, asking also for the extensions of this mode.
     pub fn asked(self, config: Config) -> Config
         ensures { result ≡ asked self config }
     {

@@ -1,25 +1,25 @@
-//! Why a packet is dropped.
+//! Why a received packet is dropped.
 
 ghost use Rattle.std.specs.Prelude.{◌≡◌};
 ghost use Rattle.sctp_terms.specs.Meanings.{reason_code};
 
-/// Why a packet was dropped with no effect but that its moment counts.
+/// Why a received packet was dropped: it had no effect but that the time of its arrival was noted.
 #[derive(Clone, Copy, Debug, PartialEq, Eq)]
 pub enum Reason {
     /// 1: its bytes aren't a packet (RFC 9260, 3 and 6.8).
     Fault,
     /// 2: its ports aren't those of the association (RFC 9260, 8.4).
     Ports,
-    /// 3: its verification tag isn't right (RFC 9260, 8.5).
+    /// 3: its verification tag is wrong (RFC 9260, 8.5).
     Tag,
-    /// 4: nothing in it is listed for the state.
+    /// 4: none of its chunks is handled in the endpoint's state.
     State,
-    /// 5: its cookie doesn't open (RFC 9260, 5.1.5).
+    /// 5: its cookie isn't valid (RFC 9260, 5.1.5).
     Cookie,
 }
 
 impl Reason {
-    /// The code, 1 to 5.
+    /// The code of this reason, 1 to 5.
     pub fn code(self) -> u8
         ensures { result ≡ reason_code self }
     {
