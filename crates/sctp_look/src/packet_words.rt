@@ -4,7 +4,7 @@ use sctp_packet::read_packet;
 use sctp_wire::{Blocks, Causes, Chunk, Piece, Sack, Tsns};
 use std::alloc::{AllocError, Global};
 
-/// The words of a packet's chunks. Chunks after `most` letters are left out.
+/// The words of a packet's chunks. Chunks after `enough` letters are left out.
 ///
 /// # Errors
 /// An allocation failed.

@@ -113,7 +113,7 @@ impl Recording {
         self.show(side, Some(Deed::of_call(call, outcome)), None)
     }
 
-    /// Shows that an endpoint's user sends a message of `size` bytes.
+    /// Shows that an endpoint's user sends a message of `length` bytes.
     fn send(
         &mut self,
         side: Side,

@@ -25,7 +25,7 @@ pub(super) struct Label {
     pub(super) width: usize,
 }
 
-/// The words beside an endpoint in `columns` columns. If these are too few, what it did is cut.
+/// The words beside an endpoint in `room` columns. If these are too few, what it did is cut.
 ///
 /// # Errors
 /// An allocation failed.
