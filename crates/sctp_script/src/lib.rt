@@ -35,7 +35,8 @@
 //! (`proofs/CommandLemmas`) has a row for each command: its name finds `first_form` of it. That a name and a number of words determine one
 //! command (`same_command`) follows from it and `formed_again`; what is said of all names follows from the list (`each_passes`). Words are
 //! decided field by field and a line by the list of its fields (`proofs/FieldLemmas`), so a further command with known fields needs no new
-//! lemma; what the words of each command say is in `proofs/SpellLemmas`. `put_outcome` and `side_named` need no answer file: their cases
+//! lemma; that a word spells one value or none is the law `words_say_one_value` of sctp_text, which `one_meaning` and the reader of `pair`
+//! call. What the words of each command say is in `proofs/SpellLemmas`. `put_outcome` and `side_named` need no answer file: their cases
 //! compute. `Command::named`, here and in sctp_end, closes by search, also at half of the search's limits
 //! (`rt check --only Command::named --margin`).
 #![tactic(auto)]
