@@ -108,22 +108,22 @@ refuse_odd() {
     fi
 }
 
-# The last lines of what `rt try` says are its own.
-without_last_lines() {
-    awk '
+# What `rt try` wrote to standard error ends with lines of its own, each kind at most once, in any order: what its two runs and its search
+# for races came to, and how the program ended. `own` prints these, `program` the lines before them, which are the program's.
+lines_of() {
+    awk -v whose="$1" '
         { lines[NR] = $0 }
         END {
-            last = NR - 1
-            if (lines[last] ~ /^checked: /) last--
-            if (lines[last] ~ /^interpreter: /) last--
-            for (at = 1; at <= last; at++) print lines[at]
+            last = NR
+            while (last > 0 && match(lines[last], /^(interpreter: |checked: |races: |run=)/) && !seen[substr(lines[last], 1, RLENGTH)]++) last--
+            for (at = whose == "own" ? last + 1 : 1; at <= (whose == "own" ? NR : last); at++) print lines[at]
         }
     ' "$said"
 }
 
-# Of what `rt try` said, the reason why it came to no end.
+# Of what `rt try` wrote, the reason why the run wasn't ended.
 limit() {
-    sed -n 's/^checked: no-answer: //p' "$said" | tail -n 1
+    lines_of own | sed -n 's/^checked: no-answer: //p'
 }
 
 # `rt try` reads no terminal, and stops at a pause in its input and at 64 MiB: it gets all that comes as a file.
@@ -138,14 +138,11 @@ run_sources() {
     [ "$(wc -c <"$input")" -lt 67108864 ] || fail "sources that aren't proved read less than 67108864 bytes; $prove, which has no such limit" 3
     cd -- "$crate" || exit 3
     rt try -- "$@" <"$input" 2>"$said"
-    last=$(tail -n 1 -- "$said")
-    case $last in
-        'run=ended status='*)
-            without_last_lines >&2
-            status=${last#run=ended status=}
-            exit "${status%% *}"
-            ;;
-    esac
+    status=$(lines_of own | sed -n 's/^run=ended status=\([0-9]*\).*/\1/p')
+    if [ -n "$status" ]; then
+        lines_of program >&2
+        exit "$status"
+    fi
     limit | grep -q '' && fail "not run to its end: $(limit). Sources that aren't proved are run within limits; $prove, which has none" 3
     cat -- "$said" >&2
     fail "the sources can't be run; $prove" 3

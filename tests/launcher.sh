@@ -2,8 +2,8 @@
 # Shows what the launchers ./sctp-trace, ./sctp-end and ./sctp-look do in each order of commands: before a build, after one, and after
 # sources have changed; and how each program ends where something is wrong: its status, and what goes to standard error. To be run by
 # hand: tests/launcher.sh. It works on a copy of the repository, proves and builds the programs there (with what `out/` keeps some
-# minutes, else half an hour), prints a line for each order, and ends with 0 where all are as they should be. An order that runs the
-# sources takes a minute.
+# minutes, else half an hour), prints a line for each order, and ends with 0 if all are as they should be. An order that runs the
+# sources takes a minute. tests/launcher.sh unbuilt: the orders before a build alone.
 
 root=$(CDPATH='' cd -- "$(dirname -- "$0")/.." && pwd -P) || exit 3
 room=$(mktemp -d) || exit 3
@@ -14,7 +14,6 @@ rows=crates/sctp_rows/stdout
 failed=0
 
 script=examples/one-message.script
-printf 'pair 1500 1400 65536 1 data\nopne\n' >"$room/faulty"
 printf 'pair 1500 1400 65536 1 data\nopen\n' >"$room/many"
 awk 'BEGIN { for (i = 0; i < 120000; i++) print "take B 0" }' >>"$room/many"
 # what the rules say of bytes: a packet, chunks, and the first fault of others
@@ -63,6 +62,7 @@ order() {
 }
 
 says() { so "  and says: $1" grep -q -- "$1" "$room/faults"; }
+says_just() { printf '%s\n' "$1" >"$room/said" && so "  and says just: $1" cmp -s -- "$room/said" "$room/faults"; }
 says_nothing() { so '  and says nothing' [ ! -s "$room/faults" ]; }
 writes() { so '  and writes just that' cmp -s -- "$1" "$room/output"; }
 
@@ -114,8 +114,9 @@ trace_orders() {
     order "one message over, $1" 0 $script run
     writes $main/stdout
     says_nothing
-    order "a faulty line, $1" 2 "$room/faulty" run
-    says '^line 2: 2$'
+    order "a faulty line, $1" 2 crates/sctp_trace_fault/stdin run
+    writes crates/sctp_trace_fault/stdout
+    says_just 'line 8: 2'
     order "a packet, $1" 0 /dev/null packet 13881389000000078bb4efbb$hi
     writes "$room/packet"
     order "chunks, $1" 0 /dev/null chunks ${hi}3f000004
@@ -141,8 +142,9 @@ look_orders() {
     order "a picture, $1" 0 $main/stdin
     writes $main/stdout
     says_nothing
-    order "a faulty line, $1" 2 "$room/faulty" svg
-    says '^line 2: 2$'
+    order "a faulty line, $1" 2 crates/sctp_look_fault/stdin
+    writes crates/sctp_look_fault/stdout
+    says_just 'line 8: 2'
 }
 
 # An end answers each line before the next one comes; what comes through a pipe says no more.
@@ -269,8 +271,14 @@ otherwise() {
     fi
 }
 
+conclude() {
+    if [ $failed = 0 ]; then echo 'all as it should be'; else echo 'some are not as they should be'; fi
+    exit $failed
+}
+
 for part in trace end look; do rm -f -- crates/sctp_${part}_main/out/sctp_${part}_main*; done
 unbuilt
+[ "${1:-}" = unbuilt ] && conclude
 for part in trace end look; do
     of sctp-$part sctp_${part}_main
     (cd $main && rt run -- $(cat args 2>/dev/null) <stdin) >"$room/output" 2>"$room/faults"
@@ -284,5 +292,4 @@ changed $main/stdin sources crates/sctp_look/src/ladder.rt
 of sctp-end sctp_end_main
 changed $main/stdin none crates/sctp_end/src/line.rt $end
 
-if [ $failed = 0 ]; then echo 'all as it should be'; else echo 'some are not as they should be'; fi
-exit $failed
+conclude

@@ -1,4 +1,4 @@
-//! What a cumulative TSN that came leaves: SACK and SHUTDOWN (RFC 9260, 6.2.1, 9.2).
+//! What a cumulative TSN acknowledges: SACK and SHUTDOWN (RFC 9260, 6.2.1, 9.2).
 
 use crate::acts::{After, Stand, peer_fault};
 use crate::reading::{half_at, word_at};
@@ -26,7 +26,7 @@ pub fn after_sack(value: &[u8], taker: &Taker, stand: &mut Stand) -> After {
     After::Acted
 }
 
-/// Whether the gap blocks of a SACK rise, and end at most so far above its cumulative TSN.
+/// Whether the gap blocks of a SACK rise, and end at most this far above its cumulative TSN.
 fn are_blocks(value: &[u8], flying: u32) -> bool {
     let count = half_at(value, 8).unwrap_or(0);
     let blocks = value.get(12..).unwrap_or(&[]);
@@ -42,7 +42,7 @@ fn are_blocks(value: &[u8], flying: u32) -> bool {
     true
 }
 
-/// SHUTDOWN: the peer has no more to send (RFC 9260, 9.2). Where its cumulative TSN is taken, one beyond what was assigned is a fault.
+/// SHUTDOWN: the peer has no more to send (RFC 9260, 9.2). A cumulative TSN beyond what was assigned is a fault, if it is looked at.
 pub fn after_shutdown(value: &[u8], taker: &Taker, stand: &mut Stand) -> After {
     match stand.state {
         State::Established | State::ShutdownPending | State::ShutdownReceived => {}
@@ -65,7 +65,7 @@ pub fn after_shutdown(value: &[u8], taker: &Taker, stand: &mut Stand) -> After {
     After::Acted
 }
 
-/// What its user has ended goes on as soon as all is acknowledged (RFC 9260, 9.2).
+/// Closing goes on as soon as all is acknowledged, if the user has asked for it (RFC 9260, 9.2).
 pub fn settle(taker: &Taker, stand: &mut Stand) {
     if taker.has_more || stand.acknowledged != taker.assigned {
         return;

@@ -1,4 +1,4 @@
-//! What becomes of a packet at an end with an association, chunk by chunk: the state table, as plain rows (RFC 9260, 4 to 9).
+//! What an endpoint with an association does with a packet, chunk by chunk: the state table as plain rows (RFC 9260, 4 to 9).
 
 use crate::acknowledging::{after_sack, after_shutdown, settle};
 use crate::reading::{Chunk, Item, first_chunk, first_item, half_at, word_at};
@@ -11,24 +11,24 @@ use sctp_endpoint::State;
 pub enum After {
     /// It isn't listed for the state.
     PassedOver,
-    /// It acted.
+    /// It was processed.
     Acted,
-    /// It acted, and the packet ends.
+    /// It was processed, and the rest of the packet is ignored.
     Ended,
-    /// The packet ends, and this is told of it.
+    /// The rest of the packet is ignored, and this is the verdict.
     Told(Told),
 }
 
-/// Where an end stands between two chunks.
+/// The state of an endpoint between two chunks.
 #[derive(Drop)]
 pub struct Stand {
     /// The state.
     pub state: State,
-    /// The cumulative TSN that is acknowledged.
+    /// The cumulative TSN acknowledged by the peer.
     pub acknowledged: u32,
 }
 
-/// What is told of these chunks, the first of which finds the end as `taker` says.
+/// The verdict on these chunks at an endpoint in the state that `taker` says.
 pub fn told_of(chunks: &[u8], taker: &Taker) -> Told {
     let mut stand = Stand {
         state: taker.state,
@@ -73,7 +73,7 @@ fn left_by(chunk: Chunk<'_>, taker: &Taker, stand: &mut Stand) -> After {
     }
 }
 
-/// A chunk that only acts, or isn't listed.
+/// A chunk that is processed in some states and not listed in the others.
 fn if_listed(listed: bool) -> After {
     if listed {
         After::Acted
@@ -82,7 +82,7 @@ fn if_listed(listed: bool) -> After {
     }
 }
 
-/// A fault of the peer: the end aborts, and the packet ends (RFC 9260, 9.1).
+/// A fault of the peer: the endpoint aborts, and the rest of the packet is ignored (RFC 9260, 9.1).
 pub fn peer_fault() -> After {
     After::Told(Told::Answered)
 }
@@ -99,7 +99,7 @@ fn is_open(state: State) -> bool {
     )
 }
 
-/// Data and FORWARDs are taken: the peer hasn't said yet that it has no more (RFC 9260, 9.2).
+/// Whether DATA and FORWARD-TSN are accepted: the peer hasn't sent SHUTDOWN yet (RFC 9260, 9.2).
 fn takes_data(state: State) -> bool {
     matches!(
         state,
@@ -119,7 +119,7 @@ fn after_data(chunk: Chunk<'_>, taker: &Taker, state: State) -> After {
     After::Acted
 }
 
-/// FORWARD-TSN and I-FORWARD-TSN: a fault where they weren't agreed on, too far ahead, or for a stream that isn't there.
+/// FORWARD-TSN and I-FORWARD-TSN: a fault if they weren't agreed on, are too far ahead, or name a stream that doesn't exist.
 fn after_forward(chunk: Chunk<'_>, taker: &Taker, state: State) -> After {
     if !takes_data(state) {
         return After::PassedOver;
@@ -144,7 +144,7 @@ fn after_forward(chunk: Chunk<'_>, taker: &Taker, state: State) -> After {
     After::Acted
 }
 
-/// INIT ACK: taken by the caller that waits for one, or answered by an ABORT (RFC 9260, 5.1, 3.3.3).
+/// INIT ACK: accepted by a caller that waits for one, or answered by an ABORT (RFC 9260, 5.1, 3.3.3).
 fn after_init_ack(value: &[u8], state: State) -> After {
     if state != State::CookieWait {
         return After::PassedOver;
@@ -159,7 +159,7 @@ fn after_init_ack(value: &[u8], state: State) -> After {
     After::Ended
 }
 
-/// Whether a State Cookie stands among these parameters that can be echoed, and no parameter before it hides it (RFC 9260, 3.2.1).
+/// Whether there is a State Cookie among these parameters that can be echoed, and no parameter before it ends the reading (RFC 9260, 3.2.1).
 fn has_cookie(parameters: &[u8]) -> bool {
     let mut rest = parameters;
     for _ in 0..parameters.len() {
@@ -211,7 +211,7 @@ fn after_error(causes: &[u8], state: State) -> After {
     After::Acted
 }
 
-/// COOKIE ECHO once more, at a listener: what stands here as a changed packet is no cookie of its own (RFC 9260, 5.2.4).
+/// COOKIE ECHO again, at a listener: a changed packet has no cookie of the listener's (RFC 9260, 5.2.4).
 fn after_cookie_echo(taker: &Taker, state: State) -> After {
     let looked_at = takes_data(state) || state == State::ShutdownReceived;
     if taker.listens && looked_at {

@@ -1,4 +1,4 @@
-//! The packets that are broken, each with the end that it comes to, as the rules say that it stands then.
+//! The packets that are broken, each with the endpoint at which it arrives, in the state that the rules say.
 
 use crate::scripts::{CLOSING, GIVEN_UP, IN_PART};
 use crate::step::Side::{self, A, B};
@@ -6,8 +6,8 @@ use crate::step::Step;
 use crate::taker::Taker;
 use sctp_endpoint::State;
 
-/// A packet: the script that builds it, how many of its steps come before it does, whose it is and its place in that end's bag, from 0, and
-/// the end that it comes to.
+/// A packet: the script that builds it, the number of steps before it arrives, whose it is and its place in that endpoint's bag, from 0, and
+/// the endpoint at which it arrives.
 #[derive(Clone, Copy)]
 pub struct Base {
     pub name: &'static str,
@@ -34,7 +34,7 @@ fn closing(name: &'static str, before: usize, from: Side, place: usize, taker: T
     }
 }
 
-/// The caller of the closing script, once it has an association: tag 7, first TSN 100, and 99 stands for nothing sent yet.
+/// The caller of the closing script with an association: tag 7, initial TSN 100; 99 means that nothing was sent yet.
 fn caller(state: State, acknowledged: u32, assigned: u32) -> Taker {
     Taker {
         port: 5_000,
@@ -53,14 +53,14 @@ fn caller(state: State, acknowledged: u32, assigned: u32) -> Taker {
     }
 }
 
-/// The caller that waits for an answer: it knows no tag of its peer.
+/// The caller that waits for an answer: it doesn't know its peer's tag.
 fn waiting() -> Taker {
     let mut taker = caller(State::CookieWait, 99, 99);
     taker.peer_tag = None;
     taker
 }
 
-/// The listener of the closing script, once it has an association: tag 9, first TSN 500, and it sends nothing.
+/// The listener of the closing script with an association: tag 9, initial TSN 500; it sends nothing.
 fn listener(state: State, came: u32) -> Taker {
     Taker {
         port: 5_001,
@@ -79,7 +79,7 @@ fn listener(state: State, came: u32) -> Taker {
     }
 }
 
-/// The packets of the closing script, in the order in which they come.
+/// The packets of the closing script, in the order of their arrival.
 pub fn closing_packets() -> [Base; 19] {
     let established = State::Established;
     let answered = State::ShutdownAckSent;
@@ -136,7 +136,7 @@ pub fn closing_packets() -> [Base; 19] {
     ]
 }
 
-/// A packet of ends that were opened at once, with partial reliability.
+/// A packet of endpoints that were opened without packets, with partial reliability.
 fn opened(name: &'static str, before: usize, from: Side, place: usize, taker: Taker) -> Base {
     let interleave = taker.interleaved;
     Base {
@@ -151,7 +151,7 @@ fn opened(name: &'static str, before: usize, from: Side, place: usize, taker: Ta
     }
 }
 
-/// The end B of those that were opened: tag 2, and it sends no data.
+/// Endpoint B of those: tag 2; it sends no data.
 fn receiver(interleaved: bool, came: u32) -> Taker {
     Taker {
         port: 5_001,
@@ -170,7 +170,7 @@ fn receiver(interleaved: bool, came: u32) -> Taker {
     }
 }
 
-/// The end A of those that were opened: tag 1, nothing acknowledged, nothing came.
+/// Endpoint A of those: tag 1; nothing was acknowledged and nothing received.
 fn sender(interleaved: bool, assigned: u32, has_more: bool) -> Taker {
     Taker {
         port: 5_000,
@@ -189,7 +189,7 @@ fn sender(interleaved: bool, assigned: u32, has_more: bool) -> Taker {
     }
 }
 
-/// The packets of the two other scripts, in the order in which they come.
+/// The packets of the two other scripts, in the order of their arrival.
 pub fn opened_packets() -> [Base; 10] {
     [
         opened("given up, A 1 at B", 7, A, 0, receiver(false, 0)),

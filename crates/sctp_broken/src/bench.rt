@@ -1,4 +1,4 @@
-//! A packet, broken in every way, and tried at the end that it comes to.
+//! Breaks a packet in every way and tries each at the endpoint for which it was built.
 
 use crate::bases::Base;
 use crate::checksum::Checksum;
@@ -12,13 +12,13 @@ use anyhow::Result;
 use std::alloc::Global;
 use std::io::Write;
 
-/// How many packets are shown of which something else was told than the rules want.
+/// The most packets shown whose verdict isn't that of the rules.
 const SHOWN: u32 = 20;
 
 /// The bits of a byte.
 const BITS: [u8; 8] = [1, 2, 4, 8, 16, 32, 64, 128];
 
-/// A packet and its ends, what the one told that it comes to, and the counts so far.
+/// A packet, both endpoints, the snapshot of the one at which it arrives, and the counts so far.
 #[derive(Drop)]
 pub struct Bench<'a, W> {
     alloc: Global,
@@ -32,7 +32,7 @@ pub struct Bench<'a, W> {
 }
 
 impl<'a, W: Write + Drop> Bench<'a, W> {
-    /// This packet, and the end that it comes to.
+    /// This packet, and the endpoint at which it arrives.
     pub fn new(alloc: Global, base: &'a Base, sums: &'a Checksum, out: W) -> Result<Bench<'a, W>> {
         let ends = Ends::before(alloc, base)?;
         let whole = ends.packet(base)?;
@@ -135,19 +135,19 @@ impl<'a, W: Write + Drop> Bench<'a, W> {
         Ok(())
     }
 
-    /// Tries a packet once its checksum is made right.
+    /// Sets the right checksum of a packet and tries it.
     fn try_mended(&mut self, packet: &mut Vec<u8>, change: &str) -> Result<()> {
         self.sums.mend(packet);
         let told = self.wanted(packet);
         self.try_packet(packet, told, change)
     }
 
-    /// What the rules want told of these bytes, whose checksum is right.
+    /// The rules' verdict on these bytes, whose checksum is right.
     fn wanted(&self, bytes: &[u8]) -> Told {
         wanted(bytes, &self.whole, &self.base.taker)
     }
 
-    /// Tries a packet, of which this is to be told. The end is built anew where it may have changed.
+    /// Tries a packet with this wanted verdict. The endpoint is built anew if it may have changed.
     fn try_packet(&mut self, bytes: &[u8], wanted: Told, change: &str) -> Result<()> {
         let told = self.ends.told(self.base, bytes)?;
         self.tally.count(told);
@@ -164,13 +164,13 @@ impl<'a, W: Write + Drop> Bench<'a, W> {
         Ok(())
     }
 
-    /// Builds the ends anew, as they stand before the packet comes.
+    /// Builds both endpoints anew, in their states before the packet arrives.
     fn renew(&mut self) -> Result<()> {
         self.ends = Ends::before(self.alloc, self.base)?;
         Ok(())
     }
 
-    /// Shows a packet: how it was changed, what was told and what was wanted, and its bytes.
+    /// Shows a packet: how it was changed, its verdict and the wanted one, and its bytes.
     fn show(&mut self, bytes: &[u8], change: &str, told: Told, wanted: Told) -> Result<()> {
         let (name, told, wanted) = (self.base.name, told.word(), wanted.word());
         write!(self.out, "{name}, {change}: {told}, wanted {wanted}: ")?;

@@ -1,4 +1,4 @@
-//! CRC32c, a byte a turn (RFC 9260, 6.8 and appendix A): written here once more, so that no checksum is judged by the code that is tried.
+//! CRC32c, a byte at a time (RFC 9260, 6.8 and appendix A): written here again, so that no checksum is judged by the code under test.
 
 /// The polynomial, lowest bit first.
 const POLYNOMIAL: u32 = 0x82f6_3b78;
@@ -30,7 +30,7 @@ impl Checksum {
         (!register).to_le_bytes()
     }
 
-    /// Makes the checksum of a packet right.
+    /// Sets the right checksum of a packet.
     pub fn mend(&self, packet: &mut [u8]) {
         let sum = self.of(packet);
         if let Some(field) = packet.get_mut(8..12) {
@@ -44,7 +44,7 @@ impl Checksum {
     }
 }
 
-/// The register behind a byte.
+/// The register after a byte.
 fn shifted(byte: u32) -> u32 {
     let mut register = byte;
     for _ in 0..8 {

@@ -1,4 +1,4 @@
-//! Two ends that a script is run over, with all the packets that either gave to the network.
+//! Two endpoints over which a script is run, with all packets that either has given to the network.
 
 use crate::bases::Base;
 use crate::step::{Side, Step};
@@ -7,7 +7,7 @@ use anyhow::{Result, anyhow};
 use sctp_endpoint::{Config, Draw, Endpoint, Key, Ticket, Verdict};
 use std::alloc::Global;
 
-/// The moment at which all happens, in milliseconds.
+/// The time of all steps, in milliseconds.
 pub const NOW: u64 = 0;
 
 /// The key of the listener's cookies.
@@ -16,7 +16,7 @@ const KEY: [u8; 32] = [
     26, 27, 28, 29, 30, 31,
 ];
 
-/// One end, and the packets that it gave to the network.
+/// One endpoint and its bag: the packets that it has given to the network.
 #[derive(Drop)]
 struct OneSide {
     end: Endpoint,
@@ -24,7 +24,7 @@ struct OneSide {
 }
 
 impl OneSide {
-    /// An end that gave none yet.
+    /// An endpoint with an empty bag.
     fn new(alloc: Global, end: Endpoint) -> OneSide {
         OneSide {
             end,
@@ -40,8 +40,8 @@ impl OneSide {
     }
 }
 
-/// Two ends, A and then B, and the draw for INITs that come. They stand in a list, since each place at which an end that stands by itself
-/// is dropped is proved anew.
+/// Two endpoints, A and then B, and the random values for INITs that arrive. They are in a list, since each place that drops an endpoint by
+/// itself is proved anew.
 #[derive(Drop)]
 pub struct Ends {
     alloc: Global,
@@ -51,14 +51,14 @@ pub struct Ends {
 }
 
 impl Ends {
-    /// The two ends as they stand before a packet comes.
+    /// The two endpoints in their states before a packet arrives.
     pub fn before(alloc: Global, base: &Base) -> Result<Ends> {
         let mut ends = Ends::new(alloc, base)?;
         ends.run(base)?;
         Ok(ends)
     }
 
-    /// All that comes before the packet does.
+    /// Makes all steps before the packet arrives.
     fn run(&mut self, base: &Base) -> Result<()> {
         for step in base.script.iter().take(base.before) {
             self.step(*step)?;
@@ -66,7 +66,7 @@ impl Ends {
         Ok(())
     }
 
-    /// Two ends to which nothing happened yet.
+    /// Two new endpoints.
     fn new(alloc: Global, base: &Base) -> Result<Ends> {
         let limits = if base.interleave {
             (576, 500)
@@ -88,41 +88,41 @@ impl Ends {
         Ok(ends)
     }
 
-    /// Adds an end.
+    /// Adds an endpoint.
     fn add(&mut self, end: Endpoint) -> Result<()> {
         Ok(self.sides.push(OneSide::new(self.alloc, end))?)
     }
 
-    /// The packet that comes.
+    /// The packet that arrives.
     pub fn packet(&self, base: &Base) -> Result<Vec<u8>> {
         self.of(base.from)?.packet(base.place)
     }
 
-    /// The end that it comes to.
+    /// The endpoint at which it arrives.
     pub fn taker(&self, base: &Base) -> Result<&Endpoint> {
         Ok(&self.of(base.from.other())?.end)
     }
 
-    /// What that end tells of these bytes, which come in its place.
+    /// The verdict of that endpoint on these bytes, which arrive in place of the packet.
     pub fn told(&mut self, base: &Base, bytes: &[u8]) -> Result<Told> {
         let draw = draw(11, 700)?;
         let to = self.side(base.from.other())?;
         Ok(Told::of(&to.end.handle_packet(NOW, bytes, draw)?))
     }
 
-    /// One of the two, to look at.
+    /// Borrows one of the two.
     fn of(&self, side: Side) -> Result<&OneSide> {
         let found = self.sides.get(side.place());
         found.ok_or_else(|| anyhow!("there is no such end"))
     }
 
-    /// One of the two.
+    /// Borrows one of the two, to be changed.
     fn side(&mut self, side: Side) -> Result<&mut OneSide> {
         let found = self.sides.get_mut(side.place());
         found.ok_or_else(|| anyhow!("there is no such end"))
     }
 
-    /// What happens next.
+    /// Makes a step.
     fn step(&mut self, step: Step) -> Result<()> {
         match step {
             Step::Open => self.open(),
@@ -137,7 +137,7 @@ impl Ends {
         }
     }
 
-    /// Both are opened without packets.
+    /// Puts both into an association without packets.
     fn open(&mut self) -> Result<()> {
         let [at_a, at_b] = self.configs;
         let (of_a, of_b) = (draw(1, 1)?, draw(2, 1)?);
@@ -152,13 +152,13 @@ impl Ends {
         Ok(self.side(Side::A)?.end.connect(NOW, draw)?)
     }
 
-    /// INITs that come are answered with this tag and first TSN.
+    /// Sets the tag and the initial TSN with which INITs are answered.
     fn take_draw(&mut self, tag: u32, tsn: u32) -> Result<()> {
         self.draw = draw(tag, tsn)?;
         Ok(())
     }
 
-    /// The user of this end sends a message of these bytes so many times over.
+    /// The user of this endpoint sends a message that repeats these bytes `times` times.
     fn send(&mut self, side: Side, bytes: &[u8], times: usize) -> Result<()> {
         let mut message = Vec::new(self.alloc);
         for _ in 0..times {
@@ -168,7 +168,7 @@ impl Ends {
         Ok(())
     }
 
-    /// This end builds a packet.
+    /// This endpoint builds a packet.
     fn build(&mut self, side: Side) -> Result<()> {
         let side = self.side(side)?;
         let sent = side.end.poll_transmit(NOW)?;
@@ -176,7 +176,7 @@ impl Ends {
         Ok(side.bag.push(sent.packet)?)
     }
 
-    /// A packet of this end comes to the other one; its answer goes into that one's bag.
+    /// Delivers a packet of this endpoint to the other one, whose answer is added to its bag.
     fn deliver(&mut self, side: Side, place: usize) -> Result<()> {
         let packet = self.of(side)?.packet(place)?;
         let draw = self.draw;
@@ -187,31 +187,31 @@ impl Ends {
         Ok(())
     }
 
-    /// The user of this end takes a message.
+    /// The user of this endpoint takes a message.
     fn take(&mut self, side: Side) -> Result<()> {
         let message = self.side(side)?.end.take(0);
         message.ok_or_else(|| anyhow!("no message waits"))?;
         Ok(())
     }
 
-    /// The user of this end abandons this ticket.
+    /// The user of this endpoint abandons this ticket.
     fn abandon(&mut self, side: Side, ticket: u64) -> Result<()> {
         let _ = self.side(side)?.end.abandon(Ticket(ticket));
         Ok(())
     }
 }
 
-/// A tag that isn't 0, and a first TSN.
+/// A verification tag, not 0, and an initial TSN.
 pub fn draw(tag: u32, tsn: u32) -> Result<Draw> {
     Draw::new(tag, tsn).ok_or_else(|| anyhow!("the tag 0 is no tag"))
 }
 
-/// An end that was opened without packets.
+/// An endpoint that was put into an association without packets.
 fn opened(alloc: Global, config: Config, own: Draw, peer: Draw) -> Result<Endpoint> {
     Ok(Endpoint::opened(alloc, config, own, peer)?)
 }
 
-/// How an end is set up: its port and its peer's, the limit of packets and the size of fragments, and what it asks for.
+/// The configuration of an endpoint: its port and its peer's, the limit of packets, the size of fragments, and the extensions it asks for.
 fn config(base: &Base, own_port: u16, peer_port: u16, limits: (u16, u16)) -> Result<Config> {
     let mut config = plain_config(own_port, peer_port, limits)?;
     if base.interleave {
@@ -223,7 +223,7 @@ fn config(base: &Base, own_port: u16, peer_port: u16, limits: (u16, u16)) -> Res
     Ok(config)
 }
 
-/// The same without extensions: a buffer of 64 KiB, a stream each way.
+/// The configuration of an endpoint without extensions, with a buffer of 64 KiB and one stream each way.
 fn plain_config(own_port: u16, peer_port: u16, limits: (u16, u16)) -> Result<Config> {
     let (limit, fragment) = limits;
     Ok(Config::new(own_port, peer_port, limit, fragment, 65_536, 1, 1)?)

@@ -1,9 +1,8 @@
-//! Broken packets at ends that know what a packet is: every packet of three scripts, cut at every length, with every bit flipped, with every
-//! length of its chunk and every type of it. What is told of each is compared with a plain table of the rules, and what the end tells of
-//! itself with what it told before.
+//! Broken packets: every packet of three scripts, cut at every length, with every bit flipped, with every length and every type of its
+//! chunk. The verdict on each is compared with a plain table of the rules, and the endpoint's state afterwards with its state before.
 //!
-//! It prints a line for each packet: how many were tried, what was told of them, how many differ from the table, and how many changed an
-//! end that they may not change; those that do are shown; the last line has the sums.
+//! It prints a line for each packet: how many were tried, their verdicts, how many differ from the table, and how many have changed an
+//! endpoint that they may not change; those that differ are shown. The last line has the sums.
 #![tactic(auto)]
 
 mod acknowledging;

@@ -25,7 +25,7 @@ pub fn padded(length: u16) -> usize {
     (usize::from(length) + 3) / 4 * 4
 }
 
-/// The first chunk of these bytes, and what stands behind its padding: None where it isn't whole.
+/// The first chunk of these bytes, and the bytes after its padding. None if it isn't complete.
 pub fn first_chunk(bytes: &[u8]) -> Option<(Chunk<'_>, &[u8])> {
     let length = half_at(bytes, 2)?;
     let chunk = Chunk {
@@ -115,7 +115,7 @@ pub struct Item<'a> {
     pub value: &'a [u8],
 }
 
-/// The first parameter or cause of these bytes, and what stands behind it: None where it isn't one.
+/// The first parameter or cause of these bytes, and the bytes after it. None if there isn't one.
 pub fn first_item(bytes: &[u8]) -> Option<(Item<'_>, &[u8])> {
     let length = half_at(bytes, 2)?;
     let item = Item {

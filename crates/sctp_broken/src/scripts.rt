@@ -1,10 +1,10 @@
-//! What is done until each packet is built that is broken afterwards: the closing script, a message given up between two that aren't, and a
-//! message given up in part.
+//! The steps until each packet is built that is broken afterwards: the closing script, a message abandoned between two others, and a message
+//! abandoned in part.
 
 use crate::step::Side::{A, B};
 use crate::step::Step::{self, Abandon, Build, Connect, Deliver, Draw, Open, Send, Shutdown, Take};
 
-/// The closing script: opening, `Hi`, its SACK, and shutting; what is delivered comes twice.
+/// The closing script: opening, `Hi`, its SACK, and closing; each packet is delivered twice.
 pub const CLOSING: [Step; 30] = [
     Connect(7, 100),
     Build(A),
@@ -38,7 +38,7 @@ pub const CLOSING: [Step; 30] = [
     Deliver(A, 4),
 ];
 
-/// Three messages, of which the second comes, and all are given up.
+/// Three messages, of which the second arrives, and all are abandoned.
 pub const GIVEN_UP: [Step; 15] = [
     Open,
     Send(A, b"a", 1),
@@ -66,7 +66,7 @@ const CHUNKS: [u8; 100] = [
     0, 0, 0, 0, 0, 0, 0, 6, 0, 0, 4, 0x0b, 0, 0, 4,
 ];
 
-/// A message of three fragments as I-DATA, given up when two of them have come; then another one.
+/// A message of three fragments as I-DATA, abandoned when two of them have arrived; then another one.
 pub const IN_PART: [Step; 14] = [
     Open,
     Send(A, &CHUNKS, 15),

@@ -1,12 +1,12 @@
-//! What an end tells of itself.
+//! A snapshot of all that an endpoint's readers return.
 
 use crate::ends::NOW;
 use sctp_endpoint::{End, Endpoint, State, Ticket};
 
-/// The first tickets that an end gives.
+/// The first tickets of an endpoint.
 const TICKETS: [Ticket; 4] = [Ticket(1), Ticket(2), Ticket(3), Ticket(4)];
 
-/// All that the readers of an end tell: of its first tickets, and of the messages that wait first on its stream.
+/// All that an endpoint's readers return, for its first tickets and for the messages that wait first on its stream.
 #[derive(Clone, Copy, PartialEq, Eq)]
 pub struct Seen {
     state: State,
@@ -26,7 +26,7 @@ pub struct Seen {
 }
 
 impl Seen {
-    /// What this end tells.
+    /// The snapshot of this endpoint.
     pub fn of(end: &Endpoint) -> Seen {
         Seen {
             state: end.state(),
@@ -47,7 +47,7 @@ impl Seen {
     }
 }
 
-/// The bytes of the message that waits at this place on stream 0, if one does.
+/// The bytes of the message at this place among those that wait on stream 0, if there is one.
 fn length_at(end: &Endpoint, place: usize) -> Option<usize> {
     Some(end.waiting(0, place)?.len())
 }

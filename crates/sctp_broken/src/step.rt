@@ -1,6 +1,6 @@
-//! What happens to two ends, step by step.
+//! The steps of two endpoints.
 
-/// One of two ends: A is the caller, B the listener.
+/// One of two endpoints: A is the caller, B the listener.
 #[derive(Clone, Copy, PartialEq, Eq)]
 pub enum Side {
     A,
@@ -25,25 +25,25 @@ impl Side {
     }
 }
 
-/// What happens to two ends, all at the moment 0.
+/// A step of two endpoints, at time 0.
 #[derive(Clone, Copy)]
 pub enum Step {
-    /// Both are opened without packets: A has tag 1, B tag 2, both begin with TSN 1.
+    /// Both are put into an association without packets: A has tag 1, B tag 2, both initial TSN 1.
     Open,
-    /// A calls, with this tag and first TSN.
+    /// A calls, with this tag and initial TSN.
     Connect(u32, u32),
-    /// The tag and first TSN for INITs that come.
+    /// The tag and initial TSN for INITs that arrive.
     Draw(u32, u32),
-    /// The user of this end sends a message of these bytes so many times over, in order, on stream 0.
+    /// The user of this endpoint sends a message that repeats these bytes a number of times, ordered, on stream 0.
     Send(Side, &'static [u8], usize),
-    /// This end builds a packet, which goes into its bag.
+    /// This endpoint builds a packet, which is added to its bag.
     Build(Side),
-    /// The packet at this place of this end's bag, from 0, comes to the other one; its answer goes into that one's bag.
+    /// The packet at this place of this endpoint's bag, from 0, arrives at the other one, whose answer is added to its bag.
     Deliver(Side, usize),
-    /// The user of this end takes a message of stream 0.
+    /// The user of this endpoint takes a message of stream 0.
     Take(Side),
-    /// The user of this end abandons this ticket.
+    /// The user of this endpoint abandons this ticket.
     Abandon(Side, u64),
-    /// The user of this end shuts it.
+    /// The user of this endpoint closes it gracefully.
     Shutdown(Side),
 }

@@ -1,20 +1,20 @@
-//! What the rules need to know of the end that a packet comes to: told by hand for each packet, not asked of the end.
+//! What the rules need to know of the endpoint at which a packet arrives: written by hand for each packet, not read from the endpoint.
 
 use sctp_endpoint::State;
 
-/// An end that a packet comes to.
+/// An endpoint at which a packet arrives.
 #[derive(Clone, Copy)]
 pub struct Taker {
-    /// The port that its packets go out from, and its peer's.
+    /// Its own port and its peer's.
     pub port: u16,
     pub peer_port: u16,
     pub state: State,
-    /// It was made to listen, and knows the key of cookies.
+    /// Whether it is a listener, which knows the key of the cookies.
     pub listens: bool,
-    /// Its verification tag and its peer's, where it has an association; a caller without an answer has its own alone.
+    /// Its verification tag and its peer's, if it has an association; a caller without an answer has only its own.
     pub tag: Option<u32>,
     pub peer_tag: Option<u32>,
-    /// What both ends agreed on.
+    /// What both endpoints agreed on.
     pub interleaved: bool,
     pub partial: bool,
     pub inbound: u16,
@@ -22,6 +22,6 @@ pub struct Taker {
     pub acknowledged: u32,
     pub assigned: u32,
     pub has_more: bool,
-    /// The cumulative TSN of what came.
+    /// The cumulative TSN of what it has received.
     pub came: u32,
 }

@@ -1,4 +1,4 @@
-//! How many packets were tried, and what was told of them.
+//! Counts of packets by their verdicts.
 
 use crate::told::Told;
 use std::io::{Result, Write};
@@ -11,13 +11,13 @@ pub struct Tally {
     answered: u32,
     /// By reason, 1 to 5.
     dropped: [u32; 5],
-    /// How many were told otherwise than the rules want, and after how many that do nothing the end told something else than before.
+    /// How many verdicts differ from the rules', and after how many packets without effect the endpoint's snapshot had changed.
     differing: u32,
     changed: u32,
 }
 
 impl Tally {
-    /// Counts what was told of a packet.
+    /// Counts a verdict.
     pub fn count(&mut self, told: Told) {
         add(&mut self.tried, 1);
         match told {
@@ -35,13 +35,13 @@ impl Tally {
         }
     }
 
-    /// Counts a packet of which something else was told than the rules want: how many there were.
+    /// Counts a packet whose verdict differs from the rules'. Returns the count.
     pub fn differs(&mut self) -> u32 {
         add(&mut self.differing, 1);
         self.differing
     }
 
-    /// Counts a packet after which an end isn't as it was, though it should be: how many there were.
+    /// Counts a packet that has changed an endpoint and shouldn't have. Returns the count.
     pub fn changes(&mut self) -> u32 {
         add(&mut self.changed, 1);
         self.changed
@@ -59,7 +59,7 @@ impl Tally {
         add(&mut self.changed, other.changed);
     }
 
-    /// Writes the counts behind this name.
+    /// Writes the counts after this name.
     pub fn write<W: Write>(&self, name: &str, out: &mut W) -> Result<()> {
         write!(out, "{name}")?;
         for (before, count) in self.counts() {

@@ -1,11 +1,11 @@
-//! What is told of a packet.
+//! The verdict on a packet.
 
 use sctp_endpoint::Verdict;
 
-/// What is told of a packet that came.
+/// The verdict on a packet that arrived.
 #[derive(Clone, Copy, PartialEq, Eq)]
 pub enum Told {
-    /// It acted.
+    /// It was processed.
     Taken,
     /// It was answered.
     Answered,
@@ -25,7 +25,7 @@ pub const STATE: Told = Told::Dropped(4);
 pub const COOKIE: Told = Told::Dropped(5);
 
 impl Told {
-    /// What an end told.
+    /// The verdict of an endpoint.
     pub fn of(verdict: &Verdict) -> Told {
         match verdict {
             Verdict::Taken => Told::Taken,

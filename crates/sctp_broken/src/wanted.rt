@@ -1,4 +1,4 @@
-//! What the rules want told of a packet: whether it reads, its ports, its tag, and then by where its end stands.
+//! The rules' verdict on a packet: by its bytes, its ports, its tag, and then by the state of the endpoint.
 
 use crate::acts::told_of;
 use crate::reading::{Chunk, are_chunks, first_chunk, half_at, word_at};
@@ -6,7 +6,7 @@ use crate::taker::Taker;
 use crate::told::{COOKIE, FAULT, PORTS, STATE, TAG, Told};
 use sctp_endpoint::State;
 
-/// What is to be told of these bytes, whose checksum is right. `whole` are those that the end was sent: a cookie opens in them alone.
+/// The verdict on these bytes, whose checksum is right. `whole` is the unchanged packet: a cookie is valid in it alone.
 pub fn wanted(bytes: &[u8], whole: &[u8], taker: &Taker) -> Told {
     let Some(chunks) = bytes.get(12..) else {
         return FAULT;
@@ -46,7 +46,7 @@ fn passes(tag: u32, first: Chunk<'_>, taker: &Taker) -> bool {
     asked == Some(tag)
 }
 
-/// A cookie that opens: it begins an association, or is acknowledged once more where there is one (RFC 9260, 5.1, D, and 5.2.4).
+/// A valid cookie: it begins an association, or is acknowledged again if there is one (RFC 9260, 5.1, D, and 5.2.4).
 fn of_whole_cookie(chunks: &[u8], taker: &Taker) -> Told {
     match taker.state {
         State::Listen
@@ -59,7 +59,7 @@ fn of_whole_cookie(chunks: &[u8], taker: &Taker) -> Told {
     }
 }
 
-/// A cookie where no association is and none can begin: it is answered, unless an ABORT stands behind it.
+/// A cookie at an endpoint that has no association and can't begin one: it is answered, unless an ABORT follows.
 fn of_stray_cookie(chunks: &[u8]) -> Told {
     if has_abort(chunks) {
         STATE
@@ -68,7 +68,7 @@ fn of_stray_cookie(chunks: &[u8]) -> Told {
     }
 }
 
-/// A packet where there is no association: its first chunk decides (RFC 9260, 8.4).
+/// A packet at an endpoint without an association: its first chunk decides (RFC 9260, 8.4).
 fn of_stray(first: Chunk<'_>, chunks: &[u8], listens: bool) -> Told {
     if has_abort(chunks) {
         return STATE;

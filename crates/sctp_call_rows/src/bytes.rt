@@ -1,4 +1,4 @@
-//! Calls of chunks and packets as bytes, and what they answer.
+//! The calls of chunks and packets as bytes and their answers.
 
 use crate::parts::{bytes_of, mixed};
 use anyhow::Result;
@@ -7,7 +7,7 @@ use sctp_wire::{Chunk, Rule, read_chunks, write_chunk};
 use std::alloc::Global;
 use std::fmt::Write;
 
-/// So many checksums stand on a line.
+/// The number of checksums in a line.
 const SUMS_OF_LINE: usize = 8;
 
 /// The checksum of bytes, as a number.
@@ -18,8 +18,8 @@ pub fn sum(alloc: Global, bytes: &str, out: &mut String) -> Result<()> {
     Ok(())
 }
 
-/// The checksums of the first bytes of a mixed sequence: of none, of one, and so on up to so many; eight on a line, behind the number of bytes of
-/// its first one.
+/// The checksums of the prefixes of a mixed sequence, from none of its bytes up to `count`; eight in a line, after the length of the first
+/// of them.
 pub fn sums(alloc: Global, count: usize, out: &mut String) -> Result<()> {
     let bytes = mixed(alloc, count)?;
     for length in 0..=bytes.len() {
@@ -32,7 +32,7 @@ pub fn sums(alloc: Global, count: usize, out: &mut String) -> Result<()> {
     Ok(())
 }
 
-/// Chunks are read, and written again one by one: each with its length.
+/// Reads chunks and writes them again one by one, each with its length.
 pub fn again(alloc: Global, bytes: &str, out: &mut String) -> Result<()> {
     let Some(bytes) = bytes_of(alloc, bytes)? else {
         return Ok(());
@@ -44,7 +44,7 @@ pub fn again(alloc: Global, bytes: &str, out: &mut String) -> Result<()> {
     Ok(())
 }
 
-/// A chunk is written again, if it may be.
+/// Writes a chunk again, if it may be written.
 fn write_again(alloc: Global, chunk: &Chunk<'_>, out: &mut String) -> Result<()> {
     if !chunk.fits() {
         return Ok(write!(out, " unfit")?);
@@ -55,13 +55,13 @@ fn write_again(alloc: Global, chunk: &Chunk<'_>, out: &mut String) -> Result<()>
     Ok(write!(out, " {length}:{}", hex::encode(alloc, copy.as_slice())?)?)
 }
 
-/// What is done about an unknown type of a chunk or of a parameter.
+/// What is done with an unknown type of a chunk or of a parameter.
 pub fn rule(rule: Rule, out: &mut String) -> Result<()> {
     write!(out, "stop {} report {}", rule.stop, rule.report)?;
     Ok(())
 }
 
-/// A packet of at most so many bytes, with chunks as far as they fit: how many bytes are left behind each, and the packet.
+/// A packet of a given maximum size, with chunks as far as they fit: the bytes left after each, and the packet.
 pub fn packed(
     alloc: Global,
     limit: u16,
@@ -84,7 +84,7 @@ pub fn packed(
     }
 }
 
-/// Chunks go into a packet as far as they fit: how many bytes are left behind each.
+/// Adds chunks to a packet as far as they fit: the bytes left after each.
 fn put_chunks(bytes: &[u8], packet: &mut PacketWriter, out: &mut String) -> Result<()> {
     write!(out, "room {}", packet.room())?;
     for chunk in read_chunks(bytes)? {
@@ -94,7 +94,7 @@ fn put_chunks(bytes: &[u8], packet: &mut PacketWriter, out: &mut String) -> Resu
     Ok(())
 }
 
-/// The packet that chunks made, or none.
+/// The packet of these chunks, or none.
 fn show_packed(alloc: Global, packet: Option<Vec<u8>>, out: &mut String) -> Result<()> {
     match packet {
         Some(bytes) => write!(out, ": {}", hex::encode(alloc, bytes.as_slice())?)?,

@@ -1,4 +1,4 @@
-//! A call, as a line of a case says it.
+//! The calls, read from a line of a case.
 
 use crate::plain::{Plain, read_plain};
 use crate::words::Words;
@@ -29,7 +29,7 @@ pub enum Call<'a> {
         until: Option<u64>,
         bytes: &'a str,
     },
-    /// Such a message on each stream below a number, in turn.
+    /// The same message on each stream below a number, in turn.
     QueueEach {
         streams: u16,
         ordered: bool,
@@ -40,7 +40,7 @@ pub enum Call<'a> {
     Fill {
         limit: u16,
     },
-    /// A FORWARD for packets of a limit, into a packet with so many bytes.
+    /// A FORWARD for packets of a limit, into a packet of a given size.
     Forward {
         room: u16,
         limit: u16,
@@ -59,11 +59,11 @@ pub enum Call<'a> {
         now: u64,
     },
     Timeout,
-    /// What became of a message.
+    /// What has become of a message.
     Fate(Ticket),
     /// The readers of the sender.
     Sending,
-    /// A chunk of user data comes.
+    /// A DATA or I-DATA chunk arrives.
     Data {
         tsn: u32,
         stream: u16,
@@ -72,7 +72,7 @@ pub enum Call<'a> {
         word: u32,
         bytes: &'a str,
     },
-    /// Whole messages of a byte come, their numbers rising by one and their TSNs by a step.
+    /// Whole messages of one byte arrive, their numbers rising by one and their TSNs by a step.
     Rise {
         count: u32,
         tsn: u32,
@@ -80,27 +80,27 @@ pub enum Call<'a> {
         number: u32,
         step: u32,
     },
-    /// So many FORWARDs without an entry come, each as far past the one before as it may be.
+    /// A number of FORWARDs without entries arrive, each as far past the one before as allowed.
     Leap {
         count: u32,
         tsn: u32,
     },
-    /// A FORWARD comes.
+    /// A FORWARD arrives.
     Skip {
         tsn: u32,
         /// Words, if there are any.
         skips: Option<&'a str>,
     },
-    /// A packet that the sender built comes to the receiver.
+    /// A packet that the sender has built arrives at the receiver.
     Carry {
         packet: usize,
     },
     Take {
         stream: u16,
     },
-    /// The SACK that goes out now.
+    /// The SACK that the receiver sends now.
     Tell,
-    /// The SACK that goes out now comes to the sender.
+    /// The SACK that the receiver sends now arrives at the sender.
     Acknowledge,
     /// The readers of the receiver.
     Receiving,
@@ -109,7 +109,7 @@ pub enum Call<'a> {
 }
 
 impl<'a> Call<'a> {
-    /// The call that a line says, if it says one, and nothing behind it.
+    /// The call of a line, if it is one and nothing follows it.
     pub fn read(line: &'a str) -> Option<Call<'a>> {
         let (name, rest) = match line.split_once(' ') {
             Some((name, rest)) => (name, Some(rest)),

@@ -1,4 +1,4 @@
-//! Calls of MACs and cookies, and what they answer.
+//! The calls of MACs and cookies and their answers.
 
 use crate::parts::bytes_of;
 use anyhow::Result;
@@ -14,7 +14,7 @@ pub fn mac(alloc: Global, key: &str, text: &str, out: &mut String) -> Result<()>
     Ok(())
 }
 
-/// The key that these digits say, 32 bytes.
+/// The key of 32 bytes that these digits spell.
 fn key_of(alloc: Global, digits: &str) -> Result<Option<Key>> {
     let Some(given) = bytes_of(alloc, digits)? else {
         return Ok(None);
@@ -37,7 +37,7 @@ pub fn sealed(alloc: Global, key: &str, body: &CookieBody, out: &mut String) -> 
     Ok(())
 }
 
-/// The body of a cookie that comes at a moment, between ports, with a tag; or why it isn't opened.
+/// Opens a cookie that arrives at a time, between ports, with a tag: its body, or why it isn't valid.
 pub fn opened(
     alloc: Global,
     key: &str,
@@ -53,7 +53,7 @@ pub fn opened(
     show_opened(&open(&key, &bytes, now, ports, tag), out)
 }
 
-/// The body of a cookie, or why it isn't opened.
+/// The body of a cookie, or why it isn't valid.
 fn show_opened(opened: &Result<CookieBody, CookieFault>, out: &mut String) -> Result<()> {
     match opened {
         Ok(body) => show(body, out)?,

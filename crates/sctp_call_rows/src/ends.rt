@@ -1,4 +1,4 @@
-//! What a case has, and where its calls go.
+//! The sender and the receiver of a case, and the calls on them.
 
 use crate::call::Call;
 use crate::parts::{bytes_of, skips_of};
@@ -34,10 +34,10 @@ impl<F: Framing> Ends<F> {
         }
     }
 
-    /// Makes a call, and appends what it answers.
+    /// Makes a call and appends its answer.
     ///
     /// # Errors
-    /// Memory ran out.
+    /// An allocation failed.
     pub fn make(&mut self, call: &Call<'_>, out: &mut String) -> Result<()> {
         let before = out.len();
         match call {
@@ -82,7 +82,7 @@ impl<F: Framing> Ends<F> {
         Ok(())
     }
 
-    /// A new sender, and no packets; false where its words are no limits.
+    /// A new sender without packets; false if its words are no valid limits.
     fn begin_sending(
         &mut self,
         tsn: u32,
@@ -107,7 +107,7 @@ impl<F: Framing> Ends<F> {
         Ok(true)
     }
 
-    /// The SACK that goes out now comes to the sender.
+    /// Delivers the SACK that the receiver sends now to the sender.
     fn acknowledge(&mut self, out: &mut String) -> Result<()> {
         if let (Some(sender), Some(receiver)) = (&mut self.sender, &mut self.receiver) {
             let lists = receiver.sack()?;
@@ -155,7 +155,7 @@ fn sending_call<F: Framing>(
     }
 }
 
-/// Hands in a message on each stream below a number; what the last one was answered.
+/// Sends a message on each stream below a number; the answer to the last one.
 fn queue_each<F: Framing>(
     alloc: Global,
     sender: &mut Sender<F>,

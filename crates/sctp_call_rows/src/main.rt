@@ -1,9 +1,8 @@
-//! Runs the cases of calls that stand on standard input, and prints a transcript: each line of a case as it stands there and, behind each
-//! call, what it answered. A sender and a receiver are called here alone, or one beside the other, with the packets that go between them; and
-//! numbers, bytes and cookies.
+//! Runs the cases of calls on standard input and prints a transcript: each line of a case, and after each call its answer. A sender and a
+//! receiver are called here alone, or side by side with the packets that go between them; and numbers, bytes and cookies.
 //!
-//! A case begins with `= NAME`; where it has a sender or a receiver, with `= data NAME` or `= i-data NAME`, which says their format. Its
-//! calls, and what they answer, are told in `docs/CALLS.md`. Other lines are remarks.
+//! A case begins with `= NAME`; one with a sender or a receiver with `= data NAME` or `= i-data NAME`, which is their format. The calls and
+//! their answers are described in `docs/CALLS.md`. Other lines are remarks.
 #![tactic(auto)]
 
 mod bytes;
@@ -52,7 +51,7 @@ fn run_case<F: Framing>(rt: &HostRuntime, lines: &str) -> Result<()> {
     ended
 }
 
-/// Runs the calls that these lines say, each as often as it says.
+/// Runs the calls of these lines, each as often as its line says.
 fn run_lines<F: Framing>(rt: &HostRuntime, ends: &mut Ends<F>, lines: &str) -> Result<()> {
     for line in lines.split('\n') {
         writeln!(rt.stdout(), "{line}")?;

@@ -1,4 +1,4 @@
-//! Calls of wire values, and what they answer.
+//! The calls of wire values and their answers.
 
 use anyhow::Result;
 use sctp_serial::Serial;
@@ -15,9 +15,9 @@ pub struct Compared {
 /// What is asked of two counts.
 #[derive(Clone, Copy)]
 pub enum How {
-    /// How far the wire value of the second lies ahead of the first one's.
+    /// The distance from the first one's wire value forward to the second one's.
     Ahead,
-    /// Whether the first one's comes before the second one's.
+    /// Whether the first one's is before the second one's.
     Before,
     /// The count near the second that has the first one's.
     Near,
@@ -34,7 +34,7 @@ pub fn compare<S: Serial>(two: Compared, out: &mut String) -> Result<()> {
     Ok(())
 }
 
-/// A count, or that there is none.
+/// Shows a count, or that there is none.
 pub fn tell(count: Option<u64>, out: &mut String) -> Result<()> {
     match count {
         Some(count) => write!(out, "{count}")?,

@@ -1,4 +1,4 @@
-//! What a call's words stand for: bytes, gap blocks, entries of a FORWARD.
+//! Reads bytes, gap blocks and entries of a FORWARD in a call's words.
 
 use anyhow::Result;
 use sctp_wire::{GapBlock, Skip, SkipForm, put_block, put_skip};
@@ -18,7 +18,7 @@ pub fn bytes_of(alloc: Global, word: &str) -> Result<Option<Vec<u8>>> {
     }
 }
 
-/// So many bytes that count up.
+/// `count` bytes that count up.
 fn counting(alloc: Global, count: usize) -> Result<Vec<u8>> {
     let mut bytes = Vec::new(alloc);
     let mut next = 0u8;
@@ -29,7 +29,7 @@ fn counting(alloc: Global, count: usize) -> Result<Vec<u8>> {
     Ok(bytes)
 }
 
-/// So many bytes without a pattern: the high 8 bits of the numbers x, 1,664,525 x + 1,013,904,223, .. modulo 2^32, from x = 1.
+/// `count` bytes without a pattern: the high 8 bits of the numbers x, 1,664,525 x + 1,013,904,223, .. modulo 2^32, from x = 1.
 pub fn mixed(alloc: Global, count: usize) -> Result<Vec<u8>> {
     let mut bytes = Vec::with_capacity(alloc, count)?;
     let mut x = 1u32;
@@ -41,7 +41,7 @@ pub fn mixed(alloc: Global, count: usize) -> Result<Vec<u8>> {
     Ok(bytes)
 }
 
-/// The bytes of gap blocks `START-END START-END ..`, none where there are no words.
+/// The bytes of gap blocks `START-END START-END ..`, none if there are no words.
 pub fn blocks_of(alloc: Global, words: Option<&str>) -> Result<Option<Vec<u8>>> {
     let mut list = Vec::new(alloc);
     let Some(words) = words else {
@@ -65,7 +65,7 @@ fn block_of(word: &str) -> Option<GapBlock> {
     })
 }
 
-/// The bytes of entries `STREAM-NUMBER` or `STREAM-NUMBER-u` .., none where there are no words.
+/// The bytes of entries `STREAM-NUMBER` or `STREAM-NUMBER-u` .., none if there are no words.
 pub fn skips_of(alloc: Global, form: SkipForm, words: Option<&str>) -> Result<Option<Vec<u8>>> {
     let mut list = Vec::new(alloc);
     let Some(words) = words else {
@@ -83,7 +83,7 @@ pub fn skips_of(alloc: Global, form: SkipForm, words: Option<&str>) -> Result<Op
     Ok(Some(list))
 }
 
-/// Appends an entry of an I-FORWARD-TSN; false where the word says none.
+/// Appends an entry of an I-FORWARD-TSN; false if the word isn't one.
 fn put_wide(word: &str, list: &mut Vec<u8>) -> Result<bool> {
     let (word, unordered) = match word.strip_suffix("-u") {
         Some(word) => (word, true),
@@ -101,7 +101,7 @@ fn put_wide(word: &str, list: &mut Vec<u8>) -> Result<bool> {
     Ok(true)
 }
 
-/// Appends an entry of a FORWARD-TSN; false where the word says none.
+/// Appends an entry of a FORWARD-TSN; false if the word isn't one.
 fn put_narrow(word: &str, list: &mut Vec<u8>) -> Result<bool> {
     let Some((stream, number)) = pair_of(word) else {
         return Ok(false);

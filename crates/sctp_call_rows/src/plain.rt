@@ -1,4 +1,4 @@
-//! A call of numbers, bytes or cookies, as a line of a case says it: it goes to no sender and no receiver.
+//! The calls of numbers, bytes and cookies, which need no sender and no receiver.
 
 use crate::bytes::{again, packed, rule, sum, sums};
 use crate::cookies::{mac, opened, sealed};
@@ -11,7 +11,7 @@ use sctp_wire::{unknown_chunk, unknown_parameter};
 use std::alloc::Global;
 use std::fmt::Write;
 
-/// A call that needs no end.
+/// A call that needs no sender and no receiver.
 #[derive(Clone, Copy)]
 pub enum Plain<'a> {
     /// Wire values of 16 bits.
@@ -22,7 +22,7 @@ pub enum Plain<'a> {
         initial: u32,
         index: u64,
     },
-    /// The index of a TSN, as far ahead of a known one as its TSN is of that one's.
+    /// The index of a TSN, as far ahead of a known index as the TSN is of that index's.
     Index {
         initial: u32,
         known: u64,
@@ -30,9 +30,9 @@ pub enum Plain<'a> {
     },
     /// A checksum.
     Sum(&'a str),
-    /// The checksums of the first bytes of a sequence, of each number of them up to this one.
+    /// The checksums of all prefixes of a sequence up to this length.
     Sums(u16),
-    /// Chunks are read, and written again.
+    /// Chunks to be read and written again.
     Again(&'a str),
     UnknownChunk(u8),
     UnknownParameter(u16),
@@ -52,7 +52,7 @@ pub enum Plain<'a> {
         key: &'a str,
         body: CookieBody,
     },
-    /// A cookie comes at a moment, between ports, with a tag.
+    /// A cookie that arrives at a time, between ports, with a tag.
     Open {
         key: &'a str,
         cookie: &'a str,
@@ -150,7 +150,7 @@ fn read_body(words: &mut Words<'_>) -> Option<CookieBody> {
     })
 }
 
-/// Makes a call, and appends what it answers; nothing where its bytes can't be read.
+/// Makes a call and appends its answer; nothing if its bytes can't be read.
 pub fn answer(alloc: Global, call: &Plain<'_>, out: &mut String) -> Result<()> {
     match *call {
         Plain::Short(two) => compare::<S16>(two, out),

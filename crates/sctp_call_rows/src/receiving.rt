@@ -1,4 +1,4 @@
-//! The calls of a receiver, and what they answer.
+//! The calls of a receiver and their answers.
 
 use crate::shown::show_start;
 use anyhow::Result;
@@ -10,7 +10,7 @@ use sctp_wire::{Chunk, Forward, Piece, SkipForm, Skips};
 use std::alloc::Global;
 use std::fmt::Write;
 
-/// A chunk of user data comes.
+/// A DATA or I-DATA chunk arrives.
 pub fn data<F: Framing>(
     receiver: &mut Receiver<F>,
     tsn: u32,
@@ -35,7 +35,7 @@ pub fn data<F: Framing>(
     Ok(write!(out, "{}", data_answer(answer))?)
 }
 
-/// What a chunk of user data was answered.
+/// The answer to a DATA or I-DATA chunk.
 fn data_answer(answer: Answer) -> &'static str {
     match answer {
         Answer::Duplicate => "duplicate",
@@ -47,7 +47,8 @@ fn data_answer(answer: Answer) -> &'static str {
     }
 }
 
-/// So many whole ordered messages of a byte come, TSNs rising by a step and numbers by one; under DATA a number has 16 bits.
+/// A number of whole ordered messages of one byte arrive, their TSNs rising by a step and their numbers by one; under DATA a number has 16
+/// bits.
 pub fn rise<F: Framing>(
     receiver: &mut Receiver<F>,
     count: u32,
@@ -81,7 +82,7 @@ pub fn rise<F: Framing>(
     Ok(write!(out, "taken {taken}")?)
 }
 
-/// So many FORWARDs without an entry come, the first to this TSN and each other one 32,767 further.
+/// A number of FORWARDs without entries arrive, the first up to this TSN and each other one 32,767 further.
 pub fn leap<F: Framing>(
     receiver: &mut Receiver<F>,
     count: u32,
@@ -101,7 +102,7 @@ pub fn leap<F: Framing>(
     Ok(write!(out, "moved {moved}")?)
 }
 
-/// A FORWARD comes, with these entries.
+/// A FORWARD with these entries arrives.
 pub fn skip<F: Framing>(
     receiver: &mut Receiver<F>,
     cumulative: u32,
@@ -119,7 +120,7 @@ pub fn skip<F: Framing>(
     Ok(())
 }
 
-/// What a FORWARD was answered.
+/// The answer to a FORWARD.
 fn forward_answer(answer: ForwardAnswer) -> &'static str {
     match answer {
         ForwardAnswer::OutOfDate => "out of date",
@@ -128,7 +129,7 @@ fn forward_answer(answer: ForwardAnswer) -> &'static str {
     }
 }
 
-/// Answers of a packet's chunks, equal ones behind each other told once.
+/// The answers to a packet's chunks; equal ones in a row are shown once.
 #[derive(Drop)]
 struct Answers {
     last: &'static str,
@@ -136,7 +137,7 @@ struct Answers {
 }
 
 impl Answers {
-    /// The next answer: what came before it is told where it differs.
+    /// Takes the next answer, and shows the one before it if they differ.
     fn next(&mut self, answer: &'static str, out: &mut String) -> Result<()> {
         if self.times > 0 && self.last != answer {
             self.tell(out)?;
@@ -148,7 +149,7 @@ impl Answers {
         Ok(())
     }
 
-    /// Tells the last answer.
+    /// Shows the last answer.
     fn tell(&self, out: &mut String) -> Result<()> {
         write!(out, "{}", self.last)?;
         if self.times > 1 {
@@ -158,7 +159,7 @@ impl Answers {
     }
 }
 
-/// A packet comes.
+/// A packet arrives.
 pub fn carry<F: Framing>(
     receiver: &mut Receiver<F>,
     packet: Option<&[u8]>,
@@ -181,7 +182,7 @@ pub fn carry<F: Framing>(
     answers.tell(out)
 }
 
-/// A message that was taken, or none.
+/// The message taken, or none.
 pub fn taken(alloc: Global, message: Option<Message>, out: &mut String) -> Result<()> {
     match message {
         Some(message) => {

@@ -1,4 +1,4 @@
-//! The calls of a sender, and what they answer.
+//! The calls of a sender and their answers.
 
 use crate::call::Call;
 use crate::parts::blocks_of;
@@ -12,7 +12,7 @@ use sctp_wire::{Blocks, Sack, Tsns};
 use std::alloc::Global;
 use std::fmt::Write;
 
-/// How many tickets are shown of a packet.
+/// The most tickets shown of a packet.
 const SHOWN_TICKETS: usize = 8;
 
 /// The packets that a sender built, numbered from 1.
@@ -44,7 +44,7 @@ impl Packets {
     }
 }
 
-/// Hands in a message.
+/// Sends a message.
 pub fn queue<F: Framing>(
     sender: &mut Sender<F>,
     stream: u16,
@@ -66,7 +66,7 @@ pub fn queue<F: Framing>(
     Ok(())
 }
 
-/// Fills a packet of so many bytes at most.
+/// Fills a packet of a given maximum size.
 pub fn fill<F: Framing>(
     alloc: Global,
     sender: &mut Sender<F>,
@@ -83,7 +83,7 @@ pub fn fill<F: Framing>(
     show_tickets(&filled.tickets, out)
 }
 
-/// The tickets that were newly numbered, the first ones of many.
+/// The tickets that were given TSNs; of many the first ones.
 fn show_tickets(tickets: &[Ticket], out: &mut String) -> Result<()> {
     if !tickets.is_empty() {
         write!(out, ", tickets")?;
@@ -97,7 +97,7 @@ fn show_tickets(tickets: &[Ticket], out: &mut String) -> Result<()> {
     Ok(())
 }
 
-/// A packet of so many bytes at most with the FORWARD for packets of a limit.
+/// A packet of a given maximum size with the FORWARD for packets of a limit.
 pub fn forward<F: Framing>(
     alloc: Global,
     sender: &Sender<F>,
@@ -117,7 +117,7 @@ pub fn forward<F: Framing>(
     }
 }
 
-/// A SACK comes.
+/// A SACK arrives.
 pub fn sack<F: Framing>(
     alloc: Global,
     sender: &mut Sender<F>,
@@ -141,7 +141,7 @@ pub fn sack<F: Framing>(
     Ok(())
 }
 
-/// What a SACK, or a SHUTDOWN, was answered.
+/// The answer to a SACK or a SHUTDOWN.
 pub fn sack_answer(answer: Result<(), SackFault>) -> &'static str {
     match answer {
         Ok(()) => "ok",
@@ -171,7 +171,7 @@ pub fn send<F: Framing>(sender: &mut Sender<F>, call: &Call<'_>, out: &mut Strin
     Ok(())
 }
 
-/// What abandoning a message was answered.
+/// The answer to abandoning a message.
 fn abandon_answer(answer: Abandoned) -> &'static str {
     match answer {
         Abandoned::Withdrawn => "withdrawn",
@@ -182,7 +182,7 @@ fn abandon_answer(answer: Abandoned) -> &'static str {
     }
 }
 
-/// What became of a message.
+/// What has become of a message.
 fn fate<F: Framing>(sender: &Sender<F>, ticket: Ticket) -> &'static str {
     match (sender.acknowledged(ticket), sender.abandoned(ticket)) {
         (true, false) => "acknowledged",

@@ -1,4 +1,4 @@
-//! Bytes, as the transcript shows them.
+//! How the transcript shows bytes.
 
 use anyhow::Result;
 use sctp_packet::{HEADER, read_packet};
@@ -7,16 +7,16 @@ use sctp_wire::{Chunk, write_chunk};
 use std::alloc::Global;
 use std::fmt::Write;
 
-/// How many chunks are shown of a packet.
+/// The most chunks shown of a packet.
 const SHOWN_CHUNKS: usize = 4;
 
-/// A chunk of so many bytes at most is shown whole.
+/// A chunk of at most this many bytes is shown in full.
 const WHOLE_CHUNK: usize = 32;
 
-/// So many bytes are shown of a longer one.
+/// The bytes shown of a longer chunk.
 const CHUNK_START: usize = 24;
 
-/// So many bytes are shown of a message.
+/// The bytes shown of a message.
 const MESSAGE_START: usize = 16;
 
 /// A packet's size, its checksum, and its first chunks.
@@ -36,7 +36,7 @@ pub fn show_packet(alloc: Global, packet: &[u8], out: &mut String) -> Result<()>
     Ok(())
 }
 
-/// A chunk, or its start and how many bytes it has.
+/// A chunk, or its first bytes and its size.
 fn show_chunk(alloc: Global, chunk: &Chunk<'_>, out: &mut String) -> Result<()> {
     let bytes = bytes_of(alloc, chunk)?;
     if bytes.len() <= WHOLE_CHUNK {

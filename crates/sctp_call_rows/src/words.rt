@@ -1,15 +1,15 @@
-//! The words of a line, read one by one.
+//! Reads the words of a line one by one.
 
 use std::str::FromStr;
 
-/// The words of a line that were not read yet, none behind the last one.
+/// The words of a line that aren't read yet, none after the last one.
 #[derive(Drop)]
 pub struct Words<'a> {
     rest: Option<&'a str>,
 }
 
 impl<'a> Words<'a> {
-    /// All words of this text, one space between them; none where there is no text.
+    /// All words of this text, with one space between them; none if there is no text.
     pub fn new(text: Option<&'a str>) -> Words<'a> {
         Words { rest: text }
     }
@@ -69,7 +69,7 @@ impl<'a> Words<'a> {
         }
     }
 
-    /// The next word: a moment, or none.
+    /// The next word: a time, or none.
     pub fn until(&mut self) -> Option<Option<u64>> {
         let word = self.next()?;
         if word == "-" {

@@ -1,23 +1,23 @@
-//! What a line asks an end for.
+//! What a line asks the endpoint for.
 
 use sctp_terms::Draw;
 use sctp_text::Bytes;
 use sctp_values::Kind;
 
-/// Something that an end is asked for: one case for each command.
+/// A call of the endpoint: one case for each command.
 #[derive(Debug, PartialEq, Drop)]
 pub enum Call {
-    /// `connect`: its user calls the peer, with this draw.
+    /// `connect`: its user calls the peer, with these random values (tag and initial TSN).
     Connect(Draw),
-    /// `draw`: what chance gives to the packets that come from now on.
+    /// `draw`: the random values for packets that arrive from now on.
     NewDraw(Draw),
-    /// `at`: this moment comes, in milliseconds.
+    /// `at`: the time, in milliseconds. A smaller one leaves the clock.
     At(u64),
-    /// `packet`: these bytes come from the peer.
+    /// `packet`: these bytes arrive from the network.
     Packet(Bytes),
-    /// `build`: it may build a packet.
+    /// `build`: it is asked for its next packet.
     Build,
-    /// `send`: its user sends a message, worthless from the moment `until` on.
+    /// `send`: its user sends a message, whose lifetime ends at `until`, in milliseconds; None is no limit.
     Send {
         stream: u16,
         kind: Kind,
@@ -25,32 +25,33 @@ pub enum Call {
         until: Option<u64>,
         bytes: Bytes,
     },
-    /// `abandon`: its user gives up the message with this ticket.
+    /// `abandon`: its user abandons the message with this ticket.
     Abandon {
         ticket: u64,
     },
-    /// `acknowledged`: whether the message with this ticket was acknowledged whole.
+    /// `acknowledged`: whether the message with this ticket was acknowledged in full.
     Acknowledged {
         ticket: u64,
     },
-    /// `abandoned`: whether the message with this ticket has a number and was abandoned.
+    /// `abandoned`: whether the message with this ticket was given TSNs and was abandoned.
     Abandoned {
         ticket: u64,
     },
-    /// `take`: its user takes the next message that waits on a stream.
+    /// `take`: its user takes the next message received on a stream.
     Take {
         stream: u16,
     },
-    /// `shutdown`: its user has no more to send.
+    /// `shutdown`: its user closes the association gracefully.
     Shutdown,
-    /// `abort`: its user ends the association, for this reason.
+    /// `abort`: its user aborts the association, for this reason.
     Abort(Bytes),
-    /// `next`: when it wants to be told the moment.
+    /// `next`: when it has to be notified of the time.
     Next,
-    /// `state`: where it stands, and how it ended.
+    /// `state`: its state, and how its association ended.
     State,
-    /// `held`: how many bytes wait for its user.
+    /// `held`: the bytes in its receive buffer.
     Held,
-    /// `status`: all of these, what both ends agreed on, what waits to go out, and the first stream on which a message waits for its user.
+    /// `status`: next, state and held at once, with what both endpoints agreed on, what is queued, and the first stream on which a message
+    /// waits for its user.
     Status,
 }

@@ -1,4 +1,4 @@
-//! The words behind each command that has some: what they ask for together.
+//! Reads the words of each command that has some.
 
 ghost use Rattle.std.specs.Prelude.{◌≡◌, length, IfOk, MatchOption};
 ghost use Rattle.sctp_end.specs.Commands.{arguments_of};
@@ -47,7 +47,7 @@ pub(crate) fn read_at(mut words: Words<'_>) -> Option<Call>
 /// `packet HEX`
 ///
 /// # Errors
-/// `NoMemory` where there was no room for the bytes.
+/// `NoMemory` if no memory could be allocated for the bytes.
 pub(crate) fn read_packet(alloc: Global, mut words: Words<'_>) -> Result<Option<Call>, NoMemory>
     requires { length words ≡ arguments_of Command.Packet }
     ensures { IfOk result (λ found. MatchOption found
@@ -63,7 +63,7 @@ pub(crate) fn read_packet(alloc: Global, mut words: Words<'_>) -> Result<Option<
 /// `send STREAM KIND ID UNTIL HEX`
 ///
 /// # Errors
-/// `NoMemory` where there was no room for the bytes.
+/// `NoMemory` if no memory could be allocated for the bytes.
 pub(crate) fn read_send(alloc: Global, mut words: Words<'_>) -> Result<Option<Call>, NoMemory>
     requires { length words ≡ arguments_of Command.Send }
     ensures { IfOk result (λ found. MatchOption found
@@ -138,7 +138,7 @@ pub(crate) fn read_take(mut words: Words<'_>) -> Option<Call>
 /// `abort HEX`
 ///
 /// # Errors
-/// `NoMemory` where there was no room for the bytes.
+/// `NoMemory` if no memory could be allocated for the bytes.
 pub(crate) fn read_abort(alloc: Global, mut words: Words<'_>) -> Result<Option<Call>, NoMemory>
     requires { length words ≡ arguments_of Command.Abort }
     ensures { IfOk result (λ found. MatchOption found

@@ -1,9 +1,9 @@
-//! The commands: the first word of a line.
+//! The commands, by the first word of a line.
 
 ghost use Rattle.std.specs.Prelude.{◌≡◌, MatchOption};
 ghost use Rattle.sctp_end.specs.Commands.{name_of, arguments_of};
 
-/// A command.
+/// A command. `docs/FORMATS.md` has each with its words.
 #[derive(Clone, Copy)]
 pub enum Command {
     Connect,
@@ -25,7 +25,7 @@ pub enum Command {
 }
 
 impl Command {
-    /// The command of this name.
+    /// The command with this name.
     pub fn named(word: &[u8]) -> Option<Command>
         ensures { MatchOption result ((c : Command) → word.now ≡ name_of c → ⊥) (λ c. word.now ≡ name_of c) }
     {
@@ -50,7 +50,7 @@ impl Command {
         }
     }
 
-    /// How many words stand behind it.
+    /// The number of words after the command's name.
     pub fn arguments(self) -> usize
         ensures { result ≡ arguments_of self }
     {

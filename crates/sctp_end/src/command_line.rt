@@ -1,4 +1,4 @@
-//! The command line of the program: an end as its words set it up answers the lines of its input.
+//! The command line of `sctp-end`: sets up an endpoint by the program's words and answers the lines of the input.
 
 ghost use Rattle.std.specs.Prelude.{◌≡◌, ℕ, ◌+◌, ◌-◌, ◌^◌, ◌<◌, ◌≤◌, List, map, string_bytes};
 ghost use Rattle.sctp_model.specs.end.EndView.{EndView};
@@ -13,31 +13,32 @@ use sctp_endpoint::{Draw, Endpoint};
 use sctp_text::{Sink, Source, write_all};
 use std::alloc::Global;
 
-/// The forms, as they are said where words are none of them.
+/// The usage text.
 pub const USAGE: &str = "usage:
   sctp-end caller LIMIT FRAGMENT BUFFER STREAMS MODE [delay] [standard-closing] PORT PEER        an end that calls; lines on standard input, answers on standard output
   sctp-end listener LIMIT FRAGMENT BUFFER STREAMS MODE [delay] [standard-closing] PORT PEER KEY  an end that listens
 ";
-/// The exit status where the input was answered to its end.
+/// The exit status if the input was answered to its end.
 pub const DONE: u8 = 0;
-/// The exit status of words that are no form of the program's.
+/// The exit status of wrong words.
 pub const WRONG_WORDS: u8 = 1;
-/// The exit status where reading, writing or memory failed.
+/// The exit status if reading, writing or an allocation failed.
 pub const FAILED: u8 = 3;
 
-/// A law: the exit statuses are the numbers that `docs/FORMATS.md` has.
+// law
+/// The exit statuses are the numbers in `docs/FORMATS.md`.
 pub fn exit_statuses()
     ensures done { DONE ≡ 0 }
     ensures wrong_words { WRONG_WORDS ≡ 1 }
     ensures failed { FAILED ≡ 3 }
 {}
 
-/// Sets an end up as the words say, of which the first is the program's own name, answers the lines of the input, each before the next one is
-/// read, and gives the exit status:
-/// - 0 where the input was answered to its end,
-/// - 1 where the words are no form, or the sizes, streams or ports are out of their ranges: the forms are written to `faults`,
-/// - 3 where reading, writing (to `faults` too) or memory failed, or the input has more than 2^40 bytes: what is written is a beginning. Memory
-///   isn't wanted before the first line is read.
+/// Sets up an endpoint by the words, answers the lines of the input, each before the next one is read, and returns the exit status. The first
+/// word is the program's own name. The status is
+/// - 0 if the input was answered to its end,
+/// - 1 if the words are wrong, or the sizes, streams or ports out of range: the usage text is written to `faults`,
+/// - 3 if reading, writing (to `faults` too) or an allocation failed, or the input has more than 2^40 bytes: a prefix of the answers has been
+///   written. Nothing is allocated before the first line is read.
 pub fn run_words<R: Source, W: Sink, F: Sink>(
     alloc: Global,
     words: &[String],
@@ -50,9 +51,9 @@ pub fn run_words<R: Source, W: Sink, F: Sink>(
     requires tells { F.failures faults.old < 2 ^ 64 - 1 }
     ensures ends { (read written said : List ℕ) × R.Reads input.old read input.new × W.Writes output.old written output.new
         × F.Writes faults.old said faults.new × Ends (R.IsAtEnd input.new) (map string_bytes words.now) result read written said }
-    // Wrong words are answered by 1, or by 3 where the forms couldn't be said.
+    // Wrong words have status 1, or 3 if the usage text couldn't be written.
     ensures wrong { ((v : EndView) → SetsUp (map string_bytes words.now) v → ⊥) → result ≡ FAILED → F.failures faults.new ≡ F.failures faults.old + 1 }
-    // No call fails but the last one, and then the status says so.
+    // Only the last call of a stream can fail, and then the status says so.
     ensures well { result < FAILED → (R.failures input.new ≡ R.failures input.old) × (W.failures output.new ≡ W.failures output.old)
         × (F.failures faults.new ≡ F.failures faults.old) }
     ensures once { R.failures input.new + W.failures output.new + F.failures faults.new
@@ -92,7 +93,7 @@ fn run<R: Source, W: Sink>(alloc: Global, endpoint: Endpoint, input: &mut R, out
     }
 }
 
-/// Says the forms.
+/// Writes the usage text to standard error.
 fn refuse<F: Sink>(faults: &mut F) -> u8
     requires { F.failures faults.old < 2 ^ 64 - 1 }
     ensures tells { (said : List ℕ) × F.Writes faults.old said faults.new × TellsForms result said }

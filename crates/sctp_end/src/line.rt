@@ -1,4 +1,4 @@
-//! A line, read: what it asks for, or the smallest kind of its faults.
+//! Reads a line: what it asks for, or its fault.
 
 ghost use Rattle.std.specs.Prelude.{◌≡◌, length, IfOk, MatchOption, MatchResult};
 ghost use Rattle.sctp_end.specs.Commands.{arguments_of};
@@ -15,10 +15,10 @@ use sctp_values::NoMemory;
 use sctp_words::{LineError, LineFault, is_silent};
 use std::alloc::Global;
 
-/// Reads a line, without its line feed. One that is empty or begins with `#` gives None.
+/// Reads a line, given without its line feed. None for an empty line or a comment.
 ///
 /// # Errors
-/// The fault of the line with the smallest kind, or `NoMemory` where there was no room for the bytes of a word.
+/// The line's fault with the smallest kind, or `NoMemory` if no memory could be allocated for the bytes of a word.
 pub fn read_line(alloc: Global, line: &[u8]) -> Result<Option<Call>, LineError>
     ensures { MatchResult result (λ found. Finds line.now found) (λ error. Refuses line.now error) }
 {
@@ -42,7 +42,7 @@ pub fn read_line(alloc: Global, line: &[u8]) -> Result<Option<Call>, LineError>
     }
 }
 
-/// What a command asks for with these words behind it, None where it asks for nothing.
+/// Reads the words after a command. None if a word isn't a value of its field.
 fn read_call(alloc: Global, command: Command, words: Words<'_>) -> Result<Option<Call>, NoMemory>
     requires { length words ≡ arguments_of command }
     ensures { IfOk result (λ found. MatchOption found

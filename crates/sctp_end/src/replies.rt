@@ -1,4 +1,4 @@
-//! What is answered to a call that its end refuses.
+//! The answers to calls that the endpoint refuses.
 
 ghost use Rattle.std.specs.Prelude.{◌≡◌, List, ℕ, Err};
 ghost use Rattle.sctp_model.specs.world.Calls.{Call as Message};
@@ -11,7 +11,7 @@ ghost use Rattle.sctp_end.specs.inner.Refusing.{SendTold, AbortTold};
 use crate::reply::{Refusal, Reply};
 use sctp_endpoint::{AbortFault, Refused, SendFault};
 
-/// What is answered to a message that isn't accepted.
+/// The answer to a message that isn't accepted.
 pub(crate) fn send_refused(why: Refused) -> Reply
     ensures { (v : EndView) (c : Message) → SendAnswers v c (Err why) → SendTold v c result }
 {
@@ -21,7 +21,7 @@ pub(crate) fn send_refused(why: Refused) -> Reply
     }
 }
 
-/// What is answered to a message that an end's sender refuses.
+/// The answer to a message that the sender refuses.
 fn fault_told(fault: SendFault) -> Reply
     ensures { (v : EndView) (c : Message) → SendAnswers v c (Err (refused.Fault fault)) → SendTold v c result }
 {
@@ -35,7 +35,7 @@ fn fault_told(fault: SendFault) -> Reply
     }
 }
 
-/// What is answered to an abort that isn't done.
+/// The answer to an abort that isn't possible.
 pub(crate) fn abort_refused(why: AbortFault) -> Reply
     ensures { (v : EndView) (reason : List ℕ) → AbortAnswers v reason (Err why) → AbortTold v reason result }
 {

@@ -1,4 +1,4 @@
-//! What an end answers to a line: one case for each answer line.
+//! What is answered to a line: one case for each line of an answer.
 
 use crate::status::Status;
 use sctp_send::Abandoned;
@@ -7,55 +7,55 @@ use sctp_text::Bytes;
 use sctp_values::Kind;
 use sctp_words::LineFault;
 
-/// Why a call is refused. Of a message the first reason that holds counts, in this order but for the last one, which comes first.
+/// Why a call was refused. For `send` it is the first reason that applies: `NotEstablished`, then those of `send` in this order.
 #[derive(Clone, Copy, Debug, PartialEq, Eq)]
 pub enum Refusal {
-    /// 1 of `connect`: something happened to the end already.
+    /// 1 of `connect`: the endpoint isn't new any more.
     NotIdle,
     /// 1 of `send`: there is no such stream.
     NoSuchStream,
-    /// 2 of `send`: the message has no byte.
+    /// 2 of `send`: the message is empty.
     Empty,
-    /// 3 of `send`: the message is longer than 65,536 bytes.
+    /// 3 of `send`: the message has more than 65,536 bytes.
     TooLong,
-    /// 4 of `send`: 1,024 messages wait for a number.
+    /// 4 of `send`: 1,024 messages wait for a TSN.
     QueueFull,
-    /// 5 of `send`: no more messages can be numbered.
+    /// 5 of `send`: no ticket or TSN is left in this association.
     Spent,
     /// 7 of `send`: the association isn't established.
     NotEstablished,
-    /// 1 of `shutdown`: there is no association with both its ends.
+    /// 1 of `shutdown`: no association is open.
     NotOpen,
-    /// 1 of `abort`: there is no peer to tell.
+    /// 1 of `abort`: there is no peer to notify.
     NoPeer,
     /// 2 of `abort`: the reason doesn't fit one packet.
     ReasonTooLong,
 }
 
-/// What is answered to a line.
+/// The answer to a line.
 #[derive(Debug, PartialEq, Drop)]
 pub enum Reply {
     /// `ok`
     Done,
-    /// `refused C`: nothing changed.
+    /// `refused C`: nothing has changed.
     Refused(Refusal),
-    /// `taken`: the packet acted.
+    /// `taken`: the packet was processed.
     Taken,
-    /// `dropped R`: it didn't.
+    /// `dropped R`: the packet was dropped.
     Dropped(Reason),
     /// `answer HEX`: this packet is to be sent at once.
     Answer(Bytes),
-    /// `sent HEX`: the packet that was built.
+    /// `sent HEX`: the packet built, to be sent.
     Sent(Bytes),
     /// `quiet`: there is nothing to send.
     Quiet,
     /// `ticket K`: the message is accepted as the K-th.
     Ticket(u64),
-    /// `fate C`: what becomes of the message.
+    /// `fate C`: what has become of the message.
     Fate(Abandoned),
     /// `yes` or `no`
     Holds(bool),
-    /// `message STREAM KIND NUMBER ID HEX`: the message that was taken, with its number on the stream; None where it has none.
+    /// `message STREAM KIND NUMBER ID HEX`: the message taken, with its number on the stream, None if it has none.
     Message {
         stream: u16,
         kind: Kind,
@@ -63,7 +63,7 @@ pub enum Reply {
         payload_id: u32,
         bytes: Bytes,
     },
-    /// `empty STREAM`: no message waits.
+    /// `empty STREAM`: no message waits on this stream.
     Empty {
         stream: u16,
     },
@@ -78,9 +78,9 @@ pub enum Reply {
     Held(u32),
     /// `status STATE WHY NEXT OUTBOUND INBOUND FORMATS OUTSTANDING QUEUED BYTES HELD WINDOW READABLE`
     Status(Status),
-    /// `fault K`: the line asks for nothing.
+    /// `fault K`: the line has a fault and has changed nothing.
     Fault(LineFault),
-    /// `memory`: memory ran out.
+    /// `memory`: an allocation failed.
     NoMemory,
 }
 
@@ -88,7 +88,7 @@ impl Refusal {
     ghost use Rattle.std.specs.Prelude.{◌≡◌};
     ghost use Rattle.sctp_end.specs.ReplyText.{refusal_code};
 
-    /// The code, 1 to 7.
+    /// The code C of `refused`, 1 to 7.
     pub fn code(self) -> u8
         ensures { result ≡ refusal_code self }
     {

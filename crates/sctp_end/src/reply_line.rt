@@ -1,4 +1,4 @@
-//! The line of each answer.
+//! Writes the line of an answer.
 
 ghost use Rattle.std.specs.Prelude.{◌≡◌, ◌∷◌, [], ◌++◌, map, codes, decimal, OnOk, OnErr};
 ghost use Rattle.sctp_end.specs.ReplyText.{truth_word, reply_line, reply_words};
@@ -18,7 +18,7 @@ use sctp_words::{end_word, kind_word, number_word, put_line, state_word};
 /// Appends the line of an answer, with its line feed.
 ///
 /// # Errors
-/// `NoMemory` where there was no room and none was got; `out` is then as before.
+/// `NoMemory` if `out` can't grow; it is unchanged then.
 pub fn put_reply(reply: &Reply, out: &mut Vec<u8>) -> Result<(), NoMemory>
     ensures put { OnOk result (out.new.items ≡ out.old.items ++ reply_line reply.now) }
     ensures refused { OnErr result (out.new.items ≡ out.old.items) }
@@ -53,7 +53,7 @@ pub fn put_reply(reply: &Reply, out: &mut Vec<u8>) -> Result<(), NoMemory>
     }
 }
 
-/// Appends a line of a first word and further ones, or nothing where memory is wanting.
+/// Appends a line of a first word and further words; nothing if an allocation fails.
 fn put_words(first: &[u8], words: &[Word<'_>], out: &mut Vec<u8>) -> Result<(), NoMemory>
     ensures put { OnOk result (out.new.items ≡ out.old.items ++ line_of (first.now ∷ map text_of words.now)) }
     ensures refused { OnErr result (out.new.items ≡ out.old.items) }
@@ -61,7 +61,7 @@ fn put_words(first: &[u8], words: &[Word<'_>], out: &mut Vec<u8>) -> Result<(), 
     put_line(first, words, &[], out)
 }
 
-/// Appends a line of a word and a number, or nothing where memory is wanting.
+/// Appends a line of a word and a number; nothing if an allocation fails.
 fn put_number(first: &[u8], number: u64, out: &mut Vec<u8>) -> Result<(), NoMemory>
     ensures put { OnOk result (out.new.items ≡ out.old.items ++ line_of (first.now ∷ decimal number ∷ [])) }
     ensures refused { OnErr result (out.new.items ≡ out.old.items) }
@@ -69,7 +69,7 @@ fn put_number(first: &[u8], number: u64, out: &mut Vec<u8>) -> Result<(), NoMemo
     put_words(first, &[Word::Number(number)], out)
 }
 
-/// Appends `message STREAM KIND NUMBER ID HEX`, or nothing where memory is wanting.
+/// Appends `message STREAM KIND NUMBER ID HEX`; nothing if an allocation fails.
 fn put_message(
     stream: u16,
     kind: Kind,

@@ -1,4 +1,4 @@
-//! Lines, one after another: each is answered before the next one is read.
+//! Answers the lines of the input one after another, each before the next one is read.
 
 ghost use Rattle.std.specs.Prelude.{◌≡◌, ℕ, true, ◌+◌, ◌-◌, ◌^◌, ◌<◌, ◌≤◌, List, ◌++◌, IfOk};
 ghost use Rattle.sctp_model.specs.end.EndView.{EndView};
@@ -23,16 +23,16 @@ use sctp_words::{LineError, LineFault};
 use std::alloc::Global;
 use thiserror::Error;
 
-/// Why lines are answered no more, though the input may go on.
+/// Why answering stopped before the end of the input.
 #[derive(Clone, Copy, Debug, PartialEq, Eq, Error)]
 pub enum RunFault {
-    /// A call of the reader failed.
+    /// Reading failed.
     #[error("the lines can't be read")]
     Read,
-    /// A call of the writer failed.
+    /// Writing failed.
     #[error("the answers can't be written")]
     Write,
-    /// Memory ran out for a line, or for the line of an answer.
+    /// A line, or the line of an answer, couldn't be allocated.
     #[error("out of memory")]
     NoMemory,
     /// The input has more than 2^40 bytes.
@@ -40,11 +40,11 @@ pub enum RunFault {
     TextTooLong,
 }
 
-/// Answers line after line of the input.
+/// Answers all lines of the input.
 ///
 /// # Errors
-/// `Read` and `Write` where a call of the reader or the writer failed, `NoMemory` where there was no room for a line or for the line of an
-/// answer, `TextTooLong` where the input has more than 2^40 bytes: a beginning of the answers is written then.
+/// `Read` or `Write` if a call of the reader or of the writer failed, `NoMemory` if a line or the line of an answer couldn't be allocated,
+/// `TextTooLong` if the input has more than 2^40 bytes: a prefix of the answers has been written.
 pub(crate) fn run_lines<R: Source, W: Sink>(
     session: &mut Session,
     input: &mut R,
@@ -63,7 +63,7 @@ pub(crate) fn run_lines<R: Source, W: Sink>(
     Ok(())
 }
 
-/// Reads the next line and answers it. Tells whether the input may go on.
+/// Reads the next line and answers it. Returns whether the input may go on.
 fn run_line<R: Source, W: Sink>(
     session: &mut Session,
     lines: &mut LineReader,
@@ -80,7 +80,7 @@ fn run_line<R: Source, W: Sink>(
     ensures failed_reads { R.failures input.new ≡ R.failures input.old + failed_reads result }
     ensures failed_writes { W.failures output.new ≡ W.failures output.old + failed_writes result }
 {
-    // They do nothing: their contracts say how the lines that are given make up what was read.
+    // laws: the lines given are the lines of what was read
     line_after_line();
     lines_in_one_way();
     match lines.next_line(input) {
@@ -99,7 +99,7 @@ fn run_line<R: Source, W: Sink>(
     }
 }
 
-/// Skips a line that is too long, and tells its fault. Tells whether the input may go on.
+/// Skips a line that is too long and reports its fault. Returns whether the input may go on.
 fn skip<R: Source, W: Sink>(
     session: &mut Session,
     lines: &mut LineReader,
@@ -117,16 +117,16 @@ fn skip<R: Source, W: Sink>(
     ensures failed_reads { R.failures input.new ≡ R.failures input.old + failed_reads result }
     ensures failed_writes { W.failures output.new ≡ W.failures output.old + failed_writes result }
 {
-    // They do nothing: their contracts say how the line that is skipped counts among those of what was read.
+    // laws: the skipped line counts among the lines of what was read
     skipped_lines_count();
     lines_in_one_way();
     match lines.skip_line(input) {
         Ok(SkippedLine::Ended) => {
-            tell_too_long(session.alloc, output)?;
+            reply_too_long(session.alloc, output)?;
             Ok(true)
         }
         Ok(SkippedLine::Last) => {
-            tell_too_long(session.alloc, output)?;
+            reply_too_long(session.alloc, output)?;
             Ok(false)
         }
         Ok(SkippedLine::TextTooLong) => Err(RunFault::TextTooLong),
@@ -134,7 +134,7 @@ fn skip<R: Source, W: Sink>(
     }
 }
 
-/// Answers a line: what it asks for is done, and the answer is written.
+/// Does what a line asks for and writes the answer.
 fn answer<W: Sink>(session: &mut Session, line: &[u8], output: &mut W) -> Result<(), RunFault>
     requires { W.failures output.old < 2 ^ 64 - 1 }
     ensures answers { (v : EndView) → EndpointStands session.old.endpoint v
@@ -147,25 +147,25 @@ fn answer<W: Sink>(session: &mut Session, line: &[u8], output: &mut W) -> Result
         Ok(None) => Ok(()),
         Ok(Some(call)) => {
             let reply = session.perform(call);
-            tell(alloc, &reply, output)
+            write_reply(alloc, &reply, output)
         }
-        Err(LineError::Fault(fault)) => tell(alloc, &Reply::Fault(fault), output),
-        Err(LineError::NoMemory) => tell(alloc, &Reply::NoMemory, output),
+        Err(LineError::Fault(fault)) => write_reply(alloc, &Reply::Fault(fault), output),
+        Err(LineError::NoMemory) => write_reply(alloc, &Reply::NoMemory, output),
     }
 }
 
-/// Writes that a line is too long.
-fn tell_too_long<W: Sink>(alloc: Global, output: &mut W) -> Result<(), RunFault>
+/// Writes the answer to a line that is too long.
+fn reply_too_long<W: Sink>(alloc: Global, output: &mut W) -> Result<(), RunFault>
     requires { W.failures output.old < 2 ^ 64 - 1 }
     ensures told { (written : List ℕ) × W.Writes output.old written output.new × IsWritten result (reply_line (Reply.Fault LineFault.TooLong)) written }
     ensures failed_writes { W.failures output.new ≡ W.failures output.old + failed_writes result }
     ensures no_reads { failed_reads result ≡ 0 }
 {
-    tell(alloc, &Reply::Fault(LineFault::TooLong), output)
+    write_reply(alloc, &Reply::Fault(LineFault::TooLong), output)
 }
 
 /// Writes the line of an answer.
-fn tell<W: Sink>(alloc: Global, reply: &Reply, output: &mut W) -> Result<(), RunFault>
+fn write_reply<W: Sink>(alloc: Global, reply: &Reply, output: &mut W) -> Result<(), RunFault>
     requires { W.failures output.old < 2 ^ 64 - 1 }
     ensures told { (written : List ℕ) × W.Writes output.old written output.new × IsWritten result (reply_line reply.now) written }
     ensures failed_writes { W.failures output.new ≡ W.failures output.old + failed_writes result }

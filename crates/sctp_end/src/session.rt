@@ -1,4 +1,4 @@
-//! An end between two lines, and what becomes of each call at it.
+//! The endpoint between two lines, and each call on it.
 
 ghost use Rattle.std.specs.Prelude.{◌≡◌, ℕ, List, Option, Some, None, IfOk, MatchOption, slice_get};
 ghost use Rattle.sctp_model.specs.wire.Packet.{Packet};
@@ -21,7 +21,7 @@ use sctp_text::Bytes;
 use sctp_values::{Kind, NoMemory};
 use std::alloc::Global;
 
-/// An end, the draw for the packets that come to it, and the moment, in milliseconds.
+/// The endpoint, the random values for packets that arrive, and the time in milliseconds.
 #[derive(Drop)]
 pub(crate) struct Session {
     pub(crate) alloc: Global,
@@ -31,7 +31,7 @@ pub(crate) struct Session {
 }
 
 impl Session {
-    /// Does what a call asks for, and answers it.
+    /// Makes a call and returns the answer.
     pub(crate) fn perform(&mut self, call: Call) -> Reply
         ensures { Performed self.old call result self.new }
     {
@@ -96,7 +96,7 @@ impl Session {
         ensures { Performed self.old (call.Packet bytes.now) result self.new }
     {
         let bytes = bytes.as_slice();
-        // It does nothing: its contract says that the bytes are a packet or have a fault.
+        // law: bytes are a packet or have a fault
         reads_or_faults(bytes);
         match self.endpoint.handle_packet(self.moment, bytes, self.draw) {
             Ok(Verdict::Taken) => Reply::Taken,
@@ -159,7 +159,7 @@ impl Session {
         Reply::Holds(self.endpoint.abandoned(Ticket(ticket)))
     }
 
-    /// `take`: the message is copied before it is taken, so that it waits on where memory is wanting.
+    /// `take`: the message is copied before it is taken, so that it still waits if an allocation fails.
     fn take(&mut self, stream: u16) -> Reply
         ensures { Performed self.old (call.Take stream) result self.new }
     {
@@ -173,10 +173,10 @@ impl Session {
         }
     }
 
-    /// What is told of the message that waits first on a stream, None where none does.
+    /// The answer for the first message that waits on a stream. None if none does.
     ///
     /// # Errors
-    /// Memory ran out for its bytes.
+    /// Its bytes couldn't be allocated.
     fn next_message(&self, stream: u16) -> Result<Option<Reply>, NoMemory>
         ensures { (v : EndView) → EndpointStands self.now.endpoint v → IfOk result (λ o. MatchOption o
             (slice_get (v.receiver.waiting stream) 0 ≡ None) (λ r. (h : Handed) × (slice_get (v.receiver.waiting stream) 0 ≡ Some h) × TellsMessage stream h r)) }
@@ -234,10 +234,11 @@ impl Session {
     }
 }
 
-/// Bytes read as a packet or have a fault. It does nothing, and has this as its contract.
+// law
+/// Bytes read as a packet or have a fault.
 fn reads_or_faults(bytes: &[u8])
     ensures { (o : Option Packet) × IsRead bytes.now o }
 {
-    // The law that holds of all bytes.
+    // law: so for all bytes
     one_packet();
 }

@@ -1,4 +1,4 @@
-//! How an end is set up by the words that the program is started with.
+//! Sets up the endpoint by the words with which the program is started.
 
 ghost use Rattle.std.specs.Prelude.{◌≡◌, ℕ, false, List, [], ◌∷◌, map, string_bytes, IfSome, MatchOption};
 ghost use Rattle.sctp_model.specs.end.EndView.{Configuration, EndView, Caller, Listener, Idle, Listening, fresh_end};
@@ -15,14 +15,14 @@ use sctp_text::words_say_one_value;
 use sctp_words::{is_delay, is_standard_closing, read_mode, read_u16, read_u32};
 use std::alloc::Global;
 
-/// How many words stand behind the options: `PORT PEER`.
+/// The number of words after the options: `PORT PEER`.
 const PORTS: usize = 2;
-/// The bytes of a key.
+/// The length of a key in bytes.
 const KEY_LENGTH: usize = 32;
-/// The digits that say them, two each.
+/// The number of hexadecimal digits of a key.
 const KEY_DIGITS: usize = 64;
 
-/// How an end begins (RFC 9260, 5.1).
+/// How the endpoint begins (RFC 9260, 5.1).
 #[derive(Clone, Copy)]
 enum Role {
     /// It calls its peer.
@@ -31,8 +31,8 @@ enum Role {
     Listener,
 }
 
-/// The end that these words set up, of which the first is the program's own name: `caller` or `listener`, its configuration, and the key of a
-/// listener. None where they set up none. It takes no memory.
+/// The endpoint that these words set up. The first word is the program's own name; then `caller` or `listener`, the configuration, and a
+/// listener's key. None if the words are wrong. Nothing is allocated.
 pub(crate) fn end_of(alloc: Global, words: &[String]) -> Option<Endpoint>
     ensures { MatchOption result
         ((v : EndView) → SetsUp (map string_bytes words.now) v → ⊥)
@@ -48,7 +48,7 @@ pub(crate) fn end_of(alloc: Global, words: &[String]) -> Option<Endpoint>
     }
 }
 
-/// What a word says that an end is.
+/// The role that a word names.
 fn role_named(word: &[u8]) -> Option<Role>
     ensures { MatchOption result ((r : Role) → word.now ≡ role_word r → ⊥) (λ r. word.now ≡ role_word r) }
 {
@@ -59,7 +59,7 @@ fn role_named(word: &[u8]) -> Option<Role>
     }
 }
 
-/// A caller with the configuration that these words say.
+/// A caller with this configuration.
 fn caller_of(alloc: Global, words: &[String]) -> Option<Endpoint>
     ensures { MatchOption result
         ((c : Configuration) → Configures (map string_bytes words.now) c → ⊥)
@@ -69,14 +69,14 @@ fn caller_of(alloc: Global, words: &[String]) -> Option<Endpoint>
     Some(Endpoint::caller(alloc, config))
 }
 
-/// A listener with the configuration that these words say, and the key that the last of them says.
+/// A listener with this configuration and, as the last word, its key.
 fn listener_of(alloc: Global, words: &[String]) -> Option<Endpoint>
     ensures { MatchOption result
         ((c : Configuration) (key : List ℕ) → SetsListener (map string_bytes words.now) c key → ⊥)
         (λ end. (c : Configuration) × (key : List ℕ) × (seal : Sealing) × SetsListener (map string_bytes words.now) c key × IsUnder key seal
         × EndpointStands end (fresh_end c (Listener seal) Listening)) }
 {
-    // It does nothing: its contract says that the key has a seal.
+    // law: the key has a seal
     keys_have_seals();
     let [settings @ .., last] = words else {
         return None;
@@ -90,7 +90,7 @@ fn listener_of(alloc: Global, words: &[String]) -> Option<Endpoint>
     }
 }
 
-/// The configuration that these words say.
+/// Reads a configuration: sizes, mode, options and ports.
 fn read_config(words: &[String]) -> Option<Config>
     ensures { MatchOption result
         ((c : Configuration) → Configures (map string_bytes words.now) c → ⊥)
@@ -121,7 +121,7 @@ fn read_config(words: &[String]) -> Option<Config>
     }
 }
 
-/// Whether the first of these words is `delay`, and those behind it; else all of them.
+/// Whether the first of these words is `delay`, and the words after it; else all of them.
 fn split_delay(words: &[String]) -> (bool, &[String])
     ensures { IsSplit delay_word (map string_bytes words.now) result.0 (map string_bytes result.1.now) }
 {
@@ -131,7 +131,7 @@ fn split_delay(words: &[String]) -> (bool, &[String])
     }
 }
 
-/// Whether the first of these words is `standard-closing`, and those behind it; else all of them.
+/// Whether the first of these words is `standard-closing`, and the words after it; else all of them.
 fn split_standard_closing(words: &[String]) -> (bool, &[String])
     ensures { IsSplit standard_closing_word (map string_bytes words.now) result.0 (map string_bytes result.1.now) }
 {
@@ -141,7 +141,7 @@ fn split_standard_closing(words: &[String]) -> (bool, &[String])
     }
 }
 
-/// The configuration, whose SACKs may wait and whose association closes by the RFC's timers where these say so.
+/// The configuration with these two options.
 fn with_options(config: Config, delay: bool, standard_closing: bool) -> Config
     requires plain { (config.delay ≡ false) × (config.standard_closing ≡ false) }
     ensures { result ≡ record config { delay = delay; standard_closing = standard_closing } }
@@ -154,7 +154,7 @@ fn with_options(config: Config, delay: bool, standard_closing: bool) -> Config
     }
 }
 
-/// The configuration that these seven words say.
+/// Reads a configuration without options from its seven words.
 fn config_of(
     limit: &[u8],
     fragment: &[u8],
@@ -166,10 +166,10 @@ fn config_of(
 ) -> Option<Config>
     ensures exact { let words = limit.now ∷ fragment.now ∷ buffer.now ∷ streams.now ∷ mode.now ∷ own_port.now ∷ peer_port.now ∷ [] in MatchOption result
         ((c : Configuration) → Settles words c → ⊥) (λ config. Settles words config) }
-    // Neither option is set as yet.
+    // Neither option is set yet.
     ensures plain { IfSome result (λ config. (config.delay ≡ false) × (config.standard_closing ≡ false)) }
 {
-    // It does nothing: its contract says that a word says one number.
+    // law: a word spells at most one number
     words_say_one_value();
     let limit = read_u16(limit)?;
     let fragment = read_u16(fragment)?;
@@ -186,7 +186,8 @@ fn config_of(
     }
 }
 
-/// The key that a word says, in digits of lower case: those of upper case decode too, and don't come back. It takes no memory.
+/// Reads a key in lower-case hexadecimal digits. Upper-case digits decode as well, so the key is encoded again and compared. Nothing is
+/// allocated.
 fn read_key(word: &[u8]) -> Option<Key>
     ensures { MatchOption result ((key : List ℕ) → IsKey word.now key → ⊥) (λ key. IsKey word.now key) }
 {

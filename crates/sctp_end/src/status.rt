@@ -1,29 +1,29 @@
-//! Where an end stands, in numbers.
+//! The status of the endpoint.
 
 use sctp_endpoint::Agreed;
 use sctp_terms::{End, State};
 
-/// What an end tells of itself.
+/// The state of the endpoint and of its queues.
 #[derive(Clone, Copy, Debug, PartialEq, Eq)]
 pub struct Status {
-    /// The state that it is in.
+    /// Its state (RFC 9260, 4).
     pub state: State,
-    /// How its association ended.
+    /// How its association ended, None if it hasn't.
     pub ended: Option<End>,
-    /// When it wants to be told the moment, in milliseconds.
+    /// When it has to be notified of the time, in milliseconds.
     pub next: Option<u64>,
-    /// The streams of each way and the formats that both ends agreed on.
+    /// The streams each way and the extensions that both endpoints agreed on, None before.
     pub agreed: Option<Agreed>,
-    /// The TSNs that aren't acknowledged, and the messages in part.
+    /// The TSNs that were assigned and aren't acknowledged, plus the messages sent in part.
     pub outstanding: u32,
-    /// The messages that have no TSN yet.
+    /// The number of messages that have no TSN yet.
     pub queued: usize,
-    /// Their bytes.
+    /// The bytes of the messages that have no TSN yet.
     pub queued_bytes: u64,
-    /// The bytes that came and weren't taken.
+    /// The bytes in its receive buffer: received and not taken.
     pub held: u32,
     /// The peer's receiver window, in bytes.
     pub window: u32,
-    /// The first stream on which a message waits for `take`.
+    /// The first stream on which a message waits for `take`, None if none does.
     pub readable: Option<u16>,
 }

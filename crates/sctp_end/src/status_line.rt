@@ -1,4 +1,4 @@
-//! The line of a status.
+//! Writes the line of a status.
 
 ghost use Rattle.std.specs.Prelude.{◌≡◌, ◌++◌, OnOk, OnErr};
 ghost use Rattle.sctp_end.specs.StatusText.{status_words, outbound_word, inbound_word, formats_word, mode_on};
@@ -11,7 +11,7 @@ use sctp_text::Word;
 use sctp_values::NoMemory;
 use sctp_words::{end_word, number_word, put_line, state_word};
 
-/// Appends `status` with its words, or nothing where memory is wanting.
+/// Appends `status` with its words; nothing if an allocation fails.
 pub(crate) fn put_status(status: &Status, out: &mut Vec<u8>) -> Result<(), NoMemory>
     ensures put { OnOk result (out.new.items ≡ out.old.items ++ line_of (status_words status.now)) }
     ensures refused { OnErr result (out.new.items ≡ out.old.items) }
@@ -33,7 +33,7 @@ pub(crate) fn put_status(status: &Status, out: &mut Vec<u8>) -> Result<(), NoMem
     put_line(b"status", &words, &[], out)
 }
 
-/// The streams that it may send on, or `-`.
+/// The number of streams that it may send on, or `-`.
 fn outbound_word(agreed: Option<Agreed>) -> Word<'static>
     ensures { text_of result ≡ outbound_word agreed }
 {
@@ -43,7 +43,7 @@ fn outbound_word(agreed: Option<Agreed>) -> Word<'static>
     }
 }
 
-/// The streams that its peer may send on, or `-`.
+/// The number of streams that its peer may send on, or `-`.
 fn inbound_word(agreed: Option<Agreed>) -> Word<'static>
     ensures { text_of result ≡ inbound_word agreed }
 {
@@ -53,7 +53,7 @@ fn inbound_word(agreed: Option<Agreed>) -> Word<'static>
     }
 }
 
-/// The formats, by the name of the mode that asks for them, or `-`.
+/// The extensions agreed on, by the name of the mode that asks for them, or `-`.
 fn formats_word(agreed: Option<Agreed>) -> Word<'static>
     ensures { text_of result ≡ formats_word agreed }
 {
@@ -63,7 +63,7 @@ fn formats_word(agreed: Option<Agreed>) -> Word<'static>
     }
 }
 
-/// The name of the mode in which these are on: I-DATA, partial reliability.
+/// The name of the mode with these extensions: I-DATA, partial reliability.
 fn mode_of(interleave: bool, partial: bool) -> Word<'static>
     ensures { text_of result ≡ mode_on interleave partial }
 {

@@ -1,4 +1,4 @@
-//! What a pair is made with: the sizes that both ends share, and the extensions that both ask for.
+//! The configuration of a pair: the sizes that both endpoints share, and the extensions that both ask for.
 
 ghost use Rattle.std.specs.Prelude.{◌≡◌, Some, None, MatchResult};
 ghost use Rattle.sctp_model.specs.end.EndView.{Configuration};
@@ -14,7 +14,7 @@ const A_PORT: u16 = 5_000;
 /// The port of B, which listens.
 const B_PORT: u16 = 5_001;
 
-/// The configuration of both ends of a pair, alike but for the ports, each of which is the other's peer's.
+/// The configuration of both endpoints of a pair, which are alike except that their ports are exchanged.
 #[derive(Clone, Copy, Debug, PartialEq, Eq)]
 pub struct PairConfig {
     a: Config,
@@ -29,11 +29,12 @@ impl PairConfig {
     ghost use Rattle.sctp_terms.specs.Modes.{asked};
     ghost use Rattle.sctp_events.specs.Alike.{turned_round};
 
-    /// The configuration with packets of at most `limit` bytes, messages cut at `fragment` bytes, a receive buffer of `buffer` bytes, and
-    /// `streams` streams each way; both ends ask for what the mode says. A is at port 5,000 and B at 5,001.
+    /// Both endpoints send packets of at most `limit` bytes (576 to 1,500), cut messages into fragments of `fragment` bytes (4 to 1,400), have
+    /// a receive buffer of `buffer` bytes (65,536 to 16,777,216) and ask for `streams` streams each way (1 to 1,024) and for the extensions
+    /// of the mode. A has port 5,000, B 5,001.
     ///
     /// # Errors
-    /// The fault with the smallest code. The ports are fixed, so it isn't `Port`.
+    /// The fault with the smallest code. It is never `Port`, since the ports are fixed.
     pub fn new(
         limit: u16,
         fragment: u16,
@@ -54,7 +55,7 @@ impl PairConfig {
         })
     }
 
-    /// The same, at both ends of which a SACK may wait for a second packet (RFC 9260, 6.2).
+    /// This configuration with delayed SACKs at both endpoints (RFC 9260, 6.2).
     pub fn with_delay(self) -> PairConfig
         ensures { result.a ≡ record self.a { delay = true } }
     {
@@ -64,7 +65,8 @@ impl PairConfig {
         }
     }
 
-    /// The same, both ends of which go on closing as long as the peer acknowledges or its data come (RFC 9260, 9.2).
+    /// This configuration with closing by the RFC's timers: both endpoints go on closing as long as the peer acknowledges or sends data
+    /// (RFC 9260, 9.2).
     pub fn with_standard_closing(self) -> PairConfig
         ensures { result.a ≡ record self.a { standard_closing = true } }
     {
@@ -74,14 +76,14 @@ impl PairConfig {
         }
     }
 
-    /// The configuration of A, the caller.
+    /// The configuration of endpoint A, the caller.
     pub fn caller(&self) -> Config
         ensures { result ≡ self.now.a }
     {
         self.a
     }
 
-    /// The configuration of B, the listener.
+    /// The configuration of endpoint B, the listener.
     pub fn listener(&self) -> Config
         ensures { result ≡ turned_round self.now.a }
     {

@@ -1,9 +1,9 @@
-//! What may happen to a pair: one case for each acting line of a script.
+//! What may happen to a pair: one case for each line of a script that acts on it.
 
 use sctp_terms::Draw;
 use sctp_values::Ticket;
 
-/// The end A, which calls, or B, which listens (RFC 9260, 5.1).
+/// One of the two endpoints: A, which calls, or B, which listens (RFC 9260, 5.1).
 #[derive(Clone, Copy, Debug, PartialEq, Eq)]
 pub enum Side {
     A,
@@ -15,7 +15,7 @@ impl Side {
     ghost use Rattle.sctp_model.specs.world.World.{other};
     ghost use Rattle.sctp_events.specs.Events.{side_meaning};
 
-    /// The end across.
+    /// The other endpoint.
     pub fn other(self) -> Side
         ensures { side_meaning result ≡ other (side_meaning self) }
     {
@@ -29,39 +29,39 @@ impl Side {
 /// Something that happens to a pair.
 #[derive(Debug, PartialEq, Drop)]
 pub enum Event {
-    /// `open`: both ends are opened without a packet, each by its own draw.
+    /// `open`: both endpoints are put into an association without a packet, each with its own random values (tag and initial TSN).
     Open {
         a: Draw,
         b: Draw,
     },
-    /// `at`: the clock goes on to this moment, in milliseconds, and both ends are told.
+    /// `at`: the clock advances to this time, in milliseconds, and both endpoints are notified. A smaller time leaves the clock.
     At {
         moment: u64,
     },
-    /// `draw`: what an end draws from now on for an INIT that comes.
+    /// `draw`: the random values (tag and initial TSN) with which an endpoint answers an INIT from now on.
     Drawing {
         draw: Draw,
     },
-    /// `connect`: A calls, with this draw.
+    /// `connect`: A calls B, with these random values.
     Connect {
         draw: Draw,
     },
-    /// `build`: an end is asked for its next packet, which goes into its bag.
+    /// `build`: an endpoint is asked for its next packet, which is added to its bag: the packets that it has given to the network.
     Build {
         side: Side,
     },
-    /// `deliver`: a packet of an end's bag, counted from 1, comes to the other end.
+    /// `deliver`: a packet of an endpoint's bag, counted from 1, arrives at the other endpoint.
     Deliver {
         side: Side,
         number: u32,
     },
-    /// `foreign`: a stranger's bytes come to an end.
+    /// `foreign`: a packet of a third party, any bytes, arrives at an endpoint.
     Foreign {
         side: Side,
         bytes: Vec<u8>,
     },
-    /// `send`: an end's user hands in a message, in the order of its stream or not, which is worthless from a moment on, in milliseconds, or
-    /// never.
+    /// `send`: an endpoint's user sends a message, ordered within its stream or unordered. Its lifetime ends at `until`, in milliseconds;
+    /// None is no limit.
     Send {
         side: Side,
         stream: u16,
@@ -70,21 +70,21 @@ pub enum Event {
         bytes: Vec<u8>,
         until: Option<u64>,
     },
-    /// `abandon`: an end's user gives up the message with this ticket.
+    /// `abandon`: an endpoint's user abandons the message with this ticket.
     Abandon {
         side: Side,
         ticket: Ticket,
     },
-    /// `take`: an end's user takes the next message of a stream.
+    /// `take`: an endpoint's user takes the next message that was received on a stream.
     Take {
         side: Side,
         stream: u16,
     },
-    /// `shutdown`: an end's user has no more to send.
+    /// `shutdown`: an endpoint's user closes the association gracefully: it has no more to send.
     Shutdown {
         side: Side,
     },
-    /// `abort`: an end's user ends the association at once, and tells the peer why.
+    /// `abort`: an endpoint's user aborts the association; the reason goes to the peer.
     Abort {
         side: Side,
         reason: Vec<u8>,

@@ -1,56 +1,57 @@
-//! What a pair answers to an event: one case for each outcome line of a script.
+//! What a pair answers to an event: one case for each line that a script's run prints for an event.
 
 use sctp_recv::Message;
 use sctp_send::Abandoned;
 use sctp_terms::Reason;
 use sctp_values::Ticket;
 
-/// Why a call is refused. It changed nothing.
+/// Why a call was refused. It has changed nothing.
 #[derive(Clone, Copy, Debug, PartialEq, Eq)]
 pub enum Refusal {
-    /// Not in this state: `open`, `connect`, `shutdown` and `abort` have this one.
+    /// Not allowed in this state. Only `open`, `connect`, `shutdown` and `abort` are refused so.
     State,
     /// The reason of `abort` doesn't fit one packet.
     ReasonTooLong,
-    /// A message: the end isn't established. This comes before all that follow, each of which counts where none before it holds.
+    /// `send`: the association isn't established. This is checked first; of this and those below the first that applies is returned.
     NotOpen,
-    /// There is no such stream.
+    /// `send`: there is no such stream.
     NoSuchStream,
-    /// The message has no byte.
+    /// `send`: the message is empty.
     Empty,
-    /// The message has more than 65,536 bytes.
+    /// `send`: the message has more than 65,536 bytes.
     TooLong,
-    /// Too many messages wait for their numbers.
+    /// `send`: 1,024 messages wait for a TSN already.
     QueueFull,
-    /// No number is left.
+    /// `send`: no ticket or TSN is left in this association.
     Spent,
 }
 
-/// What a pair answers to an event. Packets are told by their number in the bag, from 1, and their length in bytes.
+/// What a pair answers to an event. A packet is named by its number in the bag of the endpoint that built it, from 1, with its length
+/// in bytes.
 #[derive(Debug, PartialEq, Drop)]
 pub enum Outcome {
-    /// `ok`: it was done.
+    /// `ok`: done.
     Done,
-    /// `refused CODE`: nothing changed.
+    /// `refused CODE`: the call was refused.
     Refused { refusal: Refusal },
-    /// `sent X N LENGTH`: the end gave its N-th packet.
+    /// `sent X N LENGTH`: the endpoint has built its N-th packet.
     Sent { number: usize, length: usize },
     /// `quiet X`: there is nothing to send.
     Quiet,
-    /// `taken Y`: the packet acted on the end.
+    /// `taken Y`: the endpoint has processed the packet.
     Taken,
-    /// `dropped Y REASON`: it was dropped.
+    /// `dropped Y REASON`: the endpoint has dropped the packet.
     Dropped { reason: Reason },
-    /// `answer Y N LENGTH`: it was answered by this packet of the end, or the user's `abort` gave it.
+    /// `answer Y N LENGTH`: the endpoint answers with this packet; or the user's `abort` has built it.
     Answer { number: usize, length: usize },
-    /// `absent`: there is no such packet.
+    /// `absent`: there is no packet with this number.
     Absent,
-    /// `ticket X K`: the message is accepted as the K-th of this end.
+    /// `ticket X K`: the message is accepted, as the K-th of this endpoint.
     Ticket { ticket: Ticket },
-    /// What has become of the message to be abandoned.
+    /// `fate X FATE`: what has become of the message to be abandoned.
     Fate { fate: Abandoned },
-    /// `message ..`: the message that was taken.
+    /// `message ..`: the message taken.
     Message { message: Message },
-    /// `empty X STREAM`: no message waits.
+    /// `empty X STREAM`: no message is waiting on this stream.
     Empty,
 }

@@ -1,4 +1,4 @@
-//! The items that chunks list, as they are written.
+//! The items of lists in chunks, as bytes.
 
 use anyhow::Result;
 use sctp_wire::{
@@ -6,13 +6,13 @@ use sctp_wire::{
 };
 use std::alloc::Global;
 
-/// A gap block, a TSN, an entry of a FORWARD-TSN, one of an I-FORWARD-TSN, a parameter, and a cause behind its padding.
+/// A gap block, a TSN, an entry of a FORWARD-TSN, one of an I-FORWARD-TSN, a parameter, and a cause after its padding.
 const ITEMS: [u8; 35] = [
     0, 2, 0, 3, 0, 0, 0, 7, 0, 3, 0, 9, 0, 3, 0, 0, 0, 0, 0, 9, 0x80, 8, 0, 5, 0x40, 0, 0, 0, 0,
     12, 0, 7, 0x77, 0x68, 0x79,
 ];
 
-/// Whether each item is written as it must be, one behind another.
+/// Whether all items are written with the right bytes, one after another.
 pub fn are_written(alloc: Global) -> Result<bool> {
     let mut list = Vec::new(alloc);
     put_block(GapBlock { start: 2, end: 3 }, &mut list)?;
@@ -23,7 +23,7 @@ pub fn are_written(alloc: Global) -> Result<bool> {
     Ok(list.as_slice() == ITEMS.as_slice())
 }
 
-/// The ordered messages up to number 9 of stream 3 are skipped, in both formats.
+/// An entry that skips the ordered messages up to number 9 of stream 3, in both formats.
 fn put_skips(list: &mut Vec<u8>) -> Result<()> {
     let skip = Skip {
         stream: 3,

@@ -1,4 +1,5 @@
-//! The libraries as a caller sees them: two ends that talk, chunks read and written again, items of lists, a pair under a script's events, a cookie sealed and opened.
+//! The libraries in use: two endpoints that exchange a message, chunks read and written again, items of lists, a pair under a script's events,
+//! a cookie sealed and opened.
 #![tactic(auto)]
 
 mod lists;
@@ -32,10 +33,10 @@ fn main(rt: HostRuntime) -> Result<()> {
     Ok(())
 }
 
-/// The chunks of these bytes, written one behind another.
+/// Reads the chunks of these bytes and writes them again, one after another.
 fn copied(alloc: Global, bytes: &[u8]) -> Result<Vec<u8>> {
     let mut out = Vec::new(alloc);
-    // An iterator of chunks that borrow, or the first fault and its offset.
+    // An iterator over borrowed chunks, or the first fault with its offset.
     for chunk in read_chunks(bytes)? {
         if chunk.fits() {
             write_chunk(&chunk, &mut out)?;
@@ -44,7 +45,7 @@ fn copied(alloc: Global, bytes: &[u8]) -> Result<Vec<u8>> {
     Ok(out)
 }
 
-/// What two ends answer that are asked for a packet before there is an association.
+/// Asks two endpoints without an association for a packet.
 fn built(alloc: Global) -> Result<String> {
     let config = PairConfig::new(1_500, 1_400, 65_536, 1, Mode::Data)?;
     let mut pair = Pair::new(alloc, config)?;
@@ -53,14 +54,14 @@ fn built(alloc: Global) -> Result<String> {
     told
 }
 
-/// What both ends of a pair answer that are asked for a packet, A first.
+/// Asks both endpoints of a pair for a packet, A first.
 fn both_build(alloc: Global, pair: &mut Pair) -> Result<String> {
     let first = Event::Build { side: Side::A };
     let outcomes = pair.run(&[first, Event::Build { side: Side::B }])?;
     Ok(format!(in alloc; "{:?}", outcomes.as_slice())?)
 }
 
-/// Whether a cookie opens a second after it was made.
+/// Whether a cookie is valid one second after it was made.
 fn opens() -> bool {
     let key = Key::new([7; 32]);
     let body = CookieBody {

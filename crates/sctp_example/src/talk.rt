@@ -1,28 +1,28 @@
-//! Two ends of an association as their users drive them: packets in, moments, packets out, and what they hand to each other meanwhile.
+//! Two endpoints as an event loop drives them: packets in, time, packets out, and the messages of their users.
 
 use anyhow::{Result, anyhow};
 use sctp_endpoint::{Config, Draw, Endpoint, Key, Verdict};
 use std::alloc::Global;
 
-/// How often a packet goes over and its answer back before `exchange` gives up.
+/// The most packets that `exchange` passes on before it gives up.
 const ROUNDS: u32 = 100;
 
-/// A caller opens an association with a listener, sends `Hi` on stream 0, and shuts it: the bytes that the listener's user took, and how it
-/// ended for both.
+/// A caller opens an association with a listener, sends `Hi` on stream 0 and closes it. Returns the bytes that the listener's user received,
+/// and how the association ended for both.
 pub fn talk(alloc: Global) -> Result<String> {
     let (of_caller, of_listener) = (config(5_000, 5_001)?, config(5_001, 5_000)?);
     let mut caller = Endpoint::caller(alloc, of_caller);
     let mut listener = Endpoint::listener(alloc, of_listener, Key::new([7; 32]));
     let told = say_hi(alloc, &mut caller, &mut listener);
-    // Each place at which an end goes is proved: they go here alone, and at no `?`.
+    // Each place that drops an endpoint is proved: they are dropped here alone, and at no `?`.
     drop(caller);
     drop(listener);
     told
 }
 
-/// The same, between these two ends.
+/// Opens the association, sends `Hi` and closes it, between these two endpoints.
 fn say_hi(alloc: Global, caller: &mut Endpoint, listener: &mut Endpoint) -> Result<String> {
-    // Tags and TSNs come from a source of chance; these stand for it.
+    // Use random numbers for tags and TSNs; these are examples.
     caller.connect(0, draw(7, 100)?)?;
     exchange(caller, listener, 0)?;
     let hi = Vec::from_slice(alloc, b"Hi")?;
@@ -39,18 +39,18 @@ fn say_hi(alloc: Global, caller: &mut Endpoint, listener: &mut Endpoint) -> Resu
     )?)
 }
 
-/// How an end is set up: its port and its peer's, packets of 1,500 bytes, fragments of 1,400, a buffer of 64 KiB, a stream each way.
+/// The configuration of an endpoint: its port and its peer's, packets of 1,500 bytes, fragments of 1,400, a buffer of 64 KiB, a stream each way.
 fn config(own_port: u16, peer_port: u16) -> Result<Config> {
     Ok(Config::new(own_port, peer_port, 1_500, 1_400, 65_536, 1, 1)?)
 }
 
-/// A tag that isn't 0, and a first TSN.
+/// The random values of an endpoint: a verification tag, not 0, and an initial TSN.
 fn draw(tag: u32, tsn: u32) -> Result<Draw> {
     Draw::new(tag, tsn).ok_or_else(|| anyhow!("the tag 0 is no tag"))
 }
 
-/// What goes on at one moment, in milliseconds: packets go over the wire until neither end has one to send. Between two such moments a user
-/// sleeps until a packet comes, or until the earlier of the two `next_moment`s, and tells `on_moment`.
+/// Passes packets between the endpoints until neither has one to send, at one time in milliseconds. Between two such times a user sleeps until a
+/// packet arrives, or until the earlier of the two `next_moment`s, and then calls `on_moment`.
 fn exchange(caller: &mut Endpoint, listener: &mut Endpoint, now: u64) -> Result<()> {
     caller.on_moment(now);
     listener.on_moment(now);
@@ -64,7 +64,8 @@ fn exchange(caller: &mut Endpoint, listener: &mut Endpoint, now: u64) -> Result<
     Ok(())
 }
 
-/// The next packet of `from` goes to `to`, and its answer back, if it has one; then the packet is handed back. False where there was no packet.
+/// Passes the next packet of `from` to `to`, and the answer back, if there is one; then returns the packet's buffer for reuse. False if there was
+/// no packet.
 fn carry(from: &mut Endpoint, to: &mut Endpoint, now: u64) -> Result<bool> {
     let Some(sent) = from.poll_transmit(now)? else {
         return Ok(false);
@@ -79,7 +80,7 @@ fn carry(from: &mut Endpoint, to: &mut Endpoint, now: u64) -> Result<bool> {
     Ok(true)
 }
 
-/// The bytes of the message that waits on stream 0, if there is one, which is handed back once they are copied.
+/// Takes the message that waits on stream 0, if there is one, copies its bytes and returns its buffers for reuse.
 fn taken(alloc: Global, end: &mut Endpoint) -> Result<Vec<u8>> {
     let mut bytes = Vec::new(alloc);
     if let Some(message) = end.take(0) {

@@ -1,4 +1,4 @@
-//! What goes between the ends in a row: which way, how far, and with what words.
+//! The arrow of a row: its direction, its extent and its words.
 
 use crate::notes::put_name;
 use crate::packet_words::packet_words;
@@ -12,20 +12,20 @@ use std::alloc::AllocError;
 /// How far an arrow goes in its row.
 #[derive(Clone, Copy, PartialEq, Eq)]
 pub(crate) enum Stroke {
-    /// From end to end.
+    /// From one endpoint to the other.
     Across,
-    /// It leaves, and comes in a later row.
+    /// It leaves, and arrives in a later row.
     Away,
-    /// It leaves, and comes nowhere.
+    /// It leaves, and never arrives.
     Lost,
-    /// It comes, and left in an earlier row.
+    /// It arrives, and left in an earlier row.
     Arriving,
-    /// It comes from outside.
+    /// It arrives from a third party.
     Strange,
 }
 
 impl Stroke {
-    /// Whether it begins at an end.
+    /// Whether it begins at an endpoint.
     pub(crate) fn leaves(self) -> bool {
         matches!(self, Stroke::Across | Stroke::Away | Stroke::Lost)
     }
@@ -44,7 +44,7 @@ pub(crate) fn stroke_of(run: &Recording, arrow: &Arrow) -> Stroke {
     }
 }
 
-/// The end that an arrow goes to.
+/// The endpoint that an arrow goes to.
 pub(crate) fn target_of(arrow: &Arrow) -> Side {
     match arrow {
         Arrow::Leaves { packet } | Arrow::Crosses { packet } | Arrow::Comes { packet, .. } => {
@@ -54,7 +54,7 @@ pub(crate) fn target_of(arrow: &Arrow) -> Side {
     }
 }
 
-/// What an arrow tells by its colour.
+/// The colour of an arrow.
 pub(crate) fn tone_of(run: &Recording, arrow: &Arrow) -> Tone {
     match (stroke_of(run, arrow), arrow) {
         (Stroke::Lost, _) => Tone::Loss,
@@ -64,17 +64,17 @@ pub(crate) fn tone_of(run: &Recording, arrow: &Arrow) -> Tone {
     }
 }
 
-/// The words of an arrow, and how many columns they take.
+/// The words of an arrow, and the number of their columns.
 #[derive(Drop)]
 pub(crate) struct Words {
     pub(crate) text: String,
     pub(crate) width: usize,
 }
 
-/// The words of an arrow: the packet's name, its chunks, and that it came before. They are cut where they take more columns than there are.
+/// The words of an arrow: the packet's name, its chunks, and whether it has arrived before; cut to the columns that there are.
 ///
 /// # Errors
-/// Memory ran out.
+/// An allocation failed.
 pub(crate) fn arrow_words(
     run: &Recording,
     arrow: &Arrow,
@@ -124,7 +124,7 @@ fn put_packet(
     words.push_str(chunks.as_str())
 }
 
-/// Appends that a packet came before.
+/// Appends how often a packet has arrived before.
 fn put_again(time: u32, words: &mut String) -> Result<(), AllocError> {
     match time {
         0 | 1 => Ok(()),

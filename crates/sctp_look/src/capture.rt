@@ -1,4 +1,4 @@
-//! The packets of a run as a hex dump, each with its name, its way and its moment, as `text2pcap` reads it.
+//! Writes the packets of a run as a hex dump for `text2pcap`, each with its name, its direction and its time.
 
 use crate::notes::{put_name, side_word};
 use crate::recording::Recording;
@@ -7,13 +7,13 @@ use sctp_packet::read_packet;
 use sctp_pair::Side;
 use std::alloc::AllocError;
 
-/// How many bytes stand in a line.
+/// The number of bytes in a line.
 const LINE: usize = 16;
 
-/// Appends the packet that leaves in a row, or that a stranger sends in it. Bytes that are no packet are left out.
+/// Appends the packet that leaves in a row, or a third party's that arrives in it. Bytes that aren't a packet are left out.
 ///
 /// # Errors
-/// Memory ran out.
+/// An allocation failed.
 pub(crate) fn put_capture(run: &Recording, row: &Row, out: &mut String) -> Result<(), AllocError> {
     match &row.arrow {
         Some(Arrow::Leaves { packet } | Arrow::Crosses { packet }) => {
@@ -32,7 +32,7 @@ pub(crate) fn put_capture(run: &Recording, row: &Row, out: &mut String) -> Resul
     }
 }
 
-/// Appends which way a packet goes, as B's host sees it, and when, in seconds.
+/// Appends the direction of a packet, as B's host sees it, and its time in seconds.
 fn put_time(to: Side, moment: u64, out: &mut String) -> Result<(), AllocError> {
     let way = match to {
         Side::A => "O",
@@ -42,7 +42,7 @@ fn put_time(to: Side, moment: u64, out: &mut String) -> Result<(), AllocError> {
     write!(out, "\n{way} {seconds}.{rest:03}\n")
 }
 
-/// Appends the bytes, sixteen in a line behind their offset, and an empty line.
+/// Appends the bytes, sixteen in a line after their offset, and an empty line.
 fn put_bytes(bytes: &[u8], out: &mut String) -> Result<(), AllocError> {
     let mut offset: usize = 0;
     for line in bytes.chunks(LINE) {

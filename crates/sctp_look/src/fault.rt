@@ -1,18 +1,18 @@
-//! Why a picture isn't drawn, or not whole.
+//! Why a picture can't be drawn, or only in part.
 
 use sctp_words::LineFault;
 use std::alloc::AllocError;
 
-/// Why a picture isn't drawn, or only up to a line.
+/// Why a picture can't be drawn, or only up to a line.
 #[derive(Clone, Copy)]
 pub(crate) enum LookFault {
-    /// A call of the reader failed.
+    /// Reading failed.
     Read,
-    /// A call of the writer failed.
+    /// Writing failed.
     Write,
-    /// Memory ran out.
+    /// An allocation failed.
     NoMemory,
-    /// The first line that has a fault, counted from 1, and the fault.
+    /// The first line with a fault, counted from 1, and the fault.
     Line(u64, LineFault),
 }
 

@@ -1,4 +1,4 @@
-//! A run as a ladder in text: the moment, what A did, the two lines of life and what goes between them, what B did.
+//! Draws a run as a ladder in text: the time, what A did, the two lifelines and what goes between them, what B did.
 
 mod foot;
 mod labels;
@@ -13,13 +13,13 @@ use labels::{label_of, put_label};
 use std::alloc::AllocError;
 use strokes::put_arrow;
 
-/// The columns of the moment.
+/// The columns of the time.
 const MOMENT: usize = 8;
 
 /// Appends the line above the rows.
 ///
 /// # Errors
-/// Memory ran out.
+/// An allocation failed.
 pub(crate) fn put_head(style: &Style, out: &mut String) -> Result<(), AllocError> {
     out.push_str("  moment")?;
     put_times(" ", style.beside.saturating_sub(1), out)?;
@@ -31,7 +31,7 @@ pub(crate) fn put_head(style: &Style, out: &mut String) -> Result<(), AllocError
 /// Appends a row.
 ///
 /// # Errors
-/// Memory ran out.
+/// An allocation failed.
 pub(crate) fn put_row(
     style: &Style,
     run: &Recording,
@@ -57,7 +57,7 @@ pub(crate) fn put_row(
     out.push_str("\n")
 }
 
-/// Appends the moment, where a row begins it, and the words beside A, which may stand in the moment's columns where it doesn't.
+/// Appends the time, if it is new in this row, and the words beside A, which may use the columns of the time if it isn't.
 fn put_left(style: &Style, run: &Recording, row: &Row, out: &mut String) -> Result<(), AllocError> {
     let mut moment = String::new(run.alloc());
     if row.begins {

@@ -1,10 +1,10 @@
-//! What becomes of the packets of both ends.
+//! What becomes of the packets of both endpoints.
 
 use crate::row::{Life, Packet};
 use sctp_pair::Side;
 use std::alloc::{AllocError, Global};
 
-/// The lives of all packets that left, those of each end first to last.
+/// What becomes of all packets that left, those of each endpoint first to last.
 #[derive(Drop)]
 pub(crate) struct Lives {
     from_a: Vec<Life>,
@@ -12,7 +12,7 @@ pub(crate) struct Lives {
 }
 
 impl Lives {
-    /// Before the first packet.
+    /// No packet.
     pub(crate) fn new(alloc: Global) -> Lives {
         Lives {
             from_a: Vec::new(alloc),
@@ -20,7 +20,7 @@ impl Lives {
         }
     }
 
-    /// Those of an end's packets.
+    /// Those of an endpoint's packets.
     pub(crate) fn of(&self, side: Side) -> &[Life] {
         match side {
             Side::A => &self.from_a,
@@ -28,23 +28,23 @@ impl Lives {
         }
     }
 
-    /// The life of a packet: None where there is no such packet.
+    /// What becomes of a packet. None if there is no such packet.
     pub(crate) fn get(&self, packet: Packet) -> Option<Life> {
         self.of(packet.side)
             .get(packet.number.checked_sub(1)?)
             .copied()
     }
 
-    /// An end's next packet leaves in a row.
+    /// Notes that an endpoint's next packet leaves in a row.
     ///
     /// # Errors
-    /// Memory ran out.
+    /// An allocation failed.
     pub(crate) fn begin(&mut self, side: Side, left: usize) -> Result<(), AllocError> {
         self.of_mut(side).push(Life { left, comings: 0 })?;
         Ok(())
     }
 
-    /// Counts that a packet comes, and answers how often it came: 0 where there is no such packet.
+    /// Counts the arrival of a packet. Returns how often it has arrived, 0 if there is no such packet.
     pub(crate) fn count(&mut self, packet: Packet) -> u32 {
         let Some(index) = packet.number.checked_sub(1) else {
             return 0;
@@ -58,7 +58,7 @@ impl Lives {
         }
     }
 
-    /// Those of an end's packets, to be changed.
+    /// Those of an endpoint's packets, to be changed.
     fn of_mut(&mut self, side: Side) -> &mut Vec<Life> {
         match side {
             Side::A => &mut self.from_a,

@@ -1,4 +1,4 @@
-//! What stands beside an end, in words.
+//! The words beside an endpoint.
 
 use crate::row::{Call, Deed, Note, Packet, Standing, Taken};
 use sctp_pair::{Abandoned, Reason, Refusal, Side};
@@ -7,10 +7,10 @@ use sctp_words::{end_word, state_word};
 use std::alloc::{AllocError, Global};
 use std::str;
 
-/// The words of what an end did, or what was done to it: none where there is nothing to tell.
+/// The words for what an endpoint did, or what happened to it. Empty if there is nothing to show.
 ///
 /// # Errors
-/// Memory ran out.
+/// An allocation failed.
 pub(crate) fn deed_words(alloc: Global, note: &Note) -> Result<String, AllocError> {
     let mut words = String::new(alloc);
     if let Some(deed) = &note.deed {
@@ -19,10 +19,10 @@ pub(crate) fn deed_words(alloc: Global, note: &Note) -> Result<String, AllocErro
     Ok(words)
 }
 
-/// The state that begins, in brackets: nothing where none does.
+/// The state that begins, in brackets. Empty if none does.
 ///
 /// # Errors
-/// Memory ran out.
+/// An allocation failed.
 pub(crate) fn state_words(alloc: Global, note: &Note) -> Result<String, AllocError> {
     let mut words = String::new(alloc);
     if let Some(standing) = note.begun {
@@ -31,7 +31,7 @@ pub(crate) fn state_words(alloc: Global, note: &Note) -> Result<String, AllocErr
     Ok(words)
 }
 
-/// The name of an end.
+/// The name of an endpoint.
 pub(crate) fn side_word(side: Side) -> &'static str {
     match side {
         Side::A => "A",
@@ -42,14 +42,14 @@ pub(crate) fn side_word(side: Side) -> &'static str {
 /// Appends the name of a packet, as in `A3`.
 ///
 /// # Errors
-/// Memory ran out.
+/// An allocation failed.
 pub(crate) fn put_name(packet: Packet, words: &mut String) -> Result<(), AllocError> {
     let side = side_word(packet.side);
     let number = packet.number;
     write!(words, "{side}{number}")
 }
 
-/// Appends the state of an end in brackets, and how it ended.
+/// Appends the state of an endpoint in brackets, and how it ended.
 fn put_standing(standing: Standing, words: &mut String) -> Result<(), AllocError> {
     let state = text_of(state_word(standing.state));
     match standing.ended {
@@ -69,7 +69,7 @@ fn text_of(word: Word<'static>) -> &'static str {
     }
 }
 
-/// Appends what an end did, or what was done to it.
+/// Appends what an endpoint did, or what happened to it.
 fn put_deed(deed: &Deed, words: &mut String) -> Result<(), AllocError> {
     match deed {
         Deed::At { moment } => {
@@ -104,7 +104,7 @@ fn put_deed(deed: &Deed, words: &mut String) -> Result<(), AllocError> {
     }
 }
 
-/// Appends what a user asked for.
+/// Appends a user's call.
 fn put_call(call: &Call, words: &mut String) -> Result<(), AllocError> {
     match call {
         Call::Open => words.push_str("open"),
@@ -133,7 +133,7 @@ fn put_ticket(ticket: Option<u64>, words: &mut String) -> Result<(), AllocError>
     }
 }
 
-/// Appends what a user took.
+/// Appends the message that a user took.
 fn put_taken(stream: u16, message: &Option<Taken>, words: &mut String) -> Result<(), AllocError> {
     write!(words, "take {stream}: ")?;
     let Some(message) = message else {

@@ -1,13 +1,13 @@
-//! A packet in short words: its chunks. No byte of a message is shown, nor a number but those of the chunks' own fields.
+//! A packet's chunks in short words. No byte of a message is shown, and no numbers but those of the chunks' fields.
 
 use sctp_packet::read_packet;
 use sctp_wire::{Blocks, Causes, Chunk, Piece, Sack, Tsns};
 use std::alloc::{AllocError, Global};
 
-/// The words of a packet's chunks. Chunks behind so many letters are left out.
+/// The words of a packet's chunks. Chunks after `enough` letters are left out.
 ///
 /// # Errors
-/// Memory ran out.
+/// An allocation failed.
 pub(crate) fn packet_words(
     alloc: Global,
     bytes: &[u8],
@@ -27,7 +27,7 @@ pub(crate) fn packet_words(
     Ok(words)
 }
 
-/// Bytes that are no packet.
+/// The words for bytes that aren't a packet.
 fn put_unreadable(length: usize, words: &mut String) -> Result<(), AllocError> {
     match length {
         1 => words.push_str("unreadable, 1 byte"),
@@ -35,7 +35,7 @@ fn put_unreadable(length: usize, words: &mut String) -> Result<(), AllocError> {
     }
 }
 
-/// A chunk.
+/// Appends the words of a chunk.
 fn put_chunk(chunk: &Chunk<'_>, words: &mut String) -> Result<(), AllocError> {
     match chunk {
         Chunk::Data(piece) => put_piece("DATA", piece, words),
@@ -61,12 +61,12 @@ fn put_chunk(chunk: &Chunk<'_>, words: &mut String) -> Result<(), AllocError> {
     }
 }
 
-/// A chunk that is told by one number.
+/// Appends a chunk shown by one number.
 fn put_numbered(name: &str, number: u32, words: &mut String) -> Result<(), AllocError> {
     write!(words, "{name} {number}")
 }
 
-/// A piece of user data: its TSN, its stream and its number there, whether it is unordered, and which fragment it is.
+/// Appends DATA or I-DATA: TSN, stream and number in it, whether it is unordered, and which fragment it is.
 fn put_piece(name: &str, piece: &Piece<'_>, words: &mut String) -> Result<(), AllocError> {
     let (tsn, stream, number) = (piece.tsn, piece.stream, piece.number);
     write!(words, "{name} {tsn} {stream}.{number}")?;
@@ -81,14 +81,14 @@ fn put_piece(name: &str, piece: &Piece<'_>, words: &mut String) -> Result<(), Al
     }
 }
 
-/// A SACK: its cumulative TSN, the runs above it, and what came more than once.
+/// Appends a SACK: its cumulative TSN, its gap blocks and its duplicates.
 fn put_sack(sack: &Sack<'_>, words: &mut String) -> Result<(), AllocError> {
     put_numbered("SACK", sack.cumulative, words)?;
     put_blocks(&sack.blocks, words)?;
     put_duplicates(&sack.duplicates, words)
 }
 
-/// The runs, by their distances from the cumulative TSN.
+/// Appends the gap blocks, as offsets from the cumulative TSN.
 fn put_blocks(blocks: &Blocks<'_>, words: &mut String) -> Result<(), AllocError> {
     if blocks.len() == 0 {
         return Ok(());
@@ -103,7 +103,7 @@ fn put_blocks(blocks: &Blocks<'_>, words: &mut String) -> Result<(), AllocError>
     words.push_str("]")
 }
 
-/// What came more than once.
+/// Appends the duplicate TSNs.
 fn put_duplicates(duplicates: &Tsns<'_>, words: &mut String) -> Result<(), AllocError> {
     let mut is_first = true;
     for tsn in duplicates.iter() {
@@ -114,7 +114,7 @@ fn put_duplicates(duplicates: &Tsns<'_>, words: &mut String) -> Result<(), Alloc
     Ok(())
 }
 
-/// A chunk that is told by its causes.
+/// Appends a chunk shown by its causes.
 fn put_causes(name: &str, causes: &Causes<'_>, words: &mut String) -> Result<(), AllocError> {
     words.push_str(name)?;
     let mut is_first = true;

@@ -1,4 +1,4 @@
-//! A pair to which the events of a script happen, and the rows that show them.
+//! Records the events of a pair as rows.
 
 use crate::lives::Lives;
 use crate::row::{Arrow, Call, Deed, Packet, Row, Taken};
@@ -7,7 +7,7 @@ use crate::waits::Waits;
 use sctp_pair::{Event, Outcome, Pair, PairConfig, Side, Ticket};
 use std::alloc::{AllocError, Global};
 
-/// A pair, and what is shown of what happened to it.
+/// A pair and the rows of its events.
 #[derive(Drop)]
 pub(crate) struct Recording {
     alloc: Global,
@@ -15,15 +15,15 @@ pub(crate) struct Recording {
     rows: Rows,
     lives: Lives,
     waits: Waits,
-    /// What strangers sent, first to last.
+    /// The packets of third parties, first to last.
     strange: Vec<Vec<u8>>,
 }
 
 impl Recording {
-    /// A pair to which nothing happened yet, and no row.
+    /// A new pair without rows.
     ///
     /// # Errors
-    /// Memory ran out.
+    /// An allocation failed.
     pub(crate) fn new(alloc: Global, config: PairConfig) -> Result<Recording, AllocError> {
         let pair = Pair::new(alloc, config).map_err(|_| AllocError)?;
         Ok(Recording {
@@ -36,10 +36,10 @@ impl Recording {
         })
     }
 
-    /// The first row shows how both ends stand.
+    /// Adds the first row, with the states of both endpoints.
     ///
     /// # Errors
-    /// Memory ran out.
+    /// An allocation failed.
     pub(crate) fn begin(&mut self) -> Result<(), AllocError> {
         self.rows.push(&self.pair, None, None, None)
     }
@@ -59,12 +59,12 @@ impl Recording {
         &self.lives
     }
 
-    /// The bytes of a packet, none where there is no such packet.
+    /// The bytes of a packet, none if there is no such packet.
     pub(crate) fn bytes(&self, packet: Packet) -> &[u8] {
         packet.bytes(&self.pair)
     }
 
-    /// What a stranger sent, none where there is no such number.
+    /// A third party's packet by its number, none if there is no such number.
     pub(crate) fn strange(&self, index: usize) -> &[u8] {
         match self.strange.get(index) {
             Some(bytes) => bytes.as_slice(),
@@ -72,10 +72,10 @@ impl Recording {
         }
     }
 
-    /// An event happens, and is shown. What chance gives for later isn't.
+    /// Makes an event and shows it. A `draw` isn't shown.
     ///
     /// # Errors
-    /// Memory ran out.
+    /// An allocation failed.
     pub(crate) fn record(&mut self, event: &Event) -> Result<(), AllocError> {
         let Ok(outcome) = self.pair.step(event) else {
             return Err(AllocError);
@@ -102,18 +102,18 @@ impl Recording {
         }
     }
 
-    /// A moment comes, for both ends.
+    /// Shows the time, at both endpoints.
     fn wait(&mut self, moment: u64) -> Result<(), AllocError> {
         let deed = Some(Deed::At { moment });
         self.rows.push(&self.pair, deed, deed, None)
     }
 
-    /// An end's user asks for something.
+    /// Shows a call of an endpoint's user.
     fn call(&mut self, side: Side, call: Call, outcome: &Outcome) -> Result<(), AllocError> {
         self.show(side, Some(Deed::of_call(call, outcome)), None)
     }
 
-    /// An end's user sends a message of so many bytes.
+    /// Shows that an endpoint's user sends a message of `length` bytes.
     fn send(
         &mut self,
         side: Side,
@@ -134,7 +134,7 @@ impl Recording {
         self.call(side, call, outcome)
     }
 
-    /// An end's user gives up a message.
+    /// Shows that an endpoint's user abandons a message.
     fn abandon(&mut self, side: Side, ticket: Ticket, outcome: &Outcome) -> Result<(), AllocError> {
         let deed = match outcome {
             Outcome::Fate { fate } => Some(Deed::Abandoned {
@@ -146,7 +146,7 @@ impl Recording {
         self.show(side, deed, None)
     }
 
-    /// An end's user takes a message.
+    /// Shows that an endpoint's user takes a message.
     fn take(&mut self, side: Side, stream: u16, outcome: &Outcome) -> Result<(), AllocError> {
         let message = match outcome {
             Outcome::Message { message } => Some(Taken {
@@ -159,7 +159,7 @@ impl Recording {
         self.show(side, Some(Deed::Taken { stream, message }), None)
     }
 
-    /// A packet of an end leaves, or it has none.
+    /// Shows that a packet of an endpoint leaves, or that it has none.
     fn build(&mut self, side: Side, outcome: &Outcome) -> Result<(), AllocError> {
         match outcome {
             Outcome::Sent { number, .. } => {
@@ -175,7 +175,7 @@ impl Recording {
         }
     }
 
-    /// A packet comes to the other end.
+    /// Shows that a packet arrives at the other endpoint.
     fn deliver(&mut self, side: Side, number: u32, outcome: &Outcome) -> Result<(), AllocError> {
         let number = number as usize;
         let packet = Packet { side, number };
@@ -197,7 +197,7 @@ impl Recording {
         self.answer(to, outcome)
     }
 
-    /// A stranger's bytes come to an end.
+    /// Shows that a third party's packet arrives at an endpoint.
     fn meet(&mut self, to: Side, bytes: &[u8], outcome: &Outcome) -> Result<(), AllocError> {
         if Deed::of_drop(outcome).is_none() {
             self.waits.came(to, bytes, self.pair.clock());
@@ -213,7 +213,7 @@ impl Recording {
         self.answer(to, outcome)
     }
 
-    /// An end's user ends the association, and its packet leaves.
+    /// Shows that an endpoint's user aborts the association, and that its packet leaves.
     fn abort(&mut self, side: Side, outcome: &Outcome) -> Result<(), AllocError> {
         let deed = Deed::of_call(Call::Abort, outcome);
         match outcome {
@@ -222,7 +222,7 @@ impl Recording {
         }
     }
 
-    /// The packet by which an end answers what came leaves, if there is one.
+    /// Shows the packet with which an endpoint answers, if there is one.
     fn answer(&mut self, side: Side, outcome: &Outcome) -> Result<(), AllocError> {
         match outcome {
             Outcome::Answer { number, .. } => self.leave(side, *number, None),
@@ -230,14 +230,14 @@ impl Recording {
         }
     }
 
-    /// A packet of an end leaves.
+    /// Shows that a packet of an endpoint leaves.
     fn leave(&mut self, side: Side, number: usize, deed: Option<Deed>) -> Result<(), AllocError> {
         self.lives.begin(side, self.rows.len())?;
         let packet = Packet { side, number };
         self.show(side, deed, Some(Arrow::Leaves { packet }))
     }
 
-    /// A row shows what an end did.
+    /// Adds a row for what an endpoint did.
     fn show(
         &mut self,
         side: Side,

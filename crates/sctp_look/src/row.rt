@@ -1,54 +1,54 @@
-//! The rows of a picture: what happened, in the order of the run.
+//! The rows of a picture, in the order of the run.
 
 use sctp_pair::{Abandoned, Outcome, Pair, Reason, Refusal, Side};
 use sctp_terms::{End, State};
 
-/// A row: an event, or the packet by which an end answered it.
+/// A row: an event, or the packet with which an endpoint answered it.
 #[derive(Clone, Copy)]
 pub(crate) struct Row {
-    /// The moment, in milliseconds.
+    /// The time, in milliseconds.
     pub(crate) moment: u64,
-    /// Whether it is the first row of its moment.
+    /// Whether it is the first row of its time.
     pub(crate) begins: bool,
     pub(crate) at_a: Note,
     pub(crate) at_b: Note,
     pub(crate) arrow: Option<Arrow>,
 }
 
-/// What stands beside an end: what it did or what was done to it, and the state that begins.
+/// What is shown beside an endpoint: what it did or what happened to it, and the state that begins.
 #[derive(Clone, Copy)]
 pub(crate) struct Note {
     pub(crate) deed: Option<Deed>,
     pub(crate) begun: Option<Standing>,
 }
 
-/// The state of an end, and how it ended.
+/// The state of an endpoint, and how its association ended.
 #[derive(Clone, Copy, PartialEq, Eq)]
 pub(crate) struct Standing {
     pub(crate) state: State,
     pub(crate) ended: Option<End>,
 }
 
-/// What an end did, or what was done to it.
+/// What an endpoint did, or what happened to it.
 #[derive(Clone, Copy)]
 pub(crate) enum Deed {
     At { moment: u64 },
     Call(Call),
     Refused { call: Call, refusal: Refusal },
-    /// A packet leaves with a SACK that waited so long, in milliseconds.
+    /// A packet leaves with a SACK that was delayed by this many milliseconds.
     Waited { wait: u64 },
-    /// Asked for a packet, it had none.
+    /// It was asked for a packet and had none.
     Quiet,
-    /// A packet is to be delivered that there isn't.
+    /// A packet was to be delivered that doesn't exist.
     Absent { packet: Packet },
-    /// A packet came, and was dropped.
+    /// A packet arrived and was dropped.
     Dropped { reason: Reason },
     Abandoned { ticket: u64, fate: Abandoned },
     Taken { stream: u16, message: Option<Taken> },
 }
 
 impl Deed {
-    /// That what came was dropped, if it was.
+    /// The drop, if the packet that arrived was dropped.
     pub(crate) fn of_drop(outcome: &Outcome) -> Option<Deed> {
         match outcome {
             Outcome::Dropped { reason } => Some(Deed::Dropped { reason: *reason }),
@@ -68,7 +68,7 @@ impl Deed {
     }
 }
 
-/// What an end's user asked for that may be refused.
+/// A call of an endpoint's user that may be refused.
 #[derive(Clone, Copy)]
 pub(crate) enum Call {
     Open,
@@ -79,7 +79,7 @@ pub(crate) enum Call {
         stream: u16,
         ordered: bool,
         length: usize,
-        /// The ticket of a message that was accepted.
+        /// The ticket of the accepted message.
         ticket: Option<u64>,
     },
 }
@@ -92,7 +92,7 @@ pub(crate) struct Taken {
     pub(crate) length: usize,
 }
 
-/// A packet of an end, counted from 1.
+/// A packet of an endpoint, counted from 1.
 #[derive(Clone, Copy, PartialEq, Eq)]
 pub(crate) struct Packet {
     pub(crate) side: Side,
@@ -100,7 +100,7 @@ pub(crate) struct Packet {
 }
 
 impl Packet {
-    /// Its bytes at this pair, none where there is no such packet.
+    /// Its bytes in this pair, none if there is no such packet.
     pub(crate) fn bytes(self, pair: &Pair) -> &[u8] {
         match u32::try_from(self.number) {
             Ok(number) => pair.packet(self.side, number).unwrap_or(&[]),
@@ -109,20 +109,20 @@ impl Packet {
     }
 }
 
-/// What goes between the ends.
+/// What goes between the endpoints.
 #[derive(Clone, Copy)]
 pub(crate) enum Arrow {
-    /// A packet leaves, and comes later or never.
+    /// A packet leaves, and arrives later or never.
     Leaves { packet: Packet },
-    /// A packet leaves, and comes at once.
+    /// A packet leaves, and arrives at once.
     Crosses { packet: Packet },
-    /// A packet comes that left before, for the `time`-th time.
+    /// A packet that left before arrives, for the `time`-th time.
     Comes { packet: Packet, time: u32 },
-    /// The stranger's bytes of this number, counted from 0, come to an end.
+    /// A third party's packet, by its number from 0, arrives at an endpoint.
     Strange { to: Side, index: usize },
 }
 
-/// What becomes of a packet: the row, counted from 0, in which it leaves, and how often it comes.
+/// What becomes of a packet: the row in which it leaves, counted from 0, and how often it arrives.
 #[derive(Clone, Copy)]
 pub(crate) struct Life {
     pub(crate) left: usize,

@@ -1,10 +1,10 @@
-//! The rows of a picture as they grow, event by event.
+//! Collects the rows of a picture, event by event.
 
 use crate::row::{Arrow, Deed, Note, Packet, Row, Standing};
 use sctp_pair::{Pair, Side};
 use std::alloc::{AllocError, Global};
 
-/// The rows, and how both ends stood when they were last shown.
+/// The rows, and the states of both endpoints as last shown.
 #[derive(Drop)]
 pub(crate) struct Rows {
     rows: Vec<Row>,
@@ -13,7 +13,7 @@ pub(crate) struct Rows {
 }
 
 impl Rows {
-    /// Before the first row.
+    /// No row.
     pub(crate) fn new(alloc: Global) -> Rows {
         Rows {
             rows: Vec::new(alloc),
@@ -27,15 +27,15 @@ impl Rows {
         &self.rows
     }
 
-    /// How many there are.
+    /// The number of rows.
     pub(crate) fn len(&self) -> usize {
         self.rows.len()
     }
 
-    /// Appends a row: the moment of the pair, what both ends did, how they stand if that is new, and what goes between them.
+    /// Appends a row: the time of the pair, what both endpoints did, their states if these are new, and what goes between them.
     ///
     /// # Errors
-    /// Memory ran out.
+    /// An allocation failed.
     pub(crate) fn push(
         &mut self,
         pair: &Pair,
@@ -56,10 +56,10 @@ impl Rows {
         Ok(())
     }
 
-    /// Appends a row in which one end did something.
+    /// Appends a row in which one endpoint did something.
     ///
     /// # Errors
-    /// Memory ran out.
+    /// An allocation failed.
     pub(crate) fn push_at(
         &mut self,
         pair: &Pair,
@@ -73,7 +73,7 @@ impl Rows {
         }
     }
 
-    /// Whether the last row shows that the packet leaves.
+    /// Whether the last row shows this packet leaving.
     pub(crate) fn has_just_left(&self, packet: Packet) -> bool {
         match self.rows.last().and_then(|row| row.arrow) {
             Some(Arrow::Leaves { packet: last }) => last == packet,
@@ -81,7 +81,7 @@ impl Rows {
         }
     }
 
-    /// The packet that leaves in the last row comes in it too.
+    /// Shows that the packet that leaves in the last row arrives in the same row.
     pub(crate) fn join(&mut self, pair: &Pair, packet: Packet, deed: Option<Deed>) {
         let to = packet.side.other();
         let note = self.note(pair, to, deed);
@@ -94,7 +94,7 @@ impl Rows {
         }
     }
 
-    /// What an end did, and how it stands if it stood otherwise when that was last shown.
+    /// What an endpoint did, and its state if that isn't the one last shown.
     fn note(&mut self, pair: &Pair, side: Side, deed: Option<Deed>) -> Note {
         let end = pair.end(side);
         let standing = Standing {

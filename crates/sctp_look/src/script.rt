@@ -1,4 +1,4 @@
-//! A script, read line by line; each line happens before the next one is read.
+//! Reads a script line by line and makes each line's event before the next line is read.
 
 ghost use Rattle.std.specs.Prelude.{◌≡◌, true, ◌-◌, ◌^◌, ◌<◌, ◌≤◌, IfOk, OnOk};
 ghost use Rattle.sctp_text.specs.declared.limits.TheConstants.{LONGEST_TEXT};
@@ -10,7 +10,7 @@ use sctp_text::{LineReader, NextLine, ReadFault, Source};
 use sctp_words::{LineError, LineFault};
 use std::alloc::Global;
 
-/// What was read of a script: the pair and what happened to it, once there is one, and the number of the next line.
+/// The state of reading a script: the recorded pair, once there is one, and the number of the next line.
 #[derive(Drop)]
 pub(crate) struct Reading {
     alloc: Global,
@@ -30,7 +30,7 @@ impl Reading {
         }
     }
 
-    /// What happened, if there is a pair.
+    /// The recording, if there is a pair.
     pub(crate) fn run(&self) -> Option<&Recording> {
         self.run.as_ref()
     }
@@ -38,8 +38,8 @@ impl Reading {
     /// Reads all lines.
     ///
     /// # Errors
-    /// `Line` at the first line that has a fault: what stands before it happened. A script in which no line acts has one at line 1. `Read`
-    /// where a call of the reader failed, and `NoMemory`.
+    /// `Line` at the first line with a fault: the lines before it have taken effect. A script in which no line acts has one at line 1. `Read`
+    /// if a call of the reader failed, `NoMemory` if an allocation did.
     pub(crate) fn read<R: Source>(&mut self, input: &mut R) -> Result<(), LookFault>
         requires { R.failures input.old < 2 ^ 64 - 1 }
     {
@@ -54,7 +54,7 @@ impl Reading {
         }
     }
 
-    /// Reads the next line, which happens. Answers whether the input may go on.
+    /// Reads the next line and makes its event. Returns whether the input may go on.
     fn read_next<R: Source>(&mut self, input: &mut R) -> Result<bool, LookFault>
         requires { R.failures input.old < 2 ^ 64 - 1 }
         ensures well { OnOk result (R.failures input.new ≡ R.failures input.old) }
@@ -76,7 +76,7 @@ impl Reading {
         }
     }
 
-    /// How both ends stand is shown, where there is a pair.
+    /// Shows the first states of both endpoints, if there is a pair.
     fn begin(&mut self) -> Result<(), LookFault> {
         if let Some(run) = &mut self.run {
             run.begin()?;
@@ -84,7 +84,7 @@ impl Reading {
         Ok(())
     }
 
-    /// What a line says happens.
+    /// Makes the event of a line.
     fn happen(&mut self, line: &[u8]) -> Result<(), LookFault> {
         match read_line(self.alloc, line, self.run.is_some()) {
             Ok(None) => Ok(()),

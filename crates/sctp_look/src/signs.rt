@@ -1,26 +1,26 @@
-//! The signs of which a ladder is drawn, and its colours.
+//! The signs and colours of a ladder.
 
-/// The signs of a ladder, each of them one column wide.
+/// The signs of a ladder, each one column wide.
 pub(crate) struct Signs {
-    /// The line of an end's life.
+    /// A lifeline.
     pub(crate) line: &'static str,
-    /// The same where a packet of A leaves it.
+    /// A lifeline from which a packet of A leaves.
     pub(crate) from_a: &'static str,
-    /// The same where a packet of B leaves it.
+    /// A lifeline from which a packet of B leaves.
     pub(crate) from_b: &'static str,
     /// An arrow, and its heads.
     pub(crate) dash: &'static str,
     pub(crate) to_a: &'static str,
     pub(crate) to_b: &'static str,
-    /// An arrow on its way between two rows.
+    /// An arrow that continues in another row.
     pub(crate) gap: &'static str,
-    /// An arrow that ends nowhere.
+    /// An arrow that never arrives.
     pub(crate) lost: &'static str,
     /// Words that are cut.
     pub(crate) cut: &'static str,
 }
 
-/// The signs for terminals that show every letter.
+/// The signs for terminals with Unicode.
 pub(crate) static PLAIN: Signs = Signs {
     line: "│",
     from_a: "├",
@@ -33,7 +33,7 @@ pub(crate) static PLAIN: Signs = Signs {
     cut: "…",
 };
 
-/// The signs for terminals that show ASCII alone.
+/// The signs for terminals with ASCII only.
 pub(crate) static ASCII: Signs = Signs {
     line: "|",
     from_a: "|",
@@ -46,21 +46,21 @@ pub(crate) static ASCII: Signs = Signs {
     cut: "~",
 };
 
-/// What a part of a ladder tells, by which it has its colour.
+/// The meaning of a part of a ladder, which determines its colour.
 #[derive(Clone, Copy)]
 pub(crate) enum Tone {
-    /// What goes as it should.
+    /// Normal.
     Quiet,
     /// A state that begins.
     State,
-    /// What is lost, dropped or refused.
+    /// Lost, dropped or refused.
     Loss,
-    /// What comes from a stranger, or comes again.
+    /// From a third party, or arriving again.
     Strange,
 }
 
 impl Tone {
-    /// What begins the colour in a terminal: nothing where there is none.
+    /// The sequence that begins the colour in a terminal, empty for none.
     pub(crate) fn begin(self) -> &'static str {
         match self {
             Tone::Quiet => "",
@@ -70,7 +70,7 @@ impl Tone {
         }
     }
 
-    /// What ends it.
+    /// The sequence that ends the colour.
     pub(crate) fn end(self) -> &'static str {
         match self {
             Tone::Quiet => "",

@@ -1,5 +1,5 @@
-//! A run as a drawing: the rows of the ladder, 26 units each, with an arrow from the row where a packet leaves to each row where it comes.
-//! All arrows stand under all words. Every number is whole, every word is fixed or a number; no text is measured.
+//! Draws a run as SVG: the rows of the ladder, 26 units each, with an arrow from the row in which a packet leaves to each row in which it
+//! arrives. All arrows are under all words. Every number is an integer, every word is fixed or a number; no text is measured.
 
 mod strokes;
 mod words;
@@ -11,28 +11,28 @@ use std::alloc::AllocError;
 pub(crate) use strokes::put_stroke;
 pub(crate) use words::put_words;
 
-/// Where the lines of life stand, and the middle between them.
+/// The positions of the two lifelines, and the middle between them.
 const A_LINE: usize = 300;
 
 const B_LINE: usize = 800;
 
 const MIDDLE: usize = 550;
-/// The height of a row, and where the first one stands.
+/// The height of a row, and the position of the first one.
 const ROW: usize = 26;
 
 const FIRST: usize = 52;
 
-/// What stands first of all, behind the sizes: the looks, an arrow's heads (a packet's and a stranger's), and the ground.
+/// The beginning of the drawing after its sizes: styles, the arrow heads (a packet's and a third party's), and the background.
 const LOOKS: &str =
     "<style>.l{stroke:#888}.p{stroke:#1668b8;fill:none;marker-end:url(#h)}.d{stroke-dasharray:5 4}.f{stroke:#b60;stroke-dasharray:2 3;marker-end:url(#g)}.x{stroke:#b22;marker-end:none}.s{fill:#060;font-weight:bold}.q{fill:#b22}.m{fill:#666}.n{font-size:10px}.w{fill:#fff;stroke:#fff;stroke-width:5;stroke-linejoin:round;text-decoration:line-through}</style>
 <defs><marker id=\"h\" markerWidth=\"9\" markerHeight=\"9\" refX=\"8\" refY=\"4\" orient=\"auto\"><path d=\"M0,0L9,4L0,8z\" fill=\"#1668b8\"/></marker><marker id=\"g\" markerWidth=\"9\" markerHeight=\"9\" refX=\"8\" refY=\"4\" orient=\"auto\"><path d=\"M0,0L9,4L0,8z\" fill=\"#b60\"/></marker></defs>
 <rect width=\"100%\" height=\"100%\" fill=\"#fff\"/>
 ";
 
-/// Appends what stands before so many rows.
+/// Appends the beginning of a drawing of this many rows.
 ///
 /// # Errors
-/// Memory ran out.
+/// An allocation failed.
 pub(crate) fn put_head(rows: usize, out: &mut String) -> Result<(), AllocError> {
     let end = height_of(rows);
     let height = end.saturating_add(ROW);
@@ -45,7 +45,7 @@ pub(crate) fn put_head(rows: usize, out: &mut String) -> Result<(), AllocError> 
     put_line_of_life("B", B_LINE, end, out)
 }
 
-/// Appends the name of an end and the line of its life.
+/// Appends the name of an endpoint and its lifeline.
 fn put_line_of_life(name: &str, x: usize, end: usize, out: &mut String) -> Result<(), AllocError> {
     write!(
         &mut *out,
@@ -57,20 +57,20 @@ fn put_line_of_life(name: &str, x: usize, end: usize, out: &mut String) -> Resul
     )
 }
 
-/// Appends what stands behind all rows.
+/// Appends the end of the drawing.
 ///
 /// # Errors
-/// Memory ran out.
+/// An allocation failed.
 pub(crate) fn put_foot(out: &mut String) -> Result<(), AllocError> {
     out.push_str("</svg>\n")
 }
 
-/// The height at which a row stands.
+/// The vertical position of a row.
 fn height_of(index: usize) -> usize {
     index.saturating_mul(ROW).saturating_add(FIRST)
 }
 
-/// The line of life of an end.
+/// The horizontal position of an endpoint's lifeline.
 fn line_of(side: Side) -> usize {
     match side {
         Side::A => A_LINE,

@@ -1,11 +1,11 @@
-//! Words that are cut, and signs in a row.
+//! Cuts words to a number of columns, and repeats signs.
 
 use std::alloc::AllocError;
 
-/// Appends words of one column for each letter, or their beginning and the sign that they are cut. Answers how many columns that takes.
+/// Appends words, one column a letter; if they are too long, their beginning and the sign for that. Returns the number of columns used.
 ///
 /// # Errors
-/// Memory ran out.
+/// An allocation failed.
 pub(crate) fn put_cut(
     words: &str,
     room: usize,
@@ -26,10 +26,10 @@ pub(crate) fn put_cut(
     Ok(room)
 }
 
-/// Appends a text so many times.
+/// Appends a text `count` times.
 ///
 /// # Errors
-/// Memory ran out.
+/// An allocation failed.
 pub(crate) fn put_times(text: &str, count: usize, out: &mut String) -> Result<(), AllocError> {
     for _ in 0..count {
         out.push_str(text)?;

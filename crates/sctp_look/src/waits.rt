@@ -1,10 +1,10 @@
-//! How long a SACK waited: from the moment of the first packet that it acknowledges to its own (RFC 9260, 6.2).
+//! How long a SACK was delayed: from the arrival of the first packet that it acknowledges (RFC 9260, 6.2).
 
 use sctp_packet::read_packet;
 use sctp_pair::Side;
 use sctp_wire::Chunk;
 
-/// Since when each end of a pair owes a SACK, in milliseconds. In a pair whose SACKs don't wait nothing is noted.
+/// Since when each endpoint of a pair owes a SACK, in milliseconds. Nothing is noted in a pair without delayed SACKs.
 #[derive(Clone, Copy)]
 pub(crate) struct Waits {
     noted: bool,
@@ -13,7 +13,7 @@ pub(crate) struct Waits {
 }
 
 impl Waits {
-    /// Neither end owes one.
+    /// Neither endpoint owes a SACK.
     pub(crate) fn new(noted: bool) -> Waits {
         Waits {
             noted,
@@ -22,7 +22,7 @@ impl Waits {
         }
     }
 
-    /// A packet came to an end, and wasn't dropped.
+    /// Notes that a packet has arrived at an endpoint and wasn't dropped.
     pub(crate) fn came(&mut self, to: Side, packet: &[u8], moment: u64) {
         if self.noted && holds(packet, Sought::Acknowledged) {
             let since = self.since(to);
@@ -30,7 +30,7 @@ impl Waits {
         }
     }
 
-    /// A packet leaves an end: how long a SACK in it waited, if it did.
+    /// Notes that a packet leaves an endpoint. Returns how long a SACK in it was delayed, if it was.
     pub(crate) fn left(&mut self, from: Side, packet: &[u8], moment: u64) -> Option<u64> {
         if !holds(packet, Sought::Sack) {
             return None;
@@ -43,7 +43,7 @@ impl Waits {
         }
     }
 
-    /// Since when this end owes one.
+    /// Since when this endpoint owes a SACK.
     fn since(&mut self, side: Side) -> &mut Option<u64> {
         match side {
             Side::A => &mut self.at_a,
@@ -52,10 +52,10 @@ impl Waits {
     }
 }
 
-/// What is looked for among the chunks of a packet.
+/// The kinds of chunks that are looked for in a packet.
 #[derive(Clone, Copy)]
 enum Sought {
-    /// What a SACK acknowledges.
+    /// DATA, I-DATA and FORWARDs: what a SACK acknowledges.
     Acknowledged,
     Sack,
 }

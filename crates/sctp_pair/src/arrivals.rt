@@ -1,4 +1,4 @@
-//! What comes to an end: a packet of the bag across, or a stranger's bytes.
+//! A packet arrives at an endpoint: one of the other endpoint's bag, or a third party's.
 
 ghost use Rattle.std.specs.Prelude.{◌≡◌, List, Option, None, MatchOption};
 ghost use Rattle.sctp_model.specs.numbers.Lists.{item_at};
@@ -20,7 +20,7 @@ use sctp_events::Outcome;
 use sctp_terms::Draw;
 use sctp_values::NoMemory;
 
-/// The packet with this number in a bag, counted from 1.
+/// The packet with this number in a bag, counted from 1. None if there is none.
 pub(crate) fn packet_at(bag: &[Vec<u8>], number: u32) -> Option<&[u8]>
     ensures { (ps : List Packet) → ArePackets bag.now ps → MatchOption result (item_at ps number ≡ None) (λ bytes. IsItem ps number bytes.now) }
 {
@@ -31,10 +31,10 @@ pub(crate) fn packet_at(bag: &[Vec<u8>], number: u32) -> Option<&[u8]>
     Some(bag[index - 1].as_slice())
 }
 
-/// Something comes to the end; its answer goes into the bag. The room for that is made first.
+/// Bytes arrive at the endpoint; its answer is added to its bag, for which space is reserved first.
 ///
 /// # Errors
-/// Memory ran out: the packet is cut before some chunk.
+/// An allocation failed: the chunks before the failing one have taken effect.
 #[tactic(auto, unfolding(crate::specs::Sides::SideStands))]
 pub(crate) fn arrive(
     side: &mut OneSide,
@@ -46,12 +46,12 @@ pub(crate) fn arrive(
         → w.clock ≡ clock → w.draw ≡ draw
         → (h : SideView) × Step w e (answer_of result) (left w s h) × SideStands side.new h }
 {
-    // It does nothing: its contract is the law by which what was written reads.
+    // law: a packet that was written reads back
     written_packet_reads();
-    // It does nothing: its contract is that the end is sound.
+    // law: the endpoint is sound
     side.end.sound();
     if side.bag.reserve(1).is_err() {
-        tell(&mut side.end, clock, draw);
+        pass_time(&mut side.end, clock, draw);
         return Err(NoMemory);
     }
     match side.end.handle_packet(clock, bytes, draw)? {
@@ -68,8 +68,8 @@ pub(crate) fn arrive(
     }
 }
 
-/// Tells an end the moment, and nothing else: by bytes that are no packet, which takes no memory.
-fn tell(end: &mut Endpoint, clock: u64, draw: Draw)
+/// Advances an endpoint's clock and nothing else: by bytes that are no packet, which allocates nothing.
+fn pass_time(end: &mut Endpoint, clock: u64, draw: Draw)
     ensures { (v : EndView) → EndpointStands end.old v → EndpointStands end.new (at_moment v clock) }
 {
     let _dropped = end.handle_packet(clock, &[], draw);

@@ -1,4 +1,4 @@
-//! Each thing that may happen to a pair.
+//! The step of each kind of event.
 
 ghost use Rattle.std.specs.Prelude.{Option, Some, OnErr};
 ghost use Rattle.sctp_model.specs.wire.Packet.{Packet};
@@ -22,16 +22,17 @@ use sctp_values::NoMemory;
 
 #[tactic(auto, unfolding(crate::specs::PairStands::PairStands))]
 impl Pair {
-    /// Both ends are opened without a packet, unless one has called or something came to one. Both are made before either is put in.
+    /// Opens both endpoints without a packet, unless A has called or something has arrived at one of them. Both are made before either is
+    /// replaced.
     ///
     /// # Errors
-    /// Memory ran out, and nothing changed.
+    /// An allocation failed; nothing has changed.
     pub(crate) fn open(&mut self, a: Draw, b: Draw) -> Result<Outcome, NoMemory>
         ensures step { (w : World) → PairStands self.old w
             → (x : World) × Step w (meaning.OpenBoth a b) (answer_of result) x × PairStands self.new x }
         ensures memory { (w : World) → PairStands self.old w → OnErr result (TakesMemory w (meaning.OpenBoth a b)) }
     {
-        // It does nothing: its contract is the law that nothing is noted of an end that is opened.
+        // law: the logs of an endpoint that is opened are empty
         new_ends_have_no_logs();
         if !self.openable {
             return refused(Refusal::State);
@@ -50,11 +51,11 @@ impl Pair {
         Ok(Outcome::Done)
     }
 
-    /// The clock goes on, and both ends are told the moment; what it abandons is noted. A moment before the latest counts as that one. The room
-    /// for both notes is made before either end is told.
+    /// Advances the clock and notifies both endpoints; messages whose lifetime ends are logged as abandoned. A time before the clock counts as
+    /// the clock's. Space for both logs is reserved before either endpoint is notified.
     ///
     /// # Errors
-    /// Memory ran out, and nothing changed.
+    /// An allocation failed; nothing has changed.
     pub(crate) fn pass_time(&mut self, moment: u64) -> Result<Outcome, NoMemory>
         ensures step { (w : World) → PairStands self.old w
             → (x : World) × Step w (meaning.At moment) (answer_of result) x × PairStands self.new x }
@@ -69,7 +70,7 @@ impl Pair {
         Ok(Outcome::Done)
     }
 
-    /// What an end draws from now on.
+    /// Sets the random values (tag and initial TSN) for INITs that arrive from now on.
     pub(crate) fn set_draw(&mut self, draw: Draw) -> Outcome
         ensures { (w : World) → PairStands self.old w
             → (x : World) × Step w (meaning.Drawing draw) (Some (outcome_meaning result)) x × PairStands self.new x }
@@ -79,12 +80,12 @@ impl Pair {
         Outcome::Done
     }
 
-    /// A calls.
+    /// A calls B.
     pub(crate) fn connect(&mut self, draw: Draw) -> Outcome
         ensures { (w : World) → PairStands self.old w
             → (x : World) × Step w (meaning.Connect draw) (Some (outcome_meaning result)) x × PairStands self.new x }
     {
-        // It does nothing: its contract is that the end is sound.
+        // law: the endpoint is sound
         self.a.end.sound();
         let _tag = draw.tag();
         match self.a.end.connect(self.clock, draw) {
@@ -98,10 +99,10 @@ impl Pair {
         }
     }
 
-    /// An end is asked for its next packet.
+    /// Asks an endpoint for its next packet.
     ///
     /// # Errors
-    /// Memory ran out, and nothing changed.
+    /// An allocation failed; nothing has changed.
     pub(crate) fn build(&mut self, side: Side) -> Result<Outcome, NoMemory>
         ensures { (w : World) → PairStands self.old w
             → (x : World) × Step w (meaning.Build (side_meaning side)) (answer_of result) x × PairStands self.new x }
@@ -112,10 +113,10 @@ impl Pair {
         }
     }
 
-    /// A packet of an end's bag comes to the other end.
+    /// Delivers a packet of an endpoint's bag to the other endpoint.
     ///
     /// # Errors
-    /// Memory ran out: the packet is cut before some chunk.
+    /// An allocation failed: the chunks before the failing one have taken effect.
     pub(crate) fn deliver(&mut self, side: Side, number: u32) -> Result<Outcome, NoMemory>
         ensures step { (w : World) → PairStands self.old w
             → (x : World) × Step w (meaning.Deliver (side_meaning side) number) (answer_of result) x × PairStands self.new x }
@@ -139,16 +140,16 @@ impl Pair {
         }
     }
 
-    /// A stranger's bytes come to an end.
+    /// Delivers a third party's bytes to an endpoint.
     ///
     /// # Errors
-    /// Memory ran out: the packet is cut before some chunk.
+    /// An allocation failed: the chunks before the failing one have taken effect.
     pub(crate) fn foreign(&mut self, side: Side, bytes: &[u8]) -> Result<Outcome, NoMemory>
         ensures { (w : World) → PairStands self.old w
             → (p : Option Packet) × (x : World) × IsRead bytes.now p
             × Step w (meaning.Foreign (side_meaning side) p) (answer_of result) x × PairStands self.new x }
     {
-        // It does nothing: its contract is the law that bytes read as a packet or have a fault.
+        // law: bytes read as a packet or have a fault
         one_packet();
         self.openable = false;
         match side {

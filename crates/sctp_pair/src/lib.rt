@@ -1,5 +1,32 @@
-//! Two ends of an association, all that either ever gave to the network, what is noted of their users, and what is promised of them, whatever
-//! happens.
+//! Two endpoints, every packet that either has given to the network, and a log of what their users sent and took: the theorem about two
+//! endpoints as a promise of running code.
+//!
+//! `Pair` is the model's world of two ends (`sctp_model/specs/world`) in code. Every contract speaks of all worlds that a pair stands for
+//! (`PairStands`): each endpoint stands for that world's end; the packets in each *bag*, which are those that an endpoint has given to
+//! the network, are byte for byte what was written for that world's packets and read as these (`Carries` of `specs/Sides`); and so it is of
+//! the logs, the clock, the random values for INITs that arrive, and whether both endpoints may still be opened without packets.
+//!
+//! # Promises
+//!
+//! - `Pair::new` and `Pair::with_key` make a caller A and a listener B, whose cookies are sealed with the key of bytes 0 to 31, or with the
+//!   given key.
+//! - `Pair::step` makes one step of the world and returns what that step answers: an endpoint opened, time, random values, a call, a packet
+//!   built, one of a bag delivered, a third party's packet, a message sent, abandoned or taken, shutdown, abort. If an allocation fails, an
+//!   arriving packet has taken effect up to the failing chunk, and any other event has changed nothing; only events that allocate can fail
+//!   so (`TakesMemory` of `specs/Memory`), never random values, a call or a shutdown.
+//! - `Pair::run` makes the steps of several events and returns their answers.
+//! - **Both promise that the association is safe** (`Promised` of `specs/PairRuns`): if the course of the pair from its start meets the three
+//!   premises (FRESH: no third party's packet carries a tag that an endpoint generates in the run, or an INIT that proposes one;
+//!   UNFORGED: none has a COOKIE ECHO with a cookie that the listener's key seals; AGED: no packet is delivered after either endpoint has
+//!   assigned 2^31 - 65,536 more TSNs than when it was built), then in each world on the way both directions are safe: each message
+//!   delivered is one that the peer sent on that stream, whole, at most once, ordered ones in their order; and once an endpoint has
+//!   completed its association, no message that was given a TSN is missing.
+//! - `premises_are_the_keys` states the first two premises in the words of the listener's key.
+//! - `Pair::report` is the report of the world, byte for byte: for A and then for B the state and how the association ended, the tickets that
+//!   were given TSNs, those abandoned, and what was delivered on each stream, taken or not.
+//! - `Pair::end`, `packet` and `clock` are an endpoint, a packet of a bag, the time.
+//!
+//! `docs/proofs/sctp_pair.md` has these promises in full, how they are proved, and what a body may still get away with.
 #![tactic(auto)]
 
 mod arrivals;

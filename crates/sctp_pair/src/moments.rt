@@ -1,4 +1,4 @@
-//! What a moment, or a call of `abandon`, makes of an end, and the note of what it abandons.
+//! Time and `abandon` at an endpoint, and the log of the messages that they abandon.
 
 ghost use Rattle.std.specs.Prelude.{◌≡◌, ◌+◌, ◌≤◌, ◌++◌, true, length, map, filter, vec_capacity, IfOk, OnErr};
 ghost use Rattle.sctp_model.specs.sender.Abandoning.{has_late};
@@ -21,11 +21,10 @@ use sctp_events::Outcome;
 use sctp_values::{NoMemory, Ticket};
 use std::alloc::Global;
 
-/// Makes room for the note of what a moment abandons, and answers the tickets to look at again after it: those that are late, since it abandons
-/// no other.
+/// Reserves space in the log for what a time abandons. Returns the tickets whose lifetime is over: it abandons no others.
 ///
 /// # Errors
-/// Memory ran out, and nothing changed.
+/// An allocation failed; nothing has changed.
 #[tactic(auto, unfolding(crate::specs::Sides::SideStands))]
 pub(crate) fn make_room(
     alloc: Global,
@@ -37,17 +36,17 @@ pub(crate) fn make_room(
     ensures memory { (v : SideView) → SideStands side.old v → OnErr result (has_late v.end.sender now ≡ true) }
     ensures room { IfOk result (λ before. length side.new.abandoned.items + length before.items ≤ vec_capacity side.new.abandoned) }
 {
-    // It does nothing: its contract is that the end is sound.
+    // law: the endpoint is sound
     side.end.sound();
     let before = late(alloc, &side.end, now)?;
     side.abandoned.reserve(before.len()).map_err(|_| NoMemory)?;
     Ok(before)
 }
 
-/// The tickets of messages that are past their time and may be abandoned, rising.
+/// The tickets of messages whose lifetime is over and that may be abandoned, rising.
 ///
 /// # Errors
-/// Memory ran out: some message is late then.
+/// An allocation failed; then there is such a message.
 fn late(alloc: Global, end: &Endpoint, now: u64) -> Result<Vec<Ticket>, NoMemory>
     ensures tickets { (v : EndView) → EndpointStands end.now v → IfOk result (λ tickets. map ticket_number tickets.items ≡ late_tickets v.sender now) }
     ensures memory { (v : EndView) → EndpointStands end.now v → OnErr result (has_late v.sender now ≡ true) }
@@ -66,19 +65,19 @@ fn late(alloc: Global, end: &Endpoint, now: u64) -> Result<Vec<Ticket>, NoMemory
     Ok(tickets)
 }
 
-/// A moment comes to the end; what it abandons is noted, for which there is room.
+/// Notifies the endpoint of the time and logs what that abandons, for which space is reserved.
 #[tactic(auto, unfolding(crate::specs::Sides::SideStands))]
 pub(crate) fn tick(side: &mut OneSide, before: &[Ticket], now: u64)
     requires { length side.old.abandoned.items + length before.now ≤ vec_capacity side.old.abandoned }
     ensures { (v : SideView) → SideStands side.old v → IsWatched v.end now before.now → SideStands side.new (ticked_side v now) }
 {
-    // It does nothing: its contract is that the end is sound.
+    // law: the endpoint is sound
     side.end.sound();
     side.end.on_moment(now);
     note(&side.end, &mut side.abandoned, before);
 }
 
-/// Notes which of these tickets are abandoned now; there is room for all of them.
+/// Logs which of these tickets are abandoned now; space for all of them is reserved.
 fn note(end: &Endpoint, log: &mut Vec<Ticket>, before: &[Ticket])
     requires { length log.old.items + length before.now ≤ vec_capacity log.old }
     ensures { (v : EndView) → EndpointStands end.now v
@@ -91,17 +90,17 @@ fn note(end: &Endpoint, log: &mut Vec<Ticket>, before: &[Ticket])
     }
 }
 
-/// The end's user gives up a message; where that abandons it, it is noted. The room for the note is made first.
+/// The endpoint's user abandons a message, which is logged if it has an effect. Space for the log is reserved first.
 ///
 /// # Errors
-/// Memory ran out, and nothing changed.
+/// An allocation failed; nothing has changed.
 #[tactic(auto, unfolding(crate::specs::Sides::SideStands))]
 pub(crate) fn abandon_at(side: &mut OneSide, ticket: Ticket) -> Result<Outcome, NoMemory>
     ensures step { (w : World) (s : world.Side) → SideStands side.old (side_of w s)
         → (h : SideView) × Step w (meaning.Abandon s ticket.0) (answer_of result) (with_side w s h) × SideStands side.new h }
     ensures memory { (w : World) (s : world.Side) → SideStands side.old (side_of w s) → OnErr result (TakesMemory w (meaning.Abandon s ticket.0)) }
 {
-    // It does nothing: its contract is that the end is sound.
+    // law: the endpoint is sound
     side.end.sound();
     if side.end.abandoned(ticket) {
         return Ok(Outcome::Fate {

@@ -1,4 +1,4 @@
-//! One side of a pair: its end, its bag and what is noted of its user, and what becomes of an event at it.
+//! One side of a pair: an endpoint, its bag and the log of its user's messages; the events at it.
 
 ghost use Rattle.std.specs.Prelude.{◌≡◌, ◌<◌, ◌+◌, ◌++◌, ◌∷◌, [], List, length, vec_capacity, Some, Option, IfOk, OnErr};
 ghost use Rattle.sctp_model.specs.wire.Packet.{Packet};
@@ -24,26 +24,26 @@ use sctp_values::{NoMemory, Ticket};
 use std::alloc::Global;
 use std::mem::replace;
 
-/// One side.
+/// An endpoint with its bag and its logs.
 #[derive(Drop)]
 pub(crate) struct OneSide {
     pub(crate) end: Endpoint,
-    /// Every packet that the end gave to the network, oldest first.
+    /// Every packet that the endpoint has given to the network, oldest first.
     pub(crate) bag: Vec<Vec<u8>>,
-    /// The tickets that took their numbers with each packet, by their first TSN.
+    /// The tickets of the messages that were given TSNs with each packet, by their first TSN.
     pub(crate) numbered: Vec<Vec<Ticket>>,
-    /// The tickets of the messages that were abandoned, in the order in which they were.
+    /// The tickets of the abandoned messages, in the order in which they were abandoned.
     pub(crate) abandoned: Vec<Ticket>,
-    /// What its user took from each stream: a log for each that it allows from its peer.
+    /// What its user has taken from each stream: a log for each stream that the peer may send on.
     pub(crate) taken: Vec<StreamLog>,
 }
 
 #[tactic(auto, unfolding(crate::specs::Sides::SideStands))]
 impl OneSide {
-    /// A side of which nothing is noted.
+    /// A side with an empty bag and empty logs.
     ///
     /// # Errors
-    /// Memory ran out.
+    /// An allocation failed.
     pub(crate) fn new(alloc: Global, end: Endpoint) -> Result<OneSide, NoMemory>
         ensures { (v : EndView) → EndpointStands end v → HasNoLogs v → IfOk result (λ side. SideStands side (record { end = v; bag = []; log = no_log })) }
     {
@@ -56,7 +56,7 @@ impl OneSide {
                 abandoned: Vec::new(alloc),
                 taken,
             }),
-            // Each place at which an end goes is proved: it goes here by name, and at no `?`.
+            // Each place that drops an endpoint is proved: it is dropped here by name, and at no `?`.
             Err(refused) => {
                 drop(end);
                 Err(refused)
@@ -64,7 +64,7 @@ impl OneSide {
         }
     }
 
-    /// Puts another end, of which nothing is noted, in place of the one that is there. The bag stays, and what was abandoned.
+    /// Replaces the endpoint by another one with empty logs. The bag and the log of abandoned messages stay.
     pub(crate) fn put_in(&mut self, alloc: Global, end: Endpoint)
         ensures { (v : SideView) (t : EndView) → SideStands self.old v → EndpointStands end t → HasNoLogs t → SideStands self.new (record v { end = t }) }
     {
@@ -74,7 +74,8 @@ impl OneSide {
     }
 }
 
-/// Puts a packet into a bag that has room for it. It keeps no more memory than its bytes take: an end takes a whole packet's with the second chunk.
+/// Adds a packet to a bag, in which space is reserved. The copy in the bag takes no more memory than its bytes; an endpoint reserves that of
+/// the largest packet with the second chunk.
 pub(crate) fn put_packet(bag: &mut Vec<Vec<u8>>, packet: Vec<u8>)
     requires { length bag.old.items < vec_capacity bag.old }
     ensures packets { (ps : List Packet) (p : Packet) → ArePackets bag.old.items ps → Carries packet.items p → ArePackets bag.new.items (ps ++ p ∷ []) }
@@ -85,18 +86,19 @@ pub(crate) fn put_packet(bag: &mut Vec<Vec<u8>>, packet: Vec<u8>)
     bag.push_reserved(packet);
 }
 
-/// The end is asked for its next packet, which goes into its bag; the tickets that it numbers are noted. The room for both is made first.
+/// Asks the endpoint for its next packet, which is added to its bag; the tickets that are given TSNs are logged. Space for both is reserved
+/// first.
 ///
 /// # Errors
-/// Memory ran out, and nothing changed.
+/// An allocation failed; nothing has changed.
 #[tactic(auto, unfolding(crate::specs::Sides::SideStands))]
 pub(crate) fn build_at(side: &mut OneSide, clock: u64) -> Result<Outcome, NoMemory>
     ensures { (w : World) (s : world.Side) → SideStands side.old (side_of w s) → w.clock ≡ clock
         → (h : SideView) × Step w (meaning.Build s) (answer_of result) (with_side w s h) × SideStands side.new h }
 {
-    // It does nothing: its contract is the law by which what was written reads.
+    // law: a packet that was written reads back
     written_packet_reads();
-    // It does nothing: its contract is that the end is sound.
+    // law: the endpoint is sound
     side.end.sound();
     side.bag.reserve(1).map_err(|_| NoMemory)?;
     side.numbered.reserve(1).map_err(|_| NoMemory)?;
@@ -115,10 +117,10 @@ pub(crate) fn build_at(side: &mut OneSide, clock: u64) -> Result<Outcome, NoMemo
     }
 }
 
-/// The end's user hands in a message; the end gets a copy of its bytes.
+/// The endpoint's user sends a message; the endpoint gets a copy of its bytes.
 ///
 /// # Errors
-/// Memory ran out, and nothing changed.
+/// An allocation failed; nothing has changed.
 #[tactic(auto, unfolding(crate::specs::Sides::SideStands))]
 pub(crate) fn send_at(
     alloc: Global,
@@ -132,7 +134,7 @@ pub(crate) fn send_at(
     ensures { (w : World) (s : world.Side) → SideStands side.old (side_of w s)
         → (h : SideView) × Step w (meaning.Send s (call_of (lane_for stream ordered) payload_id bytes.now until)) (answer_of result) (with_side w s h) × SideStands side.new h }
 {
-    // It does nothing: its contract is that the end is sound.
+    // law: the endpoint is sound
     side.end.sound();
     let copy = Vec::from_slice(alloc, bytes).map_err(|_| NoMemory)?;
     match side.end.send(stream, ordered, payload_id, copy, until) {
@@ -147,24 +149,24 @@ pub(crate) fn send_at(
     }
 }
 
-/// What is answered to a call that is refused.
+/// The outcome of a refused call.
 pub(crate) fn refused(refusal: Refusal) -> Result<Outcome, NoMemory>
     ensures { answer_of result ≡ Some (refusal_meaning refusal) }
 {
     Ok(Outcome::Refused { refusal })
 }
 
-/// The end's user takes the next message of a stream; that is noted. The room for the note is made first, where a message waits.
+/// The endpoint's user takes the next message of a stream, which is logged. If a message waits, space for the log is reserved first.
 ///
 /// # Errors
-/// Memory ran out, and nothing changed.
+/// An allocation failed; nothing has changed.
 #[tactic(auto, unfolding(crate::specs::Sides::SideStands))]
 pub(crate) fn take_at(alloc: Global, side: &mut OneSide, stream: u16) -> Result<Outcome, NoMemory>
     ensures step { (w : World) (s : world.Side) → SideStands side.old (side_of w s)
         → (h : SideView) × Step w (meaning.Take s stream) (answer_of result) (with_side w s h) × SideStands side.new h }
     ensures memory { (w : World) (s : world.Side) → SideStands side.old (side_of w s) → OnErr result (TakesMemory w (meaning.Take s stream)) }
 {
-    // It does nothing: its contract is that the end is sound.
+    // law: the endpoint is sound
     side.end.sound();
     let Some(_) = side.end.waiting(stream, 0) else {
         return Ok(Outcome::Empty);
@@ -179,13 +181,13 @@ pub(crate) fn take_at(alloc: Global, side: &mut OneSide, stream: u16) -> Result<
     }
 }
 
-/// The end's user has no more to send.
+/// The endpoint's user closes the association gracefully.
 #[tactic(auto, unfolding(crate::specs::Sides::SideStands))]
 pub(crate) fn shut_down(side: &mut OneSide) -> Outcome
     ensures { (w : World) (s : world.Side) → SideStands side.old (side_of w s)
         → (h : SideView) × Step w (meaning.Shutdown s) (Some (outcome_meaning result)) (with_side w s h) × SideStands side.new h }
 {
-    // It does nothing: its contract is that the end is sound.
+    // law: the endpoint is sound
     side.end.sound();
     match side.end.shutdown() {
         Ok(()) => Outcome::Done,
@@ -195,18 +197,18 @@ pub(crate) fn shut_down(side: &mut OneSide) -> Outcome
     }
 }
 
-/// The end's user ends the association at once; its ABORT goes into the bag. The room for that is made first.
+/// The endpoint's user aborts the association; the ABORT is added to the bag, in which space is reserved first.
 ///
 /// # Errors
-/// Memory ran out, and nothing changed.
+/// An allocation failed; nothing has changed.
 #[tactic(auto, unfolding(crate::specs::Sides::SideStands))]
 pub(crate) fn abort_at(side: &mut OneSide, reason: &[u8]) -> Result<Outcome, NoMemory>
     ensures { (w : World) (s : world.Side) → SideStands side.old (side_of w s)
         → (h : SideView) × Step w (meaning.Abort s reason.now) (answer_of result) (with_side w s h) × SideStands side.new h }
 {
-    // It does nothing: its contract is the law by which what was written reads.
+    // law: a packet that was written reads back
     written_packet_reads();
-    // It does nothing: its contract is that the end is sound.
+    // law: the endpoint is sound
     side.end.sound();
     side.bag.reserve(1).map_err(|_| NoMemory)?;
     match side.end.abort(reason) {

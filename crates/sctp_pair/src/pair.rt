@@ -1,4 +1,4 @@
-//! Two ends, and the packets between them.
+//! Two endpoints and the packets between them.
 
 ghost use Rattle.std.specs.Prelude.{◌≡◌, None, MatchOption, IfOk, OnErr};
 ghost use Rattle.sctp_model.specs.numbers.Lists.{item_at};
@@ -30,14 +30,14 @@ use sctp_terms::Draw;
 use sctp_values::NoMemory;
 use std::alloc::Global;
 
-/// The key of a pair that is made without one: the bytes 0 to 31.
+/// The listener's key, unless another is given: the bytes 0 to 31.
 const PAIR_KEY: [u8; 32] = [
     0, 1, 2, 3, 4, 5, 6, 7, 8, 9, 10, 11, 12, 13, 14, 15, 16, 17, 18, 19, 20, 21, 22, 23, 24, 25,
     26, 27, 28, 29, 30, 31,
 ];
 
-/// Two ends, the packets that either ever gave to the network, what is noted of their users, the clock, the draw for packets that come, and whether both may still be
-/// opened without packets: neither has called, nor did anything come to one.
+/// Two endpoints, the packets that either has given to the network, the logs of their users' messages, the clock, the random values for
+/// INITs that arrive, and whether both may still be opened without packets: A hasn't called and nothing has arrived.
 #[derive(Drop)]
 pub struct Pair {
     pub(crate) alloc: Global,
@@ -49,25 +49,25 @@ pub struct Pair {
 }
 
 impl Pair {
-    /// Two ends to which nothing happened, as scripts have them: A may call, and B listens, sealing its cookies with the key of bytes 0 to 31.
+    /// A new pair, as scripts have it: A may call, and B listens. B seals its cookies with the key of bytes 0 to 31.
     ///
     /// # Errors
-    /// Memory ran out.
+    /// An allocation failed.
     pub fn new(alloc: Global, config: PairConfig) -> Result<Pair, NoMemory>
         ensures { (s : Sealing) → IsUnder specs.PAIR_KEY s → IfOk result (λ pair. PairStands pair (start (setup_of config s))) }
     {
         Pair::with_key(alloc, config, Key::new(PAIR_KEY))
     }
 
-    /// The same, where B seals its cookies with this key.
+    /// A new pair whose listener B seals its cookies with this key.
     ///
     /// # Errors
-    /// Memory ran out.
+    /// An allocation failed.
     #[tactic(auto, unfolding(crate::specs::PairStands::PairStands, crate::specs::Sides::SideStands))]
     pub fn with_key(alloc: Global, config: PairConfig, key: Key) -> Result<Pair, NoMemory>
         ensures { (s : Sealing) → IsUnder key s → IfOk result (λ pair. PairStands pair (start (setup_of config s))) }
     {
-        // It does nothing: its contract is the law that nothing is noted of a new end.
+        // law: the logs of a new endpoint are empty
         new_ends_have_no_logs();
         let Some(draw) = Draw::new(1, 1) else {
             unreachable!()
@@ -82,7 +82,7 @@ impl Pair {
                 draw,
                 openable: true,
             }),
-            // A side goes by name, and at no `?`, as an end does.
+            // A side is dropped by name, and at no `?`, as an endpoint is.
             Err(refused) => {
                 drop(a);
                 Err(refused)
@@ -90,25 +90,27 @@ impl Pair {
         }
     }
 
-    /// Something happens. Whatever it is, the pair goes on as two ends and the network between them may: in both directions each stream hands
-    /// over what the peer sent, whole, at most once, and in order; and what an end has completed lacks nothing.
+    /// Makes the step of an event and returns its outcome. Whatever the events are, each stream delivers what the peer sent on it in both
+    /// directions: whole, at most once, ordered messages in their order; and once an endpoint has completed its association, no message
+    /// that was given a TSN is missing.
     ///
-    /// That is promised of every world on the way, as long as no stranger's packet carries a tag that was drawn, asks for one in an INIT, or
-    /// holds a COOKIE ECHO of a cookie that the listener's key seals: that these are the contract's premises on strangers is the law
-    /// [`premises_are_the_keys`](crate::premises_are_the_keys). And a packet is delivered only before either end has assigned 2^31 - 65,536
-    /// more TSNs since it was built (RFC 9260, 2.6). A run of fewer TSNs keeps that by itself, by `sctp_safety::a_short_run_is_aged`; and where
-    /// neither end assigns 2^31 of them in all, nothing of the kind is asked, by `sctp_safety::a_run_of_half_the_tsns_is_safe`.
+    /// This is promised of every world on the way under three premises. No third party's packet carries a tag that an endpoint generates in
+    /// the run, has an INIT that proposes one, or has a COOKIE ECHO with a cookie that the listener's key seals; that the contract's premises
+    /// say this is the law [`premises_are_the_keys`](crate::premises_are_the_keys). And a packet is delivered only before either endpoint has
+    /// assigned 2^31 - 65,536 more TSNs than when it was built (RFC 9260, 2.6). A run with fewer TSNs meets this premise by itself, by
+    /// `sctp_safety::a_short_run_is_aged`; if neither endpoint assigns 2^31 TSNs in all it isn't needed, by
+    /// `sctp_safety::a_run_of_half_the_tsns_is_safe`.
     ///
     /// # Errors
-    /// Memory ran out, which it does only in an event that takes some. A packet that came is then cut before some chunk; any other event changed
-    /// nothing.
+    /// An allocation failed, which is possible only for an event that allocates. Of an arriving packet the chunks before the failing one have
+    /// taken effect; any other event has changed nothing.
     pub fn step(&mut self, event: &Event) -> Result<Outcome, NoMemory>
         ensures step { (w : World) → PairStands self.old w
             → (e : meaning.Event) × (x : World) × Means event.now e × Step w e (answer_of result) x
             × Promised w (one_event e (answer_of result) x) × PairStands self.new x }
         ensures memory { (w : World) (e : meaning.Event) → PairStands self.old w → Means event.now e → OnErr result (TakesMemory w e) }
     {
-        // They do nothing: their contracts are the theorems that the promise cites.
+        // laws: the theorems that the promise cites
         a_run_passes_its_worlds();
         each_world_on_the_way_is_safe();
         match event {
@@ -134,18 +136,18 @@ impl Pair {
         }
     }
 
-    /// Events happen in turn, each as `step` says. What it promises is promised of each world on the way, as long as the strangers among all of
-    /// them keep to its premises, which [`premises_are_the_keys`](crate::premises_are_the_keys) says in the words of the listener's key, and no
-    /// packet is delivered later than it says.
+    /// Makes the steps of several events and returns their outcomes. What `step` promises is promised of each world on the way, under the same
+    /// premises over all of the events; [`premises_are_the_keys`](crate::premises_are_the_keys) states them in the words of the
+    /// listener's key.
     ///
     /// # Errors
-    /// At the first one for which memory ran out, as `step` says; those before it happened. Or, if there are events, before the first: room for the
-    /// outcomes is made then.
+    /// An allocation failed at some event, as in `step`; those before it have taken effect. Or before the first event, when space for the
+    /// outcomes is reserved.
     pub fn run(&mut self, events: &[Event]) -> Result<Vec<Outcome>, NoMemory>
         ensures { (w : World) → PairStands self.old w
             → (c : Course) × RunLeaves w events.now result c × Promised w c × PairStands self.new (last_of w c.worlds) }
     {
-        // They do nothing: their contracts are the theorems that the promise cites.
+        // laws: the theorems that the promise cites
         a_run_passes_its_worlds();
         each_world_on_the_way_is_safe();
         let mut outcomes = Vec::with_capacity(self.alloc, events.len()).map_err(|_| NoMemory)?;
@@ -156,12 +158,12 @@ impl Pair {
         Ok(outcomes)
     }
 
-    /// What became of both users' messages, line by line: for A and then for B where the end stands, the tickets of the messages that were numbered,
-    /// by their first TSN, of those that were abandoned, as they were, and for each stream what was handed over, taken or not: the numbers of the
-    /// ordered messages, in their order, and how many unordered ones. Lines that would name nothing are left out.
+    /// The report of what became of both users' messages. For A and then for B: the state; the tickets of the messages that were given TSNs, by
+    /// their first TSN; of those abandoned, in the order in which they were; and for each stream what was delivered, taken or not: the numbers
+    /// of the ordered messages, in order, and how many unordered ones. Empty lines are left out.
     ///
     /// # Errors
-    /// Memory ran out.
+    /// An allocation failed.
     #[tactic(auto, unfolding(crate::specs::PairStands::PairStands))]
     pub fn report(&self) -> Result<Vec<u8>, NoMemory>
         ensures { (w : World) → PairStands self.now w → IfOk result (λ text. text.items ≡ report w) }
@@ -172,7 +174,7 @@ impl Pair {
         Ok(text)
     }
 
-    /// An end of the pair.
+    /// An endpoint of the pair.
     #[tactic(auto, unfolding(crate::specs::PairStands::PairStands, crate::specs::Sides::SideStands))]
     pub fn end(&self, side: Side) -> &Endpoint
         ensures { (w : World) → PairStands self.now w → EndpointStands result.now (end_of w (side_meaning side)) }
@@ -183,7 +185,7 @@ impl Pair {
         }
     }
 
-    /// A packet of an end's bag, counted from 1: None where there is none of that number.
+    /// A packet that an endpoint has given to the network, counted from 1. None if there is none with that number.
     #[tactic(auto, unfolding(crate::specs::PairStands::PairStands, crate::specs::Sides::SideStands))]
     pub fn packet(&self, side: Side, number: u32) -> Option<&[u8]>
         ensures { (w : World) → PairStands self.now w

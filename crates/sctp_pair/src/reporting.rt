@@ -1,4 +1,4 @@
-//! The part of a report that speaks of one side.
+//! The report of one side.
 
 ghost use Rattle.std.specs.Prelude.{◌≡◌, List, ◌++◌, map, IfOk, OnOk};
 ghost use Rattle.sctp_model.specs.receiver.ReceiverView.{Handed, handed};
@@ -18,10 +18,10 @@ use sctp_script::{put_abandoned, put_count, put_end, put_handed, put_numbered};
 use sctp_values::{NoMemory, Ticket};
 use std::alloc::Global;
 
-/// Appends a side's lines: where its end stands, the tickets that were numbered and those that were abandoned, and what was handed over.
+/// Appends a side's lines: the state of its endpoint, the tickets that were given TSNs and those abandoned, and what was delivered.
 ///
 /// # Errors
-/// Memory ran out; some of the lines were appended.
+/// An allocation failed; some of the lines have been appended.
 #[tactic(auto, unfolding(crate::specs::Sides::SideStands))]
 pub(crate) fn put_side(
     alloc: Global,
@@ -38,10 +38,10 @@ pub(crate) fn put_side(
     put_streams(alloc, name, side, out)
 }
 
-/// The tickets that were numbered, one packet's behind another's.
+/// The tickets that were given TSNs, packet by packet.
 ///
 /// # Errors
-/// Memory ran out.
+/// An allocation failed.
 fn all_tickets(alloc: Global, packets: &[Vec<Ticket>]) -> Result<Vec<Ticket>, NoMemory>
     ensures { IfOk result (λ tickets. map ticket_number tickets.items ≡ tickets_noted packets.now) }
 {
@@ -55,7 +55,7 @@ fn all_tickets(alloc: Global, packets: &[Vec<Ticket>]) -> Result<Vec<Ticket>, No
 /// Appends the lines of the streams that the peer may send on.
 ///
 /// # Errors
-/// Memory ran out; some of the lines were appended.
+/// An allocation failed; some of the lines have been appended.
 #[tactic(auto, unfolding(crate::specs::Sides::SideStands))]
 fn put_streams(alloc: Global, name: Side, side: &OneSide, out: &mut Vec<u8>) -> Result<(), NoMemory>
     ensures { (v : SideView) → SideStands side.now v → OnOk result (out.new.items ≡ out.old.items ++ streams_lines (side_meaning name) v.end.receiver v.end.receiver.streams) }
@@ -68,10 +68,10 @@ fn put_streams(alloc: Global, name: Side, side: &OneSide, out: &mut Vec<u8>) -> 
     Ok(())
 }
 
-/// What was handed over on a stream: what the user took, and what waits.
+/// What was delivered on a stream: what the user has taken, and what waits to be taken.
 ///
 /// # Errors
-/// Memory ran out.
+/// An allocation failed.
 #[tactic(auto, unfolding(crate::specs::Sides::SideStands))]
 fn handed_over(alloc: Global, side: &OneSide, stream: u16) -> Result<StreamLog, NoMemory>
     ensures { (v : SideView) → SideStands side.now v → IfOk result (λ log. IsStreamLog log (handed v.end.receiver stream)) }
@@ -84,7 +84,7 @@ fn handed_over(alloc: Global, side: &OneSide, stream: u16) -> Result<StreamLog, 
 /// Adds the messages that wait on a stream.
 ///
 /// # Errors
-/// Memory ran out; some of them were added.
+/// An allocation failed; some of them have been added.
 fn add_waiting(end: &Endpoint, stream: u16, log: &mut StreamLog) -> Result<(), NoMemory>
     ensures { (v : EndView) (hs : List Handed) → EndpointStands end.now v → IsStreamLog log.old hs
         → OnOk result (IsStreamLog log.new (hs ++ v.receiver.waiting stream)) }
@@ -96,6 +96,6 @@ fn add_waiting(end: &Endpoint, stream: u16, log: &mut StreamLog) -> Result<(), N
         log.make_room()?;
         log.note(message);
     }
-    // There is no memory for so many.
+    // No memory holds this many.
     Err(NoMemory)
 }

@@ -1,4 +1,4 @@
-//! What is noted of the messages that a user took: for each stream the numbers of the ordered ones, and how many unordered ones.
+//! Logs of the messages that a user has taken: for each stream the numbers of the ordered ones, and how many unordered ones.
 
 ghost use Rattle.std.specs.Prelude.{◌≡◌, ℕ, ◌<◌, ◌≤◌, List, [], ◌∷◌, ◌++◌, length, IfOk, OnOk};
 ghost use Rattle.sctp_model.specs.numbers.Lists.{at};
@@ -10,7 +10,7 @@ use sctp_recv::Message;
 use sctp_values::NoMemory;
 use std::alloc::Global;
 
-/// The messages of one stream: the numbers of the ordered ones, in their order, and how many unordered ones.
+/// The log of one stream: the numbers of the ordered messages, in their order, and how many unordered ones.
 #[derive(Drop)]
 pub(crate) struct StreamLog {
     pub(crate) numbers: Vec<u64>,
@@ -18,7 +18,7 @@ pub(crate) struct StreamLog {
 }
 
 impl StreamLog {
-    /// Of no message. It takes no memory.
+    /// An empty log. It allocates nothing.
     pub(crate) fn new(alloc: Global) -> StreamLog
         ensures { IsStreamLog result [] }
     {
@@ -28,10 +28,10 @@ impl StreamLog {
         }
     }
 
-    /// The same once more.
+    /// A copy of this log.
     ///
     /// # Errors
-    /// Memory ran out.
+    /// An allocation failed.
     pub(crate) fn copy(&self, alloc: Global) -> Result<StreamLog, NoMemory>
         ensures { (hs : List Handed) → IsStreamLog self.now hs → IfOk result (λ copy. IsStreamLog copy hs) }
     {
@@ -42,10 +42,10 @@ impl StreamLog {
         })
     }
 
-    /// Makes room for one message more. A count that 64 bits don't hold has none.
+    /// Reserves space for one more message. There is none if the count of unordered messages would need more than 64 bits.
     ///
     /// # Errors
-    /// Memory ran out, and nothing changed.
+    /// An allocation failed; nothing has changed.
     pub(crate) fn make_room(&mut self) -> Result<(), NoMemory>
         ensures same { (hs : List Handed) → IsStreamLog self.old hs → IsStreamLog self.new hs }
         ensures room { OnOk result (HasRoom self.new) }
@@ -56,7 +56,7 @@ impl StreamLog {
         self.numbers.reserve(1).map_err(|_| NoMemory)
     }
 
-    /// One message more, for which there is room.
+    /// Adds a message, for which space is reserved.
     pub(crate) fn note(&mut self, message: &Message)
         requires { HasRoom self.old }
         ensures { (hs : List Handed) → IsStreamLog self.old hs → IsStreamLog self.new (hs ++ handed_of message.now ∷ []) }
@@ -71,10 +71,10 @@ impl StreamLog {
     }
 }
 
-/// Makes room in the log of a stream for one message more.
+/// Reserves space for one more message in the log of a stream.
 ///
 /// # Errors
-/// Memory ran out, and nothing changed.
+/// An allocation failed; nothing has changed.
 pub(crate) fn make_room_at(
     alloc: Global,
     logs: &mut Vec<StreamLog>,
@@ -88,10 +88,10 @@ pub(crate) fn make_room_at(
     log.make_room()
 }
 
-/// Makes logs until there are so many, one for each stream from 0 on. It costs those that are made.
+/// Makes logs until there are `count`, one for each stream from 0 on. The cost is that of the logs made.
 ///
 /// # Errors
-/// Memory ran out, and nothing changed of what they say.
+/// An allocation failed; what the logs say is unchanged.
 fn grow(alloc: Global, logs: &mut Vec<StreamLog>, count: usize) -> Result<(), NoMemory>
     ensures same { (taken : ℕ → List Handed) → AreLogged logs.old.items taken → AreLogged logs.new.items taken }
     ensures within { OnOk result (count ≤ length logs.new.items) }
@@ -102,10 +102,10 @@ fn grow(alloc: Global, logs: &mut Vec<StreamLog>, count: usize) -> Result<(), No
     Ok(())
 }
 
-/// A log for each of so many streams, of no message, so that no later call makes one.
+/// An empty log for each of `streams` streams, so that no later call has to make one.
 ///
 /// # Errors
-/// Memory ran out.
+/// An allocation failed.
 pub(crate) fn fresh_logs(alloc: Global, streams: u16) -> Result<Vec<StreamLog>, NoMemory>
     ensures { IfOk result (λ logs. AreLogged logs.items (λ s. [])) }
 {
@@ -115,7 +115,7 @@ pub(crate) fn fresh_logs(alloc: Global, streams: u16) -> Result<Vec<StreamLog>, 
     Ok(logs)
 }
 
-/// As many logs, of no message. It takes no memory: they keep their room.
+/// Empties the logs. It allocates nothing: they keep their space.
 pub(crate) fn wipe(alloc: Global, logs: &mut Vec<StreamLog>)
     ensures { AreLogged logs.new.items (λ s. []) }
 {
@@ -124,7 +124,7 @@ pub(crate) fn wipe(alloc: Global, logs: &mut Vec<StreamLog>)
     let _made = grow(alloc, logs, count);
 }
 
-/// Notes that a message was taken from a stream, in whose log there is room for it.
+/// Logs that a message was taken from a stream; space for it is reserved.
 pub(crate) fn note_at(logs: &mut Vec<StreamLog>, stream: u16, message: &Message)
     requires { HasRoomAt logs.old.items stream }
     ensures { (taken : ℕ → List Handed) → AreLogged logs.old.items taken
@@ -134,10 +134,10 @@ pub(crate) fn note_at(logs: &mut Vec<StreamLog>, stream: u16, message: &Message)
     log.note(message);
 }
 
-/// What was taken from a stream.
+/// A copy of the log of a stream.
 ///
 /// # Errors
-/// Memory ran out.
+/// An allocation failed.
 pub(crate) fn log_of(alloc: Global, logs: &[StreamLog], stream: u16) -> Result<StreamLog, NoMemory>
     ensures { (taken : ℕ → List Handed) → AreLogged logs.now taken → IfOk result (λ log. IsStreamLog log (taken stream)) }
 {

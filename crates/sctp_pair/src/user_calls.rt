@@ -1,4 +1,4 @@
-//! What the users of a pair's ends ask.
+//! The calls of both endpoints' users.
 
 ghost use Rattle.std.specs.Prelude.{Some, OnErr};
 ghost use Rattle.sctp_model.specs.world.World.{World};
@@ -18,10 +18,10 @@ use sctp_values::{NoMemory, Ticket};
 
 #[tactic(auto, unfolding(crate::specs::PairStands::PairStands))]
 impl Pair {
-    /// An end's user hands in a message.
+    /// An endpoint's user sends a message.
     ///
     /// # Errors
-    /// Memory ran out, and nothing changed.
+    /// An allocation failed; nothing has changed.
     pub(crate) fn send(
         &mut self,
         side: Side,
@@ -58,10 +58,10 @@ impl Pair {
         }
     }
 
-    /// An end's user gives up a message.
+    /// An endpoint's user abandons a message.
     ///
     /// # Errors
-    /// Memory ran out, and nothing changed.
+    /// An allocation failed; nothing has changed.
     pub(crate) fn abandon(&mut self, side: Side, ticket: Ticket) -> Result<Outcome, NoMemory>
         ensures step { (w : World) → PairStands self.old w
             → (x : World) × Step w (meaning.Abandon (side_meaning side) ticket.0) (answer_of result) x × PairStands self.new x }
@@ -73,10 +73,10 @@ impl Pair {
         }
     }
 
-    /// An end's user takes the next message of a stream.
+    /// An endpoint's user takes the next message of a stream.
     ///
     /// # Errors
-    /// Memory ran out, and nothing changed.
+    /// An allocation failed; nothing has changed.
     pub(crate) fn take(&mut self, side: Side, stream: u16) -> Result<Outcome, NoMemory>
         ensures step { (w : World) → PairStands self.old w
             → (x : World) × Step w (meaning.Take (side_meaning side) stream) (answer_of result) x × PairStands self.new x }
@@ -89,7 +89,7 @@ impl Pair {
         }
     }
 
-    /// An end's user has no more to send.
+    /// An endpoint's user closes the association gracefully.
     pub(crate) fn shutdown(&mut self, side: Side) -> Outcome
         ensures { (w : World) → PairStands self.old w
             → (x : World) × Step w (meaning.Shutdown (side_meaning side)) (Some (outcome_meaning result)) x × PairStands self.new x }
@@ -100,10 +100,10 @@ impl Pair {
         }
     }
 
-    /// An end's user ends the association at once.
+    /// An endpoint's user aborts the association.
     ///
     /// # Errors
-    /// Memory ran out, and nothing changed.
+    /// An allocation failed; nothing has changed.
     pub(crate) fn abort(&mut self, side: Side, reason: &[u8]) -> Result<Outcome, NoMemory>
         ensures { (w : World) → PairStands self.old w
             → (x : World) × Step w (meaning.Abort (side_meaning side) reason.now) (answer_of result) x × PairStands self.new x }

@@ -16,7 +16,7 @@ use std::alloc::{AllocError, Global};
 /// Appends the line of a chunk, with its line feed.
 ///
 /// # Errors
-/// `AllocError` where memory ran out; `out` is then as before.
+/// `AllocError` if an allocation failed; `out` is unchanged then.
 #[tactic(auto, unfolding(crate::specs::ChunkLines::chunk_line))]
 pub fn put_chunk(alloc: Global, chunk: &Chunk<'_>, out: &mut Vec<u8>) -> Result<(), AllocError>
     ensures put { OnOk result (out.new.items ≡ out.old.items ++ chunk_line (chunk_meaning chunk.now)) }

@@ -1,4 +1,4 @@
-//! The lines of chunks that open and close an association, or report, and of unknown ones.
+//! The lines of the chunks that open and close an association, of HEARTBEAT and ERROR, and of chunks of an unknown type.
 
 ghost use Rattle.std.specs.Prelude.{◌≡◌, ◌∷◌, [], ◌++◌, codes, decimal, OnOk, OnErr};
 ghost use Rattle.sctp_model.specs.wire.Typed.{typed_in};
@@ -115,7 +115,7 @@ pub(crate) fn put_complete(reflected: bool, out: &mut Vec<u8>) -> Result<(), All
     put_line(b"SHUTDOWN-COMPLETE", &words, &[], out)
 }
 
-/// Appends the line of a chunk that is its name alone.
+/// Appends the line of a chunk without fields: its name.
 pub(crate) fn put_name(name: &[u8], out: &mut Vec<u8>) -> Result<(), AllocError>
     ensures put { OnOk result (out.new.items ≡ out.old.items ++ line_of (name.now ∷ [])) }
     ensures refused { OnErr result (out.new.items ≡ out.old.items) }
@@ -123,7 +123,7 @@ pub(crate) fn put_name(name: &[u8], out: &mut Vec<u8>) -> Result<(), AllocError>
     put_line(name, &[], &[], out)
 }
 
-/// Appends the line of a chunk of a type that has no case of its own.
+/// Appends the line of a chunk of an unknown type.
 pub(crate) fn put_unknown(
     alloc: Global,
     kind: u8,

@@ -1,4 +1,4 @@
-//! The line of what is wrong.
+//! The lines of faults.
 
 ghost use Rattle.std.specs.Prelude.{◌≡◌, ◌++◌, OnOk, OnErr};
 ghost use Rattle.sctp_wire.specs.FaultTree.{offset_of};
@@ -12,7 +12,7 @@ use std::alloc::AllocError;
 /// Appends the line of a packet's fault.
 ///
 /// # Errors
-/// `AllocError` where memory ran out; `out` is then as before.
+/// `AllocError` if `out` can't grow; it is unchanged then.
 pub(crate) fn put_packet_fault(fault: PacketFault, out: &mut Vec<u8>) -> Result<(), AllocError>
     ensures put { OnOk result (out.new.items ≡ out.old.items ++ packet_fault_line fault) }
     ensures refused { OnErr result (out.new.items ≡ out.old.items) }
@@ -28,7 +28,7 @@ pub(crate) fn put_packet_fault(fault: PacketFault, out: &mut Vec<u8>) -> Result<
 /// Appends the line of a fault of chunks.
 ///
 /// # Errors
-/// `AllocError` where memory ran out; `out` is then as before.
+/// `AllocError` if `out` can't grow; it is unchanged then.
 pub(crate) fn put_wire_fault(fault: WireFault, out: &mut Vec<u8>) -> Result<(), AllocError>
     ensures put { OnOk result (out.new.items ≡ out.old.items ++ wire_fault_line fault) }
     ensures refused { OnErr result (out.new.items ≡ out.old.items) }
@@ -43,7 +43,7 @@ pub(crate) fn put_wire_fault(fault: WireFault, out: &mut Vec<u8>) -> Result<(), 
     put_line(b"fault", &words, &[], out)
 }
 
-/// The fault's number, and where its chunk begins.
+/// The fault's number, and the offset of its chunk.
 fn parts_of(fault: WireFault) -> (u64, usize)
     ensures number { result.0 ≡ fault_number fault }
     ensures offset { result.1 ≡ offset_of fault }
@@ -58,10 +58,10 @@ fn parts_of(fault: WireFault) -> (u64, usize)
     }
 }
 
-/// Appends the line of text that says no bytes.
+/// Appends the line of text that doesn't spell bytes.
 ///
 /// # Errors
-/// `AllocError` where memory ran out; `out` is then as before.
+/// `AllocError` if `out` can't grow; it is unchanged then.
 pub(crate) fn put_hex_fault(out: &mut Vec<u8>) -> Result<(), AllocError>
     ensures put { OnOk result (out.new.items ≡ out.old.items ++ hex_fault_line) }
     ensures refused { OnErr result (out.new.items ≡ out.old.items) }

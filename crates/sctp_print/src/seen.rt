@@ -1,4 +1,4 @@
-//! The lines of what was seen or given up: SACK, FORWARD-TSN and I-FORWARD-TSN.
+//! The lines of SACK, FORWARD-TSN and I-FORWARD-TSN.
 
 ghost use Rattle.std.specs.Prelude.{◌≡◌, ◌++◌, codes, OnOk, OnErr};
 ghost use Rattle.sctp_text.specs.SpacedWords.{line_of};

@@ -1,4 +1,4 @@
-//! What is printed for bytes, and for text that says bytes in hexadecimal.
+//! Prints bytes, and text that spells bytes in hexadecimal, as a packet or as chunks.
 
 ghost use Rattle.std.specs.Prelude.{◌≡◌, ◌++◌, [], IfOk, OnOk};
 ghost use Rattle.sctp_packet.specs.PacketTree.{packet_meaning};
@@ -12,11 +12,11 @@ use sctp_text::{Word, put_line};
 use sctp_wire::{Chunks, read_chunks};
 use std::alloc::{AllocError, Global};
 
-/// Appends the lines of the packet that the text says in hexadecimal, of either case, or the line of what is wrong
-/// with it. Answers whether it was a packet.
+/// Appends the lines of the packet that the text spells in hexadecimal, in either case, or the line of the first fault. Returns whether
+/// it was a packet.
 ///
 /// # Errors
-/// `AllocError` where memory ran out; `out` may then hold some of the lines.
+/// `AllocError` if an allocation failed; `out` may hold some of the lines then.
 pub fn print_packet(alloc: Global, text: &str, out: &mut Vec<u8>) -> Result<bool, AllocError>
     ensures { IfOk result (λ was_read. Adds (IsPacketTextOf text.now) out.old.items out.new.items was_read) }
 {
@@ -30,11 +30,11 @@ pub fn print_packet(alloc: Global, text: &str, out: &mut Vec<u8>) -> Result<bool
     }
 }
 
-/// Appends the lines of the chunks that the text says in hexadecimal, of either case, or the line of what is wrong
-/// with them. Answers whether they were chunks.
+/// Appends the lines of the chunks that the text spells in hexadecimal, in either case, or the line of the first fault. Returns whether
+/// they were chunks.
 ///
 /// # Errors
-/// `AllocError` where memory ran out; `out` may then hold some of the lines.
+/// `AllocError` if an allocation failed; `out` may hold some of the lines then.
 pub fn print_chunks(alloc: Global, text: &str, out: &mut Vec<u8>) -> Result<bool, AllocError>
     ensures { IfOk result (λ was_read. Adds (IsChunksTextOf text.now) out.old.items out.new.items was_read) }
 {
@@ -80,7 +80,7 @@ fn put_chunks_or_fault(alloc: Global, bytes: &[u8], out: &mut Vec<u8>) -> Result
     }
 }
 
-/// Appends the line of a packet's header, and those of its chunks.
+/// Appends the line of a packet's header and the lines of its chunks.
 fn put_packet(alloc: Global, packet: Packet<'_>, out: &mut Vec<u8>) -> Result<(), AllocError>
     ensures { OnOk result (out.new.items ≡ out.old.items ++ (header_line (packet_meaning packet.entry)
         ++ chunk_lines (packet_meaning packet.entry).chunks)) }

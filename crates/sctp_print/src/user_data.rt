@@ -1,4 +1,4 @@
-//! The lines of pieces of user data: DATA and I-DATA.
+//! The lines of DATA and I-DATA.
 
 ghost use Rattle.std.specs.Prelude.{◌≡◌, ◌++◌, OnOk, OnErr};
 ghost use Rattle.sctp_text.specs.SpacedWords.{line_of};
@@ -10,7 +10,7 @@ use sctp_text::{Word, put_line};
 use sctp_wire::Piece;
 use std::alloc::{AllocError, Global};
 
-/// What the line of a piece calls its chunk, its number and its word.
+/// The names that a line uses for a chunk, for its SSN or MID, and for the word that is a payload protocol identifier or an FSN.
 #[derive(Clone, Copy)]
 struct Names {
     chunk: &'static [u8],
@@ -18,7 +18,7 @@ struct Names {
     word: &'static [u8],
 }
 
-/// Appends the line of a DATA.
+/// Appends the line of a DATA chunk.
 pub(crate) fn put_data(
     alloc: Global,
     piece: &Piece<'_>,
@@ -35,7 +35,7 @@ pub(crate) fn put_data(
     put_piece(alloc, &names, piece, out)
 }
 
-/// Appends the line of an I-DATA.
+/// Appends the line of an I-DATA chunk.
 pub(crate) fn put_i_data(
     alloc: Global,
     piece: &Piece<'_>,
@@ -52,7 +52,7 @@ pub(crate) fn put_i_data(
     put_piece(alloc, &names, piece, out)
 }
 
-/// Appends the line of a piece.
+/// Appends the line of a DATA or I-DATA chunk by these names.
 fn put_piece(
     alloc: Global,
     names: &Names,
@@ -81,7 +81,7 @@ fn put_piece(
     put_line(names.chunk, &words, &[], out)
 }
 
-/// What the word of an I-DATA is: the payload protocol identifier of a first fragment, else its FSN (RFC 8260, 2.1).
+/// The name of an I-DATA chunk's last number: the payload protocol identifier of a first fragment, else its FSN (RFC 8260, 2.1).
 fn word_name(begin: bool) -> &'static [u8]
     ensures { result.now ≡ word_name begin }
 {

@@ -1,4 +1,4 @@
-//! Words that are made before their line is: lists with commas between their items, flags, bytes.
+//! Words that need a buffer of their own before their line is written: lists, flags, bytes.
 
 ghost use Rattle.std.specs.Prelude.{◌≡◌, ◌∷◌, ◌++◌, length, decimal, IfOk, OnOk};
 ghost use Rattle.sctp_text.specs.Numerals.{hex_word};
@@ -11,14 +11,22 @@ use sctp_text::{put_decimal, put_hex};
 use sctp_wire::{Blocks, Causes, GapBlock, Parameters, Piece, Skip, Skips, Tsns};
 use std::alloc::{AllocError, Global};
 
-/// Stands between the items of a list.
+/// Separates the items of a list.
 pub const COMMA: u8 = b',';
-/// Stands between the ends of a gap block, and where there is nothing.
+/// Separates start and end of a gap block; alone it means none.
 pub const DASH: u8 = b'-';
-/// Stands between the parts of an entry.
+/// Separates the parts of a FORWARD-TSN entry.
 pub const COLON: u8 = b':';
 
-/// The gap blocks, each behind a comma.
+// law
+/// The separators of printed lists as ASCII codes, as the pages on formats show them: `,`, `-` and `:`.
+pub fn signs_of_lists()
+    ensures comma { COMMA ≡ 44 }
+    ensures dash { DASH ≡ 45 }
+    ensures colon { COLON ≡ 58 }
+{}
+
+/// The gap blocks, each after a comma.
 pub(crate) fn blocks_word(alloc: Global, blocks: &Blocks<'_>) -> Result<Vec<u8>, AllocError>
     ensures { IfOk result (λ word. word.items ≡ each_behind_comma block_word blocks.now) }
 {
@@ -29,7 +37,7 @@ pub(crate) fn blocks_word(alloc: Global, blocks: &Blocks<'_>) -> Result<Vec<u8>,
     Ok(word)
 }
 
-/// Appends a gap block behind a comma.
+/// Appends a comma and a gap block.
 fn put_block(block: &GapBlock, word: &mut Vec<u8>) -> Result<(), AllocError>
     ensures { OnOk result (word.new.items ≡ word.old.items ++ (COMMA ∷ block_word (block_meaning block.now))) }
 {
@@ -39,7 +47,7 @@ fn put_block(block: &GapBlock, word: &mut Vec<u8>) -> Result<(), AllocError>
     put_decimal(u64::from(block.end), word)
 }
 
-/// The numbers, each behind a comma.
+/// The numbers, each after a comma.
 pub(crate) fn numbers_word(alloc: Global, numbers: &Tsns<'_>) -> Result<Vec<u8>, AllocError>
     ensures { IfOk result (λ word. word.items ≡ each_behind_comma decimal numbers.now) }
 {
@@ -51,7 +59,7 @@ pub(crate) fn numbers_word(alloc: Global, numbers: &Tsns<'_>) -> Result<Vec<u8>,
     Ok(word)
 }
 
-/// The entries of a FORWARD-TSN, each behind a comma.
+/// The entries of a FORWARD-TSN, each after a comma.
 pub(crate) fn skips_word(alloc: Global, skips: &Skips<'_>) -> Result<Vec<u8>, AllocError>
     ensures { IfOk result (λ word. word.items ≡ each_behind_comma skip_word skips.now.skips) }
 {
@@ -62,7 +70,7 @@ pub(crate) fn skips_word(alloc: Global, skips: &Skips<'_>) -> Result<Vec<u8>, Al
     Ok(word)
 }
 
-/// Appends an entry of a FORWARD-TSN behind a comma.
+/// Appends a comma and an entry of a FORWARD-TSN.
 fn put_skip(skip: &Skip, word: &mut Vec<u8>) -> Result<(), AllocError>
     ensures { OnOk result (word.new.items ≡ word.old.items ++ (COMMA ∷ skip_word (skip_meaning skip.now))) }
 {
@@ -72,7 +80,7 @@ fn put_skip(skip: &Skip, word: &mut Vec<u8>) -> Result<(), AllocError>
     put_decimal(u64::from(skip.number), word)
 }
 
-/// The entries of an I-FORWARD-TSN, each behind a comma.
+/// The entries of an I-FORWARD-TSN, each after a comma.
 pub(crate) fn kind_skips_word(alloc: Global, skips: &Skips<'_>) -> Result<Vec<u8>, AllocError>
     ensures { IfOk result (λ word. word.items ≡ each_behind_comma kind_skip_word skips.now.skips) }
 {
@@ -83,7 +91,7 @@ pub(crate) fn kind_skips_word(alloc: Global, skips: &Skips<'_>) -> Result<Vec<u8
     Ok(word)
 }
 
-/// Appends an entry of an I-FORWARD-TSN behind a comma.
+/// Appends a comma and an entry of an I-FORWARD-TSN.
 fn put_kind_skip(skip: &Skip, word: &mut Vec<u8>) -> Result<(), AllocError>
     ensures { OnOk result (word.new.items ≡ word.old.items ++ (COMMA ∷ kind_skip_word (skip_meaning skip.now))) }
 {
@@ -95,7 +103,7 @@ fn put_kind_skip(skip: &Skip, word: &mut Vec<u8>) -> Result<(), AllocError>
     put_decimal(u64::from(skip.number), word)
 }
 
-/// The types of causes, each behind a comma.
+/// The types of causes, each after a comma.
 pub(crate) fn kinds_word(alloc: Global, causes: &Causes<'_>) -> Result<Vec<u8>, AllocError>
     ensures { IfOk result (λ word. word.items ≡ each_behind_comma type_word (typed_in causes.now)) }
 {
@@ -107,7 +115,7 @@ pub(crate) fn kinds_word(alloc: Global, causes: &Causes<'_>) -> Result<Vec<u8>, 
     Ok(word)
 }
 
-/// How many parameters there are.
+/// The number of parameters.
 pub(crate) fn count_items(parameters: &Parameters<'_>) -> u64
     ensures { result ≡ length (typed_in parameters.now) }
 {
@@ -121,7 +129,7 @@ pub(crate) fn count_items(parameters: &Parameters<'_>) -> u64
     count
 }
 
-/// What stands behind the first comma, or `-` where nothing stands.
+/// The word without its first comma, or `-` if it is empty.
 pub(crate) fn behind_comma(word: &[u8]) -> &[u8]
     ensures { result.now ≡ behind_comma word.now }
 {
@@ -131,7 +139,7 @@ pub(crate) fn behind_comma(word: &[u8]) -> &[u8]
     &word[1..]
 }
 
-/// The bytes in hexadecimal, or `-` where there is none.
+/// The bytes in hexadecimal, or `-` if there are none.
 pub(crate) fn hex_text(alloc: Global, bytes: &[u8]) -> Result<Vec<u8>, AllocError>
     ensures { IfOk result (λ word. word.items ≡ hex_word bytes.now) }
 {
@@ -140,7 +148,7 @@ pub(crate) fn hex_text(alloc: Global, bytes: &[u8]) -> Result<Vec<u8>, AllocErro
     Ok(word)
 }
 
-/// The flags that are set, or `-`.
+/// The letters of the flags that are set, or `-`.
 pub(crate) fn flags_word(alloc: Global, piece: &Piece<'_>) -> Result<Vec<u8>, AllocError>
     ensures { IfOk result (λ word. word.items ≡ flags_word (piece_meaning piece.now)) }
 {
@@ -155,7 +163,7 @@ pub(crate) fn flags_word(alloc: Global, piece: &Piece<'_>) -> Result<Vec<u8>, Al
     Ok(word)
 }
 
-/// Appends a letter where a flag is set.
+/// Appends a letter if a flag is set.
 fn put_letter(set: bool, code: u8, word: &mut Vec<u8>) -> Result<(), AllocError>
     ensures { OnOk result (word.new.items ≡ word.old.items ++ letter code set) }
 {

@@ -1,8 +1,8 @@
-//! A line of a script, as it stands in a case.
+//! A line of a script, as it is written in a case.
 
 use std::alloc::{AllocError, Global};
 
-/// A line: how it stands in its case, its bytes, and how often it comes.
+/// A line: its text in the case, its bytes, and how often it is repeated.
 #[derive(Drop)]
 pub struct Line<'a> {
     pub shown: &'a str,
@@ -11,7 +11,7 @@ pub struct Line<'a> {
 }
 
 impl<'a> Line<'a> {
-    /// The line that this text says, if it says one.
+    /// The line that this text means, if it is one.
     pub fn read(alloc: Global, shown: &'a str, text: &str) -> Result<Option<Line<'a>>, AllocError> {
         let (form, text) = text.split_once(' ').unwrap_or((text, ""));
         let mut bytes = Vec::from_slice(alloc, text.as_bytes())?;
@@ -41,7 +41,7 @@ impl<'a> Line<'a> {
     }
 }
 
-/// The number behind a sign.
+/// The number after a sign.
 fn number_behind(sign: char, form: &str) -> Option<usize> {
     form.strip_prefix(sign)?.parse().ok()
 }

@@ -1,6 +1,5 @@
-//! Runs the cases that stand on standard input, each with one of the three programs `sctp-trace`, `sctp-end` and `sctp-look`, and
-//! prints a transcript: each line of a case as it stands there and, behind it, what the program wrote before it read on; then what it
-//! said of faults, and its status.
+//! Runs the cases on standard input, each with one of the programs `sctp-trace`, `sctp-end` and `sctp-look`, and prints a transcript:
+//! each line of a case, followed by what the program wrote before it read on; then what it wrote to standard error, and its status.
 //!
 //! A case is
 //! - `= NAME`,
@@ -14,11 +13,11 @@
 //! - `*N TEXT`: this line N times; what is written for all but the last isn't shown,
 //! - `~N TEXT`: this line, filled with `0` up to N bytes,
 //! - `xN TEXT`: one line of this text N times,
-//! - with `/` before any of these: an alternative begins, of this line and those below it. The lines above the first one are
-//!   run before each of them, and what is written for those isn't shown.
+//! - with `/` before any of these: an alternative begins, with this line and those below it. The lines above the first alternative are
+//!   run before each of them, and their output isn't shown.
 //!
-//! Other lines are remarks: one that begins with two spaces says what the bytes below it are. Of a script only what was read
-//! is shown. The model in tests/model writes the same transcript, but for the pictures of `sctp-look`: `rows.py`.
+//! Other lines are remarks: one that begins with two spaces says what the bytes below it are. Of a script only what was read is
+//! shown. The model in tests/model writes the same transcript, except for the pictures of `sctp-look`: `rows.py`.
 #![tactic(auto)]
 
 mod line;
@@ -67,7 +66,7 @@ fn run_case(rt: &HostRuntime, case: &str) -> Result<()> {
     writeln!(rt.stdout(), "")
 }
 
-/// Ends the alternative before this one, which is run, or shows the lines above the first one. How many lines are above.
+/// Runs the alternative before this one, or shows the lines above the first one. Returns the number of lines above.
 fn begin_alternative(
     rt: &HostRuntime,
     words: &str,
@@ -87,7 +86,7 @@ fn begin_alternative(
     }
 }
 
-/// Prints lines as they stand in the case.
+/// Prints lines as they are in the case.
 fn show(rt: &HostRuntime, lines: &[Line<'_>]) -> Result<()> {
     for line in lines {
         writeln!(rt.stdout(), "{}", line.shown)?;
@@ -95,7 +94,7 @@ fn show(rt: &HostRuntime, lines: &[Line<'_>]) -> Result<()> {
     Ok(())
 }
 
-/// The words behind `$`, none in a case without it.
+/// The words after `$`, none in a case without it.
 fn words_of(rt: &HostRuntime, words: &str) -> Result<Vec<String>> {
     let mut list = Vec::new(rt.alloc());
     if let Some(words) = words.strip_prefix("$ ") {
@@ -106,16 +105,16 @@ fn words_of(rt: &HostRuntime, words: &str) -> Result<Vec<String>> {
     Ok(list)
 }
 
-/// Runs the program once, and prints what it does behind the lines that are hidden.
+/// Runs the program once and prints its output after the hidden lines.
 fn run(rt: &HostRuntime, words: &str, lines: &[Line<'_>], above: usize) -> Result<()> {
     let list = words_of(rt, words)?;
     let mut said = Vec::new(rt.alloc());
     let status = status_of(rt, &list, lines, above, &mut said);
-    tell(rt, str::from_utf8(&said).unwrap_or(""))?;
+    print_said(rt, str::from_utf8(&said).unwrap_or(""))?;
     writeln!(rt.stdout(), "status {status}")
 }
 
-/// Runs the program that the words name over these lines, with what it says of faults put behind `said`: its status.
+/// Runs the program that the words name over these lines. What it writes to standard error is appended to `said`. Returns its status.
 fn status_of(
     rt: &HostRuntime,
     words: &[String],
@@ -135,7 +134,7 @@ fn status_of(
     }
 }
 
-/// The first of the words, which is the program's name; empty where there is none.
+/// The first word, which is the program's name; empty if there is none.
 fn name_of(words: &[String]) -> &str {
     match words.first() {
         Some(name) => name.as_str(),
@@ -143,8 +142,8 @@ fn name_of(words: &[String]) -> &str {
     }
 }
 
-/// Prints what was said of faults, each line behind `!`.
-fn tell(rt: &HostRuntime, said: &str) -> Result<()> {
+/// Prints what was written to standard error, each line after `!`.
+fn print_said(rt: &HostRuntime, said: &str) -> Result<()> {
     for line in said.lines() {
         let space = if line.is_empty() { "" } else { " " };
         writeln!(rt.stdout(), "!{space}{line}")?;

@@ -1,20 +1,20 @@
-//! The script of a case, read a line at a time; each line is shown when it is read.
+//! The reader of a case's script: a line at a time, each shown when it is read.
 
 use crate::line::Line;
 use std::cell::Cell;
 use std::io::{Read, Result, Write};
 
-/// A reader of the lines of a case.
+/// A reader over the lines of a case.
 #[derive(Drop)]
 pub struct Script<'a, W> {
     /// Where a line is shown.
     shown: W,
     lines: &'a [Line<'a>],
-    /// How many lines are read before anything is shown.
+    /// The number of lines that are read before anything is shown.
     above: usize,
-    /// Whether what is written now is hidden.
+    /// Whether output is hidden now.
     hidden: &'a Cell<bool>,
-    /// How many lines were begun, how much of the last of them was read, and how often it comes again.
+    /// The number of lines begun, how much of the last of them was read, and how often it is still repeated.
     begun: usize,
     read: usize,
     again: usize,
@@ -39,7 +39,7 @@ impl<'a, W> Script<'a, W> {
         }
     }
 
-    /// What is left of the line that was begun last.
+    /// The rest of the line that was begun last.
     fn rest(&self) -> &[u8] {
         if self.begun == 0 || self.begun > self.lines.len() {
             return &[];
@@ -51,7 +51,7 @@ impl<'a, W> Script<'a, W> {
 }
 
 impl<W: Write> Script<'_, W> {
-    /// Begins the next line; at the end nothing is left.
+    /// Begins the next line. At the end nothing is left.
     fn go_on(&mut self) -> Result<()> {
         if self.again > 0 {
             self.again -= 1;

@@ -1,9 +1,9 @@
-//! What the program writes, shown or not.
+//! A writer that shows the program's output, or hides it.
 
 use std::cell::Cell;
 use std::io::{Result, Write};
 
-/// A writer that passes on what it is given, but for what is hidden.
+/// A writer that passes on what it is given, except while it hides.
 #[derive(Drop)]
 pub struct Shown<'a, W> {
     below: W,

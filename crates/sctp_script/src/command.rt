@@ -1,14 +1,14 @@
-//! The commands of a script.
+//! The commands of a script, by name and number of words.
 
 ghost use Rattle.std.specs.Prelude.{◌≡◌, ◌≢◌, MatchOption};
 ghost use Rattle.sctp_script.specs.Commands.{name_of, arguments_of, form_of, is_pair};
 
-/// A command of the script. `pair` has two forms, a command each.
+/// A command of a script. Each of the two forms of `pair` is a command.
 #[derive(Clone, Copy)]
 pub enum Command {
-    /// `pair` with five words behind it.
+    /// `pair` with five words after it.
     Pair,
-    /// `pair` with `delay` behind them.
+    /// `pair` with five words and `delay` after it.
     DelayedPair,
     Open,
     At,
@@ -25,7 +25,7 @@ pub enum Command {
 }
 
 impl Command {
-    /// The command of this name; of `pair` the shorter form.
+    /// The command with this name; for `pair` the shorter form.
     pub fn named(word: &[u8]) -> Option<Command>
         ensures { MatchOption result ((c : Command) → word.now ≡ name_of c → ⊥) (λ c. word.now ≡ name_of c) }
     {
@@ -47,7 +47,7 @@ impl Command {
         }
     }
 
-    /// The command of the same name behind which so many words stand.
+    /// The command with the same name that takes `count` words. None if there is none.
     pub fn with_arguments(self, count: usize) -> Option<Command>
         ensures { MatchOption result
             ((c : Command) → name_of c ≡ name_of self → count ≢ arguments_of c)
@@ -61,7 +61,7 @@ impl Command {
         }
     }
 
-    /// Its form where so many words stand behind it.
+    /// The form of this command for `count` words.
     fn form(self, count: usize) -> Command
         ensures { result ≡ form_of self count }
     {
@@ -72,7 +72,7 @@ impl Command {
         }
     }
 
-    /// How many words stand behind it.
+    /// The number of words after the command's name.
     pub fn arguments(self) -> usize
         ensures { result ≡ arguments_of self }
     {
@@ -91,7 +91,7 @@ impl Command {
         }
     }
 
-    /// It is `pair`, in either form.
+    /// Whether it is `pair`, in either form.
     pub fn is_pair(self) -> bool
         ensures { result ≡ is_pair self }
     {

@@ -1,4 +1,4 @@
-//! What each command of an end says with the words behind it.
+//! Reads the words of each command but `pair`.
 
 ghost use Rattle.std.specs.Prelude.{◌≡◌, [], ◌∷◌, length, IfOk, MatchOption};
 ghost use Rattle.sctp_script.specs.Commands.{arguments_of, draw_fields};
@@ -17,7 +17,7 @@ use sctp_values::{NoMemory, Ticket};
 use sctp_words::{read_bytes, read_draw, read_kind, read_u16, read_u32, read_u64, read_until};
 use std::alloc::Global;
 
-/// `open` draws tag 1 for A and tag 2 for B, and TSN 1 for both.
+/// `open`: tag 1 for A and tag 2 for B, and initial TSN 1 for both.
 pub(crate) fn opening(words: Words<'_>) -> Acting
     requires { length words ≡ arguments_of Command.Open }
     ensures { Spells Command.Open words.entry (acting_meaning result) }
@@ -99,7 +99,7 @@ pub(crate) fn read_deliver(mut words: Words<'_>) -> Option<Acting>
 /// `foreign Y HEX`
 ///
 /// # Errors
-/// `NoMemory` where there was no room for the bytes.
+/// `NoMemory` if no memory could be allocated for the bytes.
 pub(crate) fn read_foreign(alloc: Global, mut words: Words<'_>) -> Result<Option<Acting>, NoMemory>
     requires { length words ≡ arguments_of Command.Foreign }
     ensures { IfOk result (λ found. MatchOption found
@@ -121,7 +121,7 @@ pub(crate) fn read_foreign(alloc: Global, mut words: Words<'_>) -> Result<Option
 /// `send X STREAM KIND ID UNTIL HEX`
 ///
 /// # Errors
-/// `NoMemory` where there was no room for the bytes.
+/// `NoMemory` if no memory could be allocated for the bytes.
 pub(crate) fn read_send(alloc: Global, mut words: Words<'_>) -> Result<Option<Acting>, NoMemory>
     requires { length words ≡ arguments_of Command.Send }
     ensures { IfOk result (λ found. MatchOption found
@@ -189,7 +189,7 @@ pub(crate) fn read_shutdown(mut words: Words<'_>) -> Option<Acting>
 /// `abort X HEX`
 ///
 /// # Errors
-/// `NoMemory` where there was no room for the bytes.
+/// `NoMemory` if no memory could be allocated for the bytes.
 pub(crate) fn read_abort(alloc: Global, mut words: Words<'_>) -> Result<Option<Acting>, NoMemory>
     requires { length words ≡ arguments_of Command.Abort }
     ensures { IfOk result (λ found. MatchOption found

@@ -1,4 +1,4 @@
-//! Laws of the script's grammar, which hold of all lines.
+//! Laws of the script's grammar, which hold for every line.
 
 ghost use Rattle.std.specs.Prelude.{◌≡◌, ℕ, Bool, true, false, List};
 ghost use Rattle.sctp_model.specs.end.EndView.{Configuration};
@@ -9,6 +9,7 @@ ghost use Rattle.sctp_script.specs.Grammar.{Pairs, Acts, Says, SaysOneThing};
 
 use sctp_text::words_say_one_value;
 
+// law
 /// Each line says exactly one thing.
 pub fn one_meaning()
     ensures { (paired : Bool) (line : List ℕ) → SaysOneThing paired line }
@@ -16,18 +17,21 @@ pub fn one_meaning()
     words_say_one_value();
 }
 
-/// A line makes a pair only where none stood before it, and what it sets up is right.
+// law
+/// A line makes a pair only if none was made before it, and its configuration is without a fault.
 pub fn the_pair_comes_first()
     ensures first { (paired : Bool) (line : List ℕ) (c : Configuration) → Says paired line (Pairs c) → paired ≡ false }
     ensures right { (paired : Bool) (line : List ℕ) (c : Configuration) → Says paired line (Pairs c) → IsOfPair c }
 {}
 
-/// A line wants something of a pair only where a `pair` line stood before it.
+// law
+/// A line asks for an event only after a `pair` line.
 pub fn events_follow_the_pair()
     ensures { (paired : Bool) (line : List ℕ) (wanted : Wanted) → Says paired line (Acts wanted) → paired ≡ true }
 {}
 
-/// What a line wants may be: its draws have tags, its moments 64 bits, and a stranger's bytes are bytes.
+// law
+/// What a line asks for is possible: tags aren't 0, times have 64 bits, and the bytes of a third party are bytes.
 pub fn events_can_happen()
     ensures { (paired : Bool) (line : List ℕ) (wanted : Wanted) → Says paired line (Acts wanted) → CanBe wanted }
 {}

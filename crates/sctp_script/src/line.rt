@@ -1,4 +1,4 @@
-//! A line of a script, read: what it says, or the smallest kind of its faults.
+//! Reads a line of a script.
 
 ghost use Rattle.std.specs.Prelude.{◌≡◌, true, length, IfOk, OnErr, MatchOption, MatchResult};
 ghost use Rattle.sctp_script.specs.Commands.{arguments_of, has_bytes};
@@ -17,20 +17,19 @@ use sctp_values::NoMemory;
 use sctp_words::{LineError, LineFault, is_silent};
 use std::alloc::Global;
 
-/// What a line that acts says.
+/// What a line asks for.
 #[derive(Debug, PartialEq, Drop)]
 pub enum Acting {
-    /// A `pair` line.
+    /// `pair`: a new pair with this configuration.
     Pair(PairConfig),
-    /// Any other command.
+    /// Any other command: this event.
     Event(Event),
 }
 
-/// Reads a line, without its line feed; `paired` says whether a `pair` line stood before it. A line that is empty or begins with
-/// `#` gives None.
+/// Reads a line, given without its line feed. `paired` says whether a `pair` line was read before. None for an empty line or a comment.
 ///
 /// # Errors
-/// The fault of the line with the smallest kind, or `NoMemory` where there was no room for the bytes of a word.
+/// The line's fault with the smallest kind, or `NoMemory` if no memory could be allocated for the bytes of a word.
 pub fn read_line(alloc: Global, line: &[u8], paired: bool) -> Result<Option<Acting>, LineError>
     ensures { MatchResult result (λ found. Finds paired line.now found) (λ error. Refuses paired line.now error) }
 {
@@ -59,7 +58,7 @@ pub fn read_line(alloc: Global, line: &[u8], paired: bool) -> Result<Option<Acti
     }
 }
 
-/// What a command says with these words behind it, None where it says nothing.
+/// Reads the words after a command. None if a word isn't a value of its field, or the values make no configuration.
 fn read_acting(
     alloc: Global,
     command: Command,
@@ -69,7 +68,7 @@ fn read_acting(
     ensures found { IfOk result (λ found. MatchOption found
         ((m : LineMeaning) → Spells command words.entry m → ⊥)
         (λ acting. Spells command words.entry (acting_meaning acting))) }
-    // Memory is wanting for the bytes of a word alone.
+    // Only the bytes of a word are allocated.
     ensures memory { OnErr result (has_bytes command ≡ true) }
 {
     match command {

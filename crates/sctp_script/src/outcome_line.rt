@@ -1,4 +1,4 @@
-//! The line of each outcome.
+//! Writes the line of an outcome.
 
 ghost use Rattle.std.specs.Prelude.{◌≡◌, ℕ, [], ◌∷◌, ◌++◌, map, codes, decimal, OnOk, OnErr};
 ghost use Rattle.sctp_model.specs.world.World as world;
@@ -16,10 +16,10 @@ use sctp_values::{Kind, NoMemory};
 use sctp_words::{kind_word, number_word, put_line};
 use std::alloc::Global;
 
-/// Appends the line of an outcome, with its line feed; the event is the one that it answers.
+/// Appends the line of an outcome, with its line feed. `event` is the event that it answers.
 ///
 /// # Errors
-/// `NoMemory` where there was no room and none was got; `out` is then as before.
+/// `NoMemory` if an allocation failed; `out` is unchanged then.
 pub fn put_outcome(
     alloc: Global,
     event: &Event,
@@ -48,7 +48,7 @@ pub fn put_outcome(
     }
 }
 
-/// The end that the line of an event's outcome names.
+/// The endpoint that is named in the line of an event's outcome.
 fn side_named(event: &Event) -> Side
     ensures { side_meaning result ≡ end_named (event_meaning event.now) }
 {
@@ -67,7 +67,7 @@ fn side_named(event: &Event) -> Side
     }
 }
 
-/// The stream that it names.
+/// The stream that is named in the line of an event's outcome.
 fn stream_named(event: &Event) -> u16
     ensures { result ≡ stream_named (event_meaning event.now) }
 {
@@ -91,7 +91,7 @@ fn refusal_code(refusal: Refusal) -> u64
     }
 }
 
-/// Appends a line of a word, an end and numbers, or nothing where memory is wanting.
+/// Appends a line of a word, an endpoint and numbers; nothing if an allocation fails.
 fn put_side(first: &[u8], side: Side, numbers: &[u64], out: &mut Vec<u8>) -> Result<(), NoMemory>
     ensures put { OnOk result (out.new.items ≡ out.old.items
         ++ line_of (first.now ∷ side_word (side_meaning side) ∷ map decimal numbers.now)) }
@@ -100,7 +100,7 @@ fn put_side(first: &[u8], side: Side, numbers: &[u64], out: &mut Vec<u8>) -> Res
     put_line(first, &[Word::Text(side_name(side))], numbers, out)
 }
 
-/// Appends a line of a word, an end, and a packet's number and length, or nothing where memory is wanting.
+/// Appends a line of a word, an endpoint, and a packet's number and length; nothing if an allocation fails.
 fn put_packet(
     first: &[u8],
     side: Side,
@@ -120,7 +120,7 @@ fn put_packet(
     put_line(first, &words, &[], out)
 }
 
-/// Appends `message X STREAM KIND NUMBER ID HEX`, or nothing where memory is wanting.
+/// Appends `message X STREAM KIND NUMBER ID HEX`; nothing if an allocation fails.
 fn put_message(
     alloc: Global,
     side: Side,

@@ -1,4 +1,4 @@
-//! What a pair's command says with the words behind it.
+//! Reads the words of the `pair` command.
 
 ghost use Rattle.std.specs.Prelude.{◌≡◌, [], ◌∷◌, length, MatchOption};
 ghost use Rattle.sctp_script.specs.Commands.{arguments_of};
@@ -28,7 +28,7 @@ fn config_of(
     let buffer = read_u32(buffer)?;
     let streams = read_u16(streams)?;
     let mode = read_mode(mode)?;
-    // No other values are said by these words.
+    // law: these words spell no other values
     words_say_one_value();
     match PairConfig::new(limit, fragment, buffer, streams, mode) {
         Ok(config) => Some(config),

@@ -1,4 +1,4 @@
-//! The lines of a pair's report.
+//! Writes the lines of a pair's report.
 
 ghost use Rattle.std.specs.Prelude.{◌≡◌, ◌++◌, map, option_map, OnOk, OnErr};
 ghost use Rattle.sctp_terms.specs.Meanings.{state_meaning, end_meaning};
@@ -13,10 +13,10 @@ use sctp_text::Word;
 use sctp_values::{NoMemory, Ticket};
 use sctp_words::{end_word, put_line, state_word};
 
-/// Appends `end X STATE WHY`: where an end stands, and how it ended, `-` where it hasn't.
+/// Appends `end X STATE WHY`: an endpoint's state, and how its association ended, `-` if it hasn't.
 ///
 /// # Errors
-/// `NoMemory` where there was no room and none was got; `out` is then as before.
+/// `NoMemory` if `out` can't grow; it is unchanged then.
 pub fn put_end(
     side: Side,
     state: State,
@@ -35,10 +35,10 @@ pub fn put_end(
     put_line(b"end", &words, &[], out)
 }
 
-/// Appends `numbered X` and the tickets of the messages that have numbers, or nothing where there is none.
+/// Appends `numbered X` and the tickets of the messages that were given TSNs; nothing if there are none.
 ///
 /// # Errors
-/// `NoMemory` where there was no room and none was got; `out` is then as before.
+/// `NoMemory` if `out` can't grow; it is unchanged then.
 pub fn put_numbered(side: Side, tickets: &[Ticket], out: &mut Vec<u8>) -> Result<(), NoMemory>
     ensures put { OnOk result (out.new.items ≡ out.old.items ++ numbered_line (side_meaning side) (map ticket_number tickets.now)) }
     ensures refused { OnErr result (out.new.items ≡ out.old.items) }
@@ -49,10 +49,10 @@ pub fn put_numbered(side: Side, tickets: &[Ticket], out: &mut Vec<u8>) -> Result
     put_tickets(b"numbered", side, tickets, out)
 }
 
-/// Appends `abandoned X` and the tickets of the messages that were abandoned, or nothing where there is none.
+/// Appends `abandoned X` and the tickets of the messages that were abandoned; nothing if there are none.
 ///
 /// # Errors
-/// `NoMemory` where there was no room and none was got; `out` is then as before.
+/// `NoMemory` if `out` can't grow; it is unchanged then.
 pub fn put_abandoned(side: Side, tickets: &[Ticket], out: &mut Vec<u8>) -> Result<(), NoMemory>
     ensures put { OnOk result (out.new.items ≡ out.old.items ++ abandoned_line (side_meaning side) (map ticket_number tickets.now)) }
     ensures refused { OnErr result (out.new.items ≡ out.old.items) }
@@ -63,10 +63,10 @@ pub fn put_abandoned(side: Side, tickets: &[Ticket], out: &mut Vec<u8>) -> Resul
     put_tickets(b"abandoned", side, tickets, out)
 }
 
-/// Appends `handed X STREAM o` and the numbers of the ordered messages that were handed over, or nothing where there is none.
+/// Appends `handed X STREAM o` and the numbers of the ordered messages delivered on a stream; nothing if there are none.
 ///
 /// # Errors
-/// `NoMemory` where there was no room and none was got; `out` is then as before.
+/// `NoMemory` if `out` can't grow; it is unchanged then.
 pub fn put_handed(
     side: Side,
     stream: u16,
@@ -87,10 +87,10 @@ pub fn put_handed(
     put_line(b"handed", &words, numbers, out)
 }
 
-/// Appends `handed X STREAM u COUNT`: how many unordered messages were handed over; nothing where there is none.
+/// Appends `handed X STREAM u COUNT`: how many unordered messages were delivered on a stream; nothing if there are none.
 ///
 /// # Errors
-/// `NoMemory` where there was no room and none was got; `out` is then as before.
+/// `NoMemory` if `out` can't grow; it is unchanged then.
 pub fn put_count(side: Side, stream: u16, count: u64, out: &mut Vec<u8>) -> Result<(), NoMemory>
     ensures put { OnOk result (out.new.items ≡ out.old.items ++ count_line (side_meaning side) stream count) }
     ensures refused { OnErr result (out.new.items ≡ out.old.items) }

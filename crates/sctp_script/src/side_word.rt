@@ -1,4 +1,4 @@
-//! The names of the two ends.
+//! The names of the two endpoints, `A` and `B`.
 
 ghost use Rattle.std.specs.Prelude.{◌≡◌, MatchOption};
 ghost use Rattle.sctp_model.specs.world.World as world;
@@ -7,7 +7,7 @@ ghost use Rattle.sctp_script.specs.OutcomeText.{side_word};
 
 use sctp_events::Side;
 
-/// The end that a word names.
+/// The endpoint that a word names.
 pub(crate) fn read_side(word: &[u8]) -> Option<Side>
     ensures { MatchOption result ((x : world.Side) → word.now ≡ side_word x → ⊥) (λ side. word.now ≡ side_word (side_meaning side)) }
 {
@@ -18,7 +18,7 @@ pub(crate) fn read_side(word: &[u8]) -> Option<Side>
     }
 }
 
-/// The name of an end.
+/// The name of an endpoint.
 pub(crate) fn side_name(side: Side) -> &'static [u8]
     ensures { result.now ≡ side_word (side_meaning side) }
 {

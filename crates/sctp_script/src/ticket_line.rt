@@ -1,4 +1,4 @@
-//! A line of tickets.
+//! Writes a line of tickets.
 
 ghost use Rattle.std.specs.Prelude.{◌≡◌, ℕ, List, [], ◌∷◌, ◌++◌, map, decimal, OnOk, OnErr};
 ghost use Rattle.sctp_events.specs.Events.{side_meaning};
@@ -11,7 +11,7 @@ use sctp_events::Side;
 use sctp_text::{LINE_FEED, SPACE, put_decimal};
 use sctp_values::{NoMemory, Ticket};
 
-/// Appends a line of a word, an end and tickets, or nothing where memory is wanting.
+/// Appends a line of a word, an endpoint and tickets; nothing if an allocation fails.
 pub(crate) fn put_tickets(
     first: &[u8],
     side: Side,
@@ -30,7 +30,7 @@ pub(crate) fn put_tickets(
     put
 }
 
-/// Appends such a line, or its beginning where memory is wanting.
+/// Appends a line of a word, an endpoint and tickets; a prefix of it if an allocation fails.
 fn append_line(
     first: &[u8],
     side: Side,
@@ -48,7 +48,7 @@ fn append_line(
     append(&[LINE_FEED], out)
 }
 
-/// Appends each ticket behind a space, or some of this where memory is wanting.
+/// Appends each ticket after a space; a prefix of this if an allocation fails.
 fn append_tickets(tickets: &[Ticket], out: &mut Vec<u8>) -> Result<(), NoMemory>
     ensures put { OnOk result (out.new.items ≡ out.old.items ++ each_behind_space (map decimal (map ticket_number tickets.now))) }
     ensures part { (part : List ℕ) × (out.new.items ≡ out.old.items ++ part) }
@@ -60,7 +60,7 @@ fn append_tickets(tickets: &[Ticket], out: &mut Vec<u8>) -> Result<(), NoMemory>
     Ok(())
 }
 
-/// Appends a number in decimal, or nothing where memory is wanting.
+/// Appends a number in decimal; nothing if an allocation fails.
 fn append_number(number: u64, out: &mut Vec<u8>) -> Result<(), NoMemory>
     ensures put { OnOk result (out.new.items ≡ out.old.items ++ decimal number) }
     ensures refused { OnErr result (out.new.items ≡ out.old.items) }
@@ -68,7 +68,7 @@ fn append_number(number: u64, out: &mut Vec<u8>) -> Result<(), NoMemory>
     put_decimal(number, out).map_err(|_| NoMemory)
 }
 
-/// Appends bytes, or nothing where memory is wanting.
+/// Appends bytes; nothing if an allocation fails.
 fn append(bytes: &[u8], out: &mut Vec<u8>) -> Result<(), NoMemory>
     ensures put { OnOk result (out.new.items ≡ out.old.items ++ bytes.now) }
     ensures refused { OnErr result (out.new.items ≡ out.old.items) }

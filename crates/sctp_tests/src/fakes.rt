@@ -1,17 +1,17 @@
-//! Readers and writers that are slow or fail.
+//! Slow and failing readers and writers.
 
 use std::alloc::Global;
 use std::io::{Error, ErrorKind, Read, Result as IoResult, Write};
 
-/// The script of one message over.
+/// A script in which one message is sent and received.
 pub const TABLE: &str =
     "pair 1500 1400 65536 1 data\nsend A 0 o 0 - 4869\nopen\nsend A 0 o 0 - 4869\nbuild A\ndeliver A 1\ntake B 0\ndeliver A 1\ntake B 0\ndeliver A 2\nbuild A\n";
 
-/// What it writes: a line for each outcome, and the report.
+/// The output of `TABLE`: a line for each outcome, and the report.
 pub const TABLE_WRITTEN: &str =
     "refused 7\nok\nticket A 1\nsent A 1 32\ntaken B\nmessage B 0 o 0 0 4869\ntaken B\nempty B 0\nabsent\nquiet A\nend A Established -\nnumbered A 1\nend B Established -\nhanded B 0 o 0\n";
 
-/// Gives at most so many bytes a call, and fails once, at the call of this number.
+/// A reader that gives a limited number of bytes a call and fails once, at a given call.
 #[derive(Drop)]
 pub struct SlowReader<'a> {
     rest: &'a [u8],
@@ -21,7 +21,7 @@ pub struct SlowReader<'a> {
 }
 
 impl<'a> SlowReader<'a> {
-    /// A reader of this text that never fails where `fails_at` is 0.
+    /// A reader of this text. It never fails if `fails_at` is 0.
     pub fn new(text: &'a str, step: usize, fails_at: usize) -> SlowReader<'a> {
         SlowReader {
             rest: text.as_bytes(),
@@ -45,7 +45,7 @@ impl Read for SlowReader<'_> {
     }
 }
 
-/// Takes at most so many bytes a call, and fails once, at the call of this number.
+/// A writer that accepts a limited number of bytes a call and fails once, at a given call.
 #[derive(Drop)]
 pub struct SlowWriter {
     held: Vec<u8>,
@@ -55,7 +55,7 @@ pub struct SlowWriter {
 }
 
 impl SlowWriter {
-    /// A writer that never fails where `fails_at` is 0.
+    /// A writer. It never fails if `fails_at` is 0.
     pub fn new(alloc: Global, step: usize, fails_at: usize) -> SlowWriter {
         SlowWriter {
             held: Vec::new(alloc),

@@ -1,5 +1,5 @@
-//! Tests of what no row can show: readers and writers that are slow or fail, memory that is refused, and lists in blocks. They stand in a crate
-//! of their own, since a crate that has tests is proved twice.
+//! Tests of what no row can show: slow and failing readers and writers, failing allocations, and lists in blocks. They have a crate of their own,
+//! since a crate with tests is proved twice.
 #![tactic(auto)]
 
 #[cfg(test)]

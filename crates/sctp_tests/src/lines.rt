@@ -1,11 +1,11 @@
-//! Lines of readers that are slow or fail, and lines at the limits.
+//! Tests of line reading: slow and failing readers, and lines at the limits.
 
 use crate::fakes::SlowReader;
 use sctp_text::{FromRead, LineReader, NextLine, ReadFault, Source};
 use std::alloc::Global;
 use std::test::Fail;
 
-/// What a reader answers in turn, up to the end or a line that is too long, and how many calls failed.
+/// What a reader of lines returns in turn, up to the end or a line that is too long, and how many calls failed.
 fn answers<S: Source>(
     alloc: Global,
     mut reader: LineReader,
@@ -67,7 +67,7 @@ fn a_call_that_fails_in_mid_line_loses_nothing(rt: HostRuntime) -> Result<(), Fa
     Ok(())
 }
 
-/// How long the first line is, with whether a line feed ended it; `None` where it is too long.
+/// The length of the first line and whether a line feed ended it; `None` if it is too long.
 fn first_line<S: Source>(
     mut reader: LineReader,
     source: &mut S,

@@ -1,10 +1,10 @@
-//! Lists in blocks: many items come amid each other, are found, replaced and go.
+//! Tests of lists in blocks: many items are inserted between others, found, replaced and removed.
 
 use sctp_sequence::Sequence;
 use std::alloc::Global;
 use std::test::Fail;
 
-/// So many even numbers, and then each odd one amid them.
+/// The even numbers below `2 * half`, and then each odd one inserted between them.
 fn numbers(alloc: Global, half: usize) -> Result<Sequence<usize>, Fail> {
     let mut items = Sequence::new(alloc);
     for n in 0..half {
@@ -17,7 +17,7 @@ fn numbers(alloc: Global, half: usize) -> Result<Sequence<usize>, Fail> {
     Ok(items)
 }
 
-/// The items, one after another, are this one and each the one before and so much more.
+/// Whether the items are an arithmetic progression with this first item and this step.
 fn count_up(items: &Sequence<usize>, first: usize, step: usize) -> bool {
     let mut next = first;
     for at in 0..items.len() {
@@ -72,7 +72,7 @@ fn items_go_and_are_replaced(rt: HostRuntime) -> Result<(), Fail> {
     Ok(())
 }
 
-/// A place below a bound, far from the one before.
+/// A pseudo-random place below a bound.
 fn scattered(n: usize, bound: usize) -> usize {
     if bound == 0 {
         return 0;
@@ -80,7 +80,7 @@ fn scattered(n: usize, bound: usize) -> usize {
     n.wrapping_mul(7_919) % bound
 }
 
-/// They have the same items, one after another.
+/// Whether both have the same items in the same order.
 fn are_same(items: &Sequence<usize>, plain: &Vec<usize>) -> bool {
     if items.len() != plain.len() {
         return false;
@@ -110,7 +110,7 @@ fn items_come_and_go_as_in_a_plain_list(rt: HostRuntime) -> Result<(), Fail> {
         assert!(rt; n % 64 != 0 || are_same(&items, &plain));
     }
     for n in 0..2_000 {
-        // Blocks amid others become empty.
+        // Blocks between others become empty.
         let at = 600;
         if at < plain.len() {
             assert_eq!(rt; items.remove(at), Some(plain.remove(at)));

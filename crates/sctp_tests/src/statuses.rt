@@ -1,4 +1,4 @@
-//! The exit status where a reader, a writer or memory fails.
+//! Tests of the exit status if a reader, a writer or an allocation fails.
 
 use crate::fakes::{SlowReader, SlowWriter, TABLE};
 use sctp_trace::{FromRead, ToWrite, run_words};
@@ -17,7 +17,7 @@ fn words_of(alloc: Global, texts: &[&str]) -> Result<Vec<String>, AllocError> {
 #[test]
 fn a_reader_or_writer_that_fails_ends_with_3(rt: HostRuntime) -> Result<(), Fail> {
     let alloc = rt.alloc();
-    // The word behind the name, the script, the call of the reader, the output's and the faults' writer that fails, and the status.
+    // The word after the name, the script, the failing call of the reader, of the output's and of the faults' writer, and the status.
     let table = [
         ("run", TABLE, 0, 0, 1, 0),
         ("run", TABLE, 1, 0, 0, 3),
@@ -50,7 +50,7 @@ fn a_reader_or_writer_that_fails_ends_with_3(rt: HostRuntime) -> Result<(), Fail
 
 #[test]
 fn where_memory_fails_the_status_is_3(rt: HostRuntime) -> Result<(), Fail> {
-    // To be run with each allocation failing in turn: the writers take no memory.
+    // To be run with each allocation failing in turn: the writers allocate nothing.
     let alloc = rt.alloc();
     for (word, script, wanted) in [("run", TABLE, 0), ("run", "open", 2), ("walk", TABLE, 1)] {
         let Ok(words) = words_of(alloc, &["sctp-trace", word]) else {

@@ -1,4 +1,4 @@
-//! Readers and writers that are slow or fail, and memory that runs out.
+//! Tests of scripts over slow and failing readers and writers, and with failing allocations.
 
 use crate::fakes::{SlowReader, SlowWriter, TABLE, TABLE_WRITTEN};
 use sctp_trace::{FromRead, ScriptFault, Sink, Source, ToWrite, run_script};
@@ -28,7 +28,7 @@ fn a_reader_that_fails_at_any_call_ends_the_script(rt: HostRuntime) -> Result<()
         let ended = run_script(rt.alloc(), &mut source, &mut sink);
         assert_eq!(rt; (source.failures(), sink.failures()), (1, 0));
         assert_eq!(rt; ended, Err(ScriptFault::Read), "call {call}");
-        // The outcome of each line that was read with its line feed, and no more.
+        // The outcomes of the lines that were read with their line feeds, and no more.
         let read = &TABLE.as_bytes()[..call - 1];
         let lines = read.iter().filter(|byte| **byte == b'\n').count();
         let outcomes = TABLE_WRITTEN.lines().take(lines.saturating_sub(1));
@@ -75,7 +75,7 @@ fn a_writer_that_takes_nothing_failed(rt: HostRuntime) -> Result<(), Fail> {
 
 #[test]
 fn where_memory_fails_a_beginning_was_written(rt: HostRuntime) -> Result<(), Fail> {
-    // To be run with each allocation failing in turn: the writer takes no memory.
+    // To be run with each allocation failing in turn: the writer allocates nothing.
     let mut held = [0; 256];
     let mut source = FromRead::new(TABLE.as_bytes());
     let mut rest = held.as_mut_slice();

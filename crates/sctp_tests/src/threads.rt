@@ -1,4 +1,4 @@
-//! Which values another thread may be given: the check of a call shows that all that they are made of may.
+//! Which types are `Send`: a call that compiles shows it.
 
 use sctp_endpoint::Endpoint;
 use sctp_framing::{DataFraming, IDataFraming};
@@ -6,7 +6,7 @@ use sctp_pair::Pair;
 use sctp_send::Sender;
 use std::test::Fail;
 
-/// Is called for types alone that another thread may be given.
+/// Can be called only for types that another thread may be given.
 fn is_for_any_thread<T: Send>() -> bool {
     true
 }

@@ -1,4 +1,4 @@
-//! Writers that are slow or fail.
+//! Tests of writing: slow and failing writers.
 
 use crate::fakes::SlowWriter;
 use sctp_text::{Failed, Sink, ToWrite, write_all};
@@ -17,7 +17,7 @@ fn all_is_written_or_a_beginning_where_a_call_fails(rt: HostRuntime) -> Result<(
         (1, 4, Err(Failed), "hel"),
         (1, 5, Err(Failed), "hell"),
         (2, 3, Err(Failed), "hell"),
-        // A writer that takes nothing.
+        // A writer that accepts nothing.
         (0, 0, Err(Failed), ""),
     ];
     for (step, fails_at, wanted, held) in table {

@@ -1,4 +1,4 @@
-//! A block of bytes that were read from a source at once.
+//! A read buffer: the bytes that one call of a source has read.
 
 ghost use Rattle.std.specs.Prelude.{◌≡◌, [], ◌+◌, ◌-◌, ◌^◌, ◌<◌, ◌≤◌, ◌==◌, length, drop, OnOk};
 ghost use Rattle.sctp_text.specs.Streams.{failed_calls};
@@ -6,10 +6,10 @@ ghost use Rattle.sctp_text.specs.Streams.{failed_calls};
 use crate::source_sink::{Failed, Source};
 use std::marker::Model;
 
-/// How many bytes a block holds at most.
+/// Capacity of a block in bytes.
 pub const BLOCK: usize = 4_096;
 
-/// The bytes of a block that are still to be used.
+/// The bytes of a block that aren't consumed yet.
 #[derive(Drop)]
 pub struct Block {
     bytes: [u8; BLOCK],
@@ -29,7 +29,7 @@ impl Model for Block {
 }
 
 impl Block {
-    /// A block without bytes.
+    /// An empty block.
     pub fn new() -> Block
         ensures { result ≡ [] }
     {
@@ -48,14 +48,14 @@ impl Block {
         &self.bytes[self.start..self.end]
     }
 
-    /// Whether there is no byte left.
+    /// Whether no byte is left.
     pub fn is_empty(&self) -> bool
         ensures { result ≡ (length self.now == 0) }
     {
         self.bytes().is_empty()
     }
 
-    /// Takes so many bytes away from the front.
+    /// Removes `count` bytes from the front.
     pub fn skip(&mut self, count: usize)
         requires { count ≤ length self.old }
         ensures { self.new ≡ drop count self.old }
@@ -63,10 +63,10 @@ impl Block {
         self.start += count;
     }
 
-    /// Reads into the block, of which all bytes were used; where it stays empty all input was read.
+    /// Refills an empty block by one read. If it is still empty afterwards, the input is at its end.
     ///
     /// # Errors
-    /// `Failed` where the call failed: the block stays empty then.
+    /// `Failed` if the call failed: the block is empty then.
     pub fn fill<S: Source>(&mut self, source: &mut S) -> Result<(), Failed>
         requires room { S.failures source.old < 2 ^ 64 - 1 }
         requires used { self.old ≡ [] }

@@ -1,4 +1,4 @@
-//! Bytes as a value. Contracts see the list of them.
+//! An owned byte string. Contracts see its list of bytes.
 
 ghost use Rattle.std.specs.Prelude.{◌≡◌, bytes_eq, IfOk};
 ghost use Rattle.std.specs.Cmp.{partial_equiv_from_equiv};
@@ -7,7 +7,7 @@ ghost use Rattle.std.specs.Cmp.Lexicographic.{nat_list_eq_equiv};
 use std::alloc::{AllocError, Global};
 use std::marker::Model;
 
-/// Some bytes. Contracts see the list of them.
+/// An owned byte string. Contracts see its list of bytes.
 #[derive(Debug, Drop)]
 pub struct Bytes {
     bytes: Vec<u8>,
@@ -22,17 +22,17 @@ impl Model for Bytes {
 }
 
 impl Bytes {
-    /// These bytes.
+    /// Wraps these bytes.
     pub fn new(bytes: Vec<u8>) -> Bytes
         ensures { result ≡ bytes.items }
     {
         Bytes { bytes }
     }
 
-    /// A copy of these bytes.
+    /// Copies these bytes.
     ///
     /// # Errors
-    /// `AllocError` where there was no room for the copy.
+    /// `AllocError` if no memory could be allocated for the copy.
     pub fn copied(alloc: Global, bytes: &[u8]) -> Result<Bytes, AllocError>
         ensures { IfOk result (λ copy. copy ≡ bytes.now) }
     {
@@ -40,14 +40,14 @@ impl Bytes {
         Ok(Bytes { bytes })
     }
 
-    /// The bytes, lent.
+    /// Borrows the bytes.
     pub fn as_slice(&self) -> &[u8]
         ensures { result.now ≡ self.now }
     {
         self.bytes.as_slice()
     }
 
-    /// The bytes, given away.
+    /// Returns the bytes, consuming this value.
     pub fn into_vec(self) -> Vec<u8>
         ensures { result.items ≡ self }
     {

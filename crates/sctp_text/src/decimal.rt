@@ -1,4 +1,4 @@
-//! Numbers in decimal, without sign or leading zeros.
+//! Numbers in decimal, without sign and without leading zeros.
 
 ghost use Rattle.std.specs.Prelude.{◌≡◌, ◌<◌, ◌^◌, ◌⊎◌, ◌↔◌, ℕ, ◌++◌, length, slice_index, IsTrue, MatchOption, OnOk, OnErr, decimal};
 ghost use Rattle.sctp_text.specs.Numerals.{IsDecimal};
@@ -9,7 +9,7 @@ use std::alloc::AllocError;
 /// Appends a number in decimal.
 ///
 /// # Errors
-/// `AllocError` where there was no room and none was got; `out` is then as before.
+/// `AllocError` if `out` can't grow; it is unchanged then.
 pub fn put_decimal(number: u64, out: &mut Vec<u8>) -> Result<(), AllocError>
     ensures put { OnOk result (out.new.items ≡ out.old.items ++ decimal number) }
     ensures refused { OnErr result (out.new.items ≡ out.old.items) }
@@ -19,7 +19,7 @@ pub fn put_decimal(number: u64, out: &mut Vec<u8>) -> Result<(), AllocError>
     out.extend_from_slice(text.as_bytes())
 }
 
-/// The number that a word says in decimal, at most 2^64 - 1. None where it says none, or a larger one.
+/// Reads a word as a decimal number, 0 to 2^64 - 1. None if the word is no such number.
 pub fn read_decimal(word: &[u8]) -> Option<u64>
     ensures { MatchOption result ((n : ℕ) → n < 2 ^ 64 → IsDecimal word.now n → ⊥) (λ n. IsDecimal word.now n) }
 {
@@ -30,7 +30,7 @@ pub fn read_decimal(word: &[u8]) -> Option<u64>
     text.parse().ok()
 }
 
-/// The word begins as no number does, but as the parser of std would take it: by a sign, or by a zero before other digits.
+/// Whether the word begins in a way that std's parser accepts and this format doesn't: with a sign, or with a zero before other digits.
 fn begins_as_no_number(word: &[u8]) -> bool
     ensures { IsTrue result ↔ ((slice_index word.now 0 ≡ 43) ⊎ ((slice_index word.now 0 ≡ 48) × (1 < length word.now))) }
 {

@@ -1,4 +1,4 @@
-//! Bytes as two digits each, of lower case, and `-` for no byte.
+//! Bytes in hexadecimal: two lower-case digits each, and `-` for no bytes.
 
 ghost use Rattle.std.specs.Prelude.{◌≡◌, ◌%◌, ◌<◌, ◌↔◌, ℕ, List, ◌++◌, length, slice_index, IsTrue, IfOk, MatchOption, OnOk, OnErr};
 ghost use Rattle.hex.specs.Hex.{encode_lower, lower_digits};
@@ -11,10 +11,10 @@ use std::alloc::{AllocError, Global};
 /// The sixteen digits, by their values.
 const DIGITS: [u8; 16] = *b"0123456789abcdef";
 
-/// Appends bytes in hexadecimal, or `-` where there is none.
+/// Appends bytes in hexadecimal, `-` if there are none.
 ///
 /// # Errors
-/// `AllocError` where there was no room and none was got; `out` is then as before.
+/// `AllocError` if `out` can't grow; it is unchanged then.
 pub fn put_hex(bytes: &[u8], out: &mut Vec<u8>) -> Result<(), AllocError>
     ensures put { OnOk result (out.new.items ≡ out.old.items ++ hex_word bytes.now) }
     ensures refused { OnErr result (out.new.items ≡ out.old.items) }
@@ -31,7 +31,7 @@ pub fn put_hex(bytes: &[u8], out: &mut Vec<u8>) -> Result<(), AllocError>
     put
 }
 
-/// Appends the digits of bytes, or of some of the first ones where memory is wanting.
+/// Appends the digits of bytes; of a prefix of them if an allocation fails.
 fn append_digits(bytes: &[u8], out: &mut Vec<u8>) -> Result<(), AllocError>
     ensures put { OnOk result (out.new.items ≡ out.old.items ++ encode_lower bytes.now) }
     ensures part { (part : List ℕ) × (out.new.items ≡ out.old.items ++ part) }
@@ -51,10 +51,10 @@ fn digit(value: u8) -> u8
     DIGITS[usize::from(value)]
 }
 
-/// The bytes that a word says in hexadecimal: two digits of lower case for each, or `-` for no byte. None where it says none.
+/// Reads a word as bytes in hexadecimal: two lower-case digits for each byte, or `-` for no bytes. None if the word is neither.
 ///
 /// # Errors
-/// `AllocError` where there was no room for the bytes.
+/// `AllocError` if no memory could be allocated for the bytes.
 pub fn read_hex(alloc: Global, word: &[u8]) -> Result<Option<Bytes>, AllocError>
     ensures { IfOk result (λ found. MatchOption found
         ((bytes : List ℕ) → IsHex word.now bytes → ⊥) (λ bytes. IsHex word.now bytes)) }
@@ -69,14 +69,14 @@ pub fn read_hex(alloc: Global, word: &[u8]) -> Result<Option<Bytes>, AllocError>
     Ok(Some(Bytes::new(bytes)))
 }
 
-/// The word is pairs of digits, one at least, of lower case where they are letters.
+/// Whether the word is one or more pairs of lower-case hexadecimal digits.
 fn are_digit_pairs(word: &[u8]) -> bool
     ensures { IsTrue result ↔ ((0 < length word.now) × (length word.now % 2 ≡ 0) × IsTrue (list_all is_lower_digit word.now)) }
 {
     !word.is_empty() && word.len() % 2 == 0 && are_lower_digits(word)
 }
 
-/// Each byte is a digit, of lower case where it is a letter.
+/// Whether each byte is a lower-case hexadecimal digit.
 fn are_lower_digits(word: &[u8]) -> bool
     ensures { result ≡ list_all is_lower_digit word.now }
 {

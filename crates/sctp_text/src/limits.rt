@@ -1,10 +1,10 @@
-//! The bytes that part lines and words, and how long a line and a text may be.
+//! The separators of lines and words, and the maximum lengths of a line and of a text.
 
 /// The byte that ends a line.
 pub const LINE_FEED: u8 = 10;
-/// The byte that stands between two words.
+/// The byte between two words.
 pub const SPACE: u8 = 32;
-/// How many bytes a line has at most, without its line feed.
+/// Maximum length of a line in bytes, without its line feed.
 pub const LONGEST_LINE: usize = 140_000;
-/// How many bytes a text has at most: 2 to the 40th.
+/// Maximum length of a text in bytes: 2^40.
 pub const LONGEST_TEXT: u64 = 1_099_511_627_776;

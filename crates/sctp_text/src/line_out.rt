@@ -1,4 +1,4 @@
-//! A line that is written: words with one space between them, and a line feed.
+//! Writes lines: words with one space between them, and a line feed.
 
 ghost use Rattle.std.specs.Prelude.{◌≡◌, ℕ, List, [], ◌∷◌, ◌++◌, map, decimal, OnOk, OnErr};
 ghost use Rattle.sctp_text.specs.SpacedWords.{each_behind_space, line_of};
@@ -9,21 +9,21 @@ use crate::hexadecimal::put_hex;
 use crate::limits::{LINE_FEED, SPACE};
 use std::alloc::AllocError;
 
-/// A word of a line.
+/// A word of a line that is written.
 #[derive(Clone, Copy, Debug)]
 pub enum Word<'a> {
-    /// The bytes as they are.
+    /// These bytes, unchanged.
     Text(&'a [u8]),
-    /// A number, in decimal.
+    /// A number in decimal.
     Number(u64),
-    /// Bytes, in hexadecimal.
+    /// Bytes in hexadecimal, `-` if there are none.
     Hex(&'a [u8]),
 }
 
-/// Appends a line: its first word, further words, and then numbers.
+/// Appends a line: its first word, further words, then numbers.
 ///
 /// # Errors
-/// `AllocError` where there was no room and none was got; `out` is then as before.
+/// `AllocError` if `out` can't grow; it is unchanged then.
 pub fn put_line(
     first: &[u8],
     words: &[Word<'_>],
@@ -42,7 +42,7 @@ pub fn put_line(
     put
 }
 
-/// Appends a line, or its beginning where memory is wanting.
+/// Appends a line; a prefix of it if an allocation fails.
 fn append_line(
     first: &[u8],
     words: &[Word<'_>],
@@ -59,7 +59,7 @@ fn append_line(
     append(&[LINE_FEED], out)
 }
 
-/// Appends each word behind a space, or some of this where memory is wanting.
+/// Appends each word after a space; a prefix of this if an allocation fails.
 fn append_words(words: &[Word<'_>], out: &mut Vec<u8>) -> Result<(), AllocError>
     ensures put { OnOk result (out.new.items ≡ out.old.items ++ each_behind_space (map text_of words.now)) }
     ensures part { (part : List ℕ) × (out.new.items ≡ out.old.items ++ part) }
@@ -71,7 +71,7 @@ fn append_words(words: &[Word<'_>], out: &mut Vec<u8>) -> Result<(), AllocError>
     Ok(())
 }
 
-/// Appends each number behind a space, or some of this where memory is wanting.
+/// Appends each number after a space; a prefix of this if an allocation fails.
 fn append_numbers(numbers: &[u64], out: &mut Vec<u8>) -> Result<(), AllocError>
     ensures put { OnOk result (out.new.items ≡ out.old.items ++ each_behind_space (map decimal numbers.now)) }
     ensures part { (part : List ℕ) × (out.new.items ≡ out.old.items ++ part) }
@@ -83,7 +83,7 @@ fn append_numbers(numbers: &[u64], out: &mut Vec<u8>) -> Result<(), AllocError>
     Ok(())
 }
 
-/// Appends a word, or nothing where memory is wanting.
+/// Appends a word; nothing if an allocation fails.
 fn append_word(word: &Word<'_>, out: &mut Vec<u8>) -> Result<(), AllocError>
     ensures put { OnOk result (out.new.items ≡ out.old.items ++ text_of word.now) }
     ensures refused { OnErr result (out.new.items ≡ out.old.items) }
@@ -95,7 +95,7 @@ fn append_word(word: &Word<'_>, out: &mut Vec<u8>) -> Result<(), AllocError>
     }
 }
 
-/// Appends bytes, or nothing where memory is wanting.
+/// Appends bytes; nothing if an allocation fails.
 fn append(bytes: &[u8], out: &mut Vec<u8>) -> Result<(), AllocError>
     ensures put { OnOk result (out.new.items ≡ out.old.items ++ bytes.now) }
     ensures refused { OnErr result (out.new.items ≡ out.old.items) }

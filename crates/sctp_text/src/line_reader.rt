@@ -1,4 +1,4 @@
-//! The lines of a source, one at a time: no more than one line and one block is held.
+//! Reads lines from a source one at a time, holding at most one line and one block.
 
 ghost use Rattle.std.specs.Prelude.{◌≡◌, ℕ, List, [], ◌++◌, ◌+◌, ◌-◌, ◌^◌, ◌<◌, ◌≤◌, ◌↔◌, IsTrue, length};
 ghost use Rattle.std.specs.List.{position};
@@ -17,48 +17,49 @@ use std::marker::Model;
 use std::mem;
 use thiserror::Error;
 
-/// What comes next in a source that is read line by line.
+/// What `LineReader::next_line` has found.
 #[derive(Debug, Drop)]
 pub enum NextLine {
     /// A line, without the line feed that ends it.
     Ended(Vec<u8>),
-    /// What stands behind the last line feed, which is no line feed and not empty: the input ends here.
+    /// The bytes after the last line feed, at least one: the input ends here.
     Last(Vec<u8>),
-    /// A line of more than `LONGEST_LINE` bytes, or one with which the text has more than `LONGEST_TEXT`.
+    /// The line has more than `LONGEST_LINE` bytes, or the text up to its end more than `LONGEST_TEXT`.
     TooLong,
-    /// Nothing: the input ends here.
+    /// No further line: the input has ended.
     End,
 }
 
-/// Why no line was read.
+/// Why no line could be read.
 #[derive(Clone, Copy, Debug, PartialEq, Eq, Error)]
 pub enum ReadFault {
-    /// The source failed in this call.
+    /// A call of the source failed during this call.
     #[error("a call of the reader failed")]
     Failed,
-    /// Memory ran out.
+    /// An allocation failed.
     #[error("out of memory")]
     NoMemory,
 }
 
-/// What became of a line that is skipped.
+/// How far a line was skipped.
 #[derive(Clone, Copy, Debug, PartialEq, Eq)]
 pub enum SkippedLine {
-    /// It is skipped, with the line feed that ends it.
+    /// To its end, with its line feed.
     Ended,
-    /// It is skipped, and the input ends here.
+    /// To its end, which is the end of the input.
     Last,
-    /// With it the text has more than `LONGEST_TEXT` bytes: it is skipped no further.
+    /// Not to its end: the text would have more than `LONGEST_TEXT` bytes.
     TextTooLong,
 }
 
-/// Why a line is gathered no further, though the input may go on.
+/// Why reading a line stops before the end of the input.
 enum Stop {
     LineFeed,
     TooLong,
 }
 
-/// Reads lines: what it has read and not given yet, and how many bytes it has given, line feeds included.
+/// Reads a text line by line. Contracts see the bytes that were read and not given yet, and the number of bytes given, line feeds
+/// included.
 #[derive(Drop)]
 pub struct LineReader {
     alloc: Global,
@@ -79,7 +80,7 @@ impl Model for LineReader {
 }
 
 impl LineReader {
-    /// A reader that has read nothing yet.
+    /// A reader at the beginning of a text.
     pub fn new(alloc: Global) -> LineReader
         ensures { result ≡ record { held = []; given = 0 } }
     {
@@ -91,21 +92,20 @@ impl LineReader {
         }
     }
 
-    /// Whether what is held answers the next call of `next_line`, so that it reads nothing.
+    /// Whether the bytes held suffice for the next call of `next_line`, which then reads nothing.
     pub fn is_ready(&self) -> bool
         ensures { IsTrue result ↔ ¬ MayBegin self.now.given self.now.held }
     {
         !may_begin(self.given, &self.line, self.block.bytes())
     }
 
-    /// The next line. Nothing is read where the bytes that are held answer already.
+    /// Returns the next line. Nothing is read if the bytes held suffice.
     ///
     /// # Errors
-    /// `Failed` where a reading call failed, `NoMemory` where no room for the line was got. What was read is
-    /// held, and the next call goes on from there.
+    /// `Failed` if a call of the source failed, `NoMemory` if an allocation did. What was read is kept, and the next call goes on from there.
     pub fn next_line<S: Source>(&mut self, source: &mut S) -> Result<NextLine, ReadFault>
         requires { S.failures source.old < 2 ^ 64 - 1 }
-        // What was held and what is read is what is given and what is held then.
+        // The bytes held before and those read are the bytes given and those held after.
         ensures bytes { (bytes : List ℕ) × S.Reads source.old bytes source.new × IsReadFor self.old.given self.old.held bytes
             × (self.old.held ++ bytes ≡ given_by result ++ self.new.held) }
         ensures given { self.new.given ≡ self.old.given + length (given_by result) }
@@ -130,12 +130,11 @@ impl LineReader {
         }
     }
 
-    /// Skips a line: what is held of it goes, and what is read of it, up to the line feed that ends it, which goes too. No more than a block
-    /// is held meanwhile. What goes is counted as given. It is for a line that is too long, of which `next_line` gives nothing: the call of
-    /// `next_line` behind it gives the line that follows.
+    /// Discards a line, up to and including its line feed, and counts its bytes as given. It is meant for a line that `next_line` reported as
+    /// `TooLong`: the next call of `next_line` returns the line after it. No more than one block is held meanwhile.
     ///
     /// # Errors
-    /// `Failed` where a reading call failed: what was read of the line before is gone, and the next call skips the rest of it.
+    /// `Failed` if a call of the source failed: what was read of the line is discarded, and the next call discards the rest of it.
     pub fn skip_line<S: Source>(&mut self, source: &mut S) -> Result<SkippedLine, Failed>
         requires { S.failures source.old < 2 ^ 64 - 1 }
         ensures skips { (bytes : List ℕ) × S.Reads source.old bytes source.new × Skips self.old bytes result self.new }
@@ -148,7 +147,7 @@ impl LineReader {
     }
 }
 
-/// The bytes of a line, which is empty then.
+/// Takes the bytes of a line, which is empty afterwards.
 fn emptied(line: &mut Vec<u8>, alloc: Global) -> Vec<u8>
     ensures given { result.items ≡ line.old.items }
     ensures empty { line.new.items ≡ [] }
@@ -156,7 +155,7 @@ fn emptied(line: &mut Vec<u8>, alloc: Global) -> Vec<u8>
     mem::replace(line, Vec::new(alloc))
 }
 
-/// Whether behind so many bytes a line may begin with these two parts, with the first of which it may.
+/// Whether, after `given` bytes of the text, these two parts together may still be the beginning of a line that isn't too long.
 fn may_begin(given: u64, line: &[u8], rest: &[u8]) -> bool
     requires begun { MayBegin given line.now }
     requires room { length rest.now ≤ BLOCK }
@@ -172,7 +171,7 @@ fn may_begin(given: u64, line: &[u8], rest: &[u8]) -> bool
     whole as u64 <= LONGEST_TEXT - given
 }
 
-/// Reads on until the line is whole or too long, or the input ends (`None`); the line feed stays in the block.
+/// Reads until the line is complete or too long, or the input ends (`None`). The line feed stays in the block.
 fn complete<S: Source>(
     line: &mut Vec<u8>,
     block: &mut Block,
@@ -201,7 +200,7 @@ fn complete<S: Source>(
     }
 }
 
-/// Moves what the block holds of the line to it: all up to the first line feed, which stays in the block.
+/// Moves the bytes up to the first line feed from the block to the line. The line feed stays in the block.
 fn gather(line: &mut Vec<u8>, block: &mut Block, given: u64) -> Result<Option<Stop>, AllocError>
     requires { MayBegin given line.old.items }
     ensures begun { MayBegin given line.new.items }
@@ -224,7 +223,7 @@ fn gather(line: &mut Vec<u8>, block: &mut Block, given: u64) -> Result<Option<St
     })
 }
 
-/// How many bytes stand before the first line feed, all where there is none.
+/// The number of bytes before the first line feed, all of them if there is none.
 pub(crate) fn line_length(bytes: &[u8]) -> usize
     ensures exact { result ≡ first_length bytes.now }
     ensures bound { result ≤ length bytes.now }
@@ -235,7 +234,7 @@ pub(crate) fn line_length(bytes: &[u8]) -> usize
     }
 }
 
-/// Where the first line feed stands.
+/// The position of the first line feed.
 fn first_line_feed(bytes: &[u8]) -> Option<usize>
     ensures { result ≡ position is_line_feed bytes.now }
 {

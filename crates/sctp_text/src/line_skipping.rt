@@ -1,4 +1,4 @@
-//! What is skipped of a line.
+//! Discards a line that is too long, block by block.
 
 ghost use Rattle.std.specs.Prelude.{◌≡◌, ℕ, List, ◌+◌, ◌-◌, ◌^◌, ◌<◌, ◌≤◌};
 ghost use Rattle.sctp_text.specs.SkippedLines.{Skips, EndsInput};
@@ -10,7 +10,7 @@ use crate::limits::LONGEST_TEXT;
 use crate::line_reader::{SkippedLine, line_length};
 use crate::source_sink::{Failed, Source};
 
-/// Skips what the block holds of a line, and what is read of it.
+/// Discards the rest of a line: what the block holds of it, and what has to be read until it ends.
 pub(crate) fn pass_line<S: Source>(
     block: &mut Block,
     given: &mut u64,
@@ -34,7 +34,7 @@ pub(crate) fn pass_line<S: Source>(
     }
 }
 
-/// Skips what the block holds of a line, None where the line may go on.
+/// Discards what the block holds of a line. None if the line may go on in the next block.
 fn pass_block(block: &mut Block, given: &mut u64) -> Option<SkippedLine>
     requires { given.old ≤ LONGEST_TEXT }
     ensures within { given.new ≤ LONGEST_TEXT }

@@ -1,4 +1,4 @@
-//! Where a text comes from and where it goes: one reading or writing call at a time.
+//! Input and output streams, one call at a time.
 
 ghost use Rattle.std.specs.Prelude.{◌≡◌, ℕ, List, [], ◌++◌, ◌+◌, ◌-◌, ◌^◌, ◌<◌, ◌≤◌, length, IfOk};
 ghost use Rattle.sctp_text.specs.Streams.{moved, failed_calls, reader_below, writer_below};
@@ -7,25 +7,25 @@ ghost use Rattle.sctp_text.specs.inner.StdAnswers.{answer_of_read, answer_of_wri
 use std::io::{Read, Result as IoResult, Write};
 use thiserror::Error;
 
-/// A reading or writing call failed.
+/// A call of a source or of a sink failed.
 #[derive(Clone, Copy, Debug, PartialEq, Eq, Error)]
 #[error("a call of the reader or the writer failed")]
 pub struct Failed;
 
-/// What is read, a call at a time.
+/// An input stream.
 pub trait Source {
     // From the first state to the second just these bytes were read.
     ghost Reads: { Self → List ℕ → Self → Type 0 };
-    // All input was read.
+    // The input is at its end.
     ghost IsAtEnd: { Self → Type 0 };
-    // How many calls were answered Failed so far.
+    // The number of calls that have failed so far.
     ghost failures: { Self → ℕ };
 
-    /// Reads the next bytes into the beginning of the buffer and answers how many; 0 into a buffer that isn't
-    /// empty is the end of input. What stands in the rest of the buffer isn't told.
+    /// Reads the next bytes into the beginning of the buffer and returns their number; 0 with a non-empty buffer means the end of the
+    /// input. The content of the rest of the buffer is unspecified.
     ///
     /// # Errors
-    /// `Failed` where the call failed: nothing was read then.
+    /// `Failed` if the call failed: nothing was read then.
     fn read(&mut self, buffer: &mut [u8]) -> Result<usize, Failed>
         requires { failures self.old < 2 ^ 64 - 1 }
         ensures bound { IfOk result (λ count. count ≤ length buffer.old) }
@@ -33,27 +33,27 @@ pub trait Source {
         ensures end { IfOk result (λ count. count ≡ 0 → 0 < length buffer.old → IsAtEnd self.new) }
         ensures failed { failures self.new ≡ failures self.old + failed_calls result };
 
-    /// How many calls were answered `Failed` so far.
+    /// The number of calls that have failed so far.
     fn failures(&self) -> u64
         ensures { result ≡ failures self.now };
 
-    // Where nothing is done nothing is read, and what is read first and then is read as one.
+    // Without a call nothing is read, and two reads in a row are one of the bytes joined.
     ghost reads_none: { (s : Self) → Reads s [] s };
 
     ghost reads_more: { (s t u : Self) (a b : List ℕ) → Reads s a t → Reads t b u → Reads s (a ++ b) u };
 }
 
-/// What is written to, a call at a time.
+/// An output stream.
 pub trait Sink {
     // From the first state to the second just these bytes were written.
     ghost Writes: { Self → List ℕ → Self → Type 0 };
-    // How many calls were answered Failed so far.
+    // The number of calls that have failed so far.
     ghost failures: { Self → ℕ };
 
-    /// Writes a beginning of the bytes and answers its length, which is 0 for no bytes alone.
+    /// Writes a prefix of the bytes and returns its length, which is 0 only if there are no bytes.
     ///
     /// # Errors
-    /// `Failed` where the call failed: nothing was written then.
+    /// `Failed` if the call failed: nothing was written then.
     fn write(&mut self, bytes: &[u8]) -> Result<usize, Failed>
         requires { failures self.old < 2 ^ 64 - 1 }
         ensures bound { IfOk result (λ count. count ≤ length bytes.now) }
@@ -61,17 +61,17 @@ pub trait Sink {
         ensures bytes { Writes self.old (moved result bytes.now) self.new }
         ensures failed { failures self.new ≡ failures self.old + failed_calls result };
 
-    /// How many calls were answered `Failed` so far.
+    /// The number of calls that have failed so far.
     fn failures(&self) -> u64
         ensures { result ≡ failures self.now };
 
-    // Where nothing is done nothing is written, and what is written first and then is written as one.
+    // Without a call nothing is written, and two writes in a row are one of the bytes joined.
     ghost writes_none: { (s : Self) → Writes s [] s };
 
     ghost writes_more: { (s t u : Self) (a b : List ℕ) → Writes s a t → Writes t b u → Writes s (a ++ b) u };
 }
 
-/// A reader of std as a source. It tells bytes where that reader does.
+/// A reader of std as a source. Its contract speaks of bytes as far as that reader's does.
 #[derive(Drop)]
 pub struct FromRead<R> {
     reader: R,
@@ -79,7 +79,7 @@ pub struct FromRead<R> {
 }
 
 impl<R: Read> FromRead<R> {
-    /// A source over this reader; no call has failed yet.
+    /// A source over this reader, with no failed call.
     pub fn new(reader: R) -> FromRead<R>
         ensures below { reader_below result ≡ reader }
         ensures fresh { ⟦<FromRead<R> as Source>⟧.failures result ≡ 0 }
@@ -119,7 +119,7 @@ impl<R: Read> Source for FromRead<R> {
     ghost reads_more = { λ s t u a b. consumes_more (R.remaining (reader_below s)) (R.remaining (reader_below t)) (R.remaining (reader_below u)) a b };
 }
 
-/// What the answer of a reader of std is here.
+/// Translates the answer of a reader of std.
 fn read_answer(answer: IoResult<usize>) -> Result<usize, Failed>
     ensures { result ≡ answer_of_read answer }
 {
@@ -129,7 +129,7 @@ fn read_answer(answer: IoResult<usize>) -> Result<usize, Failed>
     }
 }
 
-/// A writer of std as a sink. It tells bytes where that writer does.
+/// A writer of std as a sink. Its contract speaks of bytes as far as that writer's does.
 #[derive(Drop)]
 pub struct ToWrite<W> {
     writer: W,
@@ -137,7 +137,7 @@ pub struct ToWrite<W> {
 }
 
 impl<W: Write> ToWrite<W> {
-    /// A sink over this writer; no call has failed yet.
+    /// A sink over this writer, with no failed call.
     pub fn new(writer: W) -> ToWrite<W>
         ensures below { writer_below result ≡ writer }
         ensures fresh { ⟦<ToWrite<W> as Sink>⟧.failures result ≡ 0 }
@@ -175,7 +175,7 @@ impl<W: Write> Sink for ToWrite<W> {
     ghost writes_more = { λ s t u a b. appends_more (W.contents (writer_below s)) (W.contents (writer_below t)) (W.contents (writer_below u)) a b };
 }
 
-/// What the answer of a writer of std to so many bytes is here.
+/// Translates the answer of a writer of std to `length` bytes.
 fn write_answer(answer: IoResult<usize>, length: usize) -> Result<usize, Failed>
     ensures { result ≡ answer_of_write length answer }
 {

@@ -1,4 +1,4 @@
-//! The words of a line, with one space between them.
+//! Splits a line into words at its spaces.
 
 ghost use Rattle.std.specs.Prelude.{◌≡◌, ◌==◌, ◌<◌, ◌∷◌, length, position};
 ghost use Rattle.sctp_text.specs.SpacedWords.{words_of};
@@ -6,7 +6,7 @@ ghost use Rattle.sctp_text.specs.SpacedWords.{words_of};
 use crate::limits::SPACE;
 use std::marker::Model;
 
-/// The words of a line that are still to come. Leading, double and trailing spaces make empty words.
+/// An iterator over the words of a line: those that aren't taken yet. Leading, double and trailing spaces make empty words.
 #[derive(Debug, Drop)]
 pub struct Words<'a> {
     rest: &'a [u8],
@@ -24,7 +24,7 @@ impl<'a> Model for Words<'a> {
 }
 
 impl<'a> Words<'a> {
-    /// The words of a line. There is one at least.
+    /// The words of a line: at least one, which is empty if the line is.
     pub fn of(line: &'a [u8]) -> Words<'a>
         ensures { result ≡ words_of line.now }
     {
@@ -34,7 +34,7 @@ impl<'a> Words<'a> {
         }
     }
 
-    /// How many there are.
+    /// The number of words left.
     pub fn count(&self) -> usize
         ensures { result ≡ length self.now }
     {
@@ -44,7 +44,7 @@ impl<'a> Words<'a> {
         1 + self.rest.iter().filter(|byte| **byte == SPACE).count()
     }
 
-    /// Takes the first one.
+    /// Takes the next word.
     pub fn next_word(&mut self) -> &'a [u8]
         requires { 0 < length self.old }
         ensures { self.old ≡ result.now ∷ self.new }
@@ -63,7 +63,7 @@ impl<'a> Words<'a> {
     }
 }
 
-/// Where the first space stands.
+/// The position of the first space.
 fn first_space(text: &[u8]) -> Option<usize>
     ensures { result ≡ position (λ byte. byte == SPACE) text.now }
 {

@@ -1,14 +1,14 @@
-//! Writing the whole of some bytes by as many calls as it takes.
+//! Writes all of some bytes by as many calls as it takes.
 
 ghost use Rattle.std.specs.Prelude.{◌≡◌, ℕ, ◌+◌, ◌-◌, ◌^◌, ◌<◌, length, take, OnOk, OnErr};
 ghost use Rattle.sctp_text.specs.Streams.{failed_calls};
 
 use crate::source_sink::{Failed, Sink};
 
-/// Writes all of the bytes.
+/// Writes all of the bytes, in as many calls as the sink needs.
 ///
 /// # Errors
-/// `Failed` where a call failed: a beginning of the bytes, not all of them, was written then.
+/// `Failed` if a call failed: a proper prefix of the bytes was written then.
 pub fn write_all<W: Sink>(sink: &mut W, bytes: &[u8]) -> Result<(), Failed>
     requires { W.failures sink.old < 2 ^ 64 - 1 }
     ensures whole { OnOk result (W.Writes sink.old bytes.now sink.new) }

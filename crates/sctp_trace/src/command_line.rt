@@ -1,4 +1,4 @@
-//! The command line of the program: what its words ask for is done, and the exit status answered.
+//! The command line of `sctp-trace`: does what its words ask for and returns the exit status.
 
 ghost use Rattle.std.specs.Prelude.{◌≡◌, ◌≢◌, ℕ, ◌⊎◌, ◌+◌, ◌-◌, ◌^◌, ◌<◌, ◌≤◌, List, [], map, string_bytes, IfOk};
 ghost use Rattle.sctp_print.specs.PrintedText.{IsPacketTextOf, IsChunksTextOf};
@@ -12,22 +12,23 @@ use sctp_print::{print_chunks, print_packet};
 use sctp_text::{Sink, Source, write_all};
 use std::alloc::{AllocError, Global};
 
-/// The forms, as they are said where words are none of them.
+/// The usage text.
 pub const USAGE: &str = "usage:
   sctp-trace run         runs the script on standard input; outcomes and report go to standard output
   sctp-trace packet HEX  prints the packet that HEX says, a line for its header and one for each chunk
   sctp-trace chunks HEX  prints the chunks that HEX says, a line each
 ";
-/// The exit status of a script that was run whole.
+/// The exit status if a script was run to its end, or a packet or chunks were read.
 pub const DONE: u8 = 0;
-/// The exit status of words that are no form of the program's.
+/// The exit status of wrong words.
 pub const WRONG_WORDS: u8 = 1;
-/// The exit status of a script with a fault in a line.
+/// The exit status of a script with a faulty line, and of a packet or chunks that can't be read.
 pub const REFUSED: u8 = 2;
-/// The exit status where reading, writing or memory failed.
+/// The exit status if reading, writing or an allocation failed.
 pub const FAILED: u8 = 3;
 
-/// A law: the exit statuses are the numbers that `docs/FORMATS.md` has.
+// law
+/// The exit statuses are the numbers in `docs/FORMATS.md`.
 pub fn exit_statuses()
     ensures done { DONE ≡ 0 }
     ensures wrong_words { WRONG_WORDS ≡ 1 }
@@ -35,15 +36,15 @@ pub fn exit_statuses()
     ensures failed { FAILED ≡ 3 }
 {}
 
-/// Does what the words say, of which the first is the program's own name, and answers the exit status.
+/// Does what the words ask for and returns the exit status. The first word is the program's own name.
 ///
-/// The forms are `run`: the script is read from `input`, and its outcomes and report are written to `output`; `packet HEX` and
-/// `chunks HEX`: the lines of the packet, or of the chunks, that HEX says in hexadecimal are written to `output`. The status is
-/// - 0 where the script was run whole, or the packet or chunks were read,
-/// - 1 where the words are no form, a request for help among them: what is wrong with them and the forms are written to `faults`,
-/// - 2 where a line of the script was refused: `line N: K` is written to `faults`, the line counted from 1 and the kind of its fault;
-///   or HEX, the packet or the chunks were refused: the line of that is written to `output`,
-/// - 3 where reading, writing (to `faults` too) or memory failed.
+/// `run` reads a script from `input` and writes its outcomes and its report to `output`. `packet HEX` and `chunks HEX` write the lines of
+/// the packet, or of the chunks, that HEX spells in hexadecimal to `output`. The status is
+/// - 0 if the script was run to its end, or the packet or chunks were read,
+/// - 1 if the words are wrong or ask for help: what is wrong with them and the usage text are written to `faults`,
+/// - 2 if a line of the script has a fault: `line N: K` is written to `faults`, the line counted from 1 and the kind of its fault; or if HEX,
+///   the packet or the chunks have one: the line of that fault is written to `output`,
+/// - 3 if reading, writing (to `faults` too) or an allocation failed.
 pub fn run_words<R: Source, W: Sink, F: Sink>(
     alloc: Global,
     words: &[String],
@@ -57,7 +58,7 @@ pub fn run_words<R: Source, W: Sink, F: Sink>(
     ensures ends { (read written said : List ℕ) × R.Reads input.old read input.new × W.Writes output.old written output.new
         × F.Writes faults.old said faults.new
         × Ends (R.IsAtEnd input.new) (map string_bytes words.now) result read written said }
-    // No call fails but the last one, and then the status says so.
+    // Only the last call of a stream can fail, and then the status says so.
     ensures well { result < FAILED → (R.failures input.new ≡ R.failures input.old) × (W.failures output.new ≡ W.failures output.old)
         × (F.failures faults.new ≡ F.failures faults.old) }
     ensures once { R.failures input.new + W.failures output.new + F.failures faults.new
@@ -69,7 +70,7 @@ pub fn run_words<R: Source, W: Sink, F: Sink>(
     }
 }
 
-/// Does what a form asks.
+/// Does what a form asks for.
 fn act<R: Source, W: Sink, F: Sink>(
     alloc: Global,
     form: Form<'_>,
@@ -94,7 +95,7 @@ fn act<R: Source, W: Sink, F: Sink>(
     }
 }
 
-/// Prints the packet that the text says, or what is wrong with it.
+/// Prints the packet that the text spells, or its fault.
 fn print_packet_of<W: Sink>(alloc: Global, text: &str, output: &mut W) -> u8
     requires { W.failures output.old < 2 ^ 64 - 1 }
     ensures prints { (written : List ℕ) × W.Writes output.old written output.new × Prints (IsPacketTextOf text.now) result written }
@@ -108,7 +109,7 @@ fn print_packet_of<W: Sink>(alloc: Global, text: &str, output: &mut W) -> u8
     }
 }
 
-/// Prints the chunks that the text says, or what is wrong with them.
+/// Prints the chunks that the text spells, or their fault.
 fn print_chunks_of<W: Sink>(alloc: Global, text: &str, output: &mut W) -> u8
     requires { W.failures output.old < 2 ^ 64 - 1 }
     ensures prints { (written : List ℕ) × W.Writes output.old written output.new × Prints (IsChunksTextOf text.now) result written }
@@ -122,14 +123,14 @@ fn print_chunks_of<W: Sink>(alloc: Global, text: &str, output: &mut W) -> u8
     }
 }
 
-/// The status of bytes that were read, or not.
+/// The exit status for bytes that could be read, or not.
 fn status_of(was_read: bool) -> u8
     ensures { result ≡ status_of was_read }
 {
     if was_read { DONE } else { REFUSED }
 }
 
-/// Writes lines and answers the status, or that of a failure.
+/// Writes lines to the output. Returns the given status, or `FAILED`.
 fn put<W: Sink>(output: &mut W, lines: &[u8], status: u8) -> u8
     requires { W.failures output.old < 2 ^ 64 - 1 }
     ensures { ((result ≡ status) × W.Writes output.old lines.now output.new × (W.failures output.new ≡ W.failures output.old))
@@ -142,7 +143,7 @@ fn put<W: Sink>(output: &mut W, lines: &[u8], status: u8) -> u8
     }
 }
 
-/// Runs a script and tells the line that was refused.
+/// Runs a script and reports the line that has a fault.
 fn run<R: Source, W: Sink, F: Sink>(
     alloc: Global,
     input: &mut R,
@@ -163,7 +164,7 @@ fn run<R: Source, W: Sink, F: Sink>(
         Ok(()) => DONE,
         Err(ScriptFault::Line(number, fault)) => {
             match format!(in alloc; "line {number}: {}\n", fault.kind()) {
-                Ok(text) => tell(faults, text.as_str(), REFUSED),
+                Ok(text) => say(faults, text.as_str(), REFUSED),
                 Err(_) => FAILED,
             }
         }
@@ -171,7 +172,7 @@ fn run<R: Source, W: Sink, F: Sink>(
     }
 }
 
-/// Says of words that are no form what is wrong with them, and the forms; nothing where memory was wanting.
+/// Reports wrong words with the usage text; nothing if an allocation fails.
 fn refuse<F: Sink>(alloc: Global, kind: ErrorKind, faults: &mut F) -> u8
     requires { F.failures faults.old < 2 ^ 64 - 1 }
     ensures says { (said : List ℕ) × F.Writes faults.old said faults.new
@@ -183,12 +184,12 @@ fn refuse<F: Sink>(alloc: Global, kind: ErrorKind, faults: &mut F) -> u8
         return FAILED;
     }
     match words_text(alloc, kind) {
-        Ok(text) => tell(faults, text.as_str(), WRONG_WORDS),
+        Ok(text) => say(faults, text.as_str(), WRONG_WORDS),
         Err(_) => FAILED,
     }
 }
 
-/// What is wrong with words that are no form, by its kind, and the forms. Of a request for help it is the forms alone.
+/// The report of wrong words: what is wrong, by its kind, and the usage text. For a request for help it is the usage text alone.
 fn words_text(alloc: Global, kind: ErrorKind) -> Result<String, AllocError>
     ensures { IfOk result (λ text. string_bytes text ≡ words_text kind) }
 {
@@ -198,8 +199,8 @@ fn words_text(alloc: Global, kind: ErrorKind) -> Result<String, AllocError>
     }
 }
 
-/// Writes the text and answers the status, or that of a failure.
-fn tell<F: Sink>(faults: &mut F, text: &str, status: u8) -> u8
+/// Writes a text to standard error. Returns the given status, or `FAILED`.
+fn say<F: Sink>(faults: &mut F, text: &str, status: u8) -> u8
     requires { F.failures faults.old < 2 ^ 64 - 1 }
     ensures { ((result ≡ status) × F.Writes faults.old text.now faults.new × (F.failures faults.new ≡ F.failures faults.old))
         ⊎ ((result ≡ FAILED) × ((said : List ℕ) × F.Writes faults.old said faults.new × Begins said text.now)

@@ -1,4 +1,4 @@
-//! What the program's words ask for, as clap reads them.
+//! Reads the program's words by clap.
 
 ghost use Rattle.std.specs.Prelude.{◌≡◌, map, string_bytes, IfOk};
 ghost use Rattle.clap.specs.Words.{FailsBy, HasMatchesOf, app_of, fault_of};
@@ -8,7 +8,7 @@ ghost use Rattle.sctp_trace.specs.inner.Asked.{form_meaning};
 use clap::{Arg, ArgMatches, Command, Error};
 use std::alloc::{AllocError, Global};
 
-/// What words ask for: to run a script, or to print what text says in hexadecimal.
+/// What the program's words ask for: to run a script, or to print a packet or chunks given in hexadecimal.
 #[derive(Clone, Copy)]
 pub(crate) enum Form<'a> {
     Run,
@@ -16,7 +16,7 @@ pub(crate) enum Form<'a> {
     Chunks(&'a str),
 }
 
-/// The form of the words: the subcommand, and the value of HEX.
+/// Reads the words: the subcommand and the value of HEX.
 pub(crate) fn form_of(alloc: Global, words: &[String]) -> Result<Form<'_>, Error>
     ensures fails { FailsBy (fault_of commands (map string_bytes words.now)) result }
     ensures form { IfOk result (λ form. form_meaning form ≡ form_of (map string_bytes words.now)) }
@@ -34,7 +34,7 @@ pub(crate) fn form_of(alloc: Global, words: &[String]) -> Result<Form<'_>, Error
     Ok(Form::Run)
 }
 
-/// Parses the words.
+/// Parses the words by clap.
 fn parse(alloc: Global, words: &[String]) -> Result<ArgMatches<'_>, Error>
     ensures fails { FailsBy (fault_of commands (map string_bytes words.now)) result }
     ensures matches { IfOk result (HasMatchesOf commands (map string_bytes words.now)) }
@@ -43,14 +43,14 @@ fn parse(alloc: Global, words: &[String]) -> Result<ArgMatches<'_>, Error>
     program.try_get_matches_from(words)
 }
 
-/// The program: a subcommand is required, `run`, `packet` or `chunks`, the last two with HEX.
+/// The program for clap: one of the subcommands `run`, `packet` and `chunks` is required, the last two with HEX.
 fn program<'a>(alloc: Global) -> Result<Command<'a>, AllocError>
     ensures { IfOk result (λ program. app_of program ≡ commands) }
 {
     let run = Command::new(alloc, "run");
     let bare = Command::new(alloc, "sctp-trace").subcommand_required(true);
     let running = bare.subcommand(run)?;
-    // Each place at which a command goes is proved: it goes by name, and at no `?`.
+    // Each place that drops a command is proved: it is dropped by name, and at no `?`.
     let packet = match with_hex(alloc, "packet") {
         Ok(packet) => packet,
         Err(error) => {
@@ -71,7 +71,7 @@ fn program<'a>(alloc: Global) -> Result<Command<'a>, AllocError>
     }
 }
 
-/// A subcommand of this name, with HEX.
+/// A subcommand with the argument HEX.
 fn with_hex<'a>(alloc: Global, name: &'a str) -> Result<Command<'a>, AllocError>
     ensures { IfOk result (λ command. (app_of command).top ≡ with_hex name.now) }
 {

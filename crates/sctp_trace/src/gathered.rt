@@ -1,4 +1,4 @@
-//! What a script writes, gathered line by line, and when it is written.
+//! Buffers the output of a script, and decides when it is written.
 
 ghost use Rattle.std.specs.Prelude.{◌≡◌, ℕ, ◌+◌, ◌-◌, ◌^◌, ◌<◌, List, [], ◌++◌, Option, OnOk, ◌⊎◌};
 ghost use Rattle.sctp_model.specs.world.World.{World};
@@ -16,10 +16,10 @@ use sctp_values::NoMemory;
 use sctp_words::LineFault;
 use std::alloc::Global;
 
-/// With so many bytes gathered they are written, also where the next line needn't be waited for.
+/// The buffer is written once it has this many bytes, even if the next line is already held.
 const ENOUGH: usize = 4_096;
 
-/// Writes what is gathered, unless a call failed already: before a call of the reader nothing is gathered.
+/// Writes the rest of the buffer at the end of a script, unless a call has failed already: the buffer is empty whenever the reader is called.
 pub(crate) fn close<W: Sink>(
     ended: Result<(), ScriptFault>,
     gathered: &[u8],
@@ -39,7 +39,7 @@ pub(crate) fn close<W: Sink>(
     }
 }
 
-/// Writes what is gathered where the next line may be waited for, or where enough is gathered for a write.
+/// Writes the buffer if the next line has to be read, or if enough is buffered.
 pub(crate) fn pass_on<W: Sink>(
     lines: &LineReader,
     gathered: &mut Vec<u8>,
@@ -48,7 +48,7 @@ pub(crate) fn pass_on<W: Sink>(
     requires { W.failures output.old < 2 ^ 64 - 1 }
     ensures written { (written : List ℕ) × W.Writes output.old written output.new
         × IsPassedOn result gathered.old.items written gathered.new.items }
-    // Where the next line is still to be read nothing stays gathered.
+    // Nothing stays buffered while the next line is read.
     ensures answered { OnOk result ((gathered.new.items ≡ []) ⊎ (¬ MayBegin lines.now.given lines.now.held)) }
     ensures failed_writes { W.failures output.new ≡ W.failures output.old + failed_writes result }
     ensures no_reads { failed_reads result ≡ 0 }
@@ -61,7 +61,7 @@ pub(crate) fn pass_on<W: Sink>(
     written
 }
 
-/// Gathers the line of what an event was answered.
+/// Buffers the line of an event's outcome.
 pub(crate) fn gather_outcome(
     alloc: Global,
     event: &Event,
@@ -78,7 +78,7 @@ pub(crate) fn gather_outcome(
     }
 }
 
-/// Gathers the report of the pair, at the end of a script.
+/// Buffers the report of the pair, at the end of a script.
 pub(crate) fn finish(pair: &Option<Pair>, gathered: &mut Vec<u8>) -> Result<(), ScriptFault>
     ensures closes { (state : Option World) → StandsAt pair.now state
         → (here : List ℕ) × (gathered.new.items ≡ gathered.old.items ++ here) × Closes result state here }

@@ -1,4 +1,4 @@
-//! A script, run: each line acts before the next one is read, and the report comes last.
+//! Runs a script: each line acts before the next one is read, and the report is last.
 
 ghost use Rattle.std.specs.Prelude.{◌≡◌, ℕ, suc, true, ◌+◌, ◌-◌, ◌^◌, ◌<◌, ◌≤◌, List, [], ◌++◌, length, Option, None, IfOk, OnOk, ◌⊎◌};
 ghost use Rattle.sctp_model.specs.world.World.{World};
@@ -20,27 +20,27 @@ use thiserror::Error;
 /// Why a script ended before its report was written.
 #[derive(Clone, Copy, Debug, PartialEq, Eq, Error)]
 pub enum ScriptFault {
-    /// 1: a call of the reader failed.
+    /// 1: reading failed.
     #[error("the script can't be read")]
     Read,
-    /// 2: a call of the writer failed.
+    /// 2: writing failed.
     #[error("the outcomes can't be written")]
     Write,
-    /// 3: memory ran out.
+    /// 3: an allocation failed.
     #[error("out of memory")]
     NoMemory,
-    /// 4: the first line that has a fault, counted from 1, and the fault.
+    /// 4: the first line with a fault, counted from 1, and the fault.
     #[error("line {0}: {1}")]
     Line(u64, LineFault),
 }
 
-/// Runs a script: reads it line by line, writes the line of each outcome before it waits for more input, and the report last.
-/// It holds one line of the script and one block of its output at a time.
+/// Runs a script line by line and writes the outcome of each line before it waits for more input, and the report at the end. At most one line
+/// of the script and one block of its output are held.
 ///
 /// # Errors
-/// `Line` at the first line that has a fault; the outcomes of the lines before it were written then, and no report. A script in which no
-/// line acts or has a fault has one at line 1: there is no `pair`. `Read` and `Write` where a call of the reader or the writer failed, and
-/// `NoMemory`: a beginning of the output was written then.
+/// `Line` at the first line with a fault: the outcomes of the lines before it have been written, and no report. A script in which no line
+/// acts or has a fault has one at line 1, since `pair` is missing. `Read` or `Write` if a call of the reader or of the writer failed, and
+/// `NoMemory` if an allocation did: a prefix of the output has been written.
 pub fn run_script<R: Source, W: Sink>(
     alloc: Global,
     input: &mut R,
@@ -53,14 +53,14 @@ pub fn run_script<R: Source, W: Sink>(
     ensures failed_reads { R.failures input.new ≡ R.failures input.old + failed_reads result }
     ensures failed_writes { W.failures output.new ≡ W.failures output.old + failed_writes result }
 {
-    // It does nothing: its contract is the law that what first lines write begins what all do.
+    // law: what the first lines write is a prefix of what all lines write
     lines_are_there();
     let mut gathered = Vec::new(alloc);
     let ended = run_lines(alloc, input, output, &mut gathered);
     close(ended, &gathered, output)
 }
 
-/// Runs all lines of a script. What wasn't written yet is gathered, the report last.
+/// Runs all lines of a script. What isn't written yet is in the buffer, the report last.
 fn run_lines<R: Source, W: Sink>(
     alloc: Global,
     input: &mut R,
@@ -81,7 +81,7 @@ fn run_lines<R: Source, W: Sink>(
     ended
 }
 
-/// Runs all lines of a script that is at its beginning.
+/// Runs all lines of a script from its beginning.
 fn run_all<R: Source, W: Sink>(
     running: &mut Running,
     input: &mut R,
@@ -101,7 +101,7 @@ fn run_all<R: Source, W: Sink>(
     finish(&running.pair, gathered)
 }
 
-/// A script that is being run: the reader of its lines, the pair once there is one, and the number of the next line.
+/// The state of a run: the reader of the script's lines, the pair once there is one, and the number of the next line.
 #[derive(Drop)]
 struct Running {
     alloc: Global,
@@ -111,7 +111,7 @@ struct Running {
 }
 
 impl Running {
-    /// Before its first line.
+    /// The state before the first line.
     fn new(alloc: Global) -> Running
         ensures { IsSoFar result [] [] [] None }
     {
@@ -123,7 +123,7 @@ impl Running {
         }
     }
 
-    /// Reads the next line, which acts, and its outcome is gathered. Answers whether the input may go on.
+    /// Reads the next line, does what it asks for and buffers its outcome. Returns whether the input may go on.
     fn run_line<R: Source, W: Sink>(
         &mut self,
         input: &mut R,
@@ -142,7 +142,7 @@ impl Running {
         ensures failed_reads { R.failures input.new ≡ R.failures input.old + failed_reads result }
         ensures failed_writes { W.failures output.new ≡ W.failures output.old + failed_writes result }
     {
-        // It does nothing: its contract says how the lines that are given make up what was read.
+        // law: the lines given are the lines of what was read
         line_after_line();
         pass_on(&self.lines, gathered, output)?;
         match self.lines.next_line(input) {
@@ -162,7 +162,7 @@ impl Running {
     }
 }
 
-/// A line acts, and the line of its outcome is gathered.
+/// Does what a line asks for and buffers the line of its outcome.
 fn act(
     alloc: Global,
     pair: &mut Option<Pair>,
@@ -174,7 +174,7 @@ fn act(
         → (here : List ℕ) × (gathered.new.items ≡ gathered.old.items ++ here) × LineLeaves result number state line.now here pair.new }
     ensures no_calls { (failed_reads result ≡ 0) × (failed_writes result ≡ 0) }
 {
-    // They do nothing: their contracts say that an event stands behind the `pair` line, and that the listener's key has a seal.
+    // laws: an event is after the `pair` line; the listener's key has a seal
     events_follow_the_pair();
     keys_have_seals();
     match read_line(alloc, line, pair.is_some()) {

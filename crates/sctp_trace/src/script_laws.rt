@@ -1,4 +1,4 @@
-//! Laws of scripts. Their functions do nothing: each carries a theorem as its contract.
+//! Laws of scripts, which hold for every text.
 
 ghost use Rattle.std.specs.Prelude.{ℕ, List};
 ghost use Rattle.sctp_trace.specs.ScriptOneFault.{HasOneFault};
@@ -14,11 +14,13 @@ use sctp_script::{events_can_happen, events_follow_the_pair, one_meaning, the_pa
 use sctp_terms::faultless_is_configured;
 use sctp_text::lines_in_one_way;
 
-/// In each world that the lines of a script lead through, both directions are safe, and what an end has completed lacks nothing: each end
-/// was handed over messages that its peer sent on that stream, whole, each at most once, the ordered ones in rising number; what was passed
-/// over was abandoned; and what is acknowledged whole was handed over, or is held whole, or was abandoned. That is promised of a script in
-/// which no stranger's packet carries a tag that is drawn in it, asks for one by an INIT, or has a cookie that the listener's key seals, and
-/// in which every packet is delivered before either end has assigned 2^31 - 65,536 more TSNs since it was built.
+// law
+/// In each world that the lines of a script lead through, both directions are safe, and once an endpoint has completed its association no
+/// message that was given a TSN is missing. That is: each message delivered is one that the peer sent on that stream, whole and delivered
+/// at most once, ordered messages in rising number; a number that was passed over is an abandoned message's; and a message that was
+/// acknowledged in full was delivered, or is held in full, or was abandoned. This is promised of a script in which no third party's packet
+/// carries a tag that an endpoint generates in it, has an INIT that proposes one, or has a cookie that the listener's key seals, and in
+/// which every packet is delivered before either endpoint has assigned 2^31 - 65,536 more TSNs than when it was built.
 pub fn every_script_is_safe()
     ensures { ScriptsAreSafe }
 {
@@ -29,7 +31,8 @@ pub fn every_script_is_safe()
     each_world_on_the_way_is_safe();
 }
 
-/// What is written for the lines of a text is there for every text, and what its first lines write is a beginning of it.
+// law
+/// What the lines of a text write is defined for every text, and what its first lines write is a prefix of it.
 pub fn lines_are_there()
     ensures { LinesAreThere }
 {
@@ -42,7 +45,8 @@ pub fn lines_are_there()
     every_event_has_an_outcome();
 }
 
-/// Of any two first faults of a text each is the other, on the same line.
+// law
+/// A text has at most one first fault, on one line.
 pub fn one_first_fault()
     ensures { (text : List ℕ) → HasOneFault text }
 {

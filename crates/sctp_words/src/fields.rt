@@ -1,4 +1,4 @@
-//! The words behind a command that are more than a number, each by its field.
+//! Reads the words of a line that are more than a number, one function a field.
 
 ghost use Rattle.std.specs.Prelude.{◌≡◌, ◌↔◌, ℕ, List, Option, IsTrue, IfOk, MatchOption};
 ghost use Rattle.sctp_model.specs.messages.Format as format;
@@ -12,7 +12,7 @@ use sctp_text::{Bytes, read_hex};
 use sctp_values::{Kind, NoMemory};
 use std::alloc::Global;
 
-/// The draw that two words say, the tag first.
+/// Reads a draw: a verification tag, not 0, and an initial TSN. None if a word isn't its value.
 pub fn read_draw(tag: &[u8], tsn: &[u8]) -> Option<Draw>
     ensures { MatchOption result
         ((t n : ℕ) → IsTag tag.now t → IsNumber 32 tsn.now n → ⊥)
@@ -23,10 +23,10 @@ pub fn read_draw(tag: &[u8], tsn: &[u8]) -> Option<Draw>
     Draw::new(tag, tsn)
 }
 
-/// The bytes that a word says in hexadecimal, None where it says none.
+/// Reads bytes in hexadecimal: two lower-case digits each, `-` for none. None if the word is neither.
 ///
 /// # Errors
-/// `NoMemory` where there was no room for the bytes.
+/// `NoMemory` if no memory could be allocated for the bytes.
 pub fn read_bytes(alloc: Global, word: &[u8]) -> Result<Option<Bytes>, NoMemory>
     ensures { IfOk result (λ found. MatchOption found
         ((bytes : List ℕ) → IsHex word.now bytes → ⊥) (λ bytes. IsHex word.now bytes)) }
@@ -34,7 +34,7 @@ pub fn read_bytes(alloc: Global, word: &[u8]) -> Result<Option<Bytes>, NoMemory>
     read_hex(alloc, word).map_err(|_| NoMemory)
 }
 
-/// When a message is handed over, as a word says it: `o` or `u`.
+/// Reads whether a message is delivered in order: `o` for ordered, `u` for unordered (RFC 9260, 6.6). None for another word.
 pub fn read_kind(word: &[u8]) -> Option<Kind>
     ensures { MatchOption result ((k : format.Kind) → word.now ≡ kind_word k → ⊥) (λ k. word.now ≡ kind_word (kind_meaning k)) }
 {
@@ -45,7 +45,7 @@ pub fn read_kind(word: &[u8]) -> Option<Kind>
     }
 }
 
-/// The moment from which a message is worthless, as a word says it, in milliseconds, or that there is none.
+/// Reads the end of a message's lifetime: a time in milliseconds, or `-` for no limit. None for another word.
 pub fn read_until(word: &[u8]) -> Option<Option<u64>>
     ensures { MatchOption result ((t : Option ℕ) → IsUntil word.now t → ⊥) (λ t. IsUntil word.now t) }
 {
@@ -55,7 +55,7 @@ pub fn read_until(word: &[u8]) -> Option<Option<u64>>
     Some(Some(read_u64(word)?))
 }
 
-/// The mode that a word names.
+/// Reads a mode: `data`, `data-pr`, `idata` or `idata-pr`. None for another word.
 pub fn read_mode(word: &[u8]) -> Option<Mode>
     ensures { MatchOption result ((m : Mode) → word.now ≡ mode_word m → ⊥) (λ m. word.now ≡ mode_word m) }
 {
@@ -68,14 +68,14 @@ pub fn read_mode(word: &[u8]) -> Option<Mode>
     }
 }
 
-/// The word says that SACKs may wait for a second packet (RFC 9260, 6.2).
+/// Whether the word is `delay`: SACKs may be delayed for a second packet (RFC 9260, 6.2).
 pub fn is_delay(word: &[u8]) -> bool
     ensures { IsTrue result ↔ word.now ≡ delay_word }
 {
     word == b"delay".as_slice()
 }
 
-/// The word says that an association closes by the RFC's timers (RFC 9260, 9.2).
+/// Whether the word is `standard-closing`: an association is closed by the RFC's timers (RFC 9260, 9.2).
 pub fn is_standard_closing(word: &[u8]) -> bool
     ensures { IsTrue result ↔ word.now ≡ standard_closing_word }
 {

@@ -1,5 +1,28 @@
-//! The words that the programs over lines share: numbers, draws, kinds, moments, modes and bytes as they are read, the names of states as they are written, and what
-//! is wrong with a line.
+//! The words of lines that `sctp-trace` and `sctp-end` share: how values are read and written, and the faults of a line.
+//!
+//! Each word has one meaning (`specs/Fields`, `specs/Names`). What a program's lines ask for is that program's own grammar; here are the
+//! values in them and the kinds of their faults (`specs/Lines`). A *draw* is the pair of random values that an endpoint needs to open an
+//! association: its verification tag, never 0, and its initial TSN (RFC 9260, 5.3.1). A *kind* is ordered or unordered delivery
+//! (RFC 9260, 6.6).
+//!
+//! # Promises
+//!
+//! - `read_u16`, `read_u32` and `read_u64` read a number exactly if the word spells one of 16, 32 or 64 bits.
+//! - `read_draw` reads two words exactly if they spell a tag other than 0 and a TSN. `read_kind`, `read_until` (a time in milliseconds, or
+//!   `-` for none), `read_mode` and `read_bytes` read a word exactly if it spells such a value.
+//! - `is_delay` and `is_standard_closing` say whether a word is `delay` or `standard-closing`.
+//! - `kind_word`, `number_word`, `state_word` and `end_word` write kinds, numbers or `-`, the states of an association (RFC 9260, 4) and how
+//!   it ended by their names; these are the names of the model's kinds, states and ends.
+//! - `LineFault::kind` is the number of a line's fault, 1 to 5. `is_silent` says which lines do nothing: an empty one, and one that begins
+//!   with `COMMENT`, which the law `comments_begin_with_a_number_sign` states to be 35, `#`.
+//! - `put_line` appends a line, or nothing if an allocation fails.
+//!
+//! `specs/Fields` also has the walk over the words after a command, `Values` and `AreValues`, for any type of fields, so that each program
+//! states only its fields and their values.
+//!
+//! # What the contracts can't say
+//!
+//! No contract says when memory is available: a `read_bytes` or a `put_line` that always answers `NoMemory` would meet its contract.
 #![tactic(auto)]
 
 mod fields;

@@ -1,4 +1,4 @@
-//! A line that is written, with want of memory as this project's crates name it.
+//! Writes a line; a failed allocation is this project's `NoMemory`.
 
 ghost use Rattle.std.specs.Prelude.{◌≡◌, ◌∷◌, ◌++◌, map, decimal, OnOk, OnErr};
 ghost use Rattle.sctp_text.specs.SpacedWords.{line_of};
@@ -7,10 +7,10 @@ ghost use Rattle.sctp_text.specs.WrittenWords.{text_of};
 use sctp_text::Word;
 use sctp_values::NoMemory;
 
-/// Appends a line: its first word, further words, and then numbers.
+/// Appends a line: its first word, further words, then numbers.
 ///
 /// # Errors
-/// `NoMemory` where there was no room and none was got; `out` is then as before.
+/// `NoMemory` if `out` can't grow; it is unchanged then.
 pub fn put_line(
     first: &[u8],
     words: &[Word<'_>],

@@ -1,4 +1,4 @@
-//! What is written in words: kinds, numbers that may be wanting, states, and how an end ended.
+//! Writes kinds, optional numbers, states and how an association ended as words.
 
 ghost use Rattle.std.specs.Prelude.{◌≡◌, option_map};
 ghost use Rattle.sctp_values.specs.Meanings.{kind_meaning};
@@ -11,7 +11,7 @@ use sctp_terms::{End, State};
 use sctp_text::Word;
 use sctp_values::Kind;
 
-/// When a message is handed over: `o` or `u`.
+/// `o` for ordered delivery, `u` for unordered.
 pub fn kind_word(kind: Kind) -> Word<'static>
     ensures { text_of result ≡ kind_word (kind_meaning kind) }
 {
@@ -21,7 +21,7 @@ pub fn kind_word(kind: Kind) -> Word<'static>
     }
 }
 
-/// A number, or `-` where there is none.
+/// A number, or `-` if there is none.
 pub fn number_word(number: Option<u64>) -> Word<'static>
     ensures { text_of result ≡ number_word number }
 {
@@ -48,7 +48,7 @@ pub fn state_word(state: State) -> Word<'static>
     }
 }
 
-/// The name of how it ended, or `-` where it hasn't.
+/// The name of how an association ended, or `-` if it hasn't.
 pub fn end_word(ended: Option<End>) -> Word<'static>
     ensures { text_of result ≡ end_word (option_map end_meaning ended) }
 {

@@ -1,4 +1,4 @@
-//! What stands below a ladder: the packets that never came.
+//! The foot of a ladder: the packets that never arrived.
 
 use crate::notes::put_name;
 use crate::recording::Recording;
@@ -7,10 +7,10 @@ use crate::style::Style;
 use sctp_pair::Side;
 use std::alloc::AllocError;
 
-/// Appends which packets never came, those of A first: nothing where all came. A line is no longer than the ladder is wide.
+/// Appends the packets that never arrived, those of A first; nothing if all did. No line is wider than the ladder.
 ///
 /// # Errors
-/// Memory ran out.
+/// An allocation failed.
 pub(crate) fn put_foot(style: &Style, run: &Recording, out: &mut String) -> Result<(), AllocError> {
     let mut line = Line {
         width: style.width(),
@@ -25,23 +25,23 @@ pub(crate) fn put_foot(style: &Style, run: &Recording, out: &mut String) -> Resu
     Ok(())
 }
 
-/// What stands before the packets that never came, and below it where they take more than a line.
+/// What precedes the packets that never arrived, in their first line and in further ones.
 const NEVER: &str = "          never came: ";
 
 const BELOW: &str = "                      ";
 
-/// A line of packets that never came.
+/// A line of packets that never arrived.
 #[derive(Drop)]
 struct Line {
     width: usize,
-    /// How many columns are taken.
+    /// The number of columns used.
     column: usize,
-    /// Whether a packet stands in it or above.
+    /// Whether it is not the first packet.
     begun: bool,
 }
 
 impl Line {
-    /// Appends the packets of an end that never came.
+    /// Appends the packets of an endpoint that never arrived.
     fn put_lost(
         &mut self,
         run: &Recording,

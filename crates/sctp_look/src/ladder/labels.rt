@@ -1,4 +1,4 @@
-//! The words beside the ends of a ladder.
+//! The words beside the lifelines of a ladder.
 
 use crate::notes::{deed_words, state_words};
 use crate::recording::Recording;
@@ -8,16 +8,16 @@ use crate::style::Style;
 use crate::text::{put_cut, put_times};
 use std::alloc::AllocError;
 
-/// The columns between what an end did and the state that begins.
+/// The columns between what an endpoint did and the state that begins.
 const GAP: usize = 2;
 
-/// The words beside an end: what it did, and the state that begins, each with the columns that it may take.
+/// The words beside an endpoint: what it did, and the state that begins, each with the columns that it may use.
 #[derive(Drop)]
 pub(super) struct Label {
     deed: String,
     deed_room: usize,
     deed_tone: Tone,
-    /// What stands between the two.
+    /// The blanks between the two.
     gap: usize,
     state: String,
     state_room: usize,
@@ -25,10 +25,10 @@ pub(super) struct Label {
     pub(super) width: usize,
 }
 
-/// The words beside an end, in so many columns. Where those are few, it is the deed that is cut.
+/// The words beside an endpoint in `room` columns. If these are too few, what it did is cut.
 ///
 /// # Errors
-/// Memory ran out.
+/// An allocation failed.
 pub(super) fn label_of(run: &Recording, note: &Note, room: usize) -> Result<Label, AllocError> {
     let deed = deed_words(run.alloc(), note)?;
     let state = state_words(run.alloc(), note)?;
@@ -51,7 +51,7 @@ pub(super) fn label_of(run: &Recording, note: &Note, room: usize) -> Result<Labe
     })
 }
 
-/// What a deed tells by its colour.
+/// The colour of what an endpoint did.
 fn deed_tone(note: &Note) -> Tone {
     match note.deed {
         Some(Deed::Dropped { .. } | Deed::Refused { .. } | Deed::Absent { .. }) => Tone::Loss,
@@ -59,10 +59,10 @@ fn deed_tone(note: &Note) -> Tone {
     }
 }
 
-/// Appends the words beside an end.
+/// Appends the words beside an endpoint.
 ///
 /// # Errors
-/// Memory ran out.
+/// An allocation failed.
 pub(super) fn put_label(style: &Style, label: &Label, out: &mut String) -> Result<(), AllocError> {
     put_toned(
         style,
@@ -81,7 +81,7 @@ pub(super) fn put_label(style: &Style, label: &Label, out: &mut String) -> Resul
     )
 }
 
-/// Appends words in a colour, cut where they take more columns than there are: nothing where there is none.
+/// Appends words in a colour, cut to the columns that there are; nothing if there are none.
 fn put_toned(
     style: &Style,
     tone: Tone,

@@ -1,4 +1,4 @@
-//! What goes between the ends of a ladder.
+//! What goes between the lifelines of a ladder.
 
 use crate::arrows::{Stroke, Words, arrow_words, stroke_of, target_of, tone_of};
 use crate::recording::Recording;
@@ -9,13 +9,13 @@ use crate::text::put_times;
 use sctp_pair::Side;
 use std::alloc::AllocError;
 
-/// The columns of an arrow that aren't its words', at most.
+/// The most columns of an arrow besides its words.
 const ARROW: usize = 8;
 
-/// Appends both lines of life, and the arrow between them.
+/// Appends both lifelines and the arrow between them.
 ///
 /// # Errors
-/// Memory ran out.
+/// An allocation failed.
 pub(super) fn put_arrow(
     style: &Style,
     run: &Recording,
@@ -37,7 +37,7 @@ pub(super) fn put_arrow(
     out.push_str(if leaves_b { signs.from_b } else { signs.line })
 }
 
-/// Appends an arrow from end to end, its words in the middle.
+/// Appends an arrow from one endpoint to the other, its words in the middle.
 fn put_across(
     signs: &Signs,
     to: Side,
@@ -64,7 +64,7 @@ fn put_across(
     }
 }
 
-/// Appends an arrow that stands at one end alone.
+/// Appends an arrow at one endpoint only.
 fn put_part(
     signs: &Signs,
     stroke: Stroke,
@@ -115,7 +115,7 @@ fn tail_of(signs: &Signs, stroke: Stroke) -> Part {
     }
 }
 
-/// The signs behind an arrow's words.
+/// The signs after an arrow's words.
 fn head_of(signs: &Signs, stroke: Stroke, to: Side) -> Part {
     let point = match to {
         Side::A => signs.to_a,
@@ -128,7 +128,7 @@ fn head_of(signs: &Signs, stroke: Stroke, to: Side) -> Part {
     }
 }
 
-/// How many signs there are.
+/// The number of signs.
 fn count_of(part: &Part) -> usize {
     part.iter().filter(|sign| !sign.is_empty()).count()
 }

@@ -5,13 +5,13 @@ use crate::row::{Arrow, Row};
 use crate::svg::{MIDDLE, height_of, line_of, row_of};
 use std::alloc::AllocError;
 
-/// How far an arrow falls in the row in which it both leaves and comes.
+/// How far an arrow falls in a row in which it both leaves and arrives.
 const FALL: usize = 8;
 
-/// Appends the arrow of a row: that of a packet which comes later stands where it comes.
+/// Appends the arrow of a row. That of a packet which arrives later belongs to the row of its arrival.
 ///
 /// # Errors
-/// Memory ran out.
+/// An allocation failed.
 pub(crate) fn put_stroke(
     run: &Recording,
     index: usize,

@@ -8,17 +8,17 @@ use crate::svg::{MIDDLE, height_of, row_of};
 use sctp_pair::Side;
 use std::alloc::AllocError;
 
-/// How many letters an arrow's words have at most, and those of a stranger's, which have half the place.
+/// The most letters of an arrow's words, and of a third party's, which have half the space.
 const LETTERS: usize = 60;
 
 const STRANGE_LETTERS: usize = 28;
-/// So many rows below the one where a packet leaves, it needs no name where it comes.
+/// A packet that arrives at most this many rows below the one in which it leaves needs no name there.
 const NEAR: usize = 2;
 
-/// Appends the words of a row: its moment, what both ends did, and the packet.
+/// Appends the words of a row: its time, what both endpoints did, and the packet.
 ///
 /// # Errors
-/// Memory ran out.
+/// An allocation failed.
 pub(crate) fn put_words(
     run: &Recording,
     index: usize,
@@ -41,7 +41,7 @@ pub(crate) fn put_words(
     put_note(run, &row.at_b, Side::B, low, out)
 }
 
-/// Appends the words beside an end.
+/// Appends the words beside an endpoint.
 fn put_note(
     run: &Recording,
     note: &Note,
@@ -67,8 +67,8 @@ fn put_note(
     out.push_str("</text>\n")
 }
 
-/// Appends the words of a row's arrow: in the middle where it goes from end to end, behind that where it comes from a stranger, else at the
-/// end that the packet leaves. Where it comes further below, its name stands there once more.
+/// Appends the words of a row's arrow: in the middle if it goes from one endpoint to the other, after the middle if it is a third party's, else
+/// at the endpoint that the packet leaves. If it arrives further below, its name is repeated there.
 fn put_arrow_words(
     run: &Recording,
     index: usize,
@@ -103,7 +103,7 @@ fn put_arrow_words(
     }
 }
 
-/// Appends the name of a packet where it comes, unless it left right above.
+/// Appends the name of a packet at its arrival, unless it left just above.
 fn put_arrival(
     run: &Recording,
     index: usize,
@@ -126,7 +126,7 @@ fn put_arrival(
     out.push_str("</text>\n")
 }
 
-/// Appends that a packet never comes.
+/// Appends the sign that a packet never arrives.
 fn put_cross(y: usize, out: &mut String) -> Result<(), AllocError> {
     write!(
         out,
@@ -134,7 +134,7 @@ fn put_cross(y: usize, out: &mut String) -> Result<(), AllocError> {
     )
 }
 
-/// Where words stand between the ends.
+/// A position of words between the lifelines.
 #[derive(Clone, Copy)]
 enum Place {
     AtA,
@@ -145,7 +145,7 @@ enum Place {
 }
 
 impl Place {
-    /// The place at an end.
+    /// The position at an endpoint.
     fn at(side: Side) -> Place {
         match side {
             Side::A => Place::AtA,
@@ -153,7 +153,7 @@ impl Place {
         }
     }
 
-    /// The place between the middle and an end.
+    /// The position between the middle and an endpoint.
     fn before(side: Side) -> Place {
         match side {
             Side::A => Place::BeforeA,

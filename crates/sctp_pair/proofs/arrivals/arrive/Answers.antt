@@ -24,7 +24,7 @@ returns-then-is_err c = λ w s e p stands brings reads clock draw.
     let keeps = cut_packets_keep_logs v c.args.clock c.args.draw p t (c.sound.ensures _ stands.end) (CutFirst p) in (
       side t (bag_of w s) (log_of w s),
       is_cut w e s c.args.clock c.args.draw p t brings clock draw (CutFirst p),
-      record { end = c.tell.ensures v stands.end; bag = rw c.reserve.ensures.items stands.bag; notes = notes_kept _ _ _ v t (log_of w s) stands.notes keeps },
+      record { end = c.pass_time.ensures v stands.end; bag = rw c.reserve.ensures.items stands.bag; notes = notes_kept _ _ _ v t (log_of w s) stands.notes keeps },
     )
 
 pub returns-in_err-handle_packet : goal.returns-in_err-handle_packet

@@ -19,7 +19,7 @@ returns-in-Ok-format-clause-runs g c =
     let end = g.R.Source.IsAtEnd c.run_script.new.input in
     let answer = subst (λ f. IsAnswered end (Err f) ran.0 ran.1) c.in-Err-Line.field-0-is ran.4 in
     let line : c.as_str.result.now ≡ refused_line c.in-Err-Line.number c.in-Err-Line.fault = grind (arith, common_steps) in
-    elim c.tell.ensures [
+    elim c.say.ensures [
       | inl told ↦ (ran.0, ran.1, c.as_str.result.now, ran.2, ran.3, told.1, (Err (Line c.in-Err-Line.number c.in-Err-Line.fault), answer, inl (told.0, line)))
       | inr failed ↦ (
         ran.0,

@@ -1,7 +1,7 @@
 use Rattle.std.proofs.Common.{rules, sym, inr, refl, subst, take, drop, ◌≡◌}
 use Rattle.std.proofs.lemmas.List.{take-append-drop}
 use Rattle.sctp_trace.specs.ExitStatus.{Begins}
-use Rattle.sctp_trace.proofs.command_line.tell.Goals as goal
+use Rattle.sctp_trace.proofs.command_line.say.Goals as goal
 
 -- a beginning was written, and the rest stands behind it
 pub returns-in-Err : goal.returns-in-Err

@@ -1,33 +1,33 @@
-//! What the words of the command line ask for.
+//! Reads the words of the command line.
 
 use crate::style::Style;
 use sctp_text::read_decimal;
 
-/// What is asked for.
+/// What the words ask for.
 #[derive(Clone, Copy)]
-pub(crate) enum Wish {
+pub(crate) enum Request {
     /// A ladder in text.
     Ladder(Style),
-    /// The same as a drawing.
+    /// A ladder as SVG.
     Svg,
     /// The packets, for a program that reads captures.
     Capture,
 }
 
-/// What the words ask for, of which the first is the program's own name: None where they are no form.
-pub(crate) fn wish_of(words: &[String]) -> Option<Wish> {
+/// Reads the words, of which the first is the program's own name. None if they are wrong.
+pub(crate) fn request_of(words: &[String]) -> Option<Request> {
     let (_name, words) = words.split_first()?;
     if let [word] = words {
         match word.as_bytes() {
-            b"svg" => return Some(Wish::Svg),
-            b"hex" => return Some(Wish::Capture),
+            b"svg" => return Some(Request::Svg),
+            b"hex" => return Some(Request::Capture),
             _ => {}
         }
     }
-    Some(Wish::Ladder(style_of(words)?))
+    Some(Request::Ladder(style_of(words)?))
 }
 
-/// How the words want a ladder drawn: of two widths the last one counts.
+/// Reads how a ladder is to be drawn. Of several widths the last one counts.
 fn style_of(words: &[String]) -> Option<Style> {
     let mut style = Style::usual();
     let mut wants_width = false;
