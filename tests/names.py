@@ -14,14 +14,16 @@ In backticks stands
 Left out is what is no name: a letter, words in capitals and digits alone (they stand for a value), bytes and sums in hexadecimal digits,
 numbers, signs, and what is in quotes.
 A block ```sh is commands. A block ```rust is, piece by piece, in the file that the line above it names, `..` alone between two pieces. Of
-other blocks and of the text the names of crates, the pages and the links are looked up."""
+other blocks and of the text the names of crates, the pages and the links are looked up.
+
+With --words: the words of tests/words.txt, which pages, the header for C and public comments don't use, are looked for in all of these."""
 
 import os
 import re
 import sys
 
-SHELL = {'[', 'cat', 'diff', 'do', 'done', 'echo', 'for', 'git', 'printf', 'read', 'sed', 'while'}
-TOOLS = {'cargo', 'cc', 'gdb', 'jq', 'ldconfig', 'python3', 'rt', 'text2pcap', 'tshark', 'valgrind', 'wireshark'}
+SHELL = {'[', 'cat', 'diff', 'do', 'done', 'echo', 'export', 'for', 'git', 'printf', 'read', 'sed', 'while'}
+TOOLS = {'cargo', 'cc', 'gdb', 'jq', 'ldconfig', 'python3', 'rt', 'tar', 'text2pcap', 'tshark', 'valgrind', 'wireshark'}
 RT = {'all', 'check', 'ci', 'doc', 'expand', 'fmt', 'lemma', 'lib', 'must-fail', 'new', 'plant', 'run', 'seed', 'test', 'tidy', 'try', 'verdict', 'version'}
 # Names that stand in no file of the tree: of the C library, of the toolchain's line.
 ALLOWED = {'kit', 'logic', 'malloc_consolidate'}
@@ -243,8 +245,57 @@ class Page:
                 return
 
 
+def words_and_exceptions():
+    """What isn't used, as one pattern, and where each may be all the same: (file or folder, word) with the reason."""
+    words, _, exceptions = text_of('tests/words.txt').partition('EXCEPTIONS\n')
+    listed = [word.strip() for line in words.split('\n') if ':' in line and line[0] != '#' for word in line.split(':')[0].split(',')]
+    pattern = '|'.join(sorted((re.escape(word) for word in listed), key=len, reverse=True))
+    allowed = [tuple(part.strip() for part in line.split(':', 2)) for line in exceptions.split('\n') if line.strip()]
+    return re.compile(rf'(?i)(?<![\w-])(?:{pattern})(?![\w-])'), allowed
+
+
+def said_in(path):
+    """What a file says to its reader, line by line: a page's text, the header's comments, and of code the heads and what stands above a public item."""
+    lines = text_of(path).split('\n')
+    if path.endswith('.md'):
+        fences = [line.lstrip().startswith('```') for line in lines]
+        said = [line if sum(fences[:at]) % 2 == 0 else '' for at, line in enumerate(lines)]
+    elif path.endswith('.h'):
+        said = [''.join(re.findall(r'(?:/\*|^ \*)(.*)', line)) for line in lines]
+    else:
+        said, public = [], False
+        for line in reversed(lines):
+            comment = re.match(r'\s*//([/!])(.*)', line)
+            if not comment and not line.lstrip().startswith('#['):
+                public = re.match(r'\s*pub \w|\s+[A-Z]\w*[,({ ]', line) is not None
+            said.append(comment[2] if comment and (public or comment[1] == '!') else '')
+        said.reverse()
+    return enumerate((re.sub(r'`[^`]*`|"[^"]*"', ' ', line) for line in said), 1)
+
+
+def private_words(pages):
+    """The faults of words: each word of the list that is used, but for the exceptions."""
+    pattern, allowed = words_and_exceptions()
+    sources = [path for path in sorted(tree_files('crates')) if path.endswith('.rt') and '/src/' in path]
+    for path in [*pages, 'include/sctp_endpoint.h', *sources]:
+        for number, line in said_in(path):
+            for word in pattern.findall(line):
+                if not any(path.startswith(place) and which in ('*', word.lower()) for place, which, _ in allowed):
+                    yield f'{path}:{number}: {word}'
+
+
+def tree_files(top):
+    for folder, below, names in os.walk(top):
+        below[:] = [name for name in below if name not in ('.git', 'out', '__pycache__')]
+        yield from (os.path.join(folder, name) for name in names)
+
+
 def main(words):
     tree = Tree()
+    if words[:1] == ['--words']:
+        faults = list(private_words(words[1:] or tree.pages))
+        print(*faults, f'{len(faults)} words that are not of the field', sep='\n')
+        return 1 if faults else 0
     pages = words or tree.pages
     faults = [fault for page in pages for fault in Page(tree, page).look()]
     print(*faults, f'{len(pages)} pages, {len(faults)} faults', sep='\n')

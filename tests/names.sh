@@ -3,6 +3,7 @@
 # `FILE:LINE: what` and ends with 1 if there is one, else with 0. It takes some seconds:
 #   tests/names.sh               all pages
 #   tests/names.sh README.md ..  these alone
+#   tests/names.sh --words       looks for the words of tests/words.txt in pages, header and public comments
 # tests/names.py has the rules.
 
 root=$(CDPATH='' cd -- "$(dirname -- "$0")/.." && pwd -P) || exit 3
