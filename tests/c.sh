@@ -32,6 +32,12 @@ told=$("$at/refused"); say "$told"
 "$cc" "${flags[@]}" -o "$at/kept" tests/c/kept.c "$prefix/lib/libsctp_endpoint.a"
 kept=$("$at/kept" 10000000); say "ten million messages that are over leave $kept bytes at both ends"
 [ "$kept" -le 65536 ]
+"$cc" "${flags[@]}" -o "$at/buffer" tests/c/buffer.c "${static[@]}"
+for sizes in 17 64 "17 1114112"; do
+    # shellcheck disable=SC2086
+    told=$("$at/buffer" $sizes) || { say "buffer $sizes: $told"; exit 1; }
+    say "$told"
+done
 if there "${CXX:-c++}" "the header in C++"; then
     printf '#include "sctp_endpoint.h"\nint main() { struct sctp_endpoint e = SCTP_ENDPOINT_INIT; sctp_endpoint_free(&e); return sctp_endpoint_abi() != SCTP_EP_ABI; }\n' > "$at/plus.cc"
     "${CXX:-c++}" -std=c++11 -Wall -Wextra -Werror -I"$prefix/include" -o "$at/plus" "$at/plus.cc" "${static[@]}"
