@@ -125,23 +125,23 @@ struct sctp_endpoint_key {
 
 /* Makes an endpoint that opens the association, by sctp_endpoint_connect.
  * The first of these that applies: MISUSE, BAD_RESERVED, what is wrong with the configuration, NO_MEMORY. */
-uint32_t sctp_endpoint_caller(struct sctp_endpoint *endpoint, const struct sctp_endpoint_config *config);
+uint32_t sctp_endpoint_caller(struct sctp_endpoint *handle, const struct sctp_endpoint_config *config);
 
 /* Makes an endpoint that waits for a peer to open the association. Results as for a caller. */
-uint32_t sctp_endpoint_listener(struct sctp_endpoint *endpoint, const struct sctp_endpoint_config *config, const struct sctp_endpoint_key *key);
+uint32_t sctp_endpoint_listener(struct sctp_endpoint *handle, const struct sctp_endpoint_config *config, const struct sctp_endpoint_key *key);
 
 /* Makes an endpoint that is established at once, without packets: its peer is opened with the two draws exchanged and the same
  * sizes, streams and extensions. BAD_DRAW, then as for a caller. */
-uint32_t sctp_endpoint_opened(struct sctp_endpoint *endpoint, const struct sctp_endpoint_config *config, const struct sctp_endpoint_draw *own,
+uint32_t sctp_endpoint_opened(struct sctp_endpoint *handle, const struct sctp_endpoint_config *config, const struct sctp_endpoint_draw *own,
                               const struct sctp_endpoint_draw *peer);
 
 /* Frees an endpoint with all that it holds, and empties the handle. It does nothing for an empty one. */
-void sctp_endpoint_free(struct sctp_endpoint *endpoint);
+void sctp_endpoint_free(struct sctp_endpoint *handle);
 
 /* ---- packets and time */
 
 /* Opens the association: the next packet is an INIT. BAD_DRAW, MISUSE, BAD_STATE unless it is a caller on which connect wasn't called yet. */
-uint32_t sctp_endpoint_connect(struct sctp_endpoint *endpoint, uint64_t now, const struct sctp_endpoint_draw *draw);
+uint32_t sctp_endpoint_connect(struct sctp_endpoint *handle, uint64_t now, const struct sctp_endpoint_draw *draw);
 
 enum sctp_endpoint_verdict_kind {
     SCTP_EP_TAKEN = 0,   /* it was processed */
@@ -167,7 +167,7 @@ struct sctp_endpoint_verdict {
  * The peer's address is the one that a packet with the verdict TAKEN was received from: its tag was right. An ANSWER or a DROPPED packet
  * says nothing about its sender. BAD_DRAW; MISUSE; NO_MEMORY: the chunks before the one whose memory couldn't be allocated were processed,
  * and the same packet may be passed again. */
-uint32_t sctp_endpoint_handle_packet(struct sctp_endpoint *endpoint, uint64_t now, const uint8_t *packet, size_t packet_length,
+uint32_t sctp_endpoint_handle_packet(struct sctp_endpoint *handle, uint64_t now, const uint8_t *packet, size_t packet_length,
                                      const struct sctp_endpoint_draw *draw, uint8_t *buffer, size_t buffer_length,
                                      struct sctp_endpoint_verdict *verdict);
 
@@ -179,12 +179,12 @@ struct sctp_endpoint_sent {
 /* Returns the next packet to send, with the tickets of the messages whose first fragments it carries. It counts as sent: call this after
  * every other call until there is none. The buffer has at least the packet limit, else NEEDS_ROOM. As many tickets are written as their
  * buffer has space for: all if it has SCTP_EP_MOST_TICKETS. MISUSE, NO_MEMORY. */
-uint32_t sctp_endpoint_poll_transmit(struct sctp_endpoint *endpoint, uint64_t now, uint8_t *buffer, size_t buffer_length, uint64_t *tickets,
+uint32_t sctp_endpoint_poll_transmit(struct sctp_endpoint *handle, uint64_t now, uint8_t *buffer, size_t buffer_length, uint64_t *tickets,
                                      size_t tickets_length, struct sctp_endpoint_sent *sent);
 
 /* The current time: timers that are due expire, a delayed SACK becomes due, and messages whose lifetime is over are abandoned. Call it no
  * later than next_moment of the status says, and at the lifetimes' own deadlines (sctp_endpoint_send). MISUSE. */
-uint32_t sctp_endpoint_on_moment(struct sctp_endpoint *endpoint, uint64_t now);
+uint32_t sctp_endpoint_on_moment(struct sctp_endpoint *handle, uint64_t now);
 
 /* ---- messages */
 
@@ -192,7 +192,7 @@ uint32_t sctp_endpoint_on_moment(struct sctp_endpoint *endpoint, uint64_t now);
  * aren't part of next_moment: it is the next sctp_endpoint_on_moment that abandons a message, so a program that gives lifetimes also calls
  * that at the earliest `until`. The ticket is the message's number in the calls below: 1, 2, 3 and so on.
  * MISUSE; NO_MEMORY; NOT_OPEN, then NO_SUCH_STREAM, EMPTY, TOO_LONG, QUEUE_FULL, SPENT. */
-uint32_t sctp_endpoint_send(struct sctp_endpoint *endpoint, uint16_t stream, bool ordered, uint32_t payload_id, const uint8_t *bytes, size_t length,
+uint32_t sctp_endpoint_send(struct sctp_endpoint *handle, uint16_t stream, bool ordered, uint32_t payload_id, const uint8_t *bytes, size_t length,
                             uint64_t until, uint64_t *ticket);
 
 struct sctp_endpoint_message {
@@ -207,14 +207,14 @@ struct sctp_endpoint_message {
 
 /* Returns the first stream, from this one on, on which a message is ready. Called with the last stream plus 1, and with 0 after NOTHING, it
  * visits all streams in turn, at the cost of reading some bits. MISUSE, NOTHING. */
-uint32_t sctp_endpoint_readable(struct sctp_endpoint *endpoint, uint16_t from, uint16_t *stream);
+uint32_t sctp_endpoint_readable(struct sctp_endpoint *handle, uint16_t from, uint16_t *stream);
 
 /* Describes the first message that is ready on a stream, and leaves it there. MISUSE, NOTHING. */
-uint32_t sctp_endpoint_peek(struct sctp_endpoint *endpoint, uint16_t stream, struct sctp_endpoint_message *message);
+uint32_t sctp_endpoint_peek(struct sctp_endpoint *handle, uint16_t stream, struct sctp_endpoint_message *message);
 
 /* Takes the first message that is ready on a stream: whole, its bytes at the beginning of the buffer. If the buffer is too small, NEEDS_ROOM:
  * the message stays, and `message` says its length. MISUSE, NOTHING. */
-uint32_t sctp_endpoint_take(struct sctp_endpoint *endpoint, uint16_t stream, struct sctp_endpoint_message *message, uint8_t *buffer,
+uint32_t sctp_endpoint_take(struct sctp_endpoint *handle, uint16_t stream, struct sctp_endpoint_message *message, uint8_t *buffer,
                             size_t buffer_length);
 
 enum sctp_endpoint_fate {
@@ -226,22 +226,22 @@ enum sctp_endpoint_fate {
 };
 
 /* Abandons a message: returns what has become of it. MISUSE. */
-uint32_t sctp_endpoint_abandon(struct sctp_endpoint *endpoint, uint64_t ticket, uint32_t *fate);
+uint32_t sctp_endpoint_abandon(struct sctp_endpoint *handle, uint64_t ticket, uint32_t *fate);
 
 /* Whether the peer has acknowledged all of a message that wasn't abandoned. MISUSE. */
-uint32_t sctp_endpoint_acknowledged(struct sctp_endpoint *endpoint, uint64_t ticket, bool *is);
+uint32_t sctp_endpoint_acknowledged(struct sctp_endpoint *handle, uint64_t ticket, bool *is);
 
 /* Whether a message was sent, at least in part, and then abandoned. MISUSE. */
-uint32_t sctp_endpoint_abandoned(struct sctp_endpoint *endpoint, uint64_t ticket, bool *is);
+uint32_t sctp_endpoint_abandoned(struct sctp_endpoint *handle, uint64_t ticket, bool *is);
 
 /* ---- closing */
 
 /* Closes the association gracefully: no more messages are accepted, those that were are still delivered. MISUSE, NOT_OPEN. */
-uint32_t sctp_endpoint_shutdown(struct sctp_endpoint *endpoint);
+uint32_t sctp_endpoint_shutdown(struct sctp_endpoint *handle);
 
 /* Ends the association at once: the packet in the buffer is the ABORT with this reason, to be sent to the peer. The buffer has at least the
  * packet limit, else NEEDS_ROOM. MISUSE, BAD_STATE if there is no peer to send it to, TOO_LONG, NO_MEMORY. */
-uint32_t sctp_endpoint_abort(struct sctp_endpoint *endpoint, const uint8_t *reason, size_t reason_length, uint8_t *buffer, size_t buffer_length,
+uint32_t sctp_endpoint_abort(struct sctp_endpoint *handle, const uint8_t *reason, size_t reason_length, uint8_t *buffer, size_t buffer_length,
                              size_t *length);
 
 /* ---- the status */
@@ -290,7 +290,7 @@ struct sctp_endpoint_status {
 };
 
 /* MISUSE. */
-uint32_t sctp_endpoint_status(struct sctp_endpoint *endpoint, struct sctp_endpoint_status *status);
+uint32_t sctp_endpoint_status(struct sctp_endpoint *handle, struct sctp_endpoint_status *status);
 
 /* ---- memory: what the library calls */
 
