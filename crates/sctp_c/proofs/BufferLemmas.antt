@@ -1,4 +1,4 @@
--- What fits a room: a packet, where it has place for the longest one of its end; a message, where it has place for its bytes.
+-- What fits a buffer: a packet, where it has place for the longest one of its end; a message, where it has place for its bytes.
 use Rattle.std.proofs.Common.{◌≡◌, ℕ, ◌≤◌, ◌<◌, ◌-◌, ◌^◌, List, ◌++◌, length, drop, min, ◌∙◌, ap, arith}
 use Rattle.std.specs.Prelude.{Option, Some, None, Result, Ok, Err, IfOk, IfErr, IfSome}
 use Rattle.std.specs.declared.vec.Vec.{Vec}
@@ -33,7 +33,7 @@ pub abort_fits : (limit : ℕ) (r : Result (Vec ℕ Global) AbortFault) (n : ℕ
 abort_fits limit (Err why) n within large = tt
 abort_fits limit (Ok packet) n within large = omega (arith, within, large)
 
--- a message that is copied into a room that has place for it
+-- a message that is copied into a buffer that has place for it
 pub message_put : (bytes old new : List ℕ) (r : Result ℕ ℕ) → IfOk r (λ many. (many ≡ length bytes) × (new ≡ bytes ++ drop many old))
     → IfErr r (λ many. (many ≡ min (length bytes) (2 ^ 64 - 1)) × (length old < many)) → length bytes ≤ length old → new ≡ bytes ++ drop (length bytes) old
 message_put bytes old new (Ok many) put none large = put.1 ∙ ap (λ (n : ℕ). bytes ++ drop n old) put.0
