@@ -4,8 +4,8 @@ use Rattle.sctp_model.specs.sender.Queueing as queueing
 use Rattle.sctp_model.specs.sender.Abandoning as abandoning
 use Rattle.sctp_model.specs.end.EndView as view
 use Rattle.sctp_model.specs.end.UserCalls as calls
-use Rattle.sctp_association.specs.declared.calls.Refused.{Refused}
-use Rattle.sctp_association.specs.declared.calls.Refused.TheVariants.{NotOpen, Fault}
+use Rattle.sctp_association.specs.declared.user.calls.Refused.{Refused}
+use Rattle.sctp_association.specs.declared.user.calls.Refused.TheVariants.{NotOpen, Fault}
 use Rattle.sctp_send.specs.declared.queueing.SendFault.{SendFault}
 use Rattle.sctp_send.specs.declared.queueing.SendFault.TheVariants as fault
 use Rattle.sctp_c.specs.declared.codes.TheConstants.{OK, NO_SUCH_STREAM, EMPTY, TOO_LONG, QUEUE_FULL, SPENT, NO_MEMORY, NOT_OPEN, BAD_STATE}

@@ -5,7 +5,7 @@ use Rattle.sctp_model.specs.receiver.ReceiverView.{Handed}
 use Rattle.sctp_model.specs.end.EndView.{Draw, EndView}
 use Rattle.sctp_values.specs.declared.no_memory.NoMemory.{NoMemory}
 use Rattle.sctp_values.specs.declared.ticket.Ticket.{Ticket}
-use Rattle.sctp_association.specs.declared.calls.Refused.{Refused}
+use Rattle.sctp_association.specs.declared.user.calls.Refused.{Refused}
 use Rattle.sctp_outcomes.specs.Kept.{AddsTaken}
 use Rattle.sctp_endpoint.specs.EndpointStands.{EndpointStands}
 use Rattle.sctp_endpoint.specs.Handled.{Handled}

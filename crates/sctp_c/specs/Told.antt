@@ -16,7 +16,7 @@ use Rattle.sctp_terms.specs.declared.calls.AbortFault.{AbortFault}
 use Rattle.sctp_terms.specs.declared.calls.AbortFault.TheVariants as abort
 use Rattle.sctp_association.specs.AbortAnswers.{AbortAnswers, aborted_view}
 use Rattle.sctp_association.specs.CallAnswers.{SendAnswers, sent_view}
-use Rattle.sctp_association.specs.declared.calls.Refused.{Refused}
+use Rattle.sctp_association.specs.declared.user.calls.Refused.{Refused}
 use Rattle.sctp_endpoint.specs.Logs.{TellsAnew}
 use Rattle.sctp_endpoint.specs.declared.after.Verdict.{Verdict}
 use Rattle.sctp_endpoint.specs.declared.after.Verdict.TheVariants.{Taken, Dropped, Answer}
