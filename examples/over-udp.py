@@ -1,15 +1,17 @@
 #!/usr/bin/env python3
-"""Two ends, each a process of its own (`sctp-end`, built), talk over UDP on the loopback interface: each sends messages to the other, which
-takes them; then the caller shuts. Run by hand: examples/over-udp.py [MODE [MESSAGES [LOST [REPEATED [LATE]]]]], the last three in percent of
-the packets: lost, sent twice, and held back for up to 50 ms, so that others overtake them. The words `delay` and `standard-closing`, behind
-these, go to both ends. Status 0: all came whole, once and in order.
+"""Two endpoints, each a process of its own (`sctp-end`, built), talk over UDP on the loopback interface: each sends messages to the other, which
+takes them; then the caller closes. Run by hand: examples/over-udp.py [MODE [MESSAGES [LOST [REPEATED [LATE]]]]], the last three in percent of
+the packets: lost, sent twice, and held back for up to 50 ms, so that others overtake them. The words `delay` and `standard-closing`, after
+these, go to both endpoints. Status 0: all messages arrived whole, once and in order.
 
-An end's window may let hundreds of packets go at once, and a socket's buffer holds fewer: so a turn sends at most eight, and then reads all
-that came."""
+A receive buffer lets the peer send all that it has space for at once, so the socket's own buffer is 2.5 times as large (the system counts more
+of a datagram than its payload, and may allow less: so a turn sends at most eight packets, and then reads all that were received). Neither
+process ends before both have closed: a SHUTDOWN COMPLETE that is lost is sent again."""
 import heapq, random, select, socket, subprocess, sys, time
 from pathlib import Path
 
 TURN = 8
+BUFFER = 131072
 OPTIONS = ("delay", "standard-closing")
 words = [word for word in sys.argv[1:] if word not in OPTIONS]
 options = [option for option in OPTIONS if option in sys.argv[1:]]
@@ -21,9 +23,10 @@ begun = time.monotonic()
 
 class End:
     def __init__(self, role, port, peer, *key):
-        words = [program, role, "1400", "1200", "131072", "4", mode, *options, str(port), str(peer), *key]
+        words = [program, role, "1400", "1200", str(BUFFER), "4", mode, *options, str(port), str(peer), *key]
         self.process = subprocess.Popen(words, stdin=subprocess.PIPE, stdout=subprocess.PIPE, text=True, bufsize=1)
         self.socket = socket.socket(socket.AF_INET, socket.SOCK_DGRAM)
+        self.socket.setsockopt(socket.SOL_SOCKET, socket.SO_RCVBUF, BUFFER * 5 // 2)
         self.socket.bind(("127.0.0.1", 0))
         self.socket.setblocking(False)
         self.held, self.sent, self.taken = [], 0, []
@@ -43,7 +46,7 @@ class End:
             wait = random.random() / 20 if random.randrange(100) < late else 0
             heapq.heappush(self.held, (time.monotonic() + wait, packet))
 
-    def hear(self):  # all that came from the network
+    def hear(self):  # all datagrams that were received
         while select.select([self.socket], [], [], 0)[0]:
             answer = self.ask("packet " + self.socket.recv(65536).hex()).split()
             if answer[0] == "answer":

@@ -1,25 +1,31 @@
-/* One end of an SCTP association (RFC 9260, with FORWARD-TSN of RFC 3758 and I-DATA of RFC 8260), without sockets, clock or
- * chance: packets, moments and random numbers go in, packets and messages come out. docs/C.md has a first program.
+/* One endpoint of an SCTP association: RFC 9260, with FORWARD-TSN (RFC 3758) and I-DATA (RFC 8260). The library opens no socket, reads no
+ * clock and draws no random numbers: received packets, the current time and random values are arguments, packets to send and received
+ * messages are results. docs/C.md has a first program, the loop of a program over UDP, and what to set.
  *
- * What a caller keeps, since no call can test it:
+ * What a caller must observe, since no call can check it:
  *
  *  - A struct sctp_endpoint is zeroed before its first call (SCTP_ENDPOINT_INIT), is read and written by these calls alone,
  *    and isn't copied. It may be moved, if the old place is forgotten.
- *  - No pointer is NULL, also where the length beside it is 0. Each is aligned, and what it points to is the caller's for
- *    the whole call. Memory that a call writes (what is no pointer to const) overlaps nothing else that the same call is given.
- *  - What a call writes is initialised before: all of it may be zero. A bool is 0 or 1.
- *  - One endpoint is used by one thread at a time, whichever. Two endpoints share nothing.
+ *  - A pointer may be NULL only if the length that follows it is 0; every other pointer is valid. Each is aligned, and what it points to is
+ *    the caller's for the whole call. Memory that a call writes (behind a pointer to non-const) overlaps nothing else passed to that call.
+ *  - Memory that a call writes is initialised before the call: it may be all zero. A bool is 0 or 1.
+ *  - One endpoint is used by one thread at a time, no matter which. Two endpoints share nothing.
  *  - No call is made from a signal handler, or in the child of a fork of a program with threads.
  *
- * Each call but two answers a number of enum sctp_endpoint_result. An answer that isn't SCTP_EP_OK leaves the endpoint as it
- * was, but for one: sctp_endpoint_handle_packet says what SCTP_EP_NO_MEMORY leaves. A call writes what it is given to write
- * where its answer is SCTP_EP_OK, and nothing behind it in a room; with another answer all is as it was, but for the lengths
- * and the verdict of a packet, which may be zero, and what is said beside SCTP_EP_NEEDS_ROOM.
+ * Each call but those that say otherwise returns a number of enum sctp_endpoint_result. If it isn't SCTP_EP_OK, the endpoint is unchanged,
+ * with one exception: sctp_endpoint_handle_packet says what SCTP_EP_NO_MEMORY leaves. If it is SCTP_EP_OK, the call has written its outputs,
+ * of a buffer only the beginning, as many bytes as its length says. Otherwise outputs are unchanged, except that lengths and the verdict of a
+ * packet may be set to zero, and except for what is said at SCTP_EP_NEEDS_ROOM.
  *
- * Moments are milliseconds since any beginning, the same for all calls of an endpoint. One before the latest counts as that.
+ * Times are milliseconds on any clock that doesn't go back, the same for all calls of an endpoint. A time before the latest one counts as the
+ * latest. A time that is wrong can't be taken back: UINT64_MAX, passed as the current time, stops all timers of the endpoint for good.
  *
- * Memory comes from three functions, which each thread that uses an endpoint calls. libsctp_endpoint_malloc.a has them over
- * malloc, realloc and free; a program that defines its own leaves that library out (rattle_alloc below).
+ * Memory comes from three functions, which are called on the thread that calls the library. libsctp_endpoint_malloc.a implements them by
+ * malloc, realloc and free; a program that defines its own doesn't link that library (rattle_alloc below).
+ *
+ * Structs, calls and numbers are those of one ABI version, SCTP_EP_ABI. The shared library's soname ends with it (libsctp_endpoint.so.1 is
+ * ABI 1). A new call, or a reserved number that gets a meaning, keeps both: a program runs with any later library of its ABI version. What
+ * changes the meaning of anything here raises both, and the first number of SCTP_EP_VERSION that isn't 0.
  */
 #ifndef SCTP_ENDPOINT_H
 #define SCTP_ENDPOINT_H
@@ -28,35 +34,41 @@
 #include <stddef.h>
 #include <stdint.h>
 
+#if SIZE_MAX != UINT64_MAX
+#error "sctp_endpoint.h: the library is for processors of 64 bits"
+#endif
+
 #ifdef __cplusplus
 extern "C" {
 #endif
 
-/* The version of structs, calls and numbers here: a library with another one is for another header. */
+#define SCTP_EP_VERSION "0.1.0"
 #define SCTP_EP_ABI 1u
+
+/* Returns the ABI version that the library was built with: compare it with SCTP_EP_ABI if it is loaded at run time. */
 uint32_t sctp_endpoint_abi(void);
 
-#define SCTP_EP_LONGEST_PACKET 1500   /* bytes: no endpoint builds a longer one */
-#define SCTP_EP_MOST_TICKETS 74       /* no packet begins more messages */
-#define SCTP_EP_LONGEST_MESSAGE 65536 /* bytes: no longer one is accepted. What comes may be as long as the buffer */
-#define SCTP_EP_NEVER UINT64_MAX      /* in place of a moment: none */
+#define SCTP_EP_LONGEST_PACKET 1500   /* bytes: no endpoint builds a longer packet */
+#define SCTP_EP_MOST_TICKETS 74       /* no packet carries the first fragment of more messages */
+#define SCTP_EP_LONGEST_MESSAGE 65536 /* bytes: send accepts no longer message. A peer's may be as long as the receive buffer */
+#define SCTP_EP_NEVER UINT64_MAX      /* in place of a time: never */
 
 enum sctp_endpoint_result {
     SCTP_EP_OK = 0,
-    SCTP_EP_NO_SUCH_STREAM = 1, /* the stream isn't below those agreed on */
-    SCTP_EP_EMPTY = 2,          /* the message has no byte */
-    SCTP_EP_TOO_LONG = 3,       /* it has more than 65,536; or a reason doesn't fit one packet */
-    SCTP_EP_QUEUE_FULL = 4,     /* 1,024 messages wait already: send again after the next acknowledgements */
-    SCTP_EP_SPENT = 5,          /* no ticket or no TSN is left */
-    SCTP_EP_NO_MEMORY = 6,      /* the allocator refused */
-    SCTP_EP_NOT_OPEN = 7,       /* the association isn't established; for shutdown: it isn't there with both its ends */
-    SCTP_EP_BAD_STATE = 8,      /* the call isn't one for this state */
-    SCTP_EP_NOTHING = 9,        /* no message waits */
-    SCTP_EP_NEEDS_ROOM = 10,    /* the room is too small: the length says what is wanted, and nothing is lost */
-    SCTP_EP_MISUSE = 11,        /* there is no endpoint in the handle; where one is made: there is one already */
+    SCTP_EP_NO_SUCH_STREAM = 1, /* the stream isn't below the number of streams agreed on */
+    SCTP_EP_EMPTY = 2,          /* the message has no bytes */
+    SCTP_EP_TOO_LONG = 3,       /* the message has more than 65,536 bytes; abort: the reason doesn't fit one packet */
+    SCTP_EP_QUEUE_FULL = 4,     /* 1,024 messages are queued: send again after the next SACK */
+    SCTP_EP_SPENT = 5,          /* the 2^63 - 1 TSNs or the tickets of this association are used up */
+    SCTP_EP_NO_MEMORY = 6,      /* memory allocation failed */
+    SCTP_EP_NOT_OPEN = 7,       /* the association isn't established; shutdown: nor is it being closed */
+    SCTP_EP_BAD_STATE = 8,      /* the call isn't allowed in this state */
+    SCTP_EP_NOTHING = 9,        /* no message is ready */
+    SCTP_EP_NEEDS_ROOM = 10,    /* the buffer is too small: the length says how many bytes it must have. Nothing is lost */
+    SCTP_EP_MISUSE = 11,        /* the handle is empty; a call that makes an endpoint: it isn't empty */
     SCTP_EP_BAD_DRAW = 12,      /* a tag is 0 */
     SCTP_EP_BAD_RESERVED = 13,  /* a reserved number isn't 0 */
-    /* the first fault of a configuration, in this order */
+    /* the first thing wrong with a configuration, in this order */
     SCTP_EP_BAD_PORT = 21,
     SCTP_EP_BAD_PACKET_LIMIT = 22,
     SCTP_EP_BAD_FRAGMENT = 23,
@@ -66,159 +78,176 @@ enum sctp_endpoint_result {
 
 /* ---- an endpoint */
 
-/* What a caller keeps of an endpoint, anywhere: 16 bytes, zero where there is none. */
+/* The caller's handle of an endpoint, anywhere in memory: 16 bytes, zero if it is empty. */
 struct sctp_endpoint {
-    size_t full; /* neither is the caller's to read */
+    size_t full; /* both fields are private */
     void *at;
 };
 #define SCTP_ENDPOINT_INIT { 0, NULL }
 
 struct sctp_endpoint_config {
     uint16_t own_port, peer_port; /* of SCTP, not of UDP; not 0 */
-    uint16_t packet_limit;        /* bytes of the longest packet that is sent, from the common header on: 576 to 1,500 */
-    uint16_t fragment;            /* bytes of every fragment but a message's last: 4 to 1,400; 32 + fragment, padded to 4, fit a packet */
-    uint32_t buffer;              /* bytes of what came and wasn't taken, parts of messages too: 65,536 to 16,777,216 */
+    uint16_t packet_limit;        /* bytes of the longest packet that is sent, common header included: 576 to 1,500 */
+    uint16_t fragment;            /* bytes of each fragment but a message's last: 4 to 1,400; 32 + fragment, padded to 4, fit a packet */
+    uint32_t buffer;              /* bytes of the receive buffer: what was received and not taken, messages in part included: 65,536 to 16,777,216 */
     uint16_t outbound, inbound;   /* streams asked for to the peer, allowed from it: 1 to 1,024 */
-    bool interleave;              /* ask for I-DATA (RFC 8260): long messages don't hold up others */
-    bool partial;                 /* ask for partial reliability (RFC 3758): messages that have gone out can be abandoned */
-    bool delay;                   /* a SACK may wait for a second packet, 200 ms at most (RFC 9260, 6.2) */
-    bool standard_closing;        /* close by the timers of RFC 9260, 9.2: a peer that sends for ever keeps the end */
+    bool interleave;              /* offer I-DATA (RFC 8260): long messages don't hold up those of other streams */
+    bool partial;                 /* offer partial reliability (RFC 3758): messages can be abandoned after they were sent */
+    bool delay;                   /* delay SACKs: for a second packet, 200 ms at most (RFC 9260, 6.2) */
+    bool standard_closing;        /* close by the timers of RFC 9260, 9.2: a peer that never stops sending can delay closing without limit */
     uint32_t reserved[4];         /* 0 */
 };
-/* For packets of 1,280 bytes and less, below UDP and IPv6: 64 streams each way, 1 MiB of buffer, both extensions. */
-#define SCTP_ENDPOINT_CONFIG(own_port, peer_port) \
-    { (own_port), (peer_port), 1232, 1200, 1048576, 64, 64, true, true, false, true, { 0, 0, 0, 0 } }
 
-/* Two fresh numbers from a secure source of chance. Who can guess them can forge packets (RFC 9260, 5.3.1). */
+/* Packets of 1,280 bytes and less below UDP and IPv6, 64 streams each way, a receive buffer of 4 MiB, both extensions. The buffer is a limit:
+ * nothing is allocated for it in advance.
+ *
+ * How large it must be: the peer begins at most one message at a time on each stream, and a message is delivered only when it is complete. Under
+ * I-DATA a message may be in part on every stream at once, so with less than
+ *
+ *     streams the peer sends on  x  its longest message
+ *
+ * parts of messages can fill the buffer with none complete, and then nothing more is ever received, though nothing was lost. With at least so
+ * many bytes there is always space for what is missing of each message in part, as long as the user takes what is complete. Here: 64 x 65,536
+ * = 4 MiB. Under DATA (no interleave) one message at a time is in part, so the longest message is enough. */
+#define SCTP_ENDPOINT_CONFIG(own_port, peer_port) \
+    { (uint16_t)(own_port), (uint16_t)(peer_port), 1232, 1200, 4194304, 64, 64, true, true, false, true, { 0, 0, 0, 0 } }
+
+/* Two random values from a secure source, new ones for each call. Who can guess them can inject packets (RFC 9260, 5.3.1). */
 struct sctp_endpoint_draw {
-    uint32_t tag; /* not 0 */
-    uint32_t tsn;
+    uint32_t tag; /* the verification tag of packets to this endpoint: not 0 */
+    uint32_t tsn; /* the first TSN that it sends */
 };
 
-/* Secret random bytes, under which a listener seals its cookies (RFC 9260, 5.1.3); listeners may share them. */
+/* Secret random bytes that authenticate a listener's state cookies (RFC 9260, 5.1.3); listeners may share them. */
 struct sctp_endpoint_key {
     uint8_t bytes[32];
 };
 
-/* An end that calls its peer, with sctp_endpoint_connect.
- * MISUSE, BAD_RESERVED, the configuration's fault, NO_MEMORY: the first of these. */
-uint32_t sctp_endpoint_caller(struct sctp_endpoint *end, const struct sctp_endpoint_config *config);
+/* Makes an endpoint that opens the association, by sctp_endpoint_connect.
+ * The first of these that applies: MISUSE, BAD_RESERVED, what is wrong with the configuration, NO_MEMORY. */
+uint32_t sctp_endpoint_caller(struct sctp_endpoint *handle, const struct sctp_endpoint_config *config);
 
-/* An end that waits for a peer. The same answers. */
-uint32_t sctp_endpoint_listener(struct sctp_endpoint *end, const struct sctp_endpoint_config *config, const struct sctp_endpoint_key *key);
+/* Makes an endpoint that waits for a peer to open the association. Results as for a caller. */
+uint32_t sctp_endpoint_listener(struct sctp_endpoint *handle, const struct sctp_endpoint_config *config, const struct sctp_endpoint_key *key);
 
-/* An end that is established at once, without packets: its peer is opened with the draws the other way round, and with the same
- * sizes, streams and extensions. BAD_DRAW, then the same answers. */
-uint32_t sctp_endpoint_opened(struct sctp_endpoint *end, const struct sctp_endpoint_config *config, const struct sctp_endpoint_draw *own,
+/* Makes an endpoint that is established at once, without packets: its peer is opened with the two draws exchanged and the same
+ * sizes, streams and extensions. BAD_DRAW, then as for a caller. */
+uint32_t sctp_endpoint_opened(struct sctp_endpoint *handle, const struct sctp_endpoint_config *config, const struct sctp_endpoint_draw *own,
                               const struct sctp_endpoint_draw *peer);
 
-/* Frees what it holds, and empties it. Of an empty one there is nothing to free. */
-void sctp_endpoint_free(struct sctp_endpoint *end);
+/* Frees an endpoint with all that it holds, and empties the handle. It does nothing for an empty one. */
+void sctp_endpoint_free(struct sctp_endpoint *handle);
 
 /* ---- packets and time */
 
-/* The peer is called: the next packet is an INIT. BAD_DRAW, MISUSE, BAD_STATE unless it is a caller to which nothing happened yet. */
-uint32_t sctp_endpoint_connect(struct sctp_endpoint *end, uint64_t now, const struct sctp_endpoint_draw *draw);
+/* Opens the association: the next packet is an INIT. BAD_DRAW, MISUSE, BAD_STATE unless it is a caller on which connect wasn't called yet. */
+uint32_t sctp_endpoint_connect(struct sctp_endpoint *handle, uint64_t now, const struct sctp_endpoint_draw *draw);
 
 enum sctp_endpoint_verdict_kind {
-    SCTP_EP_TAKEN = 0,   /* it acted */
-    SCTP_EP_ANSWER = 1,  /* the answer is in the room: it is sent at once, to where the packet came from */
-    SCTP_EP_DROPPED = 2  /* it changed nothing but the moment */
+    SCTP_EP_TAKEN = 0,   /* it was processed */
+    SCTP_EP_ANSWER = 1,  /* the buffer has the answer: send it at once, to the address that the packet was received from */
+    SCTP_EP_DROPPED = 2  /* it was ignored: nothing but the time has changed */
 };
 enum sctp_endpoint_reason {
     SCTP_EP_NO_REASON = 0,
-    SCTP_EP_FAULT = 1,   /* its bytes aren't a packet */
+    SCTP_EP_FAULT = 1,   /* its bytes aren't a valid packet, or its checksum is wrong */
     SCTP_EP_PORTS = 2,   /* its ports aren't those of the configuration */
-    SCTP_EP_TAG = 3,     /* its verification tag isn't right */
-    SCTP_EP_STATE = 4,   /* nothing in it is for this state */
-    SCTP_EP_COOKIE = 5   /* its cookie doesn't open */
+    SCTP_EP_TAG = 3,     /* its verification tag is wrong */
+    SCTP_EP_STATE = 4,   /* nothing in it applies in this state */
+    SCTP_EP_COOKIE = 5   /* its state cookie isn't one that this listener made for this peer */
 };
 struct sctp_endpoint_verdict {
-    size_t length;       /* of the answer; of the room that is wanted */
+    size_t length;       /* of the answer; at NEEDS_ROOM the bytes that the buffer must have */
     uint32_t verdict;    /* enum sctp_endpoint_verdict_kind */
     uint32_t reason;     /* enum sctp_endpoint_reason: why it was dropped */
 };
 
-/* A packet came: its bytes from the common header on. The draw counts where it is an INIT to a listener; a fresh one each time.
- * The room is for the answer: as long as the endpoint's packet limit at least, else NEEDS_ROOM, with the limit as the length.
- * BAD_DRAW; MISUSE; NO_MEMORY: what stands before the chunk that wanted memory has acted, and the packet may be given again. */
-uint32_t sctp_endpoint_handle_packet(struct sctp_endpoint *end, uint64_t now, const uint8_t *packet, size_t packet_length,
-                                     const struct sctp_endpoint_draw *draw, uint8_t *room, size_t room_length,
+/* Processes a received packet: its bytes from the common header on. The draw is used if it is an INIT to a listener; pass a new one each time.
+ * The buffer is for the answer: it has at least the endpoint's packet limit, else NEEDS_ROOM, with the limit as the length.
+ * The peer's address is the one that a packet with the verdict TAKEN was received from: its tag was right. An ANSWER or a DROPPED packet
+ * says nothing about its sender. BAD_DRAW; MISUSE; NO_MEMORY: the chunks before the one whose memory couldn't be allocated were processed,
+ * and the same packet may be passed again. */
+uint32_t sctp_endpoint_handle_packet(struct sctp_endpoint *handle, uint64_t now, const uint8_t *packet, size_t packet_length,
+                                     const struct sctp_endpoint_draw *draw, uint8_t *buffer, size_t buffer_length,
                                      struct sctp_endpoint_verdict *verdict);
 
 struct sctp_endpoint_sent {
-    size_t length;       /* of the packet, 0 where there is none; of the room that is wanted */
-    uint64_t tickets;    /* how many messages it begins */
+    size_t length;       /* of the packet, 0 if there is none; at NEEDS_ROOM the bytes that the buffer must have */
+    uint64_t tickets;    /* how many messages have their first fragment in it */
 };
 
-/* The next packet that goes out, and the tickets of the messages whose first fragments it carries. It counts as sent: call this
- * after every other call until there is none. The room is as long as the packet limit at least, else NEEDS_ROOM. Of the tickets
- * as many are told as their room has place for: all where that is SCTP_EP_MOST_TICKETS. MISUSE, NO_MEMORY. */
-uint32_t sctp_endpoint_poll_transmit(struct sctp_endpoint *end, uint64_t now, uint8_t *room, size_t room_length, uint64_t *tickets,
+/* Returns the next packet to send, with the tickets of the messages whose first fragments it carries. It counts as sent: call this after
+ * every other call until there is none. The buffer has at least the packet limit, else NEEDS_ROOM. As many tickets are written as their
+ * buffer has space for: all if it has SCTP_EP_MOST_TICKETS. MISUSE, NO_MEMORY. */
+uint32_t sctp_endpoint_poll_transmit(struct sctp_endpoint *handle, uint64_t now, uint8_t *buffer, size_t buffer_length, uint64_t *tickets,
                                      size_t tickets_length, struct sctp_endpoint_sent *sent);
 
-/* Time has come to this moment: no later than next_moment of the status says. MISUSE. */
-uint32_t sctp_endpoint_on_moment(struct sctp_endpoint *end, uint64_t now);
+/* The current time: timers that are due expire, a delayed SACK becomes due, and messages whose lifetime is over are abandoned. Call it no
+ * later than next_moment of the status says, and at the lifetimes' own deadlines (sctp_endpoint_send). MISUSE. */
+uint32_t sctp_endpoint_on_moment(struct sctp_endpoint *handle, uint64_t now);
 
 /* ---- messages */
 
-/* Queues a message: its bytes are copied. `until` is the moment from which it is worthless and abandoned, or SCTP_EP_NEVER. Its
- * ticket names it below: 1, 2, 3 and so on. MISUSE; NO_MEMORY; NOT_OPEN, then NO_SUCH_STREAM, EMPTY, TOO_LONG, QUEUE_FULL, SPENT. */
-uint32_t sctp_endpoint_send(struct sctp_endpoint *end, uint16_t stream, bool ordered, uint32_t payload_id, const uint8_t *bytes, size_t length,
+/* Queues a message: its bytes are copied. `until` is the time at which its lifetime is over and it is abandoned, or SCTP_EP_NEVER. Lifetimes
+ * aren't part of next_moment: it is the next sctp_endpoint_on_moment that abandons a message, so a program that gives lifetimes also calls
+ * that at the earliest `until`. The ticket is the message's number in the calls below: 1, 2, 3 and so on.
+ * MISUSE; NO_MEMORY; NOT_OPEN, then NO_SUCH_STREAM, EMPTY, TOO_LONG, QUEUE_FULL, SPENT. */
+uint32_t sctp_endpoint_send(struct sctp_endpoint *handle, uint16_t stream, bool ordered, uint32_t payload_id, const uint8_t *bytes, size_t length,
                             uint64_t until, uint64_t *ticket);
 
 struct sctp_endpoint_message {
     size_t length;        /* of the whole message */
-    uint64_t number;      /* on its stream and of its kind, from 0, where it is numbered */
-    uint32_t payload_id;
+    uint64_t number;      /* counted from 0 on its stream, ordered and unordered ones apart; 0 if it isn't numbered */
+    uint32_t payload_id;  /* the payload protocol identifier, in the processor's byte order */
     uint16_t stream;
     bool ordered;
-    bool numbered;        /* all are but unordered ones under DATA */
+    bool numbered;        /* false for an unordered message under DATA, which has no number */
     uint32_t reserved[4]; /* 0 */
 };
 
-/* The first stream from this one on, on which a message waits. Asked again behind each answer, and from 0 after NOTHING, it goes round all
- * streams, at the cost of a look at some bits. MISUSE, NOTHING. */
-uint32_t sctp_endpoint_readable(struct sctp_endpoint *end, uint16_t from, uint16_t *stream);
+/* Returns the first stream, from this one on, on which a message is ready. Called with the last stream plus 1, and with 0 after NOTHING, it
+ * visits all streams in turn, at the cost of reading some bits. MISUSE, NOTHING. */
+uint32_t sctp_endpoint_readable(struct sctp_endpoint *handle, uint16_t from, uint16_t *stream);
 
-/* What waits first on a stream; it goes on waiting. MISUSE, NOTHING. */
-uint32_t sctp_endpoint_peek(struct sctp_endpoint *end, uint16_t stream, struct sctp_endpoint_message *message);
+/* Describes the first message that is ready on a stream, and leaves it there. MISUSE, NOTHING. */
+uint32_t sctp_endpoint_peek(struct sctp_endpoint *handle, uint16_t stream, struct sctp_endpoint_message *message);
 
-/* Takes what waits first on a stream: whole, its bytes at the beginning of the room. Where that is too small, NEEDS_ROOM: the
- * message goes on waiting, and what is told of it says its length. MISUSE, NOTHING. */
-uint32_t sctp_endpoint_take(struct sctp_endpoint *end, uint16_t stream, struct sctp_endpoint_message *message, uint8_t *room, size_t room_length);
+/* Takes the first message that is ready on a stream: whole, its bytes at the beginning of the buffer. If the buffer is too small, NEEDS_ROOM:
+ * the message stays, and `message` says its length. MISUSE, NOTHING. */
+uint32_t sctp_endpoint_take(struct sctp_endpoint *handle, uint16_t stream, struct sctp_endpoint_message *message, uint8_t *buffer,
+                            size_t buffer_length);
 
 enum sctp_endpoint_fate {
-    SCTP_EP_WITHDRAWN = 1,    /* it hadn't gone out, and never will */
-    SCTP_EP_ABANDONED = 2,    /* it had gone out, in part at least, and won't be sent again */
+    SCTP_EP_WITHDRAWN = 1,    /* nothing of it was sent, and nothing will be */
+    SCTP_EP_ABANDONED = 2,    /* it was sent, at least in part, and won't be sent again */
     SCTP_EP_ACKNOWLEDGED = 3, /* the peer had acknowledged all of it */
     SCTP_EP_UNKNOWN = 4,      /* no message has this ticket */
-    SCTP_EP_RELIABLE = 5      /* it has gone out, and both ends didn't agree on partial reliability: it stays */
+    SCTP_EP_RELIABLE = 5      /* it was sent, and partial reliability wasn't agreed on: it stays */
 };
 
-/* Gives a message up. MISUSE. */
-uint32_t sctp_endpoint_abandon(struct sctp_endpoint *end, uint64_t ticket, uint32_t *fate);
+/* Abandons a message: returns what has become of it. MISUSE. */
+uint32_t sctp_endpoint_abandon(struct sctp_endpoint *handle, uint64_t ticket, uint32_t *fate);
 
-/* Whether the peer has acknowledged all of a message, and it wasn't abandoned. MISUSE. */
-uint32_t sctp_endpoint_acknowledged(struct sctp_endpoint *end, uint64_t ticket, bool *is);
+/* Whether the peer has acknowledged all of a message that wasn't abandoned. MISUSE. */
+uint32_t sctp_endpoint_acknowledged(struct sctp_endpoint *handle, uint64_t ticket, bool *is);
 
-/* Whether a message has gone out, in part at least, and was abandoned. MISUSE. */
-uint32_t sctp_endpoint_abandoned(struct sctp_endpoint *end, uint64_t ticket, bool *is);
+/* Whether a message was sent, at least in part, and then abandoned. MISUSE. */
+uint32_t sctp_endpoint_abandoned(struct sctp_endpoint *handle, uint64_t ticket, bool *is);
 
 /* ---- closing */
 
-/* No message is accepted any more; those that were are delivered. MISUSE, NOT_OPEN. */
-uint32_t sctp_endpoint_shutdown(struct sctp_endpoint *end);
+/* Closes the association gracefully: no more messages are accepted, those that were are still delivered. MISUSE, NOT_OPEN. */
+uint32_t sctp_endpoint_shutdown(struct sctp_endpoint *handle);
 
-/* Ends the association at once: the packet in the room tells the peer, with this reason. The room is as long as the packet limit
- * at least, else NEEDS_ROOM. MISUSE, BAD_STATE where there is no peer to tell, TOO_LONG, NO_MEMORY. */
-uint32_t sctp_endpoint_abort(struct sctp_endpoint *end, const uint8_t *reason, size_t reason_length, uint8_t *room, size_t room_length,
+/* Ends the association at once: the packet in the buffer is the ABORT with this reason, to be sent to the peer. The buffer has at least the
+ * packet limit, else NEEDS_ROOM. MISUSE, BAD_STATE if there is no peer to send it to, TOO_LONG, NO_MEMORY. */
+uint32_t sctp_endpoint_abort(struct sctp_endpoint *handle, const uint8_t *reason, size_t reason_length, uint8_t *buffer, size_t buffer_length,
                              size_t *length);
 
-/* ---- what it tells of itself */
+/* ---- the status */
 
 enum sctp_endpoint_state {
-    SCTP_EP_CLOSED = 1, /* nothing happened yet, or the association is over */
+    SCTP_EP_CLOSED = 1, /* not connected yet, or the association has ended */
     SCTP_EP_LISTEN = 2,
     SCTP_EP_COOKIE_WAIT = 3,
     SCTP_EP_COOKIE_ECHOED = 4,
@@ -228,43 +257,54 @@ enum sctp_endpoint_state {
     SCTP_EP_SHUTDOWN_RECEIVED = 8,
     SCTP_EP_SHUTDOWN_ACK_SENT = 9
 };
+
+/* How the association ended. Once it has:
+ *  - Messages that were received can still be taken, and sctp_endpoint_acknowledged, abandoned and abandon still answer for each ticket.
+ *  - sctp_endpoint_send returns NOT_OPEN, and so does shutdown; connect and abort return BAD_STATE. The endpoint stays closed for good.
+ *  - No packet is left to poll, and next_moment is SCTP_EP_NEVER.
+ *  - Received packets are still to be passed in for some seconds, and answers sent: if SHUTDOWN COMPLETE, which was the answer to the packet
+ *    that ended the association, is lost, the peer repeats its SHUTDOWN ACK, and without an answer gives up after 363 seconds as TIMED_OUT. */
 enum sctp_endpoint_ended {
     SCTP_EP_NOT_ENDED = 0,
-    SCTP_EP_COMPLETED = 1,    /* both ends shut it */
-    SCTP_EP_ABORTED = 2,      /* the peer aborted it */
-    SCTP_EP_ABORTED_HERE = 3, /* this end aborted it, for its user or for a fault of the peer */
-    SCTP_EP_TIMED_OUT = 4,    /* a packet was repeated as often as may be, and not answered */
-    SCTP_EP_STALE_COOKIE = 5  /* the listener found the cookie too old */
+    SCTP_EP_COMPLETED = 1,    /* closed gracefully by both endpoints */
+    SCTP_EP_ABORTED = 2,      /* aborted by the peer */
+    SCTP_EP_ABORTED_HERE = 3, /* aborted here: by sctp_endpoint_abort, or because the peer violated the protocol */
+    SCTP_EP_TIMED_OUT = 4,    /* a packet was retransmitted as often as allowed, and not answered */
+    SCTP_EP_STALE_COOKIE = 5  /* the listener found the state cookie too old */
 };
+
 struct sctp_endpoint_status {
-    uint64_t next_moment;       /* when to call sctp_endpoint_on_moment; SCTP_EP_NEVER */
-    uint64_t tickets;           /* how many were given */
-    uint64_t outstanding;       /* TSNs that aren't acknowledged, and one for each message in part */
-    uint64_t queued;            /* messages of which nothing has a TSN: with 1,024 send answers QUEUE_FULL */
-    uint64_t queued_bytes;      /* of these messages */
-    uint64_t held_bytes;        /* of what came and wasn't taken */
-    uint64_t peer_window;       /* bytes, as the peer last advertised them */
+    uint64_t next_moment;       /* the time by which to call sctp_endpoint_on_moment: the first timer or delayed SACK, not lifetimes; SCTP_EP_NEVER */
+    uint64_t tickets;           /* how many messages were accepted: the last ticket */
+    uint64_t outstanding;       /* TSNs that aren't acknowledged, and one for each message of which fragments are still to be sent */
+    uint64_t queued;            /* messages of which no fragment has a TSN: at 1,024 send returns QUEUE_FULL */
+    uint64_t queued_bytes;      /* bytes of these messages */
+    uint64_t held_bytes;        /* bytes of user data in the receive buffer: received and not taken, messages in part included */
+    uint64_t peer_window;       /* the peer's receiver window in bytes, as last advertised */
     uint32_t state;             /* enum sctp_endpoint_state */
     uint32_t ended;             /* enum sctp_endpoint_ended */
-    uint16_t outbound, inbound; /* the streams agreed on; 0 before an association */
+    uint16_t outbound, inbound; /* the streams agreed on; 0 before that */
     bool interleaved;           /* I-DATA was agreed on */
-    bool partial;               /* partial reliability was */
+    bool partial;               /* partial reliability was agreed on */
     uint32_t reserved[4];       /* 0 */
 };
 
 /* MISUSE. */
-uint32_t sctp_endpoint_status(struct sctp_endpoint *end, struct sctp_endpoint_status *status);
+uint32_t sctp_endpoint_status(struct sctp_endpoint *handle, struct sctp_endpoint_status *status);
 
 /* ---- memory: what the library calls */
 
-/* Where `ok` is false memory is refused, and `at` is any pointer but NULL. */
+/* If `ok` is false, allocation failed, and `at` is any pointer but NULL. */
 struct sctp_endpoint_block {
     bool ok;
     void *at;
 };
 /* struct sctp_endpoint_block rattle_alloc(size_t size, size_t alignment);       alignment: 1, 2, 4, 8 or 16
  * struct sctp_endpoint_block rattle_realloc(void *at, size_t old_size, size_t size, size_t alignment);
- * void rattle_dealloc(void *at); */
+ * void rattle_dealloc(void *at);
+ *
+ * `old_size` is how many bytes of the block are in use, to be kept. It isn't the size that the block was allocated with, which may be larger:
+ * an allocator that needs that keeps it itself. */
 
 #ifdef __cplusplus
 }

@@ -19,7 +19,7 @@ there() { command -v "$1" > /dev/null || { say "left out, no $1: $2"; return 1; 
 # ---- the header's calls are the library's, and nothing else is seen of it
 grep -o 'sctp_endpoint_[a-z_]*(' "$prefix/include/sctp_endpoint.h" | tr -d '(' | sort -u > "$at/header"
 nm -g --defined-only "$prefix/lib/libsctp_endpoint.a" | awk 'NF == 3 { print $3 }' | sort -u > "$at/static"
-nm -D --defined-only "$prefix/lib/libsctp_endpoint.so.0" | awk '{ print $3 }' | sort -u > "$at/shared"
+nm -D --defined-only "$prefix/lib/libsctp_endpoint.so.1" | awk '{ print $3 }' | sort -u > "$at/shared"
 diff "$at/header" "$at/static"
 diff "$at/header" "$at/shared"
 say "$(wc -l < "$at/header") calls in header, static and shared library"
@@ -32,6 +32,12 @@ told=$("$at/refused"); say "$told"
 "$cc" "${flags[@]}" -o "$at/kept" tests/c/kept.c "$prefix/lib/libsctp_endpoint.a"
 kept=$("$at/kept" 10000000); say "ten million messages that are over leave $kept bytes at both ends"
 [ "$kept" -le 65536 ]
+"$cc" "${flags[@]}" -o "$at/buffer" tests/c/buffer.c "${static[@]}"
+for sizes in 17 64 "17 1114112"; do
+    # shellcheck disable=SC2086
+    told=$("$at/buffer" $sizes) || { say "buffer $sizes: $told"; exit 1; }
+    say "$told"
+done
 if there "${CXX:-c++}" "the header in C++"; then
     printf '#include "sctp_endpoint.h"\nint main() { struct sctp_endpoint e = SCTP_ENDPOINT_INIT; sctp_endpoint_free(&e); return sctp_endpoint_abi() != SCTP_EP_ABI; }\n' > "$at/plus.cc"
     "${CXX:-c++}" -std=c++11 -Wall -Wextra -Werror -I"$prefix/include" -o "$at/plus" "$at/plus.cc" "${static[@]}"
@@ -42,7 +48,13 @@ if there pkg-config "pkg-config"; then
     # shellcheck disable=SC2046
     "$cc" -o "$at/by_package" tests/c/layout.c $(PKG_CONFIG_PATH=$prefix/lib/pkgconfig pkg-config --cflags --libs sctp_endpoint)
     LD_LIBRARY_PATH=$prefix/lib "$at/by_package"
-    say "pkg-config"
+    ./install.sh --archive "$at/archive.tar.gz"
+    mkdir "$at/unpacked"
+    tar -C "$at/unpacked" --strip-components=1 -xzf "$at/archive.tar.gz"
+    # shellcheck disable=SC2046
+    "$cc" -o "$at/by_archive" tests/c/layout.c $(PKG_CONFIG_PATH=$at/unpacked/lib/pkgconfig pkg-config --cflags --libs sctp_endpoint)
+    LD_LIBRARY_PATH=$at/unpacked/lib "$at/by_archive"
+    say "pkg-config, of a prefix and of an archive"
 fi
 
 # ---- two ends over a lossy link, in four modes
@@ -138,7 +150,7 @@ if there cargo "bindings/rust"; then
     say "bindings/rust: $(grep -c '^test result: ok' "$at/rust.log") suites"
 fi
 if there python3 "bindings/python"; then
-    (cd bindings/python && SCTP_ENDPOINT_LIBRARY=$prefix/lib/libsctp_endpoint.so.0 python3 -B -m unittest -q 2> "$at/python.log") || { cat "$at/python.log"; exit 1; }
+    (cd bindings/python && SCTP_ENDPOINT_LIBRARY=$prefix/lib/libsctp_endpoint.so.1 python3 -B -m unittest -q 2> "$at/python.log") || { cat "$at/python.log"; exit 1; }
     say "bindings/python"
 fi
 say "all passed"

@@ -1,8 +1,11 @@
-"""One end of an SCTP association (RFC 9260, with FORWARD-TSN of RFC 3758 and I-DATA of RFC 8260), by ctypes over libsctp_endpoint.so.
+"""One endpoint of an SCTP association (RFC 9260, with FORWARD-TSN of RFC 3758 and I-DATA of RFC 8260), by ctypes over libsctp_endpoint.so.
 
-The core has no socket, no clock and no chance: packets, moments and random numbers go in, packets and messages come out.
-The library is the one that SCTP_ENDPOINT_LIBRARY names, or libsctp_endpoint.so.0 where the loader finds it.
-An endpoint is used by one thread at a time.
+The library opens no socket, reads no clock and draws no random numbers but those of `Draw()`: received packets and the current time are
+arguments, packets to send and received messages are results. `SCTP_ENDPOINT_LIBRARY` names the library's file; else the loader looks for
+libsctp_endpoint.so.1. An endpoint is used by one thread at a time.
+
+Times are milliseconds on any clock that doesn't go back. Data may be bytes, bytearray or memoryview. A call that the library refuses raises
+`Refused`; an argument of a wrong type raises TypeError, and a number out of its range ValueError.
 """
 
 import ctypes
@@ -13,16 +16,17 @@ from ctypes import POINTER, Structure, byref, c_bool, c_char_p, c_size_t, c_uint
 from typing import List, NamedTuple, Optional
 
 LONGEST_PACKET = 1500
+LONGEST_MESSAGE = 65536
 _MOST_TICKETS = 74
 _NEVER = 2**64 - 1
 _OK, _NOTHING = 0, 9
 
 
 class Refused(Exception):
-    """A call that changed nothing: `result` says why."""
+    """The library refused a call, which changed nothing: `result` says why, `str` in words."""
 
     def __init__(self, result: "Result"):
-        super().__init__(result.name)
+        super().__init__(f"{result.name}: {_WORDS[result]}")
         self.result = result
 
 
@@ -46,6 +50,28 @@ class Result(enum.IntEnum):
     BAD_FRAGMENT = 23
     BAD_BUFFER = 24
     BAD_STREAMS = 25
+
+
+_WORDS = {
+    Result.NO_SUCH_STREAM: "the stream isn't below the number of streams agreed on",
+    Result.EMPTY: "the message has no bytes",
+    Result.TOO_LONG: "the message has more than 65,536 bytes, or the reason of an ABORT doesn't fit one packet",
+    Result.QUEUE_FULL: "1,024 messages are queued: send again after the next SACK",
+    Result.SPENT: "the TSNs or the tickets of this association are used up",
+    Result.NO_MEMORY: "memory allocation failed",
+    Result.NOT_OPEN: "the association isn't established",
+    Result.BAD_STATE: "the call isn't allowed in this state",
+    Result.NOTHING: "no message is ready",
+    Result.NEEDS_ROOM: "the buffer is too small",
+    Result.MISUSE: "the endpoint was not made",
+    Result.BAD_DRAW: "a tag is 0",
+    Result.BAD_RESERVED: "a reserved number isn't 0",
+    Result.BAD_PORT: "a port is 0",
+    Result.BAD_PACKET_LIMIT: "the packet limit isn't in 576 to 1,500",
+    Result.BAD_FRAGMENT: "the fragment isn't in 4 to 1,400, or 32 bytes of headers and it don't fit a packet",
+    Result.BAD_BUFFER: "the receive buffer isn't in 65,536 to 16,777,216",
+    Result.BAD_STREAMS: "a number of streams isn't in 1 to 1,024",
+}
 
 
 class State(enum.IntEnum):
@@ -84,12 +110,32 @@ class Reason(enum.IntEnum):
     COOKIE = 5
 
 
+def _number(value: int, bits: int, name: str) -> int:
+    """The number itself, if it is an unsigned one of so many bits."""
+    if not isinstance(value, int):
+        raise TypeError(f"{name} is an int, not {type(value).__name__}")
+    if not 0 <= value < 2**bits:
+        raise ValueError(f"{name} is {value}: it isn't in 0 to 2^{bits} - 1")
+    return int(value)
+
+
+def _data(value, name: str) -> bytes:
+    """The bytes of bytes, a bytearray or a memoryview."""
+    if not isinstance(value, (bytes, bytearray, memoryview)):
+        raise TypeError(f"{name} is bytes, a bytearray or a memoryview, not {type(value).__name__}")
+    return bytes(value)
+
+
 class _Handle(Structure):
     _fields_ = [("full", c_size_t), ("at", c_void_p)]
 
 
 class Config(Structure):
-    """What an endpoint is set up with; sctp_endpoint.h has the ranges."""
+    """What an endpoint is configured with; sctp_endpoint.h has the meaning and range of each option.
+
+    The receive buffer, 4 MiB unless `buffer` says another size, has at least the number of streams the peer sends on times its longest
+    message (here 64 x 65,536): else, with `interleave`, messages in part on several streams can fill it, and nothing more is received.
+    """
 
     _fields_ = [
         ("own_port", c_uint16),
@@ -106,22 +152,44 @@ class Config(Structure):
         ("_reserved", c_uint32 * 4),
     ]
 
-    def __init__(self, own_port: int, peer_port: int, **others):
-        fields = dict(packet_limit=1232, fragment=1200, buffer=1 << 20, outbound=64, inbound=64)
-        fields.update(interleave=True, partial=True, standard_closing=True)
-        fields.update(others)
-        super().__init__(own_port=own_port, peer_port=peer_port, **fields)
+    def __init__(
+        self,
+        own_port: int,
+        peer_port: int,
+        *,
+        packet_limit: int = 1232,
+        fragment: int = 1200,
+        buffer: int = 4 << 20,
+        outbound: int = 64,
+        inbound: int = 64,
+        interleave: bool = True,
+        partial: bool = True,
+        delay: bool = False,
+        standard_closing: bool = True,
+    ):
+        super().__init__()
+        self.own_port, self.peer_port = own_port, peer_port
+        self.packet_limit, self.fragment, self.buffer = packet_limit, fragment, buffer
+        self.outbound, self.inbound = outbound, inbound
+        self.interleave, self.partial = interleave, partial
+        self.delay, self.standard_closing = delay, standard_closing
+
+    def __setattr__(self, name: str, value) -> None:
+        kind = dict(self._fields_).get(name)
+        if kind is None:
+            raise AttributeError(f"a configuration has no option {name}")
+        super().__setattr__(name, bool(value) if kind is c_bool else _number(value, 8 * ctypes.sizeof(kind), name))
 
 
 class Draw(Structure):
-    """Two fresh random numbers; those of another source where they are given."""
+    """Two random values, from `secrets` unless they are given: a verification tag, which isn't 0, and a first TSN."""
 
     _fields_ = [("tag", c_uint32), ("tsn", c_uint32)]
 
     def __init__(self, tag: Optional[int] = None, tsn: Optional[int] = None):
         super().__init__(
-            tag=1 + secrets.randbelow(2**32 - 1) if tag is None else tag,
-            tsn=secrets.randbits(32) if tsn is None else tsn,
+            tag=1 + secrets.randbelow(2**32 - 1) if tag is None else _number(tag, 32, "tag"),
+            tsn=secrets.randbits(32) if tsn is None else _number(tsn, 32, "tsn"),
         )
 
 
@@ -169,7 +237,8 @@ class _Status(Structure):
 
 
 class Verdict(NamedTuple):
-    """`answer` goes at once to where the packet came from; a packet with a `reason` was dropped."""
+    """`answer` is to be sent at once, to the address the packet was received from. A packet with a `reason` was ignored.
+    With neither the packet was processed: its tag was right, so the address it was received from is the peer's."""
 
     answer: Optional[bytes]
     reason: Optional[Reason]
@@ -229,12 +298,12 @@ _calls = {
 
 
 def _load():
-    library = ctypes.CDLL(os.environ.get("SCTP_ENDPOINT_LIBRARY", "libsctp_endpoint.so.0"))
+    library = ctypes.CDLL(os.environ.get("SCTP_ENDPOINT_LIBRARY", "libsctp_endpoint.so.1"))
     for name, arguments in _calls.items():
         call = getattr(library, "sctp_endpoint_" + name)
         call.argtypes, call.restype = arguments, None if name == "free" else c_uint32
     if library.sctp_endpoint_abi() != 1:
-        raise ImportError("libsctp_endpoint.so.0 is for another version of this module")
+        raise ImportError("libsctp_endpoint.so.1 is for another version of this module")
     return {name: getattr(library, "sctp_endpoint_" + name) for name in _calls}
 
 
@@ -242,7 +311,7 @@ _call = _load()
 
 
 class Endpoint:
-    """One end of an association. Moments are milliseconds since any beginning."""
+    """One endpoint of an association; what it holds is freed with it."""
 
     def __init__(self, handle: _Handle):
         """Not for users: `caller`, `listener` and `opened` make one."""
@@ -258,17 +327,20 @@ class Endpoint:
 
     @classmethod
     def caller(cls, config: Config) -> "Endpoint":
-        """An end that calls its peer with `connect`."""
+        """An endpoint that opens the association, by `connect`."""
         return cls._made("caller", byref(config))
 
     @classmethod
     def listener(cls, config: Config, key: bytes) -> "Endpoint":
-        """An end that waits for a peer, and seals its cookies with this key of 32 secret random bytes."""
+        """An endpoint that waits for a peer. The key, 32 secret random bytes, authenticates its state cookies; listeners may share it."""
+        key = _data(key, "key")
+        if len(key) != 32:
+            raise ValueError(f"the key has {len(key)} bytes, not 32")
         return cls._made("listener", byref(config), byref(_Key((c_uint8 * 32)(*key))))
 
     @classmethod
     def opened(cls, config: Config, own: Draw, peer: Draw) -> "Endpoint":
-        """An end that is established at once, without packets; its peer's draws are the other way round."""
+        """An endpoint that is established at once, without packets; its peer is opened with the two draws exchanged."""
         return cls._made("opened", byref(config), byref(own), byref(peer))
 
     def __del__(self):
@@ -280,59 +352,65 @@ class Endpoint:
             raise Refused(Result(result))
 
     def connect(self, now: int, draw: Optional[Draw] = None) -> None:
-        """Calls the peer."""
-        self._do("connect", now, byref(draw or Draw()))
+        """Opens the association: the next packet is an INIT."""
+        self._do("connect", _number(now, 64, "now"), byref(draw or Draw()))
 
     def handle_packet(self, now: int, packet: bytes, draw: Optional[Draw] = None) -> Verdict:
-        """Takes a packet that came. Where memory ran out it may be given again."""
-        told = _Verdict()
+        """Processes a received packet. If memory allocation fails, the same packet may be passed again."""
+        told, packet = _Verdict(), _data(packet, "packet")
+        now = _number(now, 64, "now")
         self._do("handle_packet", now, packet, len(packet), byref(draw or Draw()), self._room, len(self._room), byref(told))
         answer = bytes(self._room[: told.length]) if told.verdict == 1 else None
         return Verdict(answer, Reason(told.reason) if told.verdict == 2 else None)
 
     def poll_transmit(self, now: int) -> Optional[Sent]:
-        """The next packet to send, or None. It counts as sent."""
+        """The next packet to send, or None. It counts as sent: call this after every other call until it returns None."""
         told = _Sent()
+        now = _number(now, 64, "now")
         self._do("poll_transmit", now, self._room, len(self._room), self._tickets, len(self._tickets), byref(told))
         if told.length == 0:
             return None
         return Sent(bytes(self._room[: told.length]), self._tickets[: told.tickets])
 
     def on_moment(self, now: int) -> None:
-        """Time has come to this moment."""
-        self._do("on_moment", now)
+        """The current time: timers that are due expire, and messages whose lifetime is over are abandoned. Call it no later than `next_moment`
+        of the status says, and at the earliest `until` of the messages sent. A time far in the future can't be taken back."""
+        self._do("on_moment", _number(now, 64, "now"))
 
     def send(self, stream: int, data: bytes, ordered: bool = True, payload_id: int = 0, until: Optional[int] = None) -> int:
-        """Queues a message, and answers its ticket. From the moment `until` on it is worthless."""
-        ticket = c_uint64()
-        self._do("send", stream, ordered, payload_id, data, len(data), _NEVER if until is None else until, byref(ticket))
+        """Queues a message, and returns its ticket. `until` is the time at which its lifetime is over and it is abandoned, by the next
+        `on_moment`: lifetimes aren't part of `next_moment`."""
+        ticket, data = c_uint64(), _data(data, "data")
+        until = _NEVER if until is None else _number(until, 64, "until")
+        stream, payload_id = _number(stream, 16, "stream"), _number(payload_id, 32, "payload_id")
+        self._do("send", stream, bool(ordered), payload_id, data, len(data), until, byref(ticket))
         return ticket.value
 
     def readable(self, start: int = 0) -> Optional[int]:
-        """The first stream from this one on, on which a message waits, or None."""
+        """The first stream, from `start` on, on which a message is ready, or None."""
         stream = c_uint16()
-        if _call["readable"](byref(self._handle), start, byref(stream)) == _NOTHING:
+        if _call["readable"](byref(self._handle), _number(start, 16, "start"), byref(stream)) == _NOTHING:
             return None
         return stream.value
 
     def take(self, stream: int) -> Optional[Message]:
-        """Takes the message that waits first on a stream, or answers None."""
+        """Takes the first message that is ready on a stream, or returns None."""
         told = _Message()
-        if _call["peek"](byref(self._handle), stream, byref(told)) == _NOTHING:
+        if _call["peek"](byref(self._handle), _number(stream, 16, "stream"), byref(told)) == _NOTHING:
             return None
         room = (c_uint8 * told.length)()
         self._do("take", stream, byref(told), room, told.length)
         return Message(told.stream, told.ordered, told.number if told.numbered else None, told.payload_id, bytes(room))
 
     def abandon(self, ticket: int) -> Fate:
-        """Gives a message up."""
+        """Abandons a message, and returns what has become of it."""
         fate = c_uint32()
-        self._do("abandon", ticket, byref(fate))
+        self._do("abandon", _number(ticket, 64, "ticket"), byref(fate))
         return Fate(fate.value)
 
     def _asked(self, name: str, ticket: int) -> bool:
         answer = c_bool()
-        self._do(name, ticket, byref(answer))
+        self._do(name, _number(ticket, 64, "ticket"), byref(answer))
         return answer.value
 
     def acknowledged(self, ticket: int) -> bool:
@@ -340,21 +418,22 @@ class Endpoint:
         return self._asked("acknowledged", ticket)
 
     def abandoned(self, ticket: int) -> bool:
-        """Whether a message has gone out, in part at least, and was abandoned."""
+        """Whether a message was sent, at least in part, and then abandoned."""
         return self._asked("abandoned", ticket)
 
     def shutdown(self) -> None:
-        """Accepts no message any more, delivers those that were, and closes."""
+        """Closes gracefully: no more messages are accepted, those that were are still delivered. Once `ended` is COMPLETED, go on passing in
+        received packets and sending the answers for some seconds: the last packet may have been lost."""
         self._do("shutdown")
 
     def abort(self, reason: bytes) -> bytes:
-        """Ends the association at once; the answer is the packet that tells the peer."""
-        length = c_size_t()
+        """Ends the association at once, and returns the packet that says so to the peer."""
+        length, reason = c_size_t(), _data(reason, "reason")
         self._do("abort", reason, len(reason), self._room, len(self._room), byref(length))
         return bytes(self._room[: length.value])
 
     def status(self) -> Status:
-        """What it tells of itself."""
+        """Its state, counts and next time; sctp_endpoint.h says what each is."""
         told = _Status()
         self._do("status", byref(told))
         return Status(

@@ -1,4 +1,4 @@
-"""Two ends in one program: python3 -m unittest, with SCTP_ENDPOINT_LIBRARY."""
+"""Two endpoints in one program: python3 -m unittest, with SCTP_ENDPOINT_LIBRARY."""
 
 import unittest
 
@@ -6,7 +6,7 @@ from sctp_endpoint import Config, Draw, Ended, Endpoint, Fate, Reason, Refused, 
 
 
 def exchange(a, b, now):
-    """Packets go to and fro until neither end has one."""
+    """Packets go to and fro until neither endpoint has one."""
     tickets = []
     for turn in range(40):
         sender, receiver = (a, b) if turn % 2 == 0 else (b, a)
@@ -32,13 +32,13 @@ class Talk(unittest.TestCase):
             call(*arguments)
         self.assertEqual(raised.exception.result, result)
 
-    def test_two_ends_open_talk_and_close(self):
+    def test_two_endpoints_open_talk_and_close(self):
         caller, listener = opened()
         self.assertEqual(caller.status().state, State.ESTABLISHED)
         long = bytes(range(256)) * 256
         self.assertEqual([caller.send(3, b"Hi", payload_id=51), caller.send(4, long, ordered=False)], [1, 2])
         status = caller.status()
-        self.assertEqual([status.queued, status.queued_bytes, status.peer_window], [2, 65538, 1 << 20])
+        self.assertEqual([status.queued, status.queued_bytes, status.peer_window], [2, 65538, 4 << 20])
         self.assertEqual(exchange(caller, listener, 10), [1, 2])
         self.assertEqual([listener.readable(), listener.readable(4), listener.readable(5)], [3, 4, None])
         self.assertEqual(tuple(listener.take(3)), (3, True, 0, 51, b"Hi"))
@@ -65,7 +65,56 @@ class Talk(unittest.TestCase):
         self.assertEqual([caller.status().ended, listener.status().ended], [Ended.ABORTED_HERE, Ended.ABORTED])
         self.refused(Result.NOT_OPEN, caller.send, 0, b"x")
 
-    def test_ends_opened_without_packets_talk(self):
+    def test_wrong_arguments_raise(self):
+        for key in (b"", bytes(31), bytes(33)):
+            with self.assertRaises(ValueError):
+                Endpoint.listener(Config(5001, 5000), key)
+        with self.assertRaises(TypeError):
+            Config(5000, 5001, no_such_option=True)
+        for wrong in ({"buffer": 2**32 + 65536}, {"outbound": 65536 + 1}, {"inbound": -1}):
+            with self.assertRaises(ValueError):
+                Config(5000, 5001, **wrong)
+        with self.assertRaises(ValueError):
+            Config(65536 + 5000, 5001)
+        with self.assertRaises(ValueError):
+            Config(5000, 5001).buffer = 2**32
+        with self.assertRaises(AttributeError):
+            Config(5000, 5001).bufer = 65536
+        with self.assertRaises(ValueError):
+            Draw(2**32 + 7)
+        caller, listener = opened()
+        for call, arguments in (
+            (caller.send, (65536, b"x")),
+            (caller.on_moment, (-1,)),
+            (caller.on_moment, (2**64,)),
+            (caller.readable, (65536,)),
+            (caller.take, (-1,)),
+            (caller.abandon, (2**64,)),
+        ):
+            with self.assertRaises(ValueError):
+                call(*arguments)
+        for call, arguments in ((caller.send, (0, "x")), (caller.send, (0, 5)), (caller.on_moment, (1.5,)), (listener.handle_packet, (0, "x"))):
+            with self.assertRaises(TypeError):
+                call(*arguments)
+
+    def test_bytes_may_be_a_bytearray_or_a_memoryview(self):
+        caller, listener = opened()
+        for data in (b"Hi", bytearray(b"Hi"), memoryview(b"-Hi-")[1:3]):
+            caller.send(0, data)
+        while (sent := caller.poll_transmit(0)) is not None:
+            listener.handle_packet(0, memoryview(bytearray(sent.packet)))
+        self.assertEqual([listener.take(0).bytes for _ in range(3)], [b"Hi"] * 3)
+
+    def test_long_messages_on_17_streams_at_once_arrive(self):
+        caller, listener = opened()
+        for stream in range(17):
+            caller.send(stream, bytes([stream]) * 65536)
+        for turn in range(60):
+            exchange(caller, listener, 1000 * turn)
+            caller.on_moment(1000 * turn)
+        self.assertEqual([listener.take(stream).bytes for stream in range(17)], [bytes([stream]) * 65536 for stream in range(17)])
+
+    def test_endpoints_opened_without_packets_talk(self):
         a = Endpoint.opened(Config(5000, 5001), Draw(7, 100), Draw(9, 500))
         b = Endpoint.opened(Config(5001, 5000), Draw(9, 500), Draw(7, 100))
         b.send(0, b"Hi", until=50)

@@ -1,10 +1,11 @@
 /* Lines over an association over UDP (RFC 6951: a packet is the payload of a datagram).
  *
- *     udp listen 9899                            prints the lines that come
+ *     udp listen 9899                            prints the lines that it receives
  *     udp call 9900 127.0.0.1 9899 < lines       sends them, and closes
  *
- * One loop around poll: the endpoint says what to send and how long to wait. A turn sends some packets and not all that the peer's
- * window lets go, since a socket's buffer holds fewer than a window. */
+ * One loop around poll: the endpoint says what to send and how long to wait. The socket's receive buffer holds all that the endpoint's own
+ * buffer lets the peer send at once, since nothing slows a sender down but that; and after closing, the socket stays open for some seconds,
+ * so that the peer learns of it even if the last packet is lost. */
 #include "sctp_endpoint.h"
 #include <arpa/inet.h>
 #include <fcntl.h>
@@ -16,14 +17,21 @@
 #include <time.h>
 #include <unistd.h>
 
-enum { PACKETS_A_TURN = 16, LONGEST_LINE = 4096 };
+enum {
+    PACKETS_A_TURN = 16,
+    LONGEST_LINE = 4096,
+    BUFFER = 65536,                /* bytes of the endpoint's receive buffer: one stream, and a line is shorter */
+    SOCKET_BUFFER = BUFFER * 5 / 2, /* bytes: the system counts more of a datagram than its payload */
+    LINGER = 8000                  /* ms for which a lost SHUTDOWN COMPLETE is repeated: the peer asks for it again after 1, 3 and 7 seconds */
+};
 
 static struct sctp_endpoint end = SCTP_ENDPOINT_INIT;
-static struct sockaddr_in peer; /* told to the caller; the listener learns it from the first packet that acts */
-static int udp, chance;
+static struct sockaddr_in peer; /* the caller is given it; the listener learns it from the first packet that is taken */
+static int udp, urandom;
 static char line[LONGEST_LINE];
-static size_t line_length; /* of a line that waits for its turn; 0 where none does */
+static size_t line_length; /* of a line that isn't queued yet; 0 if there is none */
 static bool input_ended;
+static uint64_t linger_until; /* 0 unless the last answer was SHUTDOWN COMPLETE */
 
 static void fail(const char *what) {
     perror(what);
@@ -37,7 +45,7 @@ static uint64_t now(void) {
 }
 
 static void fill(void *at, size_t length) {
-    if (read(chance, at, length) != (ssize_t)length) fail("/dev/urandom");
+    if (read(urandom, at, length) != (ssize_t)length) fail("/dev/urandom");
 }
 
 static struct sctp_endpoint_draw draw(void) {
@@ -53,12 +61,12 @@ static struct sctp_endpoint_status status(void) {
     return s;
 }
 
-/* What a datagram loses on its way, or here for want of room, the endpoint sends again. */
+/* A datagram that is lost, or that the system has no space for, is retransmitted by the endpoint. */
 static void put(const struct sockaddr_in *to, const uint8_t *packet, size_t length) {
     (void)!sendto(udp, packet, length, 0, (const struct sockaddr *)to, sizeof *to);
 }
 
-/* Some of the packets that may go. True where there may be more. */
+/* Sends some of the packets that may be sent. True if there may be more. */
 static bool transmit(void) {
     uint8_t packet[SCTP_EP_LONGEST_PACKET];
     uint64_t tickets[SCTP_EP_MOST_TICKETS];
@@ -71,7 +79,8 @@ static bool transmit(void) {
     return true;
 }
 
-/* A datagram came. Where memory was refused for it, it counts as lost. */
+/* A datagram was received. If memory allocation fails, it counts as lost. An answer after the association has ended is a SHUTDOWN COMPLETE
+ * that the peer may still have to ask for again. */
 static void receive(void) {
     uint8_t packet[65536], room[SCTP_EP_LONGEST_PACKET];
     struct sctp_endpoint_verdict verdict = { 0, 0, 0 };
@@ -82,23 +91,24 @@ static void receive(void) {
     if (length < 0) return;
     if (sctp_endpoint_handle_packet(&end, now(), packet, (size_t)length, &d, room, sizeof room, &verdict) != SCTP_EP_OK) return;
     if (verdict.verdict == SCTP_EP_ANSWER) put(&from, room, verdict.length);
-    if (verdict.verdict == SCTP_EP_TAKEN) peer = from; /* its tag was right: the peer is there */
+    if (verdict.verdict == SCTP_EP_ANSWER && status().ended == SCTP_EP_COMPLETED) linger_until = now() + LINGER;
+    if (verdict.verdict == SCTP_EP_TAKEN) peer = from; /* its tag was right: this is the peer's address */
 }
 
-/* Prints what came on the streams. */
+/* Prints the messages that were received. */
 static void take(void) {
     struct sctp_endpoint_message told = { 0 };
     uint16_t stream = 0;
     while (sctp_endpoint_readable(&end, 0, &stream) == SCTP_EP_OK && sctp_endpoint_peek(&end, stream, &told) == SCTP_EP_OK) {
         uint8_t *room = malloc(told.length);
-        if (!room) return; /* it goes on waiting */
+        if (!room) return; /* it stays */
         if (sctp_endpoint_take(&end, stream, &told, room, told.length) == SCTP_EP_OK) fwrite(room, 1, told.length, stdout), putchar('\n');
         free(room);
     }
     fflush(stdout);
 }
 
-/* Hands in a line. Where the queue is full, or there is no memory, it waits for the next turn. */
+/* Queues a line. If the queue is full, or memory allocation fails, it is tried again in the next turn. */
 static void send_line(void) {
     uint64_t ticket = 0;
     if (line_length == 0 && !input_ended) {
@@ -109,10 +119,18 @@ static void send_line(void) {
         line_length = 0;
 }
 
+static void open_socket(const char *port) {
+    struct sockaddr_in own = { .sin_family = AF_INET, .sin_port = htons((uint16_t)atoi(port)) };
+    int size = SOCKET_BUFFER;
+    if ((udp = socket(AF_INET, SOCK_DGRAM, 0)) < 0 || bind(udp, (struct sockaddr *)&own, sizeof own)) fail("bind");
+    if (setsockopt(udp, SOL_SOCKET, SO_RCVBUF, &size, sizeof size)) fail("SO_RCVBUF");
+}
+
 static void start(int argc, char **argv) {
     struct sctp_endpoint_config config = SCTP_ENDPOINT_CONFIG(5001, 5000);
     struct sctp_endpoint_draw d = draw();
     struct sctp_endpoint_key key;
+    config.buffer = BUFFER, config.outbound = config.inbound = 1;
     fill(&key, sizeof key);
     if ((input_ended = argc == 3)) {
         if (sctp_endpoint_listener(&end, &config, &key) != SCTP_EP_OK) exit(1);
@@ -124,26 +142,31 @@ static void start(int argc, char **argv) {
     if (sctp_endpoint_caller(&end, &config) != SCTP_EP_OK || sctp_endpoint_connect(&end, now(), &d) != SCTP_EP_OK) exit(1);
 }
 
+/* Waits for a datagram, a line, or the next timer. */
+static void turn(bool more) {
+    struct sctp_endpoint_status s = status();
+    bool reads = s.state == SCTP_EP_ESTABLISHED && !input_ended && line_length == 0;
+    uint64_t t = now(), next = s.ended ? linger_until : s.next_moment, wait = next > t ? next - t : 0;
+    struct pollfd polled[2] = { { .fd = udp, .events = POLLIN }, { .fd = reads ? 0 : -1, .events = POLLIN } };
+    if (poll(polled, 2, more ? 0 : wait > 60000 ? 60000 : (int)wait) < 0) fail("poll");
+    if (polled[0].revents) receive();
+    if (polled[1].revents || line_length > 0) send_line();
+    sctp_endpoint_on_moment(&end, now());
+    take();
+}
+
 int main(int argc, char **argv) {
     bool calls = argc == 5 && strcmp(argv[1], "call") == 0;
     if (!calls && !(argc == 3 && strcmp(argv[1], "listen") == 0))
         return fprintf(stderr, "udp listen PORT | udp call PORT ADDRESS PORT\n"), 2;
-    struct sockaddr_in own = { .sin_family = AF_INET, .sin_port = htons((uint16_t)atoi(argv[2])) };
-    if ((chance = open("/dev/urandom", O_RDONLY)) < 0) fail("/dev/urandom");
-    if ((udp = socket(AF_INET, SOCK_DGRAM, 0)) < 0 || bind(udp, (struct sockaddr *)&own, sizeof own)) fail("bind");
-    setvbuf(stdin, NULL, _IONBF, 0); /* poll tells what stdio hasn't read yet */
+    if ((urandom = open("/dev/urandom", O_RDONLY)) < 0) fail("/dev/urandom");
+    open_socket(argv[2]);
+    setvbuf(stdin, NULL, _IONBF, 0); /* poll reports what stdio hasn't read yet */
     start(argc, argv);
     for (;;) {
         bool more = transmit();
         struct sctp_endpoint_status s = status();
-        if (s.ended) return fprintf(stderr, "ended %u\n", s.ended), sctp_endpoint_free(&end), s.ended != SCTP_EP_COMPLETED;
-        bool reads = s.state == SCTP_EP_ESTABLISHED && !input_ended && line_length == 0;
-        uint64_t t = now(), wait = s.next_moment > t ? s.next_moment - t : 0;
-        struct pollfd polled[2] = { { .fd = udp, .events = POLLIN }, { .fd = reads ? 0 : -1, .events = POLLIN } };
-        if (poll(polled, 2, more ? 0 : wait > 60000 ? 60000 : (int)wait) < 0) fail("poll");
-        if (polled[0].revents) receive();
-        if (polled[1].revents || line_length > 0) send_line();
-        sctp_endpoint_on_moment(&end, now());
-        take();
+        if (s.ended && now() >= linger_until) return fprintf(stderr, "ended %u\n", s.ended), sctp_endpoint_free(&end), s.ended != SCTP_EP_COMPLETED;
+        turn(more);
     }
 }

@@ -67,7 +67,7 @@ int main(void) {
     HOLDS(sctp_endpoint_send(&a, 4, true, 52, text, 6, SCTP_EP_NEVER, &ticket) == SCTP_EP_OK && ticket == 2);
 
     memset(&status, BEFORE, sizeof status);
-    HOLDS(sctp_endpoint_status(&a, &status.it) == SCTP_EP_OK && status.it.queued == 2 && status.it.queued_bytes == 13 && status.it.peer_window == 1048576);
+    HOLDS(sctp_endpoint_status(&a, &status.it) == SCTP_EP_OK && status.it.queued == 2 && status.it.queued_bytes == 13 && status.it.peer_window == 4194304);
 
     /* A room that is too small takes nothing. */
     memset(&sent, BEFORE, sizeof sent);

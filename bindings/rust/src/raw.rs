@@ -85,33 +85,33 @@ pub struct Status {
 
 extern "C" {
     pub fn sctp_endpoint_abi() -> u32;
-    pub fn sctp_endpoint_caller(end: *mut Handle, config: *const Config) -> u32;
-    pub fn sctp_endpoint_listener(end: *mut Handle, config: *const Config, key: *const Key) -> u32;
-    pub fn sctp_endpoint_opened(end: *mut Handle, config: *const Config, own: *const Draw, peer: *const Draw) -> u32;
-    pub fn sctp_endpoint_free(end: *mut Handle);
-    pub fn sctp_endpoint_connect(end: *mut Handle, now: u64, draw: *const Draw) -> u32;
+    pub fn sctp_endpoint_caller(handle: *mut Handle, config: *const Config) -> u32;
+    pub fn sctp_endpoint_listener(handle: *mut Handle, config: *const Config, key: *const Key) -> u32;
+    pub fn sctp_endpoint_opened(handle: *mut Handle, config: *const Config, own: *const Draw, peer: *const Draw) -> u32;
+    pub fn sctp_endpoint_free(handle: *mut Handle);
+    pub fn sctp_endpoint_connect(handle: *mut Handle, now: u64, draw: *const Draw) -> u32;
     pub fn sctp_endpoint_handle_packet(
-        end: *mut Handle,
+        handle: *mut Handle,
         now: u64,
         packet: *const u8,
         packet_length: usize,
         draw: *const Draw,
-        room: *mut u8,
-        room_length: usize,
+        buffer: *mut u8,
+        buffer_length: usize,
         verdict: *mut Verdict,
     ) -> u32;
     pub fn sctp_endpoint_poll_transmit(
-        end: *mut Handle,
+        handle: *mut Handle,
         now: u64,
-        room: *mut u8,
-        room_length: usize,
+        buffer: *mut u8,
+        buffer_length: usize,
         tickets: *mut u64,
         tickets_length: usize,
         sent: *mut Sent,
     ) -> u32;
-    pub fn sctp_endpoint_on_moment(end: *mut Handle, now: u64) -> u32;
+    pub fn sctp_endpoint_on_moment(handle: *mut Handle, now: u64) -> u32;
     pub fn sctp_endpoint_send(
-        end: *mut Handle,
+        handle: *mut Handle,
         stream: u16,
         ordered: bool,
         payload_id: u32,
@@ -120,26 +120,26 @@ extern "C" {
         until: u64,
         ticket: *mut u64,
     ) -> u32;
-    pub fn sctp_endpoint_readable(end: *mut Handle, from: u16, stream: *mut u16) -> u32;
-    pub fn sctp_endpoint_peek(end: *mut Handle, stream: u16, message: *mut Message) -> u32;
+    pub fn sctp_endpoint_readable(handle: *mut Handle, from: u16, stream: *mut u16) -> u32;
+    pub fn sctp_endpoint_peek(handle: *mut Handle, stream: u16, message: *mut Message) -> u32;
     pub fn sctp_endpoint_take(
-        end: *mut Handle,
+        handle: *mut Handle,
         stream: u16,
         message: *mut Message,
-        room: *mut u8,
-        room_length: usize,
+        buffer: *mut u8,
+        buffer_length: usize,
     ) -> u32;
-    pub fn sctp_endpoint_abandon(end: *mut Handle, ticket: u64, fate: *mut u32) -> u32;
-    pub fn sctp_endpoint_acknowledged(end: *mut Handle, ticket: u64, is: *mut bool) -> u32;
-    pub fn sctp_endpoint_abandoned(end: *mut Handle, ticket: u64, is: *mut bool) -> u32;
-    pub fn sctp_endpoint_shutdown(end: *mut Handle) -> u32;
+    pub fn sctp_endpoint_abandon(handle: *mut Handle, ticket: u64, fate: *mut u32) -> u32;
+    pub fn sctp_endpoint_acknowledged(handle: *mut Handle, ticket: u64, is: *mut bool) -> u32;
+    pub fn sctp_endpoint_abandoned(handle: *mut Handle, ticket: u64, is: *mut bool) -> u32;
+    pub fn sctp_endpoint_shutdown(handle: *mut Handle) -> u32;
     pub fn sctp_endpoint_abort(
-        end: *mut Handle,
+        handle: *mut Handle,
         reason: *const u8,
         reason_length: usize,
-        room: *mut u8,
-        room_length: usize,
+        buffer: *mut u8,
+        buffer_length: usize,
         length: *mut usize,
     ) -> u32;
-    pub fn sctp_endpoint_status(end: *mut Handle, status: *mut Status) -> u32;
+    pub fn sctp_endpoint_status(handle: *mut Handle, status: *mut Status) -> u32;
 }

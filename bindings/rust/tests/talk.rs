@@ -1,11 +1,11 @@
-use sctp_endpoint::{Config, Draw, Ended, Endpoint, Error, Fate, State, Verdict};
+use sctp_endpoint::{Config, Draw, Ended, Endpoint, Error, Fate, Reason, State, Verdict, VerdictInto, LONGEST_PACKET, MOST_TICKETS};
 use std::num::NonZeroU32;
 
 fn draw(tag: u32) -> Draw {
     Draw { tag: NonZeroU32::new(tag).unwrap(), tsn: tag * 1_000 }
 }
 
-/// Packets go to and fro until neither end has one.
+/// Packets go to and fro until neither endpoint has one.
 fn exchange(a: &mut Endpoint, b: &mut Endpoint, now: u64) -> Vec<u64> {
     let mut tickets = Vec::new();
     for from_a in [true, false].into_iter().cycle().take(40) {
@@ -29,13 +29,13 @@ fn opened() -> (Endpoint, Endpoint) {
 }
 
 #[test]
-fn two_ends_open_talk_and_close() {
+fn two_endpoints_open_talk_and_close() {
     let (mut caller, mut listener) = opened();
     assert_eq!(caller.status().state, State::Established);
     let long = vec![5; 65_536];
     assert_eq!(caller.send(3, true, 51, b"Hi", None), Ok(1));
     assert_eq!(caller.send(4, false, 52, &long, None), Ok(2));
-    assert_eq!((caller.status().queued, caller.status().queued_bytes, caller.status().peer_window), (2, 65_538, 1 << 20));
+    assert_eq!((caller.status().queued, caller.status().queued_bytes, caller.status().peer_window), (2, 65_538, 4 << 20));
     assert_eq!(exchange(&mut caller, &mut listener, 10), [1, 2]);
     assert_eq!((listener.readable(0), listener.readable(4), listener.readable(5)), (Some(3), Some(4), None));
     let hi = listener.take(3).unwrap();
@@ -55,13 +55,13 @@ fn two_ends_open_talk_and_close() {
 fn refusals_say_why() {
     let mut config = Config::new(5_000, 5_001);
     config.buffer = 1;
-    assert_eq!(Endpoint::caller(&config).unwrap_err(), Error::Config(4));
+    assert_eq!(Endpoint::caller(&config).unwrap_err(), Error::BadBuffer);
     let (mut caller, mut listener) = opened();
     assert_eq!(caller.connect(0, draw(7)), Err(Error::BadState));
     assert_eq!(caller.send(64, true, 0, b"x", None), Err(Error::NoSuchStream));
     assert_eq!(caller.send(0, true, 0, b"", None), Err(Error::Empty));
     assert_eq!(caller.send(0, true, 0, &[0; 65_537], None), Err(Error::TooLong));
-    assert_eq!(caller.handle_packet(0, b"x", draw(7)), Ok(Verdict::Dropped(1)));
+    assert_eq!(caller.handle_packet(0, b"x", draw(7)), Ok(Verdict::Dropped(Reason::Fault)));
     assert_eq!(caller.abort(&[0; 1_500]), Err(Error::TooLong));
     let abort = caller.abort(b"enough").unwrap();
     assert_eq!(listener.handle_packet(0, &abort, draw(8)), Ok(Verdict::Taken));
@@ -71,7 +71,7 @@ fn refusals_say_why() {
 }
 
 #[test]
-fn ends_opened_without_packets_talk() {
+fn endpoints_opened_without_packets_talk() {
     let mut a = Endpoint::opened(&Config::new(5_000, 5_001), draw(7), draw(9)).unwrap();
     let mut b = Endpoint::opened(&Config::new(5_001, 5_000), draw(9), draw(7)).unwrap();
     b.send(0, true, 0, b"Hi", Some(50)).unwrap();
@@ -83,7 +83,7 @@ fn ends_opened_without_packets_talk() {
 }
 
 #[test]
-fn an_end_goes_to_another_thread() {
+fn an_endpoint_goes_to_another_thread() {
     let (caller, mut listener) = opened();
     let mut caller = std::thread::spawn(move || {
         let mut caller = caller;
@@ -94,4 +94,27 @@ fn an_end_goes_to_another_thread() {
     .unwrap();
     assert_eq!(exchange(&mut caller, &mut listener, 10), [1]);
     assert_eq!(listener.take(0).unwrap().bytes, b"Hi");
+}
+
+#[test]
+fn buffers_of_the_caller_are_enough() {
+    let (mut caller, mut listener) = opened();
+    let (mut packet, mut answer, mut tickets) = ([0; LONGEST_PACKET], [0; LONGEST_PACKET], [0; MOST_TICKETS]);
+    caller.send(3, false, 51, b"Hello", None).unwrap();
+    assert_eq!(caller.poll_transmit_into(10, &mut packet[..100], &mut tickets), Err(Error::NeedsRoom(1_232)));
+    let sent = caller.poll_transmit_into(10, &mut packet, &mut tickets).unwrap().unwrap();
+    assert_eq!((sent.tickets, tickets[0]), (1, 1));
+    let verdict = listener.handle_packet_into(10, &packet[..sent.length], draw(9), &mut answer);
+    assert_eq!(verdict, Ok(VerdictInto::Taken));
+    assert_eq!(listener.take_into(3, &mut answer[..4]), Err(Error::NeedsRoom(5)));
+    assert_eq!(listener.peek(3).unwrap().length, 5);
+    let head = listener.take_into(3, &mut answer).unwrap().unwrap();
+    assert_eq!((head.length, head.ordered, head.payload_id, &answer[..5]), (5, false, 51, &b"Hello"[..]));
+    assert_eq!(listener.take_into(3, &mut answer), Ok(None));
+}
+
+#[test]
+fn errors_say_why() {
+    assert_eq!(Error::QueueFull.to_string(), "1,024 messages are queued: send again after the next SACK");
+    assert_eq!(Error::NeedsRoom(5).to_string(), "the buffer is too small: 5 bytes are needed");
 }

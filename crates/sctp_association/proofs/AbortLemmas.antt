@@ -12,9 +12,9 @@ use Rattle.sctp_model.proofs.TypedLemmas.{length-item}
 use Rattle.sctp_opening.specs.Room.{size_alone}
 use Rattle.sctp_association.specs.PhaseMeans.{phase_unjoined, phase_of}
 use Rattle.sctp_association.specs.MachineStands.{KeepsMachine}
-use Rattle.sctp_association.specs.declared.life.Unjoined.{Unjoined}
-use Rattle.sctp_association.specs.declared.life.Unjoined.TheVariants.{Idle, Listening, Calling, Failed}
-use Rattle.sctp_association.specs.declared.life.Life.TheVariants as life
+use Rattle.sctp_association.specs.declared.state.life.Unjoined.{Unjoined}
+use Rattle.sctp_association.specs.declared.state.life.Unjoined.TheVariants.{Idle, Listening, Calling, Failed}
+use Rattle.sctp_association.specs.declared.state.life.Life.TheVariants as life
 use Rattle.sctp_association.specs.declared.machine.Machine.{Machine}
 
 -- a packet of one cause

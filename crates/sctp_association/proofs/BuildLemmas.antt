@@ -30,15 +30,15 @@ use Rattle.sctp_association.specs.MachineStands.{KeepsMachine, MachineStands}
 use Rattle.sctp_association.specs.Drafted.{receiver_left, delayed_left, due_left, drafted, IsOf, IsEmpty, PutsAt, IsPacked}
 use Rattle.sctp_association.specs.FillsBehind.{FillsBehind}
 use Rattle.sctp_association.specs.BuildAnswers.{BuildAnswer}
-use Rattle.sctp_association.specs.declared.life.Unjoined.{Unjoined}
-use Rattle.sctp_association.specs.declared.life.Association.{Association}
-use Rattle.sctp_association.specs.declared.life.Life.{Life}
-use Rattle.sctp_association.specs.declared.life.Life.TheVariants as life
-use Rattle.sctp_association.specs.declared.starts.Starts.{Starts}
+use Rattle.sctp_association.specs.declared.state.life.Unjoined.{Unjoined}
+use Rattle.sctp_association.specs.declared.state.life.Association.{Association}
+use Rattle.sctp_association.specs.declared.state.life.Life.{Life}
+use Rattle.sctp_association.specs.declared.state.life.Life.TheVariants as life
+use Rattle.sctp_association.specs.declared.time.starts.Starts.{Starts}
 use Rattle.sctp_association.specs.declared.traffic.Traffic.{Traffic}
-use Rattle.sctp_association.specs.declared.packing.Marks.{Marks}
-use Rattle.sctp_association.specs.declared.packing.Packing.{Packing}
-use Rattle.sctp_association.specs.declared.building.Built.{Built}
+use Rattle.sctp_association.specs.declared.build.packing.Marks.{Marks}
+use Rattle.sctp_association.specs.declared.build.packing.Packing.{Packing}
+use Rattle.sctp_association.specs.declared.build.Built.{Built}
 use Rattle.sctp_association.specs.declared.machine.Machine.{Machine}
 use Rattle.sctp_association.proofs.MachineLemmas.{with_traffic}
 use Rattle.sctp_association.proofs.PutLemmas.{started_left}

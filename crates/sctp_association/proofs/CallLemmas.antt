@@ -20,14 +20,14 @@ use Rattle.sctp_association.specs.TimersMean.{timers_meaning}
 use Rattle.sctp_association.specs.PhaseMeans.{phase_of, phase_in, is_idle}
 use Rattle.sctp_association.specs.DueStands.{DueStands}
 use Rattle.sctp_association.specs.MachineStands.{IsUnjoined, LifeStands, KeepsMachine}
-use Rattle.sctp_association.specs.declared.stage.Tags.{Tags}
-use Rattle.sctp_association.specs.declared.life.Unjoined.TheVariants.{Idle, Listening, Calling, Failed}
-use Rattle.sctp_association.specs.declared.life.Progress.{Progress}
-use Rattle.sctp_association.specs.declared.life.Progress.TheVariants.{Echoing, Open, Over}
-use Rattle.sctp_association.specs.declared.life.Life.{Life}
-use Rattle.sctp_association.specs.declared.life.Life.TheVariants as life
-use Rattle.sctp_association.specs.declared.due.Due.{Due}
-use Rattle.sctp_association.specs.declared.timers.Timers.{Timers}
+use Rattle.sctp_association.specs.declared.state.stage.Tags.{Tags}
+use Rattle.sctp_association.specs.declared.state.life.Unjoined.TheVariants.{Idle, Listening, Calling, Failed}
+use Rattle.sctp_association.specs.declared.state.life.Progress.{Progress}
+use Rattle.sctp_association.specs.declared.state.life.Progress.TheVariants.{Echoing, Open, Over}
+use Rattle.sctp_association.specs.declared.state.life.Life.{Life}
+use Rattle.sctp_association.specs.declared.state.life.Life.TheVariants as life
+use Rattle.sctp_association.specs.declared.state.due.Due.{Due}
+use Rattle.sctp_association.specs.declared.time.timers.Timers.{Timers}
 use Rattle.sctp_association.specs.declared.machine.Machine.{Machine}
 
 -- ---- abandon

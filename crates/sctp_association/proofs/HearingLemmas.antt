@@ -23,10 +23,10 @@ use Rattle.sctp_outcomes.proofs.Buffers.{piece_keeps_buffer, forward_keeps_buffe
 use Rattle.sctp_association.specs.PhaseMeans.{phase_unjoined, phase_of}
 use Rattle.sctp_association.specs.TrafficStands.{TrafficStands}
 use Rattle.sctp_association.specs.MachineStands.{KeepsMachine}
-use Rattle.sctp_association.specs.declared.life.Unjoined.{Unjoined}
-use Rattle.sctp_association.specs.declared.life.Unjoined.TheVariants.{Idle, Listening, Calling, Failed}
-use Rattle.sctp_association.specs.declared.life.Association.{Association}
-use Rattle.sctp_association.specs.declared.life.Life.TheVariants as life
+use Rattle.sctp_association.specs.declared.state.life.Unjoined.{Unjoined}
+use Rattle.sctp_association.specs.declared.state.life.Unjoined.TheVariants.{Idle, Listening, Calling, Failed}
+use Rattle.sctp_association.specs.declared.state.life.Association.{Association}
+use Rattle.sctp_association.specs.declared.state.life.Life.TheVariants as life
 use Rattle.sctp_association.specs.declared.traffic.Traffic.{Traffic}
 use Rattle.sctp_association.specs.declared.machine.Machine.{Machine}
 use Rattle.sctp_association.proofs.MachineLemmas.{with_traffic}

@@ -12,10 +12,10 @@ use Rattle.sctp_association.specs.PhaseMeans.{phase_in}
 use Rattle.sctp_association.specs.DueStands.{DueStands}
 use Rattle.sctp_association.specs.TrafficStands.{TrafficStands}
 use Rattle.sctp_association.specs.MachineStands.{KeepsMachine}
-use Rattle.sctp_association.specs.declared.life.Association.{Association}
-use Rattle.sctp_association.specs.declared.life.Life.TheVariants as life
-use Rattle.sctp_association.specs.declared.timers.Timers.{Timers}
-use Rattle.sctp_association.specs.declared.due.Due.{Due}
+use Rattle.sctp_association.specs.declared.state.life.Association.{Association}
+use Rattle.sctp_association.specs.declared.state.life.Life.TheVariants as life
+use Rattle.sctp_association.specs.declared.time.timers.Timers.{Timers}
+use Rattle.sctp_association.specs.declared.state.due.Due.{Due}
 use Rattle.sctp_association.specs.declared.machine.Machine.{Machine}
 use Rattle.sctp_association.proofs.CallLemmas.{stop_at}
 

@@ -17,17 +17,17 @@ use Rattle.sctp_association.specs.PhaseMeans.{phase_in, phase_of, phase_unjoined
 use Rattle.sctp_association.specs.DueStands.{DueStands}
 use Rattle.sctp_association.specs.TrafficStands.{TrafficStands}
 use Rattle.sctp_association.specs.MachineStands.{IsUnjoined, IsJoined, LifeStands, KeepsMachine}
-use Rattle.sctp_association.specs.declared.stage.Tags.{Tags}
-use Rattle.sctp_association.specs.declared.stage.Stage.{Stage}
-use Rattle.sctp_association.specs.declared.life.Unjoined.{Unjoined}
-use Rattle.sctp_association.specs.declared.life.Unjoined.TheVariants.{Failed}
-use Rattle.sctp_association.specs.declared.life.Progress.{Progress}
-use Rattle.sctp_association.specs.declared.life.Progress.TheVariants.{Echoing, Open, Over}
-use Rattle.sctp_association.specs.declared.life.Association.{Association}
-use Rattle.sctp_association.specs.declared.life.Life.TheVariants as life
+use Rattle.sctp_association.specs.declared.state.stage.Tags.{Tags}
+use Rattle.sctp_association.specs.declared.state.stage.Stage.{Stage}
+use Rattle.sctp_association.specs.declared.state.life.Unjoined.{Unjoined}
+use Rattle.sctp_association.specs.declared.state.life.Unjoined.TheVariants.{Failed}
+use Rattle.sctp_association.specs.declared.state.life.Progress.{Progress}
+use Rattle.sctp_association.specs.declared.state.life.Progress.TheVariants.{Echoing, Open, Over}
+use Rattle.sctp_association.specs.declared.state.life.Association.{Association}
+use Rattle.sctp_association.specs.declared.state.life.Life.TheVariants as life
 use Rattle.sctp_association.specs.declared.traffic.Traffic.{Traffic}
-use Rattle.sctp_association.specs.declared.timers.Timers.{Timers}
-use Rattle.sctp_association.specs.declared.due.Due.{Due}
+use Rattle.sctp_association.specs.declared.time.timers.Timers.{Timers}
+use Rattle.sctp_association.specs.declared.state.due.Due.{Due}
 use Rattle.sctp_association.specs.declared.machine.Machine.{Machine}
 
 -- the view is another, which is equal

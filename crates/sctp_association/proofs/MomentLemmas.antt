@@ -7,7 +7,7 @@ use Rattle.sctp_model.specs.end.Clock.{expired_timer, repeats_of, is_over_at, re
 use Rattle.sctp_model.specs.end.Moments.{due_again, ring, rung}
 use Rattle.sctp_association.specs.TimersMean.{kept_if}
 use Rattle.sctp_association.specs.DueStands.{DueStands}
-use Rattle.sctp_association.specs.declared.due.Due.{Due}
+use Rattle.sctp_association.specs.declared.state.due.Due.{Due}
 
 -- ---- a timer; the moment and the timer are those of the code
 

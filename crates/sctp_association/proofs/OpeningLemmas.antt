@@ -15,15 +15,15 @@ use Rattle.sctp_association.specs.StageMeans.{tags_meaning}
 use Rattle.sctp_association.specs.PhaseMeans.{phase_in, phase_unjoined, phase_of, is_listening}
 use Rattle.sctp_association.specs.DueStands.{DueStands}
 use Rattle.sctp_association.specs.MachineStands.{KeepsMachine}
-use Rattle.sctp_association.specs.declared.stage.Tags.{Tags}
-use Rattle.sctp_association.specs.declared.stage.Stage.TheVariants as stage
-use Rattle.sctp_association.specs.declared.life.Unjoined.{Unjoined}
-use Rattle.sctp_association.specs.declared.life.Progress.{Progress}
-use Rattle.sctp_association.specs.declared.life.Progress.TheVariants.{Echoing, Open, Over}
-use Rattle.sctp_association.specs.declared.life.Association.{Association}
-use Rattle.sctp_association.specs.declared.life.Life.TheVariants as life
-use Rattle.sctp_association.specs.declared.timers.Timers.{Timers}
-use Rattle.sctp_association.specs.declared.due.Due.{Due}
+use Rattle.sctp_association.specs.declared.state.stage.Tags.{Tags}
+use Rattle.sctp_association.specs.declared.state.stage.Stage.TheVariants as stage
+use Rattle.sctp_association.specs.declared.state.life.Unjoined.{Unjoined}
+use Rattle.sctp_association.specs.declared.state.life.Progress.{Progress}
+use Rattle.sctp_association.specs.declared.state.life.Progress.TheVariants.{Echoing, Open, Over}
+use Rattle.sctp_association.specs.declared.state.life.Association.{Association}
+use Rattle.sctp_association.specs.declared.state.life.Life.TheVariants as life
+use Rattle.sctp_association.specs.declared.time.timers.Timers.{Timers}
+use Rattle.sctp_association.specs.declared.state.due.Due.{Due}
 use Rattle.sctp_association.specs.declared.machine.Machine.{Machine}
 use Rattle.sctp_association.proofs.MachineLemmas.{joined, phase_joined}
 

@@ -15,14 +15,14 @@ use Rattle.sctp_association.specs.MachineStands.{KeepsMachine}
 use Rattle.sctp_association.specs.Drafted.{due_left, IsFresh, IsOf, IsEmpty, PutsAt, IsPacked}
 use Rattle.sctp_association.specs.FillsBehind.{FillsBehind}
 use Rattle.sctp_association.specs.PlainPacket.{IsPlain, fragments_alone, plain_marks}
-use Rattle.sctp_association.specs.declared.due.Due.{Due}
-use Rattle.sctp_association.specs.declared.life.Unjoined.{Unjoined}
-use Rattle.sctp_association.specs.declared.life.Unjoined.TheVariants.{Idle, Listening, Calling, Failed}
-use Rattle.sctp_association.specs.declared.life.Association.{Association}
-use Rattle.sctp_association.specs.declared.life.Life.TheVariants as life
+use Rattle.sctp_association.specs.declared.state.due.Due.{Due}
+use Rattle.sctp_association.specs.declared.state.life.Unjoined.{Unjoined}
+use Rattle.sctp_association.specs.declared.state.life.Unjoined.TheVariants.{Idle, Listening, Calling, Failed}
+use Rattle.sctp_association.specs.declared.state.life.Association.{Association}
+use Rattle.sctp_association.specs.declared.state.life.Life.TheVariants as life
 use Rattle.sctp_association.specs.declared.traffic.Traffic.{Traffic}
-use Rattle.sctp_association.specs.declared.plain.Plain.{Plain}
-use Rattle.sctp_association.specs.declared.packing.Packing.{Packing}
+use Rattle.sctp_association.specs.declared.build.plain.Plain.{Plain}
+use Rattle.sctp_association.specs.declared.build.packing.Packing.{Packing}
 use Rattle.sctp_association.specs.declared.machine.Machine.{Machine}
 use Rattle.sctp_association.proofs.PutLemmas.{not_due, joined, cut}
 use Rattle.sctp_association.proofs.BuildLemmas.{due_same, drafted_same, fills_packet, on_traffic}

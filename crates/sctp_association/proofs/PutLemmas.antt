@@ -14,9 +14,9 @@ use Rattle.sctp_model.proofs.TypedLemmas.{length-item}
 use Rattle.sctp_packet.specs.Draft.{Draft, has_room, after_try, with_chunks}
 use Rattle.sctp_association.specs.StartsMean.{starts_at, with_start, started_from}
 use Rattle.sctp_association.specs.Drafted.{value_left, causes_left, receiver_left, delayed_left, drafted, IsOf, PutsAt}
-use Rattle.sctp_association.specs.declared.starts.Starts.{Starts}
-use Rattle.sctp_association.specs.declared.packing.Marks.{Marks}
-use Rattle.sctp_association.specs.declared.packing.Packing.{Packing}
+use Rattle.sctp_association.specs.declared.time.starts.Starts.{Starts}
+use Rattle.sctp_association.specs.declared.build.packing.Marks.{Marks}
+use Rattle.sctp_association.specs.declared.build.packing.Packing.{Packing}
 use Rattle.sctp_association.proofs.StartLemmas.{start_more}
 
 -- ---- one place

@@ -14,8 +14,8 @@ use Rattle.sctp_values.specs.declared.no_memory.NoMemory.{NoMemory}
 use Rattle.sctp_opening.specs.Room.{size_alone}
 use Rattle.sctp_association.specs.DueStands.{DueStands}
 use Rattle.sctp_association.specs.MachineStands.{KeepsMachine}
-use Rattle.sctp_association.specs.declared.carried.WaitingCauses.{WaitingCauses}
-use Rattle.sctp_association.specs.declared.due.Due.{Due}
+use Rattle.sctp_association.specs.declared.state.carried.WaitingCauses.{WaitingCauses}
+use Rattle.sctp_association.specs.declared.state.due.Due.{Due}
 use Rattle.sctp_association.specs.declared.machine.Machine.{Machine}
 use Rattle.sctp_association.proofs.MachineLemmas.{with_due}
 

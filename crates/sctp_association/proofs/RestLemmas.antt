@@ -7,8 +7,8 @@ use Rattle.sctp_model.specs.end.EndView as model
 use Rattle.sctp_model.specs.end.Closing.{hears, rested_in, rested}
 use Rattle.sctp_model.specs.end.UserCalls.{is_established}
 use Rattle.sctp_association.specs.StageMeans.{stage_meaning}
-use Rattle.sctp_association.specs.declared.stage.Stage.{Stage}
-use Rattle.sctp_association.specs.declared.stage.Stage.TheVariants as stage
+use Rattle.sctp_association.specs.declared.state.stage.Stage.{Stage}
+use Rattle.sctp_association.specs.declared.state.stage.Stage.TheVariants as stage
 
 pub rested_shut : (h : model.Phase) (b : Bool) (v : EndView) → hears (λ g. true) h ≡ false → rested_in h b v ≡ v
 rested_shut model.Idle b v shut = refl

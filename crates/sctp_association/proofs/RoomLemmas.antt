@@ -13,7 +13,7 @@ use Rattle.sctp_model.specs.end.Building.{timer_after}
 use Rattle.sctp_model.proofs.sender.FillLaws.{goes_parts, room_fits, room_some}
 use Rattle.sctp_association.specs.StartsMean.{starts_at, with_fragments, started_from}
 use Rattle.sctp_association.specs.Drafted.{drafted}
-use Rattle.sctp_association.specs.declared.packing.Marks.{Marks}
+use Rattle.sctp_association.specs.declared.build.packing.Marks.{Marks}
 use Rattle.sctp_association.proofs.StartLemmas.{start_more}
 
 -- there is a wish

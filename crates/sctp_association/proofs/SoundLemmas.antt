@@ -15,13 +15,13 @@ use Rattle.sctp_outcomes.specs.Few.{IsFilling}
 use Rattle.sctp_outcomes.specs.Kept.{is_before, IsSound}
 use Rattle.sctp_association.specs.PhaseMeans.{phase_in, phase_unjoined}
 use Rattle.sctp_association.specs.MachineStands.{KeepsMachine}
-use Rattle.sctp_association.specs.declared.stage.Tags.{Tags}
-use Rattle.sctp_association.specs.declared.life.Unjoined.{Unjoined}
-use Rattle.sctp_association.specs.declared.life.Unjoined.TheVariants.{Idle, Listening, Calling, Failed}
-use Rattle.sctp_association.specs.declared.life.Progress.{Progress}
-use Rattle.sctp_association.specs.declared.life.Progress.TheVariants.{Echoing, Open, Over}
-use Rattle.sctp_association.specs.declared.life.Association.{Association}
-use Rattle.sctp_association.specs.declared.life.Life.TheVariants as life
+use Rattle.sctp_association.specs.declared.state.stage.Tags.{Tags}
+use Rattle.sctp_association.specs.declared.state.life.Unjoined.{Unjoined}
+use Rattle.sctp_association.specs.declared.state.life.Unjoined.TheVariants.{Idle, Listening, Calling, Failed}
+use Rattle.sctp_association.specs.declared.state.life.Progress.{Progress}
+use Rattle.sctp_association.specs.declared.state.life.Progress.TheVariants.{Echoing, Open, Over}
+use Rattle.sctp_association.specs.declared.state.life.Association.{Association}
+use Rattle.sctp_association.specs.declared.state.life.Life.TheVariants as life
 use Rattle.sctp_association.specs.declared.machine.Machine.{Machine}
 use Rattle.sctp_association.proofs.MachineLemmas.{joined, unjoined, phase_joined, phase_unjoined_at}
 

@@ -1,7 +1,7 @@
 -- What an end's user is told of what both ends agreed on.
 use Rattle.std.specs.Prelude.{◌≡◌, ◌+◌, ◌<◌, Option, None, Some}
 use Rattle.sctp_model.specs.end.EndView.{Terms}
-use Rattle.sctp_association.specs.declared.agreed.Agreed.{Agreed}
+use Rattle.sctp_association.specs.declared.user.agreed.Agreed.{Agreed}
 
 -- It is what the terms say, and they have a stream.
 pub record IsAgreed (t : Terms) (a : Agreed) : Type 0 where

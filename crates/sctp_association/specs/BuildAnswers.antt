@@ -7,7 +7,7 @@ use Rattle.sctp_model.specs.end.EndView.{EndView}
 use Rattle.sctp_model.specs.end.Building.{Builds, packet_of}
 use Rattle.sctp_packet.specs.PacketBytes.{WritesPacket}
 use Rattle.sctp_association.specs.MachineStands.{MachineStands}
-use Rattle.sctp_association.specs.declared.building.Built.{Built}
+use Rattle.sctp_association.specs.declared.build.Built.{Built}
 use Rattle.sctp_association.specs.declared.machine.Machine.{Machine}
 
 -- A packet of the chunks that the next packet holds, of which there are some, within the limit; the tickets are those newly numbered, by first TSN.

@@ -12,8 +12,8 @@ use Rattle.sctp_send.specs.SenderAnswers.{refused_with}
 use Rattle.sctp_values.specs.declared.ticket.Ticket.{Ticket}
 use Rattle.sctp_terms.specs.declared.calls.ConnectFault.{ConnectFault}
 use Rattle.sctp_terms.specs.declared.calls.ShutdownFault.{ShutdownFault}
-use Rattle.sctp_association.specs.declared.calls.Refused.{Refused}
-use Rattle.sctp_association.specs.declared.calls.Refused.TheVariants.{NotOpen, Fault}
+use Rattle.sctp_association.specs.declared.user.calls.Refused.{Refused}
+use Rattle.sctp_association.specs.declared.user.calls.Refused.TheVariants.{NotOpen, Fault}
 
 -- shutdown, by its answer's name in the machine (11.1.3)
 abbrev pub shutdown_meaning : Result (Unit {0}) ShutdownFault → ShutdownAnswer

@@ -15,10 +15,10 @@ use Rattle.sctp_values.specs.declared.ticket.Ticket.{Ticket}
 use Rattle.sctp_association.specs.StartsMean.{starts_at, started_from}
 use Rattle.sctp_association.specs.DueStands.{DueStands}
 use Rattle.sctp_association.specs.TrafficStands.{TrafficStands}
-use Rattle.sctp_association.specs.declared.due.Due.{Due}
+use Rattle.sctp_association.specs.declared.state.due.Due.{Due}
 use Rattle.sctp_association.specs.declared.traffic.Traffic.{Traffic}
-use Rattle.sctp_association.specs.declared.packing.Marks.{Marks}
-use Rattle.sctp_association.specs.declared.packing.Packing.{Packing}
+use Rattle.sctp_association.specs.declared.build.packing.Marks.{Marks}
+use Rattle.sctp_association.specs.declared.build.packing.Packing.{Packing}
 
 -- ---- what a packet leaves
 

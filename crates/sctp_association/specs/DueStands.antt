@@ -2,8 +2,8 @@
 use Rattle.std.specs.Prelude.{◌≡◌, ℕ, List, option_map}
 use Rattle.sctp_model.specs.wire.Typed.{WritesTyped}
 use Rattle.sctp_model.specs.end.EndView as model
-use Rattle.sctp_association.specs.declared.carried.HeartbeatInfo.{HeartbeatInfo}
-use Rattle.sctp_association.specs.declared.due.Due.{Due}
+use Rattle.sctp_association.specs.declared.state.carried.HeartbeatInfo.{HeartbeatInfo}
+use Rattle.sctp_association.specs.declared.state.due.Due.{Due}
 
 -- the value that is brought back
 abbrev pub info_bytes : HeartbeatInfo → List ℕ

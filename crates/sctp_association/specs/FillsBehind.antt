@@ -9,7 +9,7 @@ use Rattle.sctp_values.specs.declared.ticket.Ticket.{Ticket}
 use Rattle.sctp_association.specs.TrafficStands.{TrafficStands}
 use Rattle.sctp_association.specs.Drafted.{drafted, IsOf}
 use Rattle.sctp_association.specs.declared.traffic.Traffic.{Traffic}
-use Rattle.sctp_association.specs.declared.packing.Packing.{Packing}
+use Rattle.sctp_association.specs.declared.build.packing.Packing.{Packing}
 
 -- What fits went in; the traffic stands for what that leaves; the timer of fragments starts if anything went out; nothing else changed.
 pub record FillsBehind (e : EndView) (old new : Packing) (traffic : Traffic) (tickets : Vec Ticket Global) : Type 0 where

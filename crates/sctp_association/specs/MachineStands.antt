@@ -11,11 +11,11 @@ use Rattle.sctp_opening.specs.Terms.{terms_meaning}
 use Rattle.sctp_association.specs.PhaseMeans.{phase_of}
 use Rattle.sctp_association.specs.DueStands.{DueStands}
 use Rattle.sctp_association.specs.TrafficStands.{TrafficStands}
-use Rattle.sctp_association.specs.declared.life.Role.{Role}
-use Rattle.sctp_association.specs.declared.life.Role.TheVariants.{Caller, Listener, Paired}
-use Rattle.sctp_association.specs.declared.life.Life.{Life}
-use Rattle.sctp_association.specs.declared.life.Life.TheVariants.{Unjoined, Joined}
-use Rattle.sctp_association.specs.declared.life.Association.{Association}
+use Rattle.sctp_association.specs.declared.state.life.Role.{Role}
+use Rattle.sctp_association.specs.declared.state.life.Role.TheVariants.{Caller, Listener, Paired}
+use Rattle.sctp_association.specs.declared.state.life.Life.{Life}
+use Rattle.sctp_association.specs.declared.state.life.Life.TheVariants.{Unjoined, Joined}
+use Rattle.sctp_association.specs.declared.state.life.Association.{Association}
 use Rattle.sctp_association.specs.declared.machine.Machine.{Machine}
 
 -- how it came to be; a listener's seal is its key's (5.1.3)

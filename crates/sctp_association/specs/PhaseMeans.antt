@@ -3,13 +3,13 @@ use Rattle.std.specs.Prelude.{Bool, true, false}
 use Rattle.sctp_model.specs.end.EndView as model
 use Rattle.sctp_terms.specs.Meanings.{end_meaning}
 use Rattle.sctp_association.specs.StageMeans.{tags_meaning, stage_meaning}
-use Rattle.sctp_association.specs.declared.stage.Tags.{Tags}
-use Rattle.sctp_association.specs.declared.life.Progress.{Progress}
-use Rattle.sctp_association.specs.declared.life.Progress.TheVariants.{Echoing, Open, Over}
-use Rattle.sctp_association.specs.declared.life.Unjoined.{Unjoined}
-use Rattle.sctp_association.specs.declared.life.Unjoined.TheVariants.{Idle, Listening, Calling, Failed}
-use Rattle.sctp_association.specs.declared.life.Life.{Life}
-use Rattle.sctp_association.specs.declared.life.Life.TheVariants as life
+use Rattle.sctp_association.specs.declared.state.stage.Tags.{Tags}
+use Rattle.sctp_association.specs.declared.state.life.Progress.{Progress}
+use Rattle.sctp_association.specs.declared.state.life.Progress.TheVariants.{Echoing, Open, Over}
+use Rattle.sctp_association.specs.declared.state.life.Unjoined.{Unjoined}
+use Rattle.sctp_association.specs.declared.state.life.Unjoined.TheVariants.{Idle, Listening, Calling, Failed}
+use Rattle.sctp_association.specs.declared.state.life.Life.{Life}
+use Rattle.sctp_association.specs.declared.state.life.Life.TheVariants as life
 
 -- the phase of an association with these tags
 abbrev pub phase_in : Tags → Progress → model.Phase

@@ -2,9 +2,9 @@
 use Rattle.std.specs.Prelude.{◌≡◌, Bool, true, false}
 use Rattle.sctp_model.specs.end.EndView as model
 use Rattle.sctp_model.specs.end.Building.{has_some, has_causes}
-use Rattle.sctp_association.specs.declared.due.Due.{Due}
-use Rattle.sctp_association.specs.declared.starts.Starts.{Starts}
-use Rattle.sctp_association.specs.declared.packing.Marks.{Marks}
+use Rattle.sctp_association.specs.declared.state.due.Due.{Due}
+use Rattle.sctp_association.specs.declared.time.starts.Starts.{Starts}
+use Rattle.sctp_association.specs.declared.build.packing.Marks.{Marks}
 
 -- While the association is open nothing is due but a SACK at most.
 pub record IsPlain (d : Due) (x : model.Due) : Type 0 where

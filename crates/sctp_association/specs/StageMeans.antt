@@ -1,8 +1,8 @@
 -- The states with both ends, and the tags, by their names in the machine (RFC 9260, 4 and 8.5).
 use Rattle.sctp_model.specs.end.EndView as model
-use Rattle.sctp_association.specs.declared.stage.Tags.{Tags}
-use Rattle.sctp_association.specs.declared.stage.Stage.{Stage}
-use Rattle.sctp_association.specs.declared.stage.Stage.TheVariants.{Established, ShutdownPending, ShutdownSent, ShutdownReceived, ShutdownAckSent}
+use Rattle.sctp_association.specs.declared.state.stage.Tags.{Tags}
+use Rattle.sctp_association.specs.declared.state.stage.Stage.{Stage}
+use Rattle.sctp_association.specs.declared.state.stage.Stage.TheVariants.{Established, ShutdownPending, ShutdownSent, ShutdownReceived, ShutdownAckSent}
 
 -- both tags
 abbrev pub tags_meaning : Tags → model.Tags

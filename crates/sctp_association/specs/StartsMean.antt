@@ -2,7 +2,7 @@
 use Rattle.std.specs.Prelude.{ℕ, Bool, true, false, ◌==◌, if◌then◌else◌}
 use Rattle.sctp_model.specs.end.EndView as model
 use Rattle.sctp_model.specs.end.Clock.{running, alarm_number}
-use Rattle.sctp_association.specs.declared.starts.Starts.{Starts}
+use Rattle.sctp_association.specs.declared.time.starts.Starts.{Starts}
 
 -- whether this timer starts
 abbrev pub starts_at : Starts → model.Alarm → Bool

@@ -2,10 +2,10 @@
 use Rattle.std.specs.Prelude.{Bool, if◌then◌else◌}
 use Rattle.sctp_model.specs.end.EndView as model
 use Rattle.sctp_model.specs.end.Clock.{stopped}
-use Rattle.sctp_association.specs.declared.timer.Alarm.{Alarm}
-use Rattle.sctp_association.specs.declared.timer.Alarm.TheVariants.{Init, Cookie, Fragments, Shutdown, ShutdownAck}
-use Rattle.sctp_association.specs.declared.timer.Timer.{Timer}
-use Rattle.sctp_association.specs.declared.timers.Timers.{Timers}
+use Rattle.sctp_association.specs.declared.time.timer.Alarm.{Alarm}
+use Rattle.sctp_association.specs.declared.time.timer.Alarm.TheVariants.{Init, Cookie, Fragments, Shutdown, ShutdownAck}
+use Rattle.sctp_association.specs.declared.time.timer.Timer.{Timer}
+use Rattle.sctp_association.specs.declared.time.timers.Timers.{Timers}
 
 -- which timer
 abbrev pub alarm_meaning : Alarm → model.Alarm

@@ -2,43 +2,17 @@
 //! what time does to it, and what its user asks of it (RFC 9260, 4).
 #![tactic(auto)]
 
-mod abort;
-mod agreed;
-mod answering;
-mod building;
-mod calls;
-mod carried;
-mod closing;
-mod delaying;
-mod due;
-mod filling;
-mod hearing;
-mod joining;
-mod life;
+mod build;
 mod machine;
-mod moments;
-mod opening;
-mod packing;
-mod parts;
-mod passing;
-mod plain;
-mod putting;
-mod readers;
-mod receiving;
-mod replying;
-mod reporting;
-mod rooms;
-mod sending;
-mod stage;
-mod starts;
-mod status;
-mod timer;
-mod timers;
+mod peer;
+mod state;
+mod time;
 mod traffic;
+mod user;
 
-pub use agreed::Agreed;
-pub use building::Built;
-pub use calls::Refused;
-pub use life::Opened;
+pub use build::Built;
 pub use machine::Machine;
-pub use stage::{Stage, Tags};
+pub use state::life::Opened;
+pub use state::stage::{Stage, Tags};
+pub use user::agreed::Agreed;
+pub use user::calls::Refused;

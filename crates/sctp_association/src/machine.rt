@@ -11,9 +11,9 @@ ghost use Rattle.sctp_association.specs.StageMeans.{stage_meaning, tags_meaning}
 ghost use Rattle.sctp_association.specs.MachineStands.{RoleStands, MachineStands};
 ghost use Rattle.sctp_association.specs.PhaseMeans.{phase_unjoined};
 
-use crate::due::Due;
-use crate::life::{Life, Opened, Role, Unjoined};
-use crate::timers::Timers;
+use crate::state::due::Due;
+use crate::state::life::{Life, Opened, Role, Unjoined};
+use crate::time::timers::Timers;
 use sctp_cookie::Key;
 use sctp_terms::Config;
 use std::alloc::Global;

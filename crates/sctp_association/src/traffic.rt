@@ -1,5 +1,9 @@
 //! The traffic of an association: its sender and its receiver, in the format that both ends agreed on. Above it nobody names a format.
 
+pub mod parts;
+pub mod receiving;
+pub mod sending;
+
 ghost use Rattle.std.specs.Prelude.{◌≡◌, ◌<◌, ◌≤◌, true, false, Some, None, IfOk, MatchOption, slice_get};
 ghost use Rattle.sctp_model.specs.messages.Format.{Format};
 ghost use Rattle.sctp_model.specs.sender.SenderView.{SenderView, fresh_sender};

@@ -1,5 +1,5 @@
 mod Apart
 mod HandingBack
-mod RoomLemmas
+mod BufferLemmas
 mod SendLemmas
 mod TicketLemmas

@@ -5,7 +5,7 @@ use Rattle.sctp_model.specs.messages.Format.{Lane}
 use Rattle.sctp_model.specs.end.EndView.{EndView}
 use Rattle.sctp_values.specs.declared.ticket.Ticket.{Ticket}
 use Rattle.sctp_association.specs.CallAnswers.{call_of, SendAnswers, sent_view}
-use Rattle.sctp_association.specs.declared.calls.Refused.{Refused}
+use Rattle.sctp_association.specs.declared.user.calls.Refused.{Refused}
 use Rattle.sctp_endpoint.specs.declared.endpoint.Endpoint.{Endpoint}
 use Rattle.sctp_c.specs.Holds.{Holds, GivesNotes}
 use Rattle.sctp_c.specs.Told.{SendTold, Sends}

@@ -1,5 +1,5 @@
--- What C asks for, in the words of the definitions.
-use Rattle.std.specs.Prelude.{◌≡◌, ℕ, ◌⊎◌, ◌+◌, ◌==◌, ◌&&◌, Bool, true, false, List, [], ◌∷◌, Option, Some, None}
+-- What C passes in, in the words of the definitions.
+use Rattle.std.specs.Prelude.{◌≡◌, ℕ, ◌<◌, ◌⊎◌, ◌+◌, ◌==◌, ◌&&◌, Bool, true, false, List, [], ◌∷◌, Option, Some, None}
 use Rattle.sctp_model.specs.end.EndView.{Configuration, Draw}
 use Rattle.sctp_model.specs.end.Configured.{ConfigurationFault, configuration_fault}
 use Rattle.sctp_terms.specs.Meanings.{config_code}
@@ -23,26 +23,31 @@ asked_by c = record {
   standard_closing = c.standard_closing;
 }
 
--- the draw of these numbers
+-- the draw of these numbers: a tag and a first TSN
 abbrev pub drawn : SctpDraw → Draw
 drawn d = record { tag = d.tag; tsn = d.tsn }
 
--- every number that is kept for later is 0
+-- every reserved number is 0
 abbrev pub is_zeroed : List ℕ → Bool
 is_zeroed [] = true
 is_zeroed (n ∷ ns) = (n == 0) && is_zeroed ns
 
--- the answer where nothing is wrong beside the configuration, of which this is the first fault
+-- These numbers may be used as a draw: the tag isn't 0, the reserved numbers are.
+abbrev pub IsDraw : SctpDraw → Type 0
+IsDraw d = (0 < d.tag) × (is_zeroed d.reserved ≡ true)
+
+-- the result if nothing but the configuration may be wrong, of which this is the first fault
 abbrev pub IsMadeUnless : Option ConfigurationFault → ℕ → Type 0
 IsMadeUnless (Some fault) n = n ≡ BAD_CONFIG + config_code fault
 IsMadeUnless None n = (n ≡ OK) ⊎ (n ≡ NO_MEMORY)
 
--- the answer by whether the reserved numbers are 0
+-- the result by whether all reserved numbers are 0
 abbrev pub IsMadeZeroed : Bool → SctpConfig → ℕ → Type 0
 IsMadeZeroed false c n = n ≡ BAD_RESERVED
 IsMadeZeroed true c n = IsMadeUnless (configuration_fault (asked_by c)) n
 
--- What is answered to making an end: there is one already; a reserved number isn't 0; the first fault of the configuration; made, or no memory.
-abbrev pub IsMade : (full : Bool) → SctpConfig → ℕ → Type 0
-IsMade true c n = n ≡ MISUSE
-IsMade false c n = IsMadeZeroed (is_zeroed c.reserved) c n
+-- The result of a call that makes an endpoint: the handle isn't empty; a reserved number isn't 0; the first fault of the configuration; made, or
+-- memory allocation failed.
+abbrev pub IsMade : (full zeroed : Bool) → SctpConfig → ℕ → Type 0
+IsMade true zeroed c n = n ≡ MISUSE
+IsMade false zeroed c n = IsMadeZeroed zeroed c n

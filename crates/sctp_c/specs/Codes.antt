@@ -1,38 +1,38 @@
--- The numbers by which C is told what a call answers.
+-- The numbers that C gets: results of calls, fates, states, ends.
 use Rattle.std.specs.Prelude.{◌≡◌, ℕ, ◌⊎◌, ◌-◌, ◌^◌, ◌==◌, if◌then◌else◌, Option, Some, None}
 use Rattle.sctp_model.specs.sender.Queueing as queueing
 use Rattle.sctp_model.specs.sender.Abandoning as abandoning
 use Rattle.sctp_model.specs.end.EndView as view
 use Rattle.sctp_model.specs.end.UserCalls as calls
-use Rattle.sctp_association.specs.declared.calls.Refused.{Refused}
-use Rattle.sctp_association.specs.declared.calls.Refused.TheVariants.{NotOpen, Fault}
+use Rattle.sctp_association.specs.declared.user.calls.Refused.{Refused}
+use Rattle.sctp_association.specs.declared.user.calls.Refused.TheVariants.{NotOpen, Fault}
 use Rattle.sctp_send.specs.declared.queueing.SendFault.{SendFault}
 use Rattle.sctp_send.specs.declared.queueing.SendFault.TheVariants as fault
 use Rattle.sctp_c.specs.declared.codes.TheConstants.{OK, NO_SUCH_STREAM, EMPTY, TOO_LONG, QUEUE_FULL, SPENT, NO_MEMORY, NOT_OPEN, BAD_STATE}
 
--- ---- moments
+-- ---- times
 
--- no moment, as C says it: the last one that there is
+-- no time, as C says it: the last one that there is
 abbrev pub NEVER : ℕ
 NEVER = 2 ^ 64 - 1
 
--- the moment that C says
+-- the time that C passes in
 abbrev pub moment_of : ℕ → Option ℕ
 moment_of n = if n == NEVER then None else Some n
 
--- what C is told of a moment
+-- a time as C gets it
 abbrev pub moment_code : Option ℕ → ℕ
 moment_code None = NEVER
 moment_code (Some n) = n
 
--- ---- answers
+-- ---- results
 
--- what is answered to connect
+-- the result of connect
 abbrev pub connect_code : calls.ConnectAnswer → ℕ
 connect_code calls.Called = OK
 connect_code calls.NotIdle = BAD_STATE
 
--- what is answered to shutdown
+-- the result of shutdown
 abbrev pub shutdown_code : calls.ShutdownAnswer → ℕ
 shutdown_code calls.Shut = OK
 shutdown_code calls.NotShut = NOT_OPEN
@@ -45,7 +45,7 @@ refusal_code queueing.TooLong = TOO_LONG
 refusal_code queueing.QueueFull = QUEUE_FULL
 refusal_code queueing.Spent = SPENT
 
--- the same, as code has it
+-- why a message is refused, in the code's enum
 abbrev pub fault_code : SendFault → ℕ
 fault_code fault.NoSuchStream = NO_SUCH_STREAM
 fault_code fault.Empty = EMPTY
@@ -54,12 +54,12 @@ fault_code fault.QueueFull = QUEUE_FULL
 fault_code fault.Spent = SPENT
 fault_code fault.NoMemory = NO_MEMORY
 
--- why send is refused: there is no association, or what is wrong with the message
+-- why send is refused: the association isn't established, or what is wrong with the message
 abbrev pub refused_code : Refused → ℕ
 refused_code NotOpen = NOT_OPEN
 refused_code (Fault f) = fault_code f
 
--- What is answered to send: the end's answer; or memory ran out.
+-- The result of send: the endpoint's; or memory allocation failed.
 abbrev pub IsSendCode : calls.SendAnswer → (code ticket : ℕ) → Type 0
 IsSendCode (calls.Ticket t) n k = ((n ≡ OK) × (k ≡ t)) ⊎ (n ≡ NO_MEMORY)
 IsSendCode (calls.Refused r) n k = (n ≡ refusal_code r) ⊎ (n ≡ NO_MEMORY)
@@ -67,7 +67,7 @@ IsSendCode calls.NotOpen n k = (n ≡ NOT_OPEN) ⊎ (n ≡ NO_MEMORY)
 
 -- ---- numbers that name something
 
--- what has become of a message that is given up
+-- what has become of a message that is abandoned
 abbrev pub fate_number : abandoning.AbandonAnswer → ℕ
 fate_number abandoning.Withdrawn = 1
 fate_number abandoning.Abandoned = 2
@@ -87,7 +87,7 @@ state_number (view.InStage view.ShutdownSent) = 7
 state_number (view.InStage view.ShutdownReceived) = 8
 state_number (view.InStage view.ShutdownAckSent) = 9
 
--- how an association ended, 0 where it hasn't
+-- how an association ended, 0 if it hasn't
 abbrev pub ended_number : Option view.Ended → ℕ
 ended_number None = 0
 ended_number (Some view.Completed) = 1

@@ -1,11 +1,11 @@
--- Which view of an end a handle stands for, and what its user notes of it.
+-- Which view of an endpoint a handle stands for, and what its user notes of it.
 use Rattle.std.specs.Prelude.{ℕ, Option, None, Some, Result}
 use Rattle.sctp_model.specs.wire.Packet.{Packet}
 use Rattle.sctp_model.specs.receiver.ReceiverView.{Handed}
 use Rattle.sctp_model.specs.end.EndView.{Draw, EndView}
 use Rattle.sctp_values.specs.declared.no_memory.NoMemory.{NoMemory}
 use Rattle.sctp_values.specs.declared.ticket.Ticket.{Ticket}
-use Rattle.sctp_association.specs.declared.calls.Refused.{Refused}
+use Rattle.sctp_association.specs.declared.user.calls.Refused.{Refused}
 use Rattle.sctp_outcomes.specs.Kept.{AddsTaken}
 use Rattle.sctp_endpoint.specs.EndpointStands.{EndpointStands}
 use Rattle.sctp_endpoint.specs.Handled.{Handled}
@@ -20,12 +20,12 @@ abbrev pub Holds : Option Endpoint → EndView → Type 0
 Holds None v = ⊥
 Holds (Some e) v = EndpointStands e v
 
--- it is left as this packet leaves it, or as it is left where there is none
+-- it is left as this packet leaves it, or as it is left if there is none
 abbrev pub TransmitsIn : EndView → Option Sent → Option Endpoint → Type 0
 TransmitsIn v s None = ⊥
 TransmitsIn v s (Some e) = Transmits v s e
 
--- it is left as a packet that came leaves it, of which this is told
+-- it is left as a received packet leaves it, for which this is returned
 abbrev pub HandledIn : EndView → (now : ℕ) → Draw → Option Packet → Result Verdict NoMemory → Option Endpoint → Type 0
 HandledIn v now d o r None = ⊥
 HandledIn v now d o r (Some e) = Handled v now d o r e
@@ -37,7 +37,7 @@ abbrev pub KeepsNotes : EndView → Option Endpoint → Type 0
 KeepsNotes v None = ⊥
 KeepsNotes v (Some e) = LeavesLogs v e
 
--- of a packet that goes out its tickets are noted as numbered, and nothing else
+-- of a packet to send its tickets are noted as numbered, and nothing else
 abbrev pub SendsNotes : EndView → Option Sent → Option Endpoint → Type 0
 SendsNotes v s None = ⊥
 SendsNotes v s (Some e) = SendsLogs v s e

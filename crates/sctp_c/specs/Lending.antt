@@ -1,4 +1,4 @@
--- What a slot is once the endpoint that it lent is back.
+-- What a slot is once the borrow of its endpoint has ended.
 use Rattle.std.specs.Prelude.{Some}
 use Rattle.std.specs.Borrow.{Lends, MutBor, Fml}
 use Rattle.sctp_endpoint.specs.contracts.endpoint.Endpoint as endpoint

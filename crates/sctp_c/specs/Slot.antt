@@ -7,7 +7,7 @@ use Rattle.std.specs.declared.alloc.Global.{Global}
 use Rattle.std.specs.contracts.impls.GlobalAllocator.TheImpl.{ghosts}
 use Rattle.sctp_endpoint.specs.contracts.endpoint.Endpoint as endpoint
 
--- nothing, or the endpoint that lies there and the right to free its block
+-- nothing, or the endpoint at this address and the right to free its block
 abbrev pub slot_owns : Global → Ptr → Option (endpoint.the_row).Denot → Fml
 slot_owns a p None = ftrue
 slot_owns a p (Some e) = box_owns (ghosts.dealloc_token a) endpoint.the_row p e
@@ -17,7 +17,7 @@ abbrev pub is_full : {A : Type 0} → Option A → Bool
 is_full None = false
 is_full (Some x) = true
 
--- the same, as a proposition
+-- something is there, as a proposition
 abbrev pub IsFull : {A : Type 0} → Option A → Type 0
 IsFull None = ⊥
 IsFull (Some x) = Unit {0}

@@ -1,4 +1,4 @@
--- What C is told of an end.
+-- The status that C gets of an endpoint.
 use Rattle.std.specs.Prelude.{◌≡◌, ◌≤◌, ◌*◌, [], ◌∷◌, length}
 use Rattle.sctp_model.specs.numbers.Limits.{WINDOW, QUEUE_LIMIT, LONGEST_MESSAGE}
 use Rattle.sctp_model.specs.sender.Readers.{outstanding}
@@ -26,7 +26,7 @@ pub record IsStatus (s : SctpStatus) (v : EndView) : Type 0 where
   pub partial : s.partial ≡ v.terms.partial
   pub reserved : s.reserved ≡ 0 ∷ 0 ∷ 0 ∷ 0 ∷ []
 
--- and none of these is larger: what is outstanding, what waits to go out and its bytes, and what came and wasn't taken
+-- and none of these is larger: TSNs outstanding, messages queued and their bytes, and bytes received and not taken
 pub record IsWithin (s : SctpStatus) (v : EndView) : Type 0 where
   pub outstanding : s.outstanding ≤ WINDOW
   pub queued : s.queued ≤ QUEUE_LIMIT

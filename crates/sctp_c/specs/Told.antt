@@ -1,5 +1,5 @@
--- What C is told of a packet, of a message, of an answer, and what that leaves.
-use Rattle.std.specs.Prelude.{◌≡◌, ℕ, ◌-◌, ◌^◌, min, not, if◌then◌else◌, List, [], ◌∷◌, ◌++◌, length, map, take, drop, Option, Some, None, Result, Ok, Err, IfOk, OnErr}
+-- What C gets of a packet, of a message, of a result, and what a call leaves.
+use Rattle.std.specs.Prelude.{◌≡◌, ℕ, ◌-◌, ◌^◌, min, not, false, if◌then◌else◌, List, [], ◌∷◌, ◌++◌, length, map, take, drop, Option, Some, None, Result, Ok, Err, IfOk, OnErr}
 use Rattle.std.specs.declared.vec.Vec.{Vec}
 use Rattle.std.specs.declared.alloc.Global.{Global}
 use Rattle.sctp_model.specs.world.Calls.{Call}
@@ -16,7 +16,7 @@ use Rattle.sctp_terms.specs.declared.calls.AbortFault.{AbortFault}
 use Rattle.sctp_terms.specs.declared.calls.AbortFault.TheVariants as abort
 use Rattle.sctp_association.specs.AbortAnswers.{AbortAnswers, aborted_view}
 use Rattle.sctp_association.specs.CallAnswers.{SendAnswers, sent_view}
-use Rattle.sctp_association.specs.declared.calls.Refused.{Refused}
+use Rattle.sctp_association.specs.declared.user.calls.Refused.{Refused}
 use Rattle.sctp_endpoint.specs.Logs.{TellsAnew}
 use Rattle.sctp_endpoint.specs.declared.after.Verdict.{Verdict}
 use Rattle.sctp_endpoint.specs.declared.after.Verdict.TheVariants.{Taken, Dropped, Answer}
@@ -29,44 +29,48 @@ use Rattle.sctp_c.specs.declared.crossing.SctpMessage.{SctpMessage}
 use Rattle.sctp_c.specs.declared.crossing.SctpSent.{SctpSent}
 use Rattle.sctp_c.specs.declared.crossing.SctpVerdict.{SctpVerdict}
 
--- ---- bytes in a room
+-- ---- bytes in a buffer
 
--- so many bytes are told, and these lie at the beginning of the room; behind them it is as it was
+-- reserved numbers
+abbrev pub ZEROED : List ℕ
+ZEROED = 0 ∷ 0 ∷ 0 ∷ 0 ∷ []
+
+-- the count is that of these bytes, which are at the beginning of the buffer; after them it is as it was
 abbrev pub IsPut : (bytes : List ℕ) → (count : ℕ) → (old new : List ℕ) → Type 0
 IsPut bytes n old new = (n ≡ length bytes) × (new ≡ bytes ++ drop n old)
 
--- ---- a packet that goes out
+-- ---- a packet to send
 
--- so many tickets are told, and as many as the room has place for lie at its beginning: all of them where there is place for all; behind them it
--- is as it was
+-- the count is that of these tickets, and as many as the buffer has space for are at its beginning: all of them if it has space for all; after them
+-- it is as it was
 abbrev pub AreTold : List Ticket → (count : ℕ) → (old new : List ℕ) → Type 0
 AreTold ts n old new = (n ≡ length ts) × (new ≡ take (min n (length old)) (map (λ t. t.0) ts) ++ drop (min n (length old)) old)
 
--- what is told of the next packet: where there is none, both rooms are as they were
-abbrev pub PollTold : Result (Option Sent) NoMemory → (code : ℕ) → SctpSent → (room_old room tickets_old tickets : List ℕ) → Type 0
-PollTold (Err e) n s r room t tickets = (n ≡ NO_MEMORY) × (s.length ≡ 0) × (s.tickets ≡ 0) × (room ≡ r) × (tickets ≡ t)
-PollTold (Ok None) n s r room t tickets = (n ≡ OK) × (s.length ≡ 0) × (s.tickets ≡ 0) × (room ≡ r) × (tickets ≡ t)
-PollTold (Ok (Some p)) n s r room t tickets = (n ≡ OK) × IsPut p.packet.items s.length r room × AreTold p.tickets.items s.tickets t tickets
+-- what C gets of the next packet: if there is none, both buffers are as they were
+abbrev pub PollTold : Result (Option Sent) NoMemory → (code : ℕ) → SctpSent → (buffer_old buffer tickets_old tickets : List ℕ) → Type 0
+PollTold (Err e) n s r buffer t tickets = (n ≡ NO_MEMORY) × (s.length ≡ 0) × (s.tickets ≡ 0) × (buffer ≡ r) × (tickets ≡ t)
+PollTold (Ok None) n s r buffer t tickets = (n ≡ OK) × (s.length ≡ 0) × (s.tickets ≡ 0) × (buffer ≡ r) × (tickets ≡ t)
+PollTold (Ok (Some p)) n s r buffer t tickets = (n ≡ OK) × IsPut p.packet.items s.length r buffer × AreTold p.tickets.items s.tickets t tickets
 
--- The end answered this to being asked for its next packet, C is told of it, and it is left so.
-pub record Polled (v : EndView) (now : ℕ) (e : Option Endpoint) (code : ℕ) (s : SctpSent) (room_old room tickets_old tickets : List ℕ) : Type 0 where
+-- The endpoint returned this as its next packet, C gets it, and the endpoint is left so.
+pub record Polled (v : EndView) (now : ℕ) (e : Option Endpoint) (code : ℕ) (s : SctpSent) (buffer_old buffer tickets_old tickets : List ℕ) : Type 0 where
   pub answer : Result (Option Sent) NoMemory
   pub step : IfOk answer (λ sent. TransmitsIn (at_moment v now) sent e)
   pub refused : OnErr answer (Holds e v)
   pub notes : IfOk answer (λ sent. SendsNotes v sent e)
   pub anew : IfOk answer (λ sent. TellsAnew v sent)
-  pub told : PollTold answer code s room_old room tickets_old tickets
+  pub told : PollTold answer code s buffer_old buffer tickets_old tickets
 
--- ---- a packet that comes
+-- ---- a received packet
 
--- what is told of it: where there is no answer, the room is as it was
+-- what C gets of it: if there is no answer, the buffer is as it was
 abbrev pub HeardTold : Result Verdict NoMemory → (code : ℕ) → SctpVerdict → (old new : List ℕ) → Type 0
 HeardTold (Err e) n w old new = (n ≡ NO_MEMORY) × (w.verdict ≡ 0) × (w.reason ≡ 0) × (w.length ≡ 0) × (new ≡ old)
 HeardTold (Ok Taken) n w old new = (n ≡ OK) × (w.verdict ≡ 0) × (w.reason ≡ 0) × (w.length ≡ 0) × (new ≡ old)
 HeardTold (Ok (Answer bytes)) n w old new = (n ≡ OK) × (w.verdict ≡ 1) × (w.reason ≡ 0) × IsPut bytes.items w.length old new
 HeardTold (Ok (Dropped reason)) n w old new = (n ≡ OK) × (w.verdict ≡ 2) × (w.reason ≡ reason_code reason) × (w.length ≡ 0) × (new ≡ old)
 
--- The end answered this to the packet, C is told of it, and it is left so.
+-- The endpoint returned this for the packet, C gets it, and the endpoint is left so.
 pub record Heard (v : EndView) (now : ℕ) (d : Draw) (o : Option Packet) (e : Option Endpoint) (code : ℕ) (w : SctpVerdict) (old new : List ℕ) : Type 0 where
   pub answer : Result Verdict NoMemory
   pub step : HandledIn v now d o answer e
@@ -74,32 +78,32 @@ pub record Heard (v : EndView) (now : ℕ) (d : Draw) (o : Option Packet) (e : O
 
 -- ---- an ABORT
 
--- the number of a refusal
+-- the result for a refusal
 abbrev pub abort_code : AbortFault → ℕ
 abort_code abort.State = BAD_STATE
 abort_code abort.TooLong = TOO_LONG
 abort_code abort.NoMemory = NO_MEMORY
 
--- what is told of it: where it is refused, no bytes, and the room is as it was
+-- what C gets of it: if it is refused, no bytes, and the buffer is as it was
 abbrev pub AbortTold : Result (Vec ℕ Global) AbortFault → (code count : ℕ) → (old new : List ℕ) → Type 0
 AbortTold (Ok bytes) n k old new = (n ≡ OK) × IsPut bytes.items k old new
 AbortTold (Err why) n k old new = (n ≡ abort_code why) × (k ≡ 0) × (new ≡ old)
 
--- The end answered this to abort, C is told of it, and it is left so.
+-- The endpoint returned this to abort, C gets it, and the endpoint is left so.
 pub record Aborted (v : EndView) (reason : List ℕ) (e : Option Endpoint) (code count : ℕ) (old new : List ℕ) : Type 0 where
   pub answer : Result (Vec ℕ Global) AbortFault
   pub answers : AbortAnswers v reason answer
   pub step : Holds e (aborted_view v reason answer)
   pub told : AbortTold answer code count old new
 
--- ---- a message that is handed in
+-- ---- a message that C sends
 
--- what is told of it
+-- what C gets of it
 abbrev pub SendTold : Result Ticket Refused → (code ticket : ℕ) → Type 0
 SendTold (Ok given) n t = (n ≡ OK) × (t ≡ given.0)
 SendTold (Err why) n t = n ≡ refused_code why
 
--- The end answered this, C is told of it, and it is left so.
+-- The endpoint returned this, C gets it, and the endpoint is left so.
 pub record Sends (v : EndView) (c : Call) (e : Option Endpoint) (code ticket : ℕ) : Type 0 where
   pub answer : Result Ticket Refused
   pub answers : SendAnswers v c answer
@@ -107,22 +111,23 @@ pub record Sends (v : EndView) (c : Call) (e : Option Endpoint) (code ticket : �
   pub notes : GivesNotes v answer e
   pub told : SendTold answer code ticket
 
--- ---- a message that waits or was taken
+-- ---- a message that is ready or was taken
 
--- its head says this of it
+-- all but its bytes; a message without a number has the number 0
 pub record IsHead (m : SctpMessage) (h : Handed) : Type 0 where
   pub length : m.length ≡ min (length h.bytes) (2 ^ 64 - 1)
   pub payload : m.payload_id ≡ h.payload
   pub lane : lane_of m.stream (not m.ordered) ≡ h.lane
   pub number : (if m.numbered then Some m.number else None) ≡ h.number
+  pub unnumbered : m.numbered ≡ false → m.number ≡ 0
   pub reserved : m.reserved ≡ 0 ∷ 0 ∷ 0 ∷ 0 ∷ []
 
--- the whole message lies at the beginning of the room; behind it that is as it was
+-- the whole message is at the beginning of the buffer; after it that is as it was
 pub record IsTold (m : SctpMessage) (old new : List ℕ) (h : Handed) : Type 0 where
   pub head : IsHead m h
   pub bytes : new ≡ h.bytes ++ drop (length h.bytes) old
 
--- This message was taken, C is told of it, the end is left so, and its user notes it.
+-- This message was taken, C gets it, the endpoint is left so, and its user notes the message.
 pub record Takes (v : EndView) (stream : ℕ) (h : Handed) (e : Option Endpoint) (m : SctpMessage) (old new : List ℕ) : Type 0 where
   pub after : EndView
   pub takes : UserTakes v stream (Some h) after

@@ -1,4 +1,4 @@
-//! A box taken apart: where its value lies, and what frees the block.
+//! A box taken apart: the address of its value, and what frees the block.
 
 ghost use Rattle.std.specs.Prelude.{◌≡◌};
 ghost use Rattle.std.specs.Box.Ownership.{box_owns};

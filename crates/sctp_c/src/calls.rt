@@ -1,34 +1,42 @@
-//! What C's user asks of an end, and what time does (RFC 9260, 11.1).
+//! What C's user calls: connect, shutdown, abandon; and the current time (RFC 9260, 11.1).
 
-ghost use Rattle.std.specs.Prelude.{◌≡◌, ◌<◌, None, take};
+ghost use Rattle.std.specs.Prelude.{◌≡◌, ◌<◌, true, false, None, take};
 ghost use Rattle.sctp_model.specs.end.EndView.{EndView};
 ghost use Rattle.sctp_model.specs.end.Clock.{at_moment};
 ghost use Rattle.sctp_model.specs.end.Moments.{ticked};
 ghost use Rattle.sctp_model.specs.end.UserCalls.{connect_answer, called, abandons, abandoned_at, shutdown_answer, shut};
-ghost use Rattle.sctp_c.specs.Asked.{drawn};
+ghost use Rattle.sctp_c.specs.Asked.{drawn, is_zeroed, IsDraw};
+ghost use Rattle.sctp_c.specs.Slot.{is_full};
 ghost use Rattle.sctp_c.specs.Holds.{Holds, KeepsNotes};
 ghost use Rattle.sctp_c.specs.Codes.{connect_code, shutdown_code, fate_number};
 
-use crate::codes::{BAD_DRAW, BAD_STATE, MISUSE, NOT_OPEN, OK};
+use crate::codes::{BAD_DRAW, BAD_RESERVED, BAD_STATE, MISUSE, NOT_OPEN, OK};
+use crate::config::is_zeroed;
 use crate::crossing::SctpDraw;
 use crate::handle::SctpEndpoint;
 use sctp_endpoint::{Draw, Ticket};
 
-/// Calls the peer: an INIT is due.
+/// Opens the association: the next packet is an INIT.
 #[unsafe(no_mangle)]
 pub extern "C" fn sctp_endpoint_connect(handle: &mut SctpEndpoint, now: u64, draw: &SctpDraw) -> u32
     ensures undrawn { draw.now.tag ≡ 0 → (result ≡ BAD_DRAW) × (handle.new ≡ handle.old) }
     ensures misuse { 0 < draw.now.tag → handle.old.slot.endpoint ≡ None → (result ≡ MISUSE) × (handle.new.slot.endpoint ≡ None) }
-    ensures answer { (v : EndView) → Holds handle.old.slot.endpoint v → 0 < draw.now.tag → result ≡ connect_code (connect_answer v.phase) }
+    ensures unzeroed { 0 < draw.now.tag → is_full handle.old.slot.endpoint ≡ true → is_zeroed draw.now.reserved ≡ false
+        → (result ≡ BAD_RESERVED) × (handle.new ≡ handle.old) }
+    ensures answer { (v : EndView) → Holds handle.old.slot.endpoint v → IsDraw draw.now → result ≡ connect_code (connect_answer v.phase) }
     ensures step { (v : EndView) → Holds handle.old.slot.endpoint v → (result ≡ OK) → Holds handle.new.slot.endpoint (called (at_moment v now) (drawn draw.now)) }
     ensures kept { (v : EndView) → Holds handle.old.slot.endpoint v → ((result ≡ OK) → ⊥) → Holds handle.new.slot.endpoint v }
-    ensures notes { (v : EndView) → Holds handle.old.slot.endpoint v → 0 < draw.now.tag → KeepsNotes v handle.new.slot.endpoint }
+    ensures notes { (v : EndView) → Holds handle.old.slot.endpoint v → IsDraw draw.now → KeepsNotes v handle.new.slot.endpoint }
 {
-    let Some(draw) = Draw::new(draw.tag, draw.tsn) else {
+    let SctpDraw { tag, tsn, reserved } = *draw;
+    let Some(draw) = Draw::new(tag, tsn) else {
         return BAD_DRAW;
     };
     if !handle.is_full() {
         return MISUSE;
+    }
+    if !is_zeroed(&reserved) {
+        return BAD_RESERVED;
     }
     let end = handle.slot.lend();
     let answer = end.connect(now, draw);
@@ -38,7 +46,7 @@ pub extern "C" fn sctp_endpoint_connect(handle: &mut SctpEndpoint, now: u64, dra
     }
 }
 
-/// Shuts the association.
+/// Closes the association gracefully: no more messages are accepted, those that were are still delivered.
 #[unsafe(no_mangle)]
 pub extern "C" fn sctp_endpoint_shutdown(handle: &mut SctpEndpoint) -> u32
     ensures misuse { handle.old.slot.endpoint ≡ None → (result ≡ MISUSE) × (handle.new.slot.endpoint ≡ None) }
@@ -57,7 +65,7 @@ pub extern "C" fn sctp_endpoint_shutdown(handle: &mut SctpEndpoint) -> u32
     }
 }
 
-/// Time has come to this moment, in milliseconds.
+/// The current time, in milliseconds: timers that are due expire, a delayed SACK becomes due, and messages whose lifetime is over are abandoned.
 #[unsafe(no_mangle)]
 pub extern "C" fn sctp_endpoint_on_moment(handle: &mut SctpEndpoint, now: u64) -> u32
     ensures misuse { handle.old.slot.endpoint ≡ None → (result ≡ MISUSE) × (handle.new.slot.endpoint ≡ None) }
@@ -72,7 +80,7 @@ pub extern "C" fn sctp_endpoint_on_moment(handle: &mut SctpEndpoint, now: u64) -
     OK
 }
 
-/// Gives a message up; what has become of it, 1 to 5, goes to `fate`.
+/// Abandons a message; what has become of it, 1 to 5, is written to `fate`.
 #[unsafe(no_mangle)]
 pub extern "C" fn sctp_endpoint_abandon(
     handle: &mut SctpEndpoint,

@@ -1,32 +1,69 @@
-//! The numbers by which C is told what a call answers: one table for all calls.
+//! The numbers that C gets: one table for the results of all calls, and the verdicts on packets.
+
+ghost use Rattle.std.specs.Prelude.{◌≡◌};
 
 /// The call did what it says.
 pub(crate) const OK: u32 = 0;
-/// The stream isn't below those agreed on.
+/// The stream isn't below the number of streams agreed on.
 pub(crate) const NO_SUCH_STREAM: u32 = 1;
-/// The message has no byte.
+/// The message has no bytes.
 pub(crate) const EMPTY: u32 = 2;
 /// The message has more than 65,536 bytes, or the reason of an ABORT doesn't fit one packet.
 pub(crate) const TOO_LONG: u32 = 3;
-/// No further message may wait for its number.
+/// 1,024 messages are queued.
 pub(crate) const QUEUE_FULL: u32 = 4;
 /// No ticket or no TSN is left.
 pub(crate) const SPENT: u32 = 5;
-/// The allocator refused memory.
+/// Memory allocation failed.
 pub(crate) const NO_MEMORY: u32 = 6;
-/// The association isn't established, or, for a shutdown, there is none with both its ends.
+/// The association isn't established; for a shutdown, nor is it being closed.
 pub(crate) const NOT_OPEN: u32 = 7;
-/// The call isn't one for the state that the end is in.
+/// The call isn't allowed in the endpoint's state.
 pub(crate) const BAD_STATE: u32 = 8;
-/// No message waits.
+/// No message is ready, or a packet doesn't have what is asked for.
 pub(crate) const NOTHING: u32 = 9;
-/// The room is too small: the length that is told is the one wanted.
+/// The buffer is too small: the length that is returned is the one that it must have.
 pub(crate) const NEEDS_ROOM: u32 = 10;
-/// There is no endpoint in the handle, or, for a call that makes one, there is one already.
+/// The handle is empty, or, for a call that makes an endpoint, it isn't.
 pub(crate) const MISUSE: u32 = 11;
-/// A tag that was drawn is 0.
+/// A tag is 0.
 pub(crate) const BAD_DRAW: u32 = 12;
 /// A reserved number isn't 0.
 pub(crate) const BAD_RESERVED: u32 = 13;
 /// What the first fault of a configuration is counted from: 21 to 25.
 pub(crate) const BAD_CONFIG: u32 = 20;
+
+/// Verdict: the packet was processed.
+pub(crate) const TAKEN: u32 = 0;
+/// Verdict: the packet has an answer, to be sent at once.
+pub(crate) const ANSWER: u32 = 1;
+/// Verdict: the packet was ignored.
+pub(crate) const DROPPED: u32 = 2;
+
+// law
+/// The numbers of results are those of the C header.
+pub fn result_numbers()
+    ensures ok { OK ≡ 0 }
+    ensures no_such_stream { NO_SUCH_STREAM ≡ 1 }
+    ensures empty { EMPTY ≡ 2 }
+    ensures too_long { TOO_LONG ≡ 3 }
+    ensures queue_full { QUEUE_FULL ≡ 4 }
+    ensures spent { SPENT ≡ 5 }
+    ensures no_memory { NO_MEMORY ≡ 6 }
+    ensures not_open { NOT_OPEN ≡ 7 }
+    ensures bad_state { BAD_STATE ≡ 8 }
+    ensures nothing { NOTHING ≡ 9 }
+    ensures needs_room { NEEDS_ROOM ≡ 10 }
+    ensures misuse { MISUSE ≡ 11 }
+    ensures bad_draw { BAD_DRAW ≡ 12 }
+    ensures bad_reserved { BAD_RESERVED ≡ 13 }
+    ensures bad_config { BAD_CONFIG ≡ 20 }
+{}
+
+// law
+/// The numbers of verdicts are those of the C header.
+pub fn verdict_numbers()
+    ensures taken { TAKEN ≡ 0 }
+    ensures answer { ANSWER ≡ 1 }
+    ensures dropped { DROPPED ≡ 2 }
+{}

@@ -1,4 +1,4 @@
-//! The configuration that C asks for.
+//! The configuration that C passes in, and numbers that are reserved.
 
 ghost use Rattle.std.specs.Prelude.{◌≡◌, ◌+◌, ◌==◌, ◌&&◌, Some, false, MatchResult};
 ghost use Rattle.sctp_model.specs.end.Configured.{configuration_fault};
@@ -9,18 +9,18 @@ use crate::codes::BAD_CONFIG;
 use crate::crossing::SctpConfig;
 use sctp_endpoint::{Config, ConfigFault};
 
-/// Whether the numbers that are kept for later are 0.
-pub(crate) fn is_zeroed(asked: &SctpConfig) -> bool
-    ensures { result ≡ is_zeroed asked.now.reserved }
+/// Whether reserved numbers are all 0.
+pub(crate) fn is_zeroed(reserved: &[u32; 4]) -> bool
+    ensures { result ≡ is_zeroed reserved.now }
 {
-    let [first, second, third, fourth] = asked.reserved;
+    let [first, second, third, fourth] = *reserved;
     first == 0 && second == 0 && third == 0 && fourth == 0
 }
 
 /// The configuration of these numbers.
 ///
 /// # Errors
-/// The fault with the smallest code.
+/// The first fault, in the order of the header.
 pub(crate) fn config_of(asked: &SctpConfig) -> Result<Config, ConfigFault>
     ensures { MatchResult result (λ config. config ≡ asked_by asked.now)
         (λ fault. configuration_fault (asked_by asked.now) ≡ Some (config_fault_meaning fault)) }
@@ -41,7 +41,7 @@ pub(crate) fn config_of(asked: &SctpConfig) -> Result<Config, ConfigFault>
     ))
 }
 
-/// The configuration that asks for these extensions too.
+/// The configuration that offers these extensions too.
 fn extended(config: Config, interleave: bool, partial: bool) -> Config
     requires interleave { config.interleave ≡ false }
     requires partial { config.partial ≡ false }
@@ -55,7 +55,7 @@ fn extended(config: Config, interleave: bool, partial: bool) -> Config
     }
 }
 
-/// The configuration whose SACKs may wait so, and that closes so.
+/// The configuration that delays its SACKs so, and that closes so.
 fn closing(config: Config, delay: bool, standard_closing: bool) -> Config
     requires delay { config.delay ≡ false }
     requires closing { config.standard_closing ≡ false }
@@ -69,7 +69,7 @@ fn closing(config: Config, delay: bool, standard_closing: bool) -> Config
     }
 }
 
-/// The number of what is wrong with a configuration.
+/// The result for what is wrong with a configuration.
 pub(crate) fn config_answer(fault: ConfigFault) -> u32
     ensures { result ≡ BAD_CONFIG + config_code (config_fault_meaning fault) }
 {

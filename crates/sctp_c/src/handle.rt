@@ -1,4 +1,4 @@
-//! What C keeps of an endpoint, and how an endpoint comes into it and out of it.
+//! C's handle of an endpoint, and how an endpoint is put into it and taken out.
 
 ghost use Rattle.std.specs.Prelude.{◌≡◌, nat_lt, Some, None, MatchOption};
 ghost use Rattle.sctp_c.specs.Slot.{is_full};
@@ -7,7 +7,7 @@ use crate::slot::Slot;
 use sctp_endpoint::Endpoint;
 use std::alloc::Global;
 
-/// What C keeps of an endpoint, in memory of its own: zeroed, or as a call left it.
+/// C's handle of an endpoint, in C's memory: zeroed, or as a call left it.
 #[repr(C)]
 #[derive(Drop)]
 pub struct SctpEndpoint {
@@ -27,14 +27,14 @@ impl SctpEndpoint {
         }
     }
 
-    /// There is an endpoint.
+    /// It isn't empty.
     pub(crate) fn is_full(&self) -> bool
         ensures { result ≡ is_full self.now.slot.endpoint }
     {
         self.full > 0
     }
 
-    /// Keeps an endpoint, where there was none.
+    /// Puts an endpoint into an empty handle.
     pub(crate) fn put(&mut self, endpoint: Box<Endpoint>)
         requires { self.old.slot.endpoint ≡ None }
         ensures { self.new.slot.endpoint ≡ Some endpoint.value }
@@ -45,7 +45,7 @@ impl SctpEndpoint {
         };
     }
 
-    /// Gives its endpoint away.
+    /// Takes its endpoint, if it has one, and leaves it empty.
     pub(crate) fn take(&mut self, alloc: Global) -> Option<Box<Endpoint>>
         ensures taken { MatchOption result (self.old.slot.endpoint ≡ None) (λ endpoint. self.old.slot.endpoint ≡ Some endpoint.value) }
         ensures left { self.new.slot.endpoint ≡ None }
@@ -58,10 +58,11 @@ impl SctpEndpoint {
     }
 }
 
-/// Is called for types alone that another thread may be given.
+/// Can be called for a type only if its values may go to another thread.
 fn may_go_to_another_thread<T: Send>() {}
 
-/// A law: a handle may go to another thread. It does nothing: that its call is proved says so.
+// law
+/// A handle may go to another thread: that this is proved says so.
 pub fn handles_may_go_to_another_thread() {
     may_go_to_another_thread::<SctpEndpoint>();
 }

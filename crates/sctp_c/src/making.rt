@@ -1,6 +1,6 @@
-//! How C makes an end, and frees it.
+//! How C makes an endpoint, and frees it.
 
-ghost use Rattle.std.specs.Prelude.{◌≡◌, ◌<◌, ◌⊎◌, false, true, None, Some};
+ghost use Rattle.std.specs.Prelude.{◌≡◌, ◌<◌, ◌⊎◌, ◌&&◌, false, true, None, Some};
 ghost use Rattle.sctp_model.specs.end.Sealing.{Sealing};
 ghost use Rattle.sctp_model.specs.end.EndView as model;
 ghost use Rattle.sctp_model.specs.end.EndView.{fresh_end};
@@ -8,7 +8,7 @@ ghost use Rattle.sctp_model.specs.end.Opening.{opened};
 ghost use Rattle.sctp_cookie.specs.Seals.{IsUnder};
 ghost use Rattle.sctp_c.specs.Slot.{is_full};
 ghost use Rattle.sctp_c.specs.Holds.{Holds};
-ghost use Rattle.sctp_c.specs.Asked.{asked_by, drawn, IsMade};
+ghost use Rattle.sctp_c.specs.Asked.{asked_by, drawn, is_zeroed, IsMade};
 
 use crate::codes::{BAD_DRAW, BAD_RESERVED, MISUSE, NO_MEMORY, OK};
 use crate::config::{config_answer, config_of, is_zeroed};
@@ -17,7 +17,7 @@ use crate::handle::SctpEndpoint;
 use sctp_endpoint::{Draw, Endpoint, Key};
 use std::alloc::Global;
 
-/// The version of what crosses: structs, calls and numbers. It is 1.
+/// The version of structs, calls and numbers: 1.
 #[unsafe(no_mangle)]
 pub extern "C" fn sctp_endpoint_abi() -> u32
     ensures { result ≡ 1 }
@@ -25,7 +25,7 @@ pub extern "C" fn sctp_endpoint_abi() -> u32
     1
 }
 
-/// Keeps an end that was made.
+/// Puts an endpoint that was made into the handle.
 fn keep(alloc: Global, handle: &mut SctpEndpoint, end: Endpoint) -> u32
     requires { handle.old.slot.endpoint ≡ None }
     ensures made { (result ≡ OK) → handle.new.slot.endpoint ≡ Some end }
@@ -41,7 +41,7 @@ fn keep(alloc: Global, handle: &mut SctpEndpoint, end: Endpoint) -> u32
     }
 }
 
-/// Makes the end that calls its peer.
+/// Makes an endpoint that opens the association, by `sctp_endpoint_connect`.
 #[unsafe(no_mangle)]
 pub extern "C" fn sctp_endpoint_caller(
     alloc: Global,
@@ -49,13 +49,13 @@ pub extern "C" fn sctp_endpoint_caller(
     config: &SctpConfig,
 ) -> u32
     ensures made { (result ≡ OK) → Holds handle.new.slot.endpoint (fresh_end (asked_by config.now) model.Caller model.Idle) }
-    ensures answer { IsMade (is_full handle.old.slot.endpoint) config.now result }
+    ensures answer { IsMade (is_full handle.old.slot.endpoint) (is_zeroed config.now.reserved) config.now result }
     ensures kept { ((result ≡ OK) → ⊥) → handle.new ≡ handle.old }
 {
     if handle.is_full() {
         return MISUSE;
     }
-    if !is_zeroed(config) {
+    if !is_zeroed(&config.reserved) {
         return BAD_RESERVED;
     }
     match config_of(config) {
@@ -64,7 +64,7 @@ pub extern "C" fn sctp_endpoint_caller(
     }
 }
 
-/// Makes the end that listens: it seals its cookies with this key.
+/// Makes an endpoint that waits for a peer to open the association; the key authenticates its state cookies.
 #[unsafe(no_mangle)]
 pub extern "C" fn sctp_endpoint_listener(
     alloc: Global,
@@ -74,13 +74,13 @@ pub extern "C" fn sctp_endpoint_listener(
 ) -> u32
     ensures made { (s : Sealing) → IsUnder key.now.bytes s → (result ≡ OK)
         → Holds handle.new.slot.endpoint (fresh_end (asked_by config.now) (model.Listener s) model.Listening) }
-    ensures answer { IsMade (is_full handle.old.slot.endpoint) config.now result }
+    ensures answer { IsMade (is_full handle.old.slot.endpoint) (is_zeroed config.now.reserved && is_zeroed key.now.reserved) config.now result }
     ensures kept { ((result ≡ OK) → ⊥) → handle.new ≡ handle.old }
 {
     if handle.is_full() {
         return MISUSE;
     }
-    if !is_zeroed(config) {
+    if !(is_zeroed(&config.reserved) && is_zeroed(&key.reserved)) {
         return BAD_RESERVED;
     }
     match config_of(config) {
@@ -93,7 +93,7 @@ pub extern "C" fn sctp_endpoint_listener(
     }
 }
 
-/// Makes one of two ends that are established at once, without packets: its peer is opened with the two draws the other way round.
+/// Makes an endpoint that is established at once, without packets: its peer is opened with the two draws exchanged.
 #[unsafe(no_mangle)]
 pub extern "C" fn sctp_endpoint_opened(
     alloc: Global,
@@ -104,9 +104,11 @@ pub extern "C" fn sctp_endpoint_opened(
 ) -> u32
     ensures made { (result ≡ OK) → Holds handle.new.slot.endpoint (opened (asked_by config.now) (drawn own.now) (drawn peer.now)) }
     ensures undrawn { (own.now.tag ≡ 0) ⊎ (peer.now.tag ≡ 0) → result ≡ BAD_DRAW }
-    ensures answer { 0 < own.now.tag → 0 < peer.now.tag → IsMade (is_full handle.old.slot.endpoint) config.now result }
+    ensures answer { 0 < own.now.tag → 0 < peer.now.tag
+        → IsMade (is_full handle.old.slot.endpoint) (is_zeroed own.now.reserved && (is_zeroed peer.now.reserved && is_zeroed config.now.reserved)) config.now result }
     ensures kept { ((result ≡ OK) → ⊥) → handle.new ≡ handle.old }
 {
+    let are_zeroed = is_zeroed(&own.reserved) && (is_zeroed(&peer.reserved) && is_zeroed(&config.reserved));
     let (Some(own), Some(peer)) = (Draw::new(own.tag, own.tsn), Draw::new(peer.tag, peer.tsn))
     else {
         return BAD_DRAW;
@@ -114,7 +116,7 @@ pub extern "C" fn sctp_endpoint_opened(
     if handle.is_full() {
         return MISUSE;
     }
-    if !is_zeroed(config) {
+    if !are_zeroed {
         return BAD_RESERVED;
     }
     match config_of(config) {
@@ -126,7 +128,7 @@ pub extern "C" fn sctp_endpoint_opened(
     }
 }
 
-/// Frees what the handle holds, and empties it; nothing happens to an empty one.
+/// Frees the endpoint in the handle with all that it holds, and empties the handle. It does nothing for an empty one.
 #[unsafe(no_mangle)]
 pub extern "C" fn sctp_endpoint_free(alloc: Global, handle: &mut SctpEndpoint)
     ensures { handle.new.slot.endpoint ≡ None }

@@ -1,4 +1,4 @@
-//! Messages that wait, and how C takes them (RFC 9260, 11.1.6).
+//! Messages that are ready, and how C takes them (RFC 9260, 11.1.6).
 
 ghost use Rattle.std.specs.Prelude.{◌≡◌, ◌-◌, ◌^◌, ◌<◌, ◌≤◌, ◌⊎◌, ◌++◌, min, length, drop, None, Some, MatchOption, IfOk, IfErr, OnErr, slice_get};
 ghost use Rattle.sctp_model.specs.receiver.ReceiverView.{Handed};
@@ -14,10 +14,10 @@ ghost use Rattle.sctp_c.specs.Told.{IsHead, IsTold, Takes};
 use crate::codes::{MISUSE, NEEDS_ROOM, NOTHING, OK};
 use crate::crossing::SctpMessage;
 use crate::handle::SctpEndpoint;
-use crate::rooms::put_bytes;
+use crate::buffers::put_bytes;
 use sctp_endpoint::{Endpoint, Message};
 
-/// What C is told of a message beside its bytes, of which there are so many.
+/// A message as C gets it, but for its bytes, of which there are so many.
 fn head_of(message: &Message, many: usize) -> SctpMessage
     ensures { many ≡ min (length (message_bytes message.now)) (2 ^ 64 - 1) → IsHead result (handed_of message.now) }
 {
@@ -32,7 +32,7 @@ fn head_of(message: &Message, many: usize) -> SctpMessage
     }
 }
 
-/// Of the message that is taken next from a stream, what C is told beside its bytes.
+/// The message that is taken next from a stream as C gets it, but for its bytes.
 fn next_head(end: &Endpoint, stream: u16) -> Option<SctpMessage>
     ensures { (v : EndView) → EndpointStands end.now v → MatchOption result (slice_get (v.receiver.waiting stream) 0 ≡ None)
         (λ m. (h : Handed) × (slice_get (v.receiver.waiting stream) 0 ≡ Some h) × IsHead m h) }
@@ -43,7 +43,7 @@ fn next_head(end: &Endpoint, stream: u16) -> Option<SctpMessage>
     }
 }
 
-/// What C is told of a message beside its bytes, and that this went well; or that none waits.
+/// Writes a message for C, but for its bytes, or returns that none is ready.
 fn tell_head(head: Option<SctpMessage>, message: &mut SctpMessage) -> u32
     ensures { MatchOption head ((result ≡ NOTHING) × (message.new ≡ message.old)) (λ m. (result ≡ OK) × (message.new ≡ m)) }
 {
@@ -56,40 +56,40 @@ fn tell_head(head: Option<SctpMessage>, message: &mut SctpMessage) -> u32
     }
 }
 
-/// `Message::copy_into`, apart: so a message of one fragment saves no registers for it.
+/// `Message::copy_into` as a function of its own: so a message of one fragment saves no registers for it.
 #[inline(never)]
-fn copy_parts(whole: &Message, room: &mut [u8]) -> Result<usize, usize>
-    ensures copied { IfOk result (λ many. (many ≡ length (message_bytes whole.now)) × (room.new ≡ message_bytes whole.now ++ drop many room.old)) }
-    ensures wanted { IfErr result (λ many. (many ≡ min (length (message_bytes whole.now)) (2 ^ 64 - 1)) × (length room.old < many)) }
-    ensures refused { OnErr result (room.new ≡ room.old) }
+fn copy_parts(whole: &Message, buffer: &mut [u8]) -> Result<usize, usize>
+    ensures copied { IfOk result (λ many. (many ≡ length (message_bytes whole.now)) × (buffer.new ≡ message_bytes whole.now ++ drop many buffer.old)) }
+    ensures wanted { IfErr result (λ many. (many ≡ min (length (message_bytes whole.now)) (2 ^ 64 - 1)) × (length buffer.old < many)) }
+    ensures refused { OnErr result (buffer.new ≡ buffer.old) }
 {
-    whole.copy_into(room)
+    whole.copy_into(buffer)
 }
 
-/// A message's bytes go to the beginning of a room that has place for them: `Message::copy_into`, which most messages, of one fragment, do without.
-fn copy_whole(whole: &Message, room: &mut [u8]) -> Result<usize, usize>
-    ensures copied { IfOk result (λ many. (many ≡ length (message_bytes whole.now)) × (room.new ≡ message_bytes whole.now ++ drop many room.old)) }
-    ensures wanted { IfErr result (λ many. (many ≡ min (length (message_bytes whole.now)) (2 ^ 64 - 1)) × (length room.old < many)) }
-    ensures refused { OnErr result (room.new ≡ room.old) }
+/// Copies a message to the beginning of a buffer that has space for it, by `Message::copy_into` if it has several fragments.
+fn copy_whole(whole: &Message, buffer: &mut [u8]) -> Result<usize, usize>
+    ensures copied { IfOk result (λ many. (many ≡ length (message_bytes whole.now)) × (buffer.new ≡ message_bytes whole.now ++ drop many buffer.old)) }
+    ensures wanted { IfErr result (λ many. (many ≡ min (length (message_bytes whole.now)) (2 ^ 64 - 1)) × (length buffer.old < many)) }
+    ensures refused { OnErr result (buffer.new ≡ buffer.old) }
 {
     if let [part] = whole.parts() {
-        if part.len() <= room.len() {
-            return Ok(put_bytes(part, room));
+        if part.len() <= buffer.len() {
+            return Ok(put_bytes(part, buffer));
         }
     }
-    copy_parts(whole, room)
+    copy_parts(whole, buffer)
 }
 
-/// A message's bytes go to the beginning of a room that has place for them, and what C is told beside them to `message`.
-fn tell_whole(whole: &Message, message: &mut SctpMessage, room: &mut [u8]) -> u32
+/// Copies a message to the beginning of a buffer that has space for it, and writes the rest of what C gets to `message`.
+fn tell_whole(whole: &Message, message: &mut SctpMessage, buffer: &mut [u8]) -> u32
     ensures head { IsHead message.new (handed_of whole.now) }
     ensures answer { (result ≡ OK) ⊎ (result ≡ NEEDS_ROOM) }
-    ensures narrow { length room.old < length (message_bytes whole.now) → result ≡ NEEDS_ROOM }
-    ensures put { length (message_bytes whole.now) ≤ length room.old
-        → (result ≡ OK) × (room.new ≡ message_bytes whole.now ++ drop (length (message_bytes whole.now)) room.old) }
-    ensures untold { ((result ≡ OK) → ⊥) → room.new ≡ room.old }
+    ensures narrow { length buffer.old < length (message_bytes whole.now) → result ≡ NEEDS_ROOM }
+    ensures put { length (message_bytes whole.now) ≤ length buffer.old
+        → (result ≡ OK) × (buffer.new ≡ message_bytes whole.now ++ drop (length (message_bytes whole.now)) buffer.old) }
+    ensures untold { ((result ≡ OK) → ⊥) → buffer.new ≡ buffer.old }
 {
-    match copy_whole(whole, room) {
+    match copy_whole(whole, buffer) {
         Ok(many) => {
             *message = head_of(whole, many);
             OK
@@ -101,23 +101,23 @@ fn tell_whole(whole: &Message, message: &mut SctpMessage, room: &mut [u8]) -> u3
     }
 }
 
-/// The same of what waits next on a stream, which goes on waiting.
-fn tell_next(end: &Endpoint, stream: u16, message: &mut SctpMessage, room: &mut [u8]) -> u32
-    ensures untold { ((result ≡ OK) → ⊥) → room.new ≡ room.old }
+/// Copies the message that is ready first on a stream for C, and leaves it there.
+fn tell_next(end: &Endpoint, stream: u16, message: &mut SctpMessage, buffer: &mut [u8]) -> u32
+    ensures untold { ((result ≡ OK) → ⊥) → buffer.new ≡ buffer.old }
     ensures unheaded { ((result ≡ OK) → ⊥) → ((result ≡ NEEDS_ROOM) → ⊥) → message.new ≡ message.old }
     ensures none { (v : EndView) → EndpointStands end.now v → slice_get (v.receiver.waiting stream) 0 ≡ None → result ≡ NOTHING }
     ensures narrow { (v : EndView) (h : Handed) → EndpointStands end.now v → slice_get (v.receiver.waiting stream) 0 ≡ Some h
-        → length room.old < length h.bytes → (result ≡ NEEDS_ROOM) × IsHead message.new h }
+        → length buffer.old < length h.bytes → (result ≡ NEEDS_ROOM) × IsHead message.new h }
     ensures told { (v : EndView) (h : Handed) → EndpointStands end.now v → slice_get (v.receiver.waiting stream) 0 ≡ Some h
-        → length h.bytes ≤ length room.old → (result ≡ OK) × IsTold message.new room.old room.new h }
+        → length h.bytes ≤ length buffer.old → (result ≡ OK) × IsTold message.new buffer.old buffer.new h }
 {
     match end.waiting(stream, 0) {
-        Some(whole) => tell_whole(whole, message, room),
+        Some(whole) => tell_whole(whole, message, buffer),
         None => NOTHING,
     }
 }
 
-/// What waits next on a stream is taken and handed back.
+/// Takes the message that is ready first on a stream, and gives its memory back to the endpoint.
 fn drop_next(end: &mut Endpoint, stream: u16)
     ensures step { (v : EndView) (h : Handed) → EndpointStands end.old v → slice_get (v.receiver.waiting stream) 0 ≡ Some h
         → (t : EndView) × UserTakes v stream (Some h) t × EndpointStands end.new t }
@@ -129,8 +129,8 @@ fn drop_next(end: &mut Endpoint, stream: u16)
     }
 }
 
-/// The first stream from `from` on, on which a message waits, goes to `stream`. Who asks again behind each answer, and from 0 where none
-/// waits, goes round all streams.
+/// Writes the first stream, from `from` on, on which a message is ready to `stream`. Called with the last stream plus 1, and with 0 after
+/// `NOTHING`, it visits all streams in turn.
 #[unsafe(no_mangle)]
 pub extern "C" fn sctp_endpoint_readable(
     handle: &mut SctpEndpoint,
@@ -158,7 +158,7 @@ pub extern "C" fn sctp_endpoint_readable(
     }
 }
 
-/// What waits next on a stream, beside its bytes; it goes on waiting.
+/// Describes the message that is ready first on a stream, and leaves it there.
 #[unsafe(no_mangle)]
 pub extern "C" fn sctp_endpoint_peek(
     handle: &mut SctpEndpoint,
@@ -180,29 +180,30 @@ pub extern "C" fn sctp_endpoint_peek(
     tell_head(head, message)
 }
 
-/// Takes what waits next on a stream: its bytes go to `room`. Where that is too small it goes on waiting, and the head says its length.
+/// Takes the message that is ready first on a stream: its bytes are copied to `buffer`. If that is too small the message stays, and `message` says
+/// its length.
 #[unsafe(no_mangle)]
 pub extern "C" fn sctp_endpoint_take(
     handle: &mut SctpEndpoint,
     stream: u16,
     message: &mut SctpMessage,
-    room: &mut [u8],
+    buffer: &mut [u8],
 ) -> u32
     ensures misuse { handle.old.slot.endpoint ≡ None → (result ≡ MISUSE) × (handle.new.slot.endpoint ≡ None) }
-    ensures untold { ((result ≡ OK) → ⊥) → room.new ≡ room.old }
+    ensures untold { ((result ≡ OK) → ⊥) → buffer.new ≡ buffer.old }
     ensures unheaded { ((result ≡ OK) → ⊥) → ((result ≡ NEEDS_ROOM) → ⊥) → message.new ≡ message.old }
     ensures none { (v : EndView) → Holds handle.old.slot.endpoint v → slice_get (v.receiver.waiting stream) 0 ≡ None
         → (result ≡ NOTHING) × Holds handle.new.slot.endpoint v }
     ensures narrow { (v : EndView) (h : Handed) → Holds handle.old.slot.endpoint v → slice_get (v.receiver.waiting stream) 0 ≡ Some h
-        → length room.old < length h.bytes → (result ≡ NEEDS_ROOM) × IsHead message.new h × Holds handle.new.slot.endpoint v }
+        → length buffer.old < length h.bytes → (result ≡ NEEDS_ROOM) × IsHead message.new h × Holds handle.new.slot.endpoint v }
     ensures taken { (v : EndView) (h : Handed) → Holds handle.old.slot.endpoint v → slice_get (v.receiver.waiting stream) 0 ≡ Some h
-        → length h.bytes ≤ length room.old → (result ≡ OK) × Takes v stream h handle.new.slot.endpoint message.new room.old room.new }
+        → length h.bytes ≤ length buffer.old → (result ≡ OK) × Takes v stream h handle.new.slot.endpoint message.new buffer.old buffer.new }
 {
     if !handle.is_full() {
         return MISUSE;
     }
     let end = handle.slot.lend();
-    let answer = tell_next(end, stream, message, room);
+    let answer = tell_next(end, stream, message, buffer);
     if answer != OK {
         return answer;
     }

@@ -1,57 +1,64 @@
-//! Packets that come, and packets that go out into C's room (RFC 9260, 6.10, 8.4 and 9.1).
+//! Received packets, packets to send, and the ABORT (RFC 9260, 6.10, 8.4 and 9.1).
 
-ghost use Rattle.std.specs.Prelude.{◌≡◌, ℕ, ◌<◌, ◌≤◌, length, take, None, Some, Option, Result, Ok, Err, IfOk, IfSome};
+ghost use Rattle.std.specs.Prelude.{◌≡◌, ℕ, ◌<◌, ◌≤◌, length, take, true, false, None, Some, Option, Result, Ok, Err, IfOk, IfSome};
 ghost use Rattle.sctp_model.specs.wire.Packet as meaning;
 ghost use Rattle.sctp_model.specs.end.EndView.{EndView};
 ghost use Rattle.sctp_endpoint.specs.EndpointStands.{EndpointStands};
 ghost use Rattle.sctp_endpoint.specs.Transmitted.{TellsFew, MOST_TICKETS};
 ghost use Rattle.sctp_endpoint.specs.Handled.{IsRead, IsAnsweredWithin};
-ghost use Rattle.sctp_c.specs.Asked.{drawn};
+ghost use Rattle.sctp_c.specs.Asked.{drawn, is_zeroed, IsDraw};
+ghost use Rattle.sctp_c.specs.Slot.{is_full};
 ghost use Rattle.sctp_c.specs.Holds.{Holds, KeepsNotes};
-ghost use Rattle.sctp_c.specs.Told.{IsPut, AreTold, PollTold, Polled, HeardTold, Heard, AbortTold, Aborted};
+ghost use Rattle.sctp_c.specs.Told.{ZEROED, IsPut, AreTold, PollTold, Polled, HeardTold, Heard, AbortTold, Aborted};
 
-use crate::codes::{BAD_DRAW, BAD_STATE, MISUSE, NEEDS_ROOM, NO_MEMORY, OK, TOO_LONG};
+use crate::buffers::{put_answer, put_bytes, put_tickets};
+use crate::codes::{
+    ANSWER, BAD_DRAW, BAD_RESERVED, BAD_STATE, DROPPED, MISUSE, NEEDS_ROOM, NO_MEMORY, OK, TAKEN,
+    TOO_LONG,
+};
+use crate::config::is_zeroed;
 use crate::crossing::{SctpDraw, SctpSent, SctpVerdict};
 use crate::handle::SctpEndpoint;
-use crate::rooms::{put_answer, put_bytes, put_tickets};
 use sctp_endpoint::{AbortFault, Draw, Endpoint, NoMemory, Sent, Verdict};
 
-/// The most bytes of a packet of this end.
+/// The bytes of the longest packet that this endpoint sends.
 fn limit_of(end: &Endpoint) -> usize
     ensures { (v : EndView) → EndpointStands end.now v → result ≡ v.configuration.limit }
 {
     usize::from(end.config().limit())
 }
 
-/// What C is told where there is no packet.
-fn no_packet() -> SctpSent
-    ensures { (result.length ≡ 0) × (result.tickets ≡ 0) }
+/// What C gets if there is no packet: so many bytes that its buffer must have, or 0.
+fn no_packet(length: usize) -> SctpSent
+    ensures { (result.length ≡ length) × (result.tickets ≡ 0) × (result.reserved ≡ ZEROED) }
 {
     SctpSent {
-        length: 0,
+        length,
         tickets: 0,
+        reserved: [0; 4],
     }
 }
 
-/// What C is told of the next packet. Once that lies in C's room, its own is handed back to the end.
+/// Writes the next packet, or that there is none, for C. Once its bytes are copied, the packet's own memory goes back to the endpoint.
 fn tell_poll(
     end: &mut Endpoint,
     answer: Result<Option<Sent>, NoMemory>,
-    room: &mut [u8],
+    buffer: &mut [u8],
     tickets: &mut [u64],
     sent: &mut SctpSent,
 ) -> u32
-    ensures told { IfOk answer (λ o. IfSome o (λ s. length s.packet.items ≤ length room.old)) → PollTold answer result sent.new room.old room.new tickets.old tickets.new }
-    ensures untold { ((result ≡ OK) → ⊥) → (room.new ≡ room.old) × (tickets.new ≡ tickets.old) }
+    ensures told { IfOk answer (λ o. IfSome o (λ s. length s.packet.items ≤ length buffer.old)) → PollTold answer result sent.new buffer.old buffer.new tickets.old tickets.new }
+    ensures untold { ((result ≡ OK) → ⊥) → (buffer.new ≡ buffer.old) × (tickets.new ≡ tickets.old) }
     ensures few { IfOk answer (λ sent. TellsFew sent) → sent.new.tickets ≤ MOST_TICKETS }
+    ensures reserved { sent.new.reserved ≡ ZEROED }
     ensures keeps { (v : EndView) → EndpointStands end.old v → EndpointStands end.new v }
 {
     let Ok(next) = answer else {
-        *sent = no_packet();
+        *sent = no_packet(0);
         return NO_MEMORY;
     };
     let Some(next) = next else {
-        *sent = no_packet();
+        *sent = no_packet(0);
         return OK;
     };
     let Sent {
@@ -61,126 +68,143 @@ fn tell_poll(
     *sent = SctpSent {
         length: packet.len(),
         tickets: put_tickets(&begun, tickets),
+        reserved: [0; 4],
     };
     // Before the copy, which is a call: so nothing of them has to outlive it.
     drop(begun);
-    let _ = put_bytes(&packet, room);
+    let _ = put_bytes(&packet, buffer);
     end.recycle(packet);
     OK
 }
 
-/// The next packet goes to `room`, the tickets of the messages that it begins to `tickets`, and how many bytes and tickets there are to `sent`:
-/// no bytes where there is no packet. The room has place for the longest packet of the end, or nothing happens.
+/// Writes the next packet to send to `buffer`, the tickets of the messages whose first fragments it carries to `tickets`, and how many bytes and
+/// tickets these are to `sent`: no bytes if there is no packet. If the buffer has less than the endpoint's packet limit, nothing is done.
 #[unsafe(no_mangle)]
 pub extern "C" fn sctp_endpoint_poll_transmit(
     handle: &mut SctpEndpoint,
     now: u64,
-    room: &mut [u8],
+    buffer: &mut [u8],
     tickets: &mut [u64],
     sent: &mut SctpSent,
 ) -> u32
     ensures misuse { handle.old.slot.endpoint ≡ None → (result ≡ MISUSE) × (handle.new.slot.endpoint ≡ None) × (sent.new ≡ sent.old) }
-    ensures narrow { (v : EndView) → Holds handle.old.slot.endpoint v → length room.old < v.configuration.limit
+    ensures narrow { (v : EndView) → Holds handle.old.slot.endpoint v → length buffer.old < v.configuration.limit
         → (result ≡ NEEDS_ROOM) × (sent.new.length ≡ v.configuration.limit) × (sent.new.tickets ≡ 0) × (handle.new.slot.endpoint ≡ handle.old.slot.endpoint) }
-    ensures untold { ((result ≡ OK) → ⊥) → (room.new ≡ room.old) × (tickets.new ≡ tickets.old) }
+    ensures untold { ((result ≡ OK) → ⊥) → (buffer.new ≡ buffer.old) × (tickets.new ≡ tickets.old) }
     ensures few { (v : EndView) → Holds handle.old.slot.endpoint v → sent.new.tickets ≤ MOST_TICKETS }
-    ensures did { (v : EndView) → Holds handle.old.slot.endpoint v → v.configuration.limit ≤ length room.old
-        → Polled v now handle.new.slot.endpoint result sent.new room.old room.new tickets.old tickets.new }
+    ensures reserved { (v : EndView) → Holds handle.old.slot.endpoint v → sent.new.reserved ≡ ZEROED }
+    ensures did { (v : EndView) → Holds handle.old.slot.endpoint v → v.configuration.limit ≤ length buffer.old
+        → Polled v now handle.new.slot.endpoint result sent.new buffer.old buffer.new tickets.old tickets.new }
 {
     if !handle.is_full() {
         return MISUSE;
     }
     let end = handle.slot.lend();
     let limit = limit_of(end);
-    if room.len() < limit {
-        *sent = SctpSent {
-            length: limit,
-            tickets: 0,
-        };
+    if buffer.len() < limit {
+        *sent = no_packet(limit);
         return NEEDS_ROOM;
     }
     let answer = end.poll_transmit(now);
-    let told = tell_poll(end, answer, room, tickets, sent);
+    let told = tell_poll(end, answer, buffer, tickets, sent);
     told
 }
 
-/// What C is told of a packet that came.
-fn tell_heard(answer: Result<Verdict, NoMemory>, room: &mut [u8], told: &mut SctpVerdict) -> u32
-    ensures told { IfOk answer (λ verdict. IsAnsweredWithin (length room.old) verdict) → HeardTold answer result told.new room.old room.new }
-    ensures untold { ((result ≡ OK) → ⊥) → room.new ≡ room.old }
+/// The verdict of a packet without answer or reason: so many bytes that the buffer must have, or 0.
+fn no_verdict(length: usize) -> SctpVerdict
+    ensures { (result.length ≡ length) × (result.verdict ≡ 0) × (result.reason ≡ 0) × (result.reserved ≡ ZEROED) }
 {
-    *told = SctpVerdict {
-        length: 0,
-        verdict: 0,
+    SctpVerdict {
+        length,
+        verdict: TAKEN,
         reason: 0,
-    };
+        reserved: [0; 4],
+    }
+}
+
+/// Writes the verdict on a received packet, and its answer, for C.
+fn tell_heard(
+    answer: Result<Verdict, NoMemory>,
+    buffer: &mut [u8],
+    verdict: &mut SctpVerdict,
+) -> u32
+    ensures told { IfOk answer (λ heard. IsAnsweredWithin (length buffer.old) heard) → HeardTold answer result verdict.new buffer.old buffer.new }
+    ensures untold { ((result ≡ OK) → ⊥) → buffer.new ≡ buffer.old }
+    ensures reserved { verdict.new.reserved ≡ ZEROED }
+{
+    *verdict = no_verdict(0);
     match answer {
         Err(_) => NO_MEMORY,
         Ok(Verdict::Taken) => OK,
         Ok(Verdict::Dropped(reason)) => {
-            told.verdict = 2;
-            told.reason = u32::from(reason.code());
+            verdict.verdict = DROPPED;
+            verdict.reason = u32::from(reason.code());
             OK
         }
         Ok(Verdict::Answer(packet)) => {
-            told.verdict = 1;
-            told.length = put_answer(&packet, room);
+            verdict.verdict = ANSWER;
+            verdict.length = put_answer(&packet, buffer);
             OK
         }
     }
 }
 
-/// A packet came: what became of it goes to `told`, and its answer, a packet to send at once, to `room`. The draw counts only where the packet
-/// is an INIT and the end listens; it is always a fresh one. The room has place for the longest packet of the end, or nothing happens.
+/// Processes a received packet: what was done with it is written to `verdict`, and its answer, a packet to send at once, to `buffer`. The draw is
+/// used only if the packet is an INIT to a listener; a new one is passed each time. If the buffer has less than the endpoint's packet limit,
+/// nothing is done.
 #[unsafe(no_mangle)]
 pub extern "C" fn sctp_endpoint_handle_packet(
     handle: &mut SctpEndpoint,
     now: u64,
     packet: &[u8],
     draw: &SctpDraw,
-    room: &mut [u8],
-    told: &mut SctpVerdict,
+    buffer: &mut [u8],
+    verdict: &mut SctpVerdict,
 ) -> u32
-    ensures undrawn { draw.now.tag ≡ 0 → (result ≡ BAD_DRAW) × (handle.new ≡ handle.old) × (told.new ≡ told.old) }
-    ensures misuse { 0 < draw.now.tag → handle.old.slot.endpoint ≡ None → (result ≡ MISUSE) × (handle.new.slot.endpoint ≡ None) × (told.new ≡ told.old) }
-    ensures untold { ((result ≡ OK) → ⊥) → room.new ≡ room.old }
-    ensures narrow { (v : EndView) → Holds handle.old.slot.endpoint v → 0 < draw.now.tag → length room.old < v.configuration.limit
-        → (result ≡ NEEDS_ROOM) × (told.new.length ≡ v.configuration.limit) × (told.new.verdict ≡ 0) × (told.new.reason ≡ 0) × (handle.new.slot.endpoint ≡ handle.old.slot.endpoint) }
-    ensures did { (v : EndView) (o : Option meaning.Packet) → Holds handle.old.slot.endpoint v → 0 < draw.now.tag → v.configuration.limit ≤ length room.old
-        → IsRead packet.now o → Heard v now (drawn draw.now) o handle.new.slot.endpoint result told.new room.old room.new }
-    ensures notes { (v : EndView) → Holds handle.old.slot.endpoint v → 0 < draw.now.tag → v.configuration.limit ≤ length room.old
+    ensures undrawn { draw.now.tag ≡ 0 → (result ≡ BAD_DRAW) × (handle.new ≡ handle.old) × (verdict.new ≡ verdict.old) }
+    ensures misuse { 0 < draw.now.tag → handle.old.slot.endpoint ≡ None
+        → (result ≡ MISUSE) × (handle.new.slot.endpoint ≡ None) × (verdict.new ≡ verdict.old) }
+    ensures unzeroed { 0 < draw.now.tag → is_full handle.old.slot.endpoint ≡ true → is_zeroed draw.now.reserved ≡ false
+        → (result ≡ BAD_RESERVED) × (handle.new ≡ handle.old) × (verdict.new ≡ verdict.old) }
+    ensures untold { ((result ≡ OK) → ⊥) → buffer.new ≡ buffer.old }
+    ensures narrow { (v : EndView) → Holds handle.old.slot.endpoint v → IsDraw draw.now → length buffer.old < v.configuration.limit
+        → (result ≡ NEEDS_ROOM) × (verdict.new.length ≡ v.configuration.limit) × (verdict.new.verdict ≡ 0) × (verdict.new.reason ≡ 0)
+            × (handle.new.slot.endpoint ≡ handle.old.slot.endpoint) }
+    ensures reserved { (v : EndView) → Holds handle.old.slot.endpoint v → IsDraw draw.now → verdict.new.reserved ≡ ZEROED }
+    ensures did { (v : EndView) (o : Option meaning.Packet) → Holds handle.old.slot.endpoint v → IsDraw draw.now → v.configuration.limit ≤ length buffer.old
+        → IsRead packet.now o → Heard v now (drawn draw.now) o handle.new.slot.endpoint result verdict.new buffer.old buffer.new }
+    ensures notes { (v : EndView) → Holds handle.old.slot.endpoint v → IsDraw draw.now → v.configuration.limit ≤ length buffer.old
         → KeepsNotes v handle.new.slot.endpoint }
 {
-    let SctpDraw { tag, tsn } = *draw;
+    let SctpDraw { tag, tsn, reserved } = *draw;
     let Some(draw) = Draw::new(tag, tsn) else {
         return BAD_DRAW;
     };
     if !handle.is_full() {
         return MISUSE;
     }
+    if !is_zeroed(&reserved) {
+        return BAD_RESERVED;
+    }
     let end = handle.slot.lend();
     let limit = limit_of(end);
-    if room.len() < limit {
-        *told = SctpVerdict {
-            length: limit,
-            verdict: 0,
-            reason: 0,
-        };
+    if buffer.len() < limit {
+        *verdict = no_verdict(limit);
         return NEEDS_ROOM;
     }
     let answer = end.handle_packet(now, packet, draw);
-    tell_heard(answer, room, told)
+    tell_heard(answer, buffer, verdict)
 }
 
-/// What C is told of abort.
-fn tell_abort(answer: Result<Vec<u8>, AbortFault>, room: &mut [u8], count: &mut usize) -> u32
-    ensures told { IfOk answer (λ bytes. length bytes.items ≤ length room.old) → AbortTold answer result count.new room.old room.new }
-    ensures untold { ((result ≡ OK) → ⊥) → room.new ≡ room.old }
+/// Writes the ABORT, or that there is none, for C.
+fn tell_abort(answer: Result<Vec<u8>, AbortFault>, buffer: &mut [u8], count: &mut usize) -> u32
+    ensures told { IfOk answer (λ bytes. length bytes.items ≤ length buffer.old) → AbortTold answer result count.new buffer.old buffer.new }
+    ensures untold { ((result ≡ OK) → ⊥) → buffer.new ≡ buffer.old }
 {
     *count = 0;
     match answer {
         Ok(packet) => {
-            *count = put_bytes(&packet, room);
+            *count = put_bytes(&packet, buffer);
             OK
         }
         Err(AbortFault::State) => BAD_STATE,
@@ -189,32 +213,32 @@ fn tell_abort(answer: Result<Vec<u8>, AbortFault>, room: &mut [u8], count: &mut 
     }
 }
 
-/// Ends the association at once: the ABORT with this reason, a packet to send, goes to `room`, and how many bytes it has to `count`. The room
-/// has place for the longest packet of the end, or nothing happens.
+/// Ends the association at once: the ABORT with this reason, a packet to send, is written to `buffer`, and how many bytes it has to `count`. If the
+/// buffer has less than the endpoint's packet limit, nothing is done.
 #[unsafe(no_mangle)]
 pub extern "C" fn sctp_endpoint_abort(
     handle: &mut SctpEndpoint,
     reason: &[u8],
-    room: &mut [u8],
+    buffer: &mut [u8],
     count: &mut usize,
 ) -> u32
     ensures misuse { handle.old.slot.endpoint ≡ None → (result ≡ MISUSE) × (handle.new.slot.endpoint ≡ None) × (count.new ≡ count.old) }
-    ensures untold { ((result ≡ OK) → ⊥) → room.new ≡ room.old }
-    ensures narrow { (v : EndView) → Holds handle.old.slot.endpoint v → length room.old < v.configuration.limit
+    ensures untold { ((result ≡ OK) → ⊥) → buffer.new ≡ buffer.old }
+    ensures narrow { (v : EndView) → Holds handle.old.slot.endpoint v → length buffer.old < v.configuration.limit
         → (result ≡ NEEDS_ROOM) × (count.new ≡ v.configuration.limit) × (handle.new.slot.endpoint ≡ handle.old.slot.endpoint) }
-    ensures did { (v : EndView) → Holds handle.old.slot.endpoint v → v.configuration.limit ≤ length room.old
-        → Aborted v reason.now handle.new.slot.endpoint result count.new room.old room.new }
-    ensures notes { (v : EndView) → Holds handle.old.slot.endpoint v → v.configuration.limit ≤ length room.old → KeepsNotes v handle.new.slot.endpoint }
+    ensures did { (v : EndView) → Holds handle.old.slot.endpoint v → v.configuration.limit ≤ length buffer.old
+        → Aborted v reason.now handle.new.slot.endpoint result count.new buffer.old buffer.new }
+    ensures notes { (v : EndView) → Holds handle.old.slot.endpoint v → v.configuration.limit ≤ length buffer.old → KeepsNotes v handle.new.slot.endpoint }
 {
     if !handle.is_full() {
         return MISUSE;
     }
     let end = handle.slot.lend();
     let limit = limit_of(end);
-    if room.len() < limit {
+    if buffer.len() < limit {
         *count = limit;
         return NEEDS_ROOM;
     }
     let answer = end.abort(reason);
-    tell_abort(answer, room, count)
+    tell_abort(answer, buffer, count)
 }

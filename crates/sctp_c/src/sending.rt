@@ -1,4 +1,4 @@
-//! A message that C hands in (RFC 9260, 11.1.5).
+//! Messages that C sends (RFC 9260, 11.1.5).
 
 ghost use Rattle.std.specs.Prelude.{◌≡◌, ◌⊎◌, None, take};
 ghost use Rattle.sctp_model.specs.end.EndView.{EndView};
@@ -15,10 +15,10 @@ use crate::handle::SctpEndpoint;
 use sctp_endpoint::{Refused, SendFault, Ticket};
 use std::alloc::Global;
 
-/// As many bytes say that a message is too long, as any more would.
+/// So many bytes of a message show that it is too long: no more are copied.
 const LONGEST_LOOK: usize = 65_537;
 
-/// The moment that C says: None for the last one.
+/// The deadline that C passes in: None for `SCTP_EP_NEVER`.
 fn until_of(moment: u64) -> Option<u64>
     ensures { result ≡ moment_of moment }
 {
@@ -29,7 +29,7 @@ fn until_of(moment: u64) -> Option<u64>
     }
 }
 
-/// The number of a refusal.
+/// The result for a refusal.
 fn send_code(why: Refused) -> u32
     ensures { result ≡ refused_code why }
 {
@@ -44,7 +44,7 @@ fn send_code(why: Refused) -> u32
     }
 }
 
-/// What C is told of a message that it handed in.
+/// Writes the ticket of an accepted message for C.
 fn tell_send(answer: Result<Ticket, Refused>, ticket: &mut u64) -> u32
     ensures told { SendTold answer result ticket.new }
     ensures untold { ((result ≡ OK) → ⊥) → ticket.new ≡ ticket.old }
@@ -58,8 +58,8 @@ fn tell_send(answer: Result<Ticket, Refused>, ticket: &mut u64) -> u32
     }
 }
 
-/// Queues a message for the peer: its bytes are copied, the first 65,537 of them at the most, which say that it is too long. Its ticket goes to
-/// `ticket`.
+/// Queues a message for the peer: its bytes are copied, the first 65,537 of them at most, which show that it is too long. Its lifetime ends at
+/// `until`, 2^64 - 1 for never: it is abandoned by the first `sctp_endpoint_on_moment` from then on. Its ticket is written to `ticket`.
 #[unsafe(no_mangle)]
 pub extern "C" fn sctp_endpoint_send(
     alloc: Global,

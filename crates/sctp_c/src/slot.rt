@@ -1,4 +1,4 @@
-//! Where an endpoint lies that C keeps.
+//! The memory of an endpoint in a handle.
 
 ghost use Rattle.std.specs.Prelude.{◌≡◌, Option, Some, None};
 ghost use Rattle.sctp_endpoint.specs.declared.endpoint.Endpoint.{Endpoint};
@@ -9,7 +9,7 @@ use sctp_endpoint::Endpoint;
 use std::alloc::Global;
 use std::marker::Model;
 
-/// The block of an endpoint, or nothing. One that is dropped while it has an endpoint leaks it: only a handle has one, and never drops it so.
+/// The memory block of an endpoint, or none. If it is dropped with an endpoint in it, that leaks: only a handle has one, and never drops it so.
 #[repr(C)]
 #[derive(Drop)]
 pub struct Slot {
@@ -22,7 +22,7 @@ impl Model for Slot {
     ghost also_owns = { λ s. slot_owns s.alloc s.at s.endpoint };
 }
 
-// It alone reaches its endpoint, which may go to another thread.
+// Its endpoint is reached through it alone, and may go to another thread.
 unsafe impl Send for Slot {}
 
 impl Slot {
@@ -65,7 +65,7 @@ impl Slot {
         self.into_block().into_box()
     }
 
-    /// Lends the endpoint of a slot that has one: a call works on it where it lies.
+    /// Borrows the endpoint of a slot that has one: a call works on it in place.
     pub(crate) fn lend(&mut self) -> &mut Endpoint
         requires { IsFull self.old.endpoint }
         ensures* writes_back { sem 𝓛 (LendsEndpoint self.entry result) }

@@ -1,4 +1,4 @@
-//! What an end tells C of itself (RFC 9260, 4 and 11.1).
+//! The status of an endpoint, and of its messages (RFC 9260, 4 and 11.1).
 
 ghost use Rattle.std.specs.Prelude.{◌≡◌, None, option_map};
 ghost use Rattle.sctp_model.specs.sender.Readers as sender;
@@ -13,35 +13,36 @@ use crate::codes::{MISUSE, OK};
 use crate::handle::SctpEndpoint;
 use sctp_endpoint::{End, Endpoint, State, Ticket};
 
-/// Where an end stands, in one look.
+/// The state of an endpoint, its counts and its next time.
 #[repr(C)]
 #[derive(Clone, Copy)]
 pub struct SctpStatus {
-    /// When to call `on_moment` next, in milliseconds; 2^64 - 1 for never.
+    /// The time by which to call `sctp_endpoint_on_moment`, in milliseconds: the first timer or delayed SACK; 2^64 - 1 for never. The lifetimes
+    /// of messages aren't part of it.
     pub next_moment: u64,
-    /// How many tickets `send` gave: they are 1, 2, 3 and so on.
+    /// How many messages were accepted: the last ticket.
     pub tickets: u64,
-    /// How many TSNs are assigned that the peer hasn't acknowledged, with one for each message in part.
+    /// TSNs that aren't acknowledged, and one for each message of which fragments are still to be sent.
     pub outstanding: u64,
-    /// How many messages wait to go out: nothing of them has a TSN.
+    /// Messages of which no fragment has a TSN.
     pub queued: u64,
     /// The bytes of these messages.
     pub queued_bytes: u64,
-    /// The bytes of user data that came and weren't taken.
+    /// The bytes of user data that were received and not taken, messages in part included.
     pub held_bytes: u64,
-    /// The peer's receiver window in bytes, as it last advertised it.
+    /// The peer's receiver window in bytes, as last advertised.
     pub peer_window: u64,
     /// The state, 1 to 9.
     pub state: u32,
-    /// How the association ended, 1 to 5; 0 where it hasn't.
+    /// How the association ended, 1 to 5; 0 if it hasn't.
     pub ended: u32,
-    /// The streams that `send` may use; 0 before an association.
+    /// The streams to the peer that were agreed on; 0 before that.
     pub outbound: u16,
-    /// The streams that the peer may send on; 0 before an association.
+    /// The streams from the peer that were agreed on; 0 before that.
     pub inbound: u16,
-    /// User data goes as I-DATA, as both ends agreed.
+    /// I-DATA was agreed on.
     pub interleaved: bool,
-    /// Messages that have gone out may be abandoned, as both ends agreed.
+    /// Partial reliability was agreed on.
     pub partial: bool,
     /// 0.
     pub reserved: [u32; 4],
@@ -64,7 +65,7 @@ fn state_of(state: State) -> u32
     }
 }
 
-/// The number of an end.
+/// The number of how an association ended.
 fn ended_of(ended: Option<End>) -> u32
     ensures { result ≡ ended_number (option_map end_meaning ended) }
 {
@@ -78,7 +79,7 @@ fn ended_of(ended: Option<End>) -> u32
     }
 }
 
-/// The moment as C is told it.
+/// A time as C gets it.
 fn moment_told(moment: Option<u64>) -> u64
     ensures { result ≡ moment_code moment }
 {
@@ -88,7 +89,7 @@ fn moment_told(moment: Option<u64>) -> u64
     }
 }
 
-/// What an end tells of itself.
+/// The status of an endpoint.
 fn status_of(end: &Endpoint) -> SctpStatus
     ensures told { (v : EndView) → EndpointStands end.now v → IsStatus result v }
     ensures within { (v : EndView) → EndpointStands end.now v → IsWithin result v }
@@ -111,7 +112,7 @@ fn status_of(end: &Endpoint) -> SctpStatus
     }
 }
 
-/// Where the end stands.
+/// Writes the status of the endpoint.
 #[unsafe(no_mangle)]
 pub extern "C" fn sctp_endpoint_status(handle: &mut SctpEndpoint, status: &mut SctpStatus) -> u32
     ensures misuse { handle.old.slot.endpoint ≡ None → result ≡ MISUSE }
@@ -128,7 +129,7 @@ pub extern "C" fn sctp_endpoint_status(handle: &mut SctpEndpoint, status: &mut S
     OK
 }
 
-/// Whether the peer has acknowledged all of a message that wasn't abandoned goes to `is`.
+/// Writes to `is` whether the peer has acknowledged all of a message that wasn't abandoned.
 #[unsafe(no_mangle)]
 pub extern "C" fn sctp_endpoint_acknowledged(
     handle: &mut SctpEndpoint,
@@ -148,7 +149,7 @@ pub extern "C" fn sctp_endpoint_acknowledged(
     OK
 }
 
-/// Whether a message has gone out, in part at least, and was abandoned goes to `is`.
+/// Writes to `is` whether a message was sent, at least in part, and then abandoned.
 #[unsafe(no_mangle)]
 pub extern "C" fn sctp_endpoint_abandoned(
     handle: &mut SctpEndpoint,

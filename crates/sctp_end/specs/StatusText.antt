@@ -1,6 +1,6 @@
 -- The words of a status: what an end tells of itself on one line.
 use Rattle.std.specs.Prelude.{ℕ, Bool, true, false, List, [], ◌∷◌, Option, None, Some, option_map, codes, decimal}
-use Rattle.sctp_association.specs.declared.agreed.Agreed.{Agreed}
+use Rattle.sctp_association.specs.declared.user.agreed.Agreed.{Agreed}
 use Rattle.sctp_terms.specs.Meanings.{state_meaning, end_meaning}
 use Rattle.sctp_terms.specs.declared.mode.Mode.TheVariants.{Data, PartialData, IData, PartialIData}
 use Rattle.sctp_end.specs.declared.status.Status.{Status}

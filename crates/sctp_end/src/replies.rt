@@ -5,7 +5,7 @@ ghost use Rattle.sctp_model.specs.world.Calls.{Call as Message};
 ghost use Rattle.sctp_model.specs.end.EndView.{EndView};
 ghost use Rattle.sctp_association.specs.CallAnswers.{SendAnswers};
 ghost use Rattle.sctp_association.specs.AbortAnswers.{AbortAnswers};
-ghost use Rattle.sctp_association.specs.declared.calls.Refused.TheVariants as refused;
+ghost use Rattle.sctp_association.specs.declared.user.calls.Refused.TheVariants as refused;
 ghost use Rattle.sctp_end.specs.inner.Refusing.{SendTold, AbortTold};
 
 use crate::reply::{Refusal, Reply};

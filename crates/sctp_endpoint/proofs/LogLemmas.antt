@@ -19,7 +19,7 @@ use Rattle.sctp_recv.specs.HandedOf.{handed_of}
 use Rattle.sctp_recv.specs.declared.message.Message.{Message}
 use Rattle.sctp_association.specs.AbortAnswers.{aborted_view}
 use Rattle.sctp_association.specs.CallAnswers.{connect_meaning, connected, SendAnswers, sent_view}
-use Rattle.sctp_association.specs.declared.calls.Refused.{Refused}
+use Rattle.sctp_association.specs.declared.user.calls.Refused.{Refused}
 use Rattle.sctp_outcomes.specs.Kept.{IsSound, SendNotes}
 use Rattle.sctp_outcomes.proofs.logs.Ends.{keeps_itself}
 use Rattle.sctp_outcomes.proofs.logs.Heard.{moment_keeps, packets_keep_logs, cut_packets_keep_logs}

@@ -4,7 +4,7 @@ use Rattle.sctp_model.specs.end.EndView.{EndView}
 use Rattle.sctp_values.specs.declared.ticket.Ticket.{Ticket}
 use Rattle.sctp_recv.specs.HandedOf.{handed_of}
 use Rattle.sctp_recv.specs.declared.message.Message.{Message}
-use Rattle.sctp_association.specs.declared.calls.Refused.{Refused}
+use Rattle.sctp_association.specs.declared.user.calls.Refused.{Refused}
 use Rattle.sctp_outcomes.specs.Kept.{numbered, KeepsLogs, AddsNumbers, AddsTicket, AddsTaken}
 use Rattle.sctp_outcomes.specs.ToldOnce.{NoTicketTwice}
 use Rattle.sctp_endpoint.specs.EndpointStands.{EndpointStands}

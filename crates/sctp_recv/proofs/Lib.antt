@@ -31,3 +31,4 @@ mod ShownLemmas
 mod BlockLemmas
 mod GapLemmas
 mod ReceiverSteps
+mod ReassemblyLemmas

@@ -3,3 +3,4 @@ pub mod Rows
 pub mod Forwarding
 pub mod Places
 pub mod Bits
+pub mod Reassembly

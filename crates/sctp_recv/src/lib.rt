@@ -15,6 +15,7 @@ mod message;
 mod pieces;
 mod places;
 mod ready;
+mod reassembly;
 mod receiver;
 mod runs;
 mod sack;

@@ -1,5 +1,5 @@
 use Rattle.sctp_endpoint.specs.EndpointStands.{EndpointStands}
-use Rattle.sctp_c.proofs.RoomLemmas.{abort_fits}
+use Rattle.sctp_c.proofs.BufferLemmas.{abort_fits}
 use Rattle.sctp_c.proofs.packets.sctp_endpoint_abort.Goals as goal
 
 pub returns-clause-did : goal.returns-clause-did

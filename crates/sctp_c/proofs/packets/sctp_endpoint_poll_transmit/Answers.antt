@@ -1,5 +1,5 @@
 use Rattle.sctp_endpoint.specs.EndpointStands.{EndpointStands}
-use Rattle.sctp_c.proofs.RoomLemmas.{next_fits}
+use Rattle.sctp_c.proofs.BufferLemmas.{next_fits}
 use Rattle.sctp_c.proofs.HandingBack.{StandsOn, transmits_on, refused_on, sends_on}
 use Rattle.sctp_c.proofs.packets.sctp_endpoint_poll_transmit.Goals as goal
 

@@ -3,7 +3,7 @@ use Rattle.sctp_model.specs.end.EndView.{EndView}
 use Rattle.sctp_association.specs.MachineStands.{MachineStands}
 use Rattle.sctp_association.specs.Drafted.{drafted}
 use Rattle.sctp_association.specs.PlainPacket.{plain_marks}
-use Rattle.sctp_association.specs.declared.due.Due.{Due}
+use Rattle.sctp_association.specs.declared.state.due.Due.{Due}
 use Rattle.sctp_association.specs.declared.machine.Machine.{Machine}
 use Rattle.sctp_association.proofs.BuildLemmas.{answered}
 use Rattle.sctp_association.proofs.PlainLemmas.{plain_empty, plain_at, still_plain}

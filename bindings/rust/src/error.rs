@@ -1,0 +1,100 @@
+//! Why a call of the library is refused, in the words of `sctp_endpoint.h`.
+
+use std::fmt;
+
+const OK: u32 = 0;
+const NEEDS_ROOM: u32 = 10;
+
+/// Why a call is refused: it changed nothing, except for [`Endpoint::handle_packet`] if memory allocation fails.
+#[derive(Clone, Copy, Debug, PartialEq, Eq)]
+pub enum Error {
+    /// The stream isn't below the number of streams agreed on.
+    NoSuchStream,
+    /// The message has no bytes.
+    Empty,
+    /// The message has more than 65,536 bytes, or the reason of an ABORT doesn't fit one packet.
+    TooLong,
+    /// 1,024 messages are queued: send again after the next SACK.
+    QueueFull,
+    /// The TSNs or the tickets of this association are used up.
+    Spent,
+    /// Memory allocation failed.
+    NoMemory,
+    /// The association isn't established; for `shutdown`: nor is it being closed.
+    NotOpen,
+    /// The call isn't allowed in this state.
+    BadState,
+    /// The buffer is too small: so many bytes are needed. Nothing is lost.
+    NeedsRoom(usize),
+    /// A port is 0.
+    BadPort,
+    /// The packet limit isn't in 576 to 1,500.
+    BadPacketLimit,
+    /// The fragment isn't in 4 to 1,400, or 32 bytes of headers and it, padded to 4, don't fit a packet.
+    BadFragment,
+    /// The receive buffer isn't in 65,536 to 16,777,216.
+    BadBuffer,
+    /// A number of streams isn't in 1 to 1,024.
+    BadStreams,
+    /// A number that no call of this crate's `sctp_endpoint.h` returns: the library is for another header.
+    Unknown(u32),
+}
+
+impl Error {
+    fn of(result: u32, length: usize) -> Error {
+        match result {
+            1 => Error::NoSuchStream,
+            2 => Error::Empty,
+            3 => Error::TooLong,
+            4 => Error::QueueFull,
+            5 => Error::Spent,
+            6 => Error::NoMemory,
+            7 => Error::NotOpen,
+            8 => Error::BadState,
+            NEEDS_ROOM => Error::NeedsRoom(length),
+            21 => Error::BadPort,
+            22 => Error::BadPacketLimit,
+            23 => Error::BadFragment,
+            24 => Error::BadBuffer,
+            25 => Error::BadStreams,
+            other => Error::Unknown(other),
+        }
+    }
+}
+
+impl fmt::Display for Error {
+    fn fmt(&self, f: &mut fmt::Formatter<'_>) -> fmt::Result {
+        match self {
+            Error::NoSuchStream => write!(f, "the stream isn't below the number of streams agreed on"),
+            Error::Empty => write!(f, "the message has no bytes"),
+            Error::TooLong => write!(f, "the message has more than 65,536 bytes, or the reason of an ABORT doesn't fit one packet"),
+            Error::QueueFull => write!(f, "1,024 messages are queued: send again after the next SACK"),
+            Error::Spent => write!(f, "the TSNs or the tickets of this association are used up"),
+            Error::NoMemory => write!(f, "memory allocation failed"),
+            Error::NotOpen => write!(f, "the association isn't established"),
+            Error::BadState => write!(f, "the call isn't allowed in this state"),
+            Error::NeedsRoom(bytes) => write!(f, "the buffer is too small: {bytes} bytes are needed"),
+            Error::BadPort => write!(f, "a port is 0"),
+            Error::BadPacketLimit => write!(f, "the packet limit isn't in 576 to 1,500"),
+            Error::BadFragment => write!(f, "the fragment isn't in 4 to 1,400, or 32 bytes of headers and it don't fit a packet"),
+            Error::BadBuffer => write!(f, "the receive buffer isn't in 65,536 to 16,777,216"),
+            Error::BadStreams => write!(f, "a number of streams isn't in 1 to 1,024"),
+            Error::Unknown(result) => write!(f, "result {result} of the library, which is for another header"),
+        }
+    }
+}
+
+impl std::error::Error for Error {}
+
+pub(crate) fn checked(result: u32) -> Result<(), Error> {
+    checked_at(result, 0)
+}
+
+/// The same, of a call that says how many bytes its buffer must have.
+pub(crate) fn checked_at(result: u32, length: usize) -> Result<(), Error> {
+    if result == OK {
+        Ok(())
+    } else {
+        Err(Error::of(result, length))
+    }
+}

@@ -1,0 +1,257 @@
+//! What crosses to the library and back: configurations, random values, verdicts, packets, messages, the status.
+
+use crate::raw;
+
+/// What an endpoint is configured with; `sctp_endpoint.h` has the ranges.
+///
+/// The receive buffer has at least the number of streams the peer sends on times its longest message: else, with I-DATA, messages in part on
+/// several streams can fill it, and nothing more is received.
+#[derive(Clone, Copy, Debug)]
+pub struct Config {
+    pub own_port: u16,
+    pub peer_port: u16,
+    pub packet_limit: u16,
+    pub fragment: u16,
+    pub buffer: u32,
+    pub outbound: u16,
+    pub inbound: u16,
+    /// Offer I-DATA (RFC 8260).
+    pub interleave: bool,
+    /// Offer partial reliability (RFC 3758).
+    pub partial: bool,
+    /// Delay SACKs for a second packet, 200 ms at most.
+    pub delay: bool,
+    /// Close by the timers of RFC 9260: a peer that never stops sending can delay closing without limit.
+    pub standard_closing: bool,
+}
+
+impl Config {
+    /// Packets of 1,232 bytes, 64 streams each way, a receive buffer of 4 MiB (64 messages of 65,536 bytes), both extensions.
+    pub fn new(own_port: u16, peer_port: u16) -> Config {
+        Config {
+            own_port,
+            peer_port,
+            packet_limit: 1_232,
+            fragment: 1_200,
+            buffer: 4 << 20,
+            outbound: 64,
+            inbound: 64,
+            interleave: true,
+            partial: true,
+            delay: false,
+            standard_closing: true,
+        }
+    }
+
+    pub(crate) fn raw(&self) -> raw::Config {
+        raw::Config {
+            own_port: self.own_port,
+            peer_port: self.peer_port,
+            packet_limit: self.packet_limit,
+            fragment: self.fragment,
+            buffer: self.buffer,
+            outbound: self.outbound,
+            inbound: self.inbound,
+            interleave: self.interleave,
+            partial: self.partial,
+            delay: self.delay,
+            standard_closing: self.standard_closing,
+            reserved: [0; 4],
+        }
+    }
+}
+
+/// Two random values from a secure source, new ones for each call: a verification tag, which isn't 0, and a first TSN.
+#[derive(Clone, Copy, Debug)]
+pub struct Draw {
+    pub tag: std::num::NonZeroU32,
+    pub tsn: u32,
+}
+
+impl Draw {
+    pub(crate) fn raw(self) -> raw::Draw {
+        raw::Draw { tag: self.tag.get(), tsn: self.tsn }
+    }
+}
+
+/// What was done with a received packet.
+#[derive(Clone, Debug, PartialEq, Eq)]
+pub enum Verdict {
+    /// It was processed: its tag was right, so the address that it was received from is the peer's.
+    Taken,
+    /// This packet is to be sent at once, to the address that the other one was received from.
+    Answer(Vec<u8>),
+    /// It was ignored: nothing but the time has changed.
+    Dropped(Reason),
+}
+
+/// What was done with a received packet, whose answer is written to a buffer of the caller.
+#[derive(Clone, Copy, Debug, PartialEq, Eq)]
+pub enum VerdictInto {
+    /// As [`Verdict::Taken`].
+    Taken,
+    /// As [`Verdict::Answer`]: the packet is the first so many bytes of the buffer.
+    Answer(usize),
+    /// As [`Verdict::Dropped`].
+    Dropped(Reason),
+}
+
+/// Why a packet was ignored.
+#[derive(Clone, Copy, Debug, PartialEq, Eq)]
+pub enum Reason {
+    /// Its bytes aren't a valid packet, or its checksum is wrong.
+    Fault,
+    /// Its ports aren't those of the configuration.
+    Ports,
+    /// Its verification tag is wrong.
+    Tag,
+    /// Nothing in it applies in this state.
+    State,
+    /// Its state cookie isn't one that this listener made for this peer.
+    Cookie,
+}
+
+/// A packet to send, and the tickets of the messages whose first fragments it carries.
+#[derive(Clone, Debug, PartialEq, Eq)]
+pub struct Sent {
+    pub packet: Vec<u8>,
+    pub tickets: Vec<u64>,
+}
+
+/// A packet to send that was written to a buffer of the caller: its bytes, and how many tickets were written.
+#[derive(Clone, Copy, Debug, PartialEq, Eq)]
+pub struct SentInto {
+    pub length: usize,
+    pub tickets: usize,
+}
+
+/// A message that was taken.
+#[derive(Clone, Debug, PartialEq, Eq)]
+pub struct Message {
+    pub stream: u16,
+    pub ordered: bool,
+    /// Counted from 0 on its stream, ordered and unordered ones apart; None for an unordered one under DATA.
+    pub number: Option<u64>,
+    pub payload_id: u32,
+    pub bytes: Vec<u8>,
+}
+
+/// A message that was taken into a buffer of the caller, or that is ready.
+#[derive(Clone, Copy, Debug, PartialEq, Eq)]
+pub struct Head {
+    /// The bytes of the whole message.
+    pub length: usize,
+    pub stream: u16,
+    pub ordered: bool,
+    /// As of [`Message`].
+    pub number: Option<u64>,
+    pub payload_id: u32,
+}
+
+/// What has become of a message that is abandoned.
+#[derive(Clone, Copy, Debug, PartialEq, Eq)]
+pub enum Fate {
+    /// Nothing of it was sent, and nothing will be.
+    Withdrawn,
+    /// It was sent, at least in part, and won't be sent again.
+    Abandoned,
+    /// The peer had acknowledged all of it.
+    Acknowledged,
+    /// No message has this ticket.
+    Unknown,
+    /// It was sent, and partial reliability wasn't agreed on: it stays.
+    Reliable,
+}
+
+/// The state of an endpoint (RFC 9260, 4).
+#[derive(Clone, Copy, Debug, PartialEq, Eq)]
+pub enum State {
+    Closed,
+    Listen,
+    CookieWait,
+    CookieEchoed,
+    Established,
+    ShutdownPending,
+    ShutdownSent,
+    ShutdownReceived,
+    ShutdownAckSent,
+}
+
+/// How an association ended. Received messages can still be taken then, and received packets are still to be passed in for some seconds, and
+/// answers sent: the last packet may have been lost.
+#[derive(Clone, Copy, Debug, PartialEq, Eq)]
+pub enum Ended {
+    /// Closed gracefully by both endpoints.
+    Completed,
+    /// Aborted by the peer.
+    Aborted,
+    /// Aborted here: by `abort`, or because the peer violated the protocol.
+    AbortedHere,
+    /// A packet was retransmitted as often as allowed, and not answered.
+    TimedOut,
+    /// The listener found the state cookie too old.
+    StaleCookie,
+}
+
+/// The state of an endpoint, and its counts.
+#[derive(Clone, Copy, Debug)]
+pub struct Status {
+    /// The time by which to call `on_moment`: the first timer or delayed SACK. Lifetimes of messages aren't part of it.
+    pub next_moment: Option<u64>,
+    pub state: State,
+    pub ended: Option<Ended>,
+    /// How many messages were accepted: the last ticket.
+    pub tickets: u64,
+    /// TSNs that aren't acknowledged, and one for each message of which fragments are still to be sent.
+    pub outstanding: u64,
+    /// Messages of which no fragment has a TSN, and their bytes.
+    pub queued: u64,
+    pub queued_bytes: u64,
+    /// Bytes of user data in the receive buffer: received and not taken, messages in part included.
+    pub held_bytes: u64,
+    /// The peer's receiver window in bytes, as last advertised.
+    pub peer_window: u64,
+    pub outbound: u16,
+    pub inbound: u16,
+    pub interleaved: bool,
+    pub partial: bool,
+}
+
+pub(crate) fn head_of(told: &raw::Message) -> Head {
+    Head {
+        length: told.length,
+        stream: told.stream,
+        ordered: told.ordered,
+        number: told.numbered.then_some(told.number),
+        payload_id: told.payload_id,
+    }
+}
+
+pub(crate) fn reason_of(number: u32) -> Reason {
+    [Reason::Fault, Reason::Ports, Reason::Tag, Reason::State, Reason::Cookie][number as usize - 1]
+}
+
+pub(crate) fn state_of(number: u32) -> State {
+    [
+        State::Closed,
+        State::Listen,
+        State::CookieWait,
+        State::CookieEchoed,
+        State::Established,
+        State::ShutdownPending,
+        State::ShutdownSent,
+        State::ShutdownReceived,
+        State::ShutdownAckSent,
+    ][number as usize - 1]
+}
+
+pub(crate) fn ended_of(number: u32) -> Option<Ended> {
+    [
+        None,
+        Some(Ended::Completed),
+        Some(Ended::Aborted),
+        Some(Ended::AbortedHere),
+        Some(Ended::TimedOut),
+        Some(Ended::StaleCookie),
+    ][number as usize]
+}

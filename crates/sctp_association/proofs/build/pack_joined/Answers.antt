@@ -1,0 +1,18 @@
+use Rattle.std.proofs.Common.{◌∙◌, refl, sym, ap}
+use Rattle.sctp_association.specs.PhaseMeans.{phase_in}
+use Rattle.sctp_association.proofs.BuildLemmas.{sleeps, with_traffic_kept}
+use Rattle.sctp_association.proofs.build.pack_joined.Goals as goal
+
+pub returns-in-Echoing-clause-packed : goal.returns-in-Echoing-clause-packed
+returns-in-Echoing-clause-packed c = λ e phase part empty.
+    let echoing = sym phase ∙ ap (phase_in c.args.association.now.tags) c.in-Echoing.is in
+    with_traffic_kept c.pack_echoing.result e c.pack_echoing.new.packing _ (c.pack_echoing.ensures e _ echoing part.due_stands empty) part.traffic_stands
+
+pub returns-in-Open-clause-packed : goal.returns-in-Open-clause-packed
+returns-in-Open-clause-packed c = λ e phase part empty.
+    c.pack_open.ensures.packed e _ _ (sym phase ∙ ap (phase_in c.args.association.now.tags) c.in-Open.is) part empty
+
+pub returns-in-Over-clause-packed : goal.returns-in-Over-clause-packed
+returns-in-Over-clause-packed c = λ e phase part empty.
+    let over = sym phase ∙ ap (phase_in c.args.association.now.tags) c.in-Over.is in
+    (e.sender, sleeps e _ c.args.packing.now c.new.result over refl empty c.new.ensures.items, part.traffic_stands)

@@ -1,5 +1,0 @@
-use Rattle.sctp_association.proofs.CallLemmas.{called_timers}
-use Rattle.sctp_association.proofs.calls.call_timers.Goals as goal
-
-pub returns : goal.returns
-returns c = λ d. called_timers d _ _ _ _ _ c.stop.ensures c.stop-2.ensures c.stop-3.ensures c.stop-4.ensures

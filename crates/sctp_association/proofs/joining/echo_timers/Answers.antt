@@ -1,5 +1,0 @@
-use Rattle.sctp_association.proofs.JoinLemmas.{echoed_timers}
-use Rattle.sctp_association.proofs.joining.echo_timers.Goals as goal
-
-pub returns : goal.returns
-returns c = λ t xs. echoed_timers t xs _ _ _ _ _ c.stop.ensures c.stop-2.ensures c.stop-3.ensures c.stop-4.ensures

@@ -1,0 +1,237 @@
+//! An end's next packet (RFC 9260, 5.1, 6.10 and 9.2): all its chunks are put in first, which alone wants memory, and then the end is left as
+//! they leave it.
+
+pub mod filling;
+pub mod packing;
+pub mod plain;
+pub mod putting;
+pub mod replying;
+
+ghost use Rattle.std.specs.Prelude.{◌≡◌, ◌≤◌, ℕ, [], length, IfOk, OnErr, IfSome, MatchOption};
+ghost use Rattle.sctp_model.specs.messages.Format.{Format};
+ghost use Rattle.sctp_model.specs.sender.SenderView.{SenderView};
+ghost use Rattle.sctp_model.specs.receiver.ReceiverView.{ReceiverView};
+ghost use Rattle.sctp_model.specs.receiver.SackMade.{sack_sent};
+ghost use Rattle.sctp_model.specs.wire.Packet.{size_of_packet};
+ghost use Rattle.sctp_model.specs.end.EndView.{EndView, format_of};
+ghost use Rattle.sctp_model.specs.end.EndView as model;
+ghost use Rattle.sctp_model.specs.end.Clock.{at_moment};
+ghost use Rattle.sctp_packet.specs.Draft.{packet_of};
+ghost use Rattle.sctp_packet.specs.PacketBytes.{WritesPacket};
+ghost use Rattle.sctp_association.specs.PhaseMeans.{phase_in, phase_unjoined};
+ghost use Rattle.sctp_association.specs.DueStands.{DueStands};
+ghost use Rattle.sctp_association.specs.TrafficStands.{TrafficStands};
+ghost use Rattle.sctp_association.specs.MachineStands.{MachineStands};
+ghost use Rattle.sctp_association.specs.Drafted.{receiver_left, delayed_left, drafted, IsEmpty, IsPacked, IsPartOf};
+ghost use Rattle.sctp_association.specs.BuildAnswers.{BuildAnswer};
+
+use crate::build::filling::fill_behind;
+use crate::build::packing::Packing;
+use crate::build::putting::{put_echoing, put_open};
+use crate::machine::Machine;
+use crate::state::carried::EchoedCookie;
+use crate::state::due::Due;
+use crate::state::life::{Association, Life, Progress, Unjoined};
+use crate::time::timer::Alarm;
+use crate::traffic::Traffic;
+use sctp_opening::put_init;
+use sctp_terms::{Config, Draw};
+use sctp_values::{NoMemory, Ticket};
+use std::alloc::Global;
+
+/// A packet that goes out, and the tickets of the messages that took their numbers with it, by their first TSN.
+#[derive(Drop)]
+pub struct Built {
+    pub packet: Vec<u8>,
+    pub tickets: Vec<Ticket>,
+}
+
+#[tactic(auto, unfolding(crate::specs::MachineStands::MachineStands))]
+impl Machine {
+    /// The next packet at this moment, in milliseconds: what is due, in the order of filling, and then fragments. None exactly where nothing
+    /// is to be sent.
+    ///
+    /// # Errors
+    /// `NoMemory` where a growth was refused; nothing changed then, not even the moment.
+    pub fn build(&mut self, now: u64) -> Result<Option<Built>, NoMemory>
+        ensures built { (v : EndView) → MachineStands self.old v → IfOk result (λ built. BuildAnswer (at_moment v now) built self.new) }
+        ensures memory { (v : EndView) → MachineStands self.old v → OnErr result (MachineStands self.new v) }
+    {
+        let moment = self.moment.max(now);
+        if self.is_plain() {
+            return self.build_plain(moment);
+        }
+        self.build_any(moment)
+    }
+
+    /// The same, whatever is due, once the moment is told.
+    ///
+    /// # Errors
+    /// `NoMemory` where a growth was refused; nothing changed then.
+    #[inline(never)]
+    fn build_any(&mut self, moment: u64) -> Result<Option<Built>, NoMemory>
+        ensures built { (v : EndView) → MachineStands self.old v → IfOk result (λ built. BuildAnswer (record v { moment = moment }) built self.new) }
+        ensures memory { (v : EndView) → MachineStands self.old v → OnErr result (MachineStands self.new v) }
+    {
+        let mut packing = self.packing();
+        let tickets = self.pack(&mut packing)?;
+        Ok(self.sent(moment, packing, tickets))
+    }
+
+    /// All chunks of the next packet go in, by where the end stands in its life. Of the end only the sender changes.
+    ///
+    /// # Errors
+    /// Memory ran out.
+    fn pack(&mut self, packing: &mut Packing) -> Result<Vec<Ticket>, NoMemory>
+        ensures packed { (v : EndView) (moment : ℕ) → MachineStands self.old v → IsEmpty (record v { moment = moment }) packing.old
+            → IfOk result (λ tickets. (s : SenderView) × IsPacked (record v { moment = moment }) s packing.new tickets × MachineStands self.new (record v { sender = s })) }
+        ensures memory { (v : EndView) → MachineStands self.old v → OnErr result (MachineStands self.new v) }
+    {
+        let alloc = self.alloc;
+        match &mut self.life {
+            Life::Unjoined(unjoined) => { pack_unjoined(alloc, &self.config, *unjoined, packing) }
+            Life::Joined(association) => {
+                pack_joined(alloc, &self.config, association, &self.due, packing)
+            }
+        }
+    }
+
+    /// What went in is due no more, its timers start, and the packet is ready, if anything is in it; else its room is kept.
+    fn sent(&mut self, moment: u64, packing: Packing, tickets: Vec<Ticket>) -> Option<Built>
+        ensures stands { (v : EndView) → MachineStands self.old v → MachineStands self.new (drafted packing.marks (record v { moment = moment })) }
+        ensures packet { MatchOption result (packing.writer.chunks ≡ []) (λ b. WritesPacket b.packet.items (packet_of packing.writer)) }
+        ensures size { IfSome result (λ b. length b.packet.items ≡ size_of_packet packing.writer.chunks) }
+        ensures within { IfSome result (λ b. length b.packet.items ≤ packing.writer.limit) }
+        ensures tickets { IfSome result (λ b. b.tickets ≡ tickets) }
+    {
+        self.moment = moment;
+        self.when_sack_sent(self.due.sack, packing.marks.sack);
+        self.timers.start_all(packing.marks.starts, moment);
+        self.due.leave(self.alloc, packing.marks);
+        match packing.writer.finish_or_room() {
+            Ok(packet) => Some(Built { packet, tickets }),
+            Err(room) => {
+                self.recycle(room);
+                None
+            }
+        }
+    }
+
+    /// Once a SACK that was due went out, the duplicates that it told are forgotten, and none waits (RFC 9260, 6.2).
+    pub(crate) fn when_sack_sent(&mut self, was_due: bool, is_due: bool)
+        ensures { (v : EndView) → MachineStands self.old v
+            → MachineStands self.new (record v { delayed = delayed_left was_due is_due v.delayed; receiver = receiver_left was_due is_due v.receiver }) }
+    {
+        if !was_due {
+            return;
+        }
+        if is_due {
+            return;
+        }
+        self.delayed = None;
+        self.sack_sent();
+    }
+
+    /// A SACK went out: the duplicates that it told are forgotten.
+    fn sack_sent(&mut self)
+        ensures { (v : EndView) → MachineStands self.old v → MachineStands self.new (record v { receiver = sack_sent v.receiver }) }
+    {
+        match &mut self.life {
+            Life::Unjoined(_) => {}
+            Life::Joined(association) => association.traffic.sack_sent(),
+        }
+    }
+}
+
+/// What an end sends that never had an association: its INIT, while it calls.
+fn pack_unjoined(
+    alloc: Global,
+    config: &Config,
+    unjoined: Unjoined,
+    packing: &mut Packing,
+) -> Result<Vec<Ticket>, NoMemory>
+    ensures { (e : EndView) → e.configuration ≡ config.now → e.phase ≡ phase_unjoined unjoined → IsEmpty e packing.old
+        → IfOk result (λ tickets. IsPacked e e.sender packing.new tickets) }
+{
+    match unjoined {
+        Unjoined::Idle => Ok(Vec::new(alloc)),
+        Unjoined::Listening => Ok(Vec::new(alloc)),
+        Unjoined::Calling(draw) => pack_init(alloc, config, draw, packing),
+        Unjoined::Failed(_) => Ok(Vec::new(alloc)),
+    }
+}
+
+/// INIT, where it is due; it stands alone (RFC 9260, 5.1, A).
+fn pack_init(
+    alloc: Global,
+    config: &Config,
+    draw: Draw,
+    packing: &mut Packing,
+) -> Result<Vec<Ticket>, NoMemory>
+    ensures { (e : EndView) → e.configuration ≡ config.now → e.phase ≡ model.Calling draw → IsEmpty e packing.old
+        → IfOk result (λ tickets. IsPacked e e.sender packing.new tickets) }
+{
+    // So its packet has room for it.
+    let _limit = config.limit();
+    if !packing.marks.init {
+        return Ok(Vec::new(alloc));
+    }
+    if !put_init(alloc, config, draw, &mut packing.writer)? {
+        return Ok(Vec::new(alloc));
+    }
+    packing.marks.init = false;
+    packing.marks.starts.add(Alarm::Init);
+    Ok(Vec::new(alloc))
+}
+
+/// What an association sends, by how far it has come; once it is over, nothing.
+fn pack_joined(
+    alloc: Global,
+    config: &Config,
+    association: &mut Association,
+    due: &Due,
+    packing: &mut Packing,
+) -> Result<Vec<Ticket>, NoMemory>
+    ensures packed { (e : EndView) → phase_in association.old.tags association.old.progress ≡ e.phase → IsPartOf config.now association.old.traffic due.now e → IsEmpty e packing.old
+        → IfOk result (λ tickets. (s : SenderView) × IsPacked e s packing.new tickets × TrafficStands association.new.traffic (format_of e) s e.receiver) }
+    ensures memory { (f : Format) (s : SenderView) (r : ReceiverView) → TrafficStands association.old.traffic f s r → OnErr result (TrafficStands association.new.traffic f s r) }
+    ensures kept { association.new ≡ record association.old { traffic = association.new.traffic } }
+{
+    match &association.progress {
+        Progress::Echoing(cookie) => pack_echoing(alloc, cookie, due, packing),
+        Progress::Open(_) => { pack_open(alloc, config, &mut association.traffic, due, packing) }
+        Progress::Over(_) => Ok(Vec::new(alloc)),
+    }
+}
+
+/// COOKIE ECHO, and what is reported with it (RFC 9260, 5.1, C).
+fn pack_echoing(
+    alloc: Global,
+    cookie: &EchoedCookie,
+    due: &Due,
+    packing: &mut Packing,
+) -> Result<Vec<Ticket>, NoMemory>
+    ensures { (e : EndView) (t : model.Tags) → e.phase ≡ model.Echoing t cookie.now.bytes.items → DueStands due.now e.due → IsEmpty e packing.old
+        → IfOk result (λ tickets. IsPacked e e.sender packing.new tickets) }
+{
+    let _room = put_echoing(cookie, due, packing)?;
+    Ok(Vec::new(alloc))
+}
+
+/// All that is due while the association is open, and fragments where there is room behind it (RFC 9260, 6.1 and 6.10).
+fn pack_open(
+    alloc: Global,
+    config: &Config,
+    traffic: &mut Traffic,
+    due: &Due,
+    packing: &mut Packing,
+) -> Result<Vec<Ticket>, NoMemory>
+    ensures packed { (e : EndView) (t : model.Tags) (g : model.Stage) → e.phase ≡ model.Open t g → IsPartOf config.now traffic.old due.now e → IsEmpty e packing.old
+        → IfOk result (λ tickets. (s : SenderView) × IsPacked e s packing.new tickets × TrafficStands traffic.new (format_of e) s e.receiver) }
+    ensures memory { (f : Format) (s : SenderView) (r : ReceiverView) → TrafficStands traffic.old f s r → OnErr result (TrafficStands traffic.new f s r) }
+{
+    if !put_open(config, traffic, due, packing)? {
+        return Ok(Vec::new(alloc));
+    }
+    fill_behind(traffic, packing)
+}

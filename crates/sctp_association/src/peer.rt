@@ -1,0 +1,8 @@
+//! What chunks of the peer do to an endpoint, and what it answers: opening an association, data and acknowledgements, HEARTBEAT, SHUTDOWN and ERROR.
+
+pub mod answering;
+pub mod hearing;
+pub mod joining;
+pub mod opening;
+pub mod passing;
+pub mod reporting;

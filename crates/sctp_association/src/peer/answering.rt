@@ -1,0 +1,92 @@
+//! What an end answers to its peer, at once or in its next packets (RFC 9260, 8.3, 9.1 and 9.2). All memory is taken before anything
+//! changes.
+
+ghost use Rattle.std.specs.Prelude.{◌≡◌, ◌≤◌, true, false, length, IfOk, OnOk, OnErr};
+ghost use Rattle.sctp_model.specs.wire.Chunk.{ShutdownComplete};
+ghost use Rattle.sctp_model.specs.end.EndView.{EndView};
+ghost use Rattle.sctp_model.specs.end.EndView as model;
+ghost use Rattle.sctp_model.specs.end.Clock.{closed};
+ghost use Rattle.sctp_model.specs.end.Closing.{with_due, answers_shutdown};
+ghost use Rattle.sctp_model.specs.end.Reports.{item};
+ghost use Rattle.sctp_model.specs.end.PeerFaults.{packet_to, abort_for};
+ghost use Rattle.sctp_model.specs.end.Acting.{heartbeat_heard};
+ghost use Rattle.sctp_packet.specs.PacketBytes.{WritesPacket};
+ghost use Rattle.sctp_association.specs.MachineStands.{MachineStands};
+
+use crate::machine::Machine;
+use crate::state::carried::HeartbeatInfo;
+use crate::state::stage::Stage;
+use sctp_opening::{abort_packet, lone_packet, room_behind};
+use sctp_terms::End;
+use sctp_values::NoMemory;
+use sctp_wire::Chunk;
+
+#[tactic(auto, unfolding(crate::specs::MachineStands::MachineStands))]
+impl Machine {
+    /// A HEARTBEAT comes: its value is to go back, if that fits a packet; an older value that waits is forgotten then (RFC 9260, 8.3).
+    ///
+    /// # Errors
+    /// `NoMemory` where a growth was refused; nothing changed then.
+    pub fn hear_heartbeat(&mut self, info: &[u8]) -> Result<(), NoMemory>
+        ensures step { (v : EndView) → MachineStands self.old v → OnOk result (MachineStands self.new (heartbeat_heard v info.now)) }
+        ensures refused { (v : EndView) → MachineStands self.old v → OnErr result (MachineStands self.new v) }
+    {
+        if info.len() > room_behind(&self.config, 4) {
+            return Ok(());
+        }
+        let copied = HeartbeatInfo::copied(self.alloc, info)?;
+        self.due.bring_back(copied);
+        Ok(())
+    }
+
+    /// The end closes with an ABORT for a short cause, to the end whose packets carry this tag (RFC 9260, 9.1).
+    ///
+    /// # Errors
+    /// `NoMemory` where a growth was refused; nothing changed then.
+    pub fn abort_with(&mut self, tag: u32, cause: u16, value: &[u8]) -> Result<Vec<u8>, NoMemory>
+        requires { length value.now ≤ 4 }
+        ensures step { (v : EndView) → MachineStands self.old v
+            → IfOk result (λ packet. WritesPacket packet.items (packet_to v.configuration tag (abort_for (item cause value.now))) × MachineStands self.new (closed model.AbortedHere v)) }
+        ensures within { (v : EndView) → MachineStands self.old v → IfOk result (λ packet. length packet.items ≤ v.configuration.limit) }
+        ensures refused { (v : EndView) → MachineStands self.old v → OnErr result (MachineStands self.new v) }
+    {
+        // So a packet has room for the cause.
+        let _limit = self.config.limit();
+        let packet = abort_packet(self.alloc, &self.config, tag, cause, value)?;
+        self.close(End::AbortedHere);
+        Ok(packet)
+    }
+
+    /// The association is over as both users wanted, and the end whose packets carry this tag is told so (RFC 9260, 9.2).
+    ///
+    /// # Errors
+    /// `NoMemory` where a growth was refused; nothing changed then.
+    pub fn complete(&mut self, tag: u32) -> Result<Vec<u8>, NoMemory>
+        ensures step { (v : EndView) → MachineStands self.old v
+            → IfOk result (λ packet. WritesPacket packet.items (packet_to v.configuration tag (ShutdownComplete false)) × MachineStands self.new (closed model.Completed v)) }
+        ensures within { (v : EndView) → MachineStands self.old v → IfOk result (λ packet. length packet.items ≤ v.configuration.limit) }
+        ensures refused { (v : EndView) → MachineStands self.old v → OnErr result (MachineStands self.new v) }
+    {
+        // So a packet has room for it.
+        let _limit = self.config.limit();
+        let chunk = Chunk::ShutdownComplete { reflected: false };
+        let packet = lone_packet(self.alloc, &self.config, tag, &chunk)?;
+        self.close(End::Completed);
+        Ok(packet)
+    }
+
+    /// An open association answers the peer's SHUTDOWN (RFC 9260, 9.2).
+    pub fn answer_shutdown(&mut self)
+        ensures { (v : EndView) (t : model.Tags) (g : model.Stage) → MachineStands self.old v → v.phase ≡ model.Open t g → MachineStands self.new (answers_shutdown t v) }
+    {
+        self.turn(Stage::ShutdownAckSent);
+        self.due.answer_shut();
+    }
+
+    /// The SHUTDOWN ACK is due once more: the peer's SHUTDOWN came again (RFC 9260, 9.2).
+    pub fn repeat_shutdown_ack(&mut self)
+        ensures { (v : EndView) → MachineStands self.old v → MachineStands self.new (with_due (record v.due { shutdown_ack = true }) v) }
+    {
+        self.due.answer_shut();
+    }
+}

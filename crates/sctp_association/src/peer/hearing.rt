@@ -1,0 +1,205 @@
+//! What the peer sends to an association that is open: chunks with data, FORWARDs, and what acknowledges (RFC 9260, 6.2 and 6.2.1; RFC 3758,
+//! 3.6). All memory is taken before anything changes.
+
+ghost use Rattle.std.specs.Prelude.{◌≡◌, ◌+◌, ◌≤◌, length, vec_capacity, IfOk, OnOk, OnErr};
+ghost use Rattle.sctp_model.specs.wire.Chunk.{PieceMeaning};
+ghost use Rattle.sctp_model.specs.receiver.ReceiverView.{ReceiverView};
+ghost use Rattle.sctp_model.specs.receiver.PieceTaken.{PieceTaken};
+ghost use Rattle.sctp_model.specs.receiver.ForwardTaken.{ForwardTaken};
+ghost use Rattle.sctp_model.specs.sender.SackTaken.{sack_fault, sack_after, shutdown_fault, shutdown_after};
+ghost use Rattle.sctp_model.specs.end.EndView.{EndView, format_of};
+ghost use Rattle.sctp_model.specs.end.EndView as model;
+ghost use Rattle.sctp_model.specs.end.Clock.{renewed, with_timer};
+ghost use Rattle.sctp_model.specs.end.Reports.{with_causes};
+ghost use Rattle.sctp_model.specs.end.Acting.{piece_causes, sack_heard, shut_timer, shutdown_counted};
+ghost use Rattle.sctp_wire.specs.ChunkTree.{piece_meaning, forward_meaning, sack_meaning};
+ghost use Rattle.sctp_recv.specs.AnswerOf.{answer_of, forward_answer_of};
+ghost use Rattle.sctp_send.specs.SenderAnswers.{reason_meaning};
+ghost use Rattle.sctp_association.specs.TimersMean.{alarm_meaning};
+ghost use Rattle.sctp_association.specs.MachineStands.{MachineStands};
+
+use crate::machine::Machine;
+use crate::state::life::Life;
+use crate::time::timer::Alarm;
+use sctp_recv::{Answer, ForwardAnswer};
+use sctp_send::SackFault;
+use sctp_values::NoMemory;
+use sctp_wire::{Forward, Piece, Sack};
+
+#[tactic(auto, unfolding(crate::specs::MachineStands::MachineStands))]
+impl Machine {
+    /// A chunk with data comes, in the association's format; a stream that isn't there is reported (RFC 9260, 6.2 and 6.5).
+    ///
+    /// # Errors
+    /// `NoMemory` where a growth was refused; nothing changed then.
+    #[inline(always)]
+    pub fn hear_piece(&mut self, piece: &Piece<'_>) -> Result<Answer, NoMemory>
+        ensures step { (v : EndView) (t : model.Tags) (g : model.Stage) → MachineStands self.old v → v.phase ≡ model.Open t g
+            → IfOk result (λ a. (r : ReceiverView) × PieceTaken (format_of v) v.receiver (piece_meaning piece.now) (answer_of a) r
+            × MachineStands self.new (with_causes (piece_causes v (piece_meaning piece.now) (answer_of a)) (record v { receiver = r }))) }
+        ensures refused { (v : EndView) → MachineStands self.old v → OnErr result (MachineStands self.new v) }
+    {
+        let answer = self.take_piece(piece)?;
+        self.report_answer(answer, piece.stream);
+        Ok(answer)
+    }
+
+    /// The receiver takes a chunk with data, once there is room for the cause that may follow.
+    ///
+    /// # Errors
+    /// `NoMemory` where a growth was refused; nothing changed then.
+    #[inline(always)]
+    fn take_piece(&mut self, piece: &Piece<'_>) -> Result<Answer, NoMemory>
+        ensures step { (v : EndView) (t : model.Tags) (g : model.Stage) → MachineStands self.old v → v.phase ≡ model.Open t g
+            → IfOk result (λ a. (r : ReceiverView) × PieceTaken (format_of v) v.receiver (piece_meaning piece.now) (answer_of a) r
+            × MachineStands self.new (record v { receiver = r })) }
+        ensures refused { (v : EndView) → MachineStands self.old v → OnErr result (MachineStands self.new v) }
+        ensures room { OnOk result (length self.new.due.causes.bytes.items + 11 ≤ vec_capacity self.new.due.causes.bytes) }
+    {
+        self.due.causes.make_room()?;
+        match &mut self.life {
+            Life::Unjoined(_) => Ok(Answer::Ahead),
+            Life::Joined(association) => association.traffic.on_data(piece),
+        }
+    }
+
+    /// What follows from the answer to a chunk on this stream. There is room for a cause.
+    fn report_answer(&mut self, answer: Answer, stream: u16)
+        requires { length self.old.due.causes.bytes.items + 11 ≤ vec_capacity self.old.due.causes.bytes }
+        ensures { (v : EndView) (p : PieceMeaning) → p.stream ≡ stream → MachineStands self.old v → MachineStands self.new (with_causes (piece_causes v p (answer_of answer)) v) }
+    {
+        match answer {
+            Answer::NoSuchStream => self.report_stream(stream),
+            _ => {}
+        }
+    }
+
+    /// A FORWARD-TSN or an I-FORWARD-TSN comes, of the association's format (RFC 3758, 3.6; RFC 8260, 2.3.1).
+    ///
+    /// # Errors
+    /// `NoMemory` where a growth was refused; nothing changed then.
+    pub fn hear_forward(&mut self, forward: &Forward<'_>) -> Result<ForwardAnswer, NoMemory>
+        ensures step { (v : EndView) (t : model.Tags) (g : model.Stage) → MachineStands self.old v → v.phase ≡ model.Open t g
+            → IfOk result (λ a. (r : ReceiverView) × ForwardTaken (format_of v) v.receiver (forward_meaning forward.now) (forward_answer_of a) r
+            × MachineStands self.new (record v { receiver = r })) }
+        ensures refused { (v : EndView) → MachineStands self.old v → OnErr result (MachineStands self.new v) }
+    {
+        match &mut self.life {
+            Life::Unjoined(_) => Ok(ForwardAnswer::OutOfDate),
+            Life::Joined(association) => association.traffic.on_forward(forward),
+        }
+    }
+
+    /// A SACK comes: what it acknowledges is acknowledged, a FORWARD is due where there is something to skip, and the timer of fragments counts
+    /// anew (RFC 9260, 6.2.1 and 6.3.2; RFC 3758, 3.5). It takes no memory.
+    ///
+    /// # Errors
+    /// The first fault that it has; nothing changed then.
+    #[inline(always)]
+    pub fn hear_sack(&mut self, sack: &Sack<'_>) -> Result<(), SackFault>
+        ensures answer { (v : EndView) (t : model.Tags) (g : model.Stage) → MachineStands self.old v → v.phase ≡ model.Open t g
+            → reason_meaning result ≡ sack_fault v.sender (sack_meaning sack.now) }
+        ensures step { (v : EndView) (t : model.Tags) (g : model.Stage) → MachineStands self.old v → v.phase ≡ model.Open t g
+            → OnOk result (MachineStands self.new (sack_heard v (sack_meaning sack.now))) }
+        ensures refused { (v : EndView) (t : model.Tags) (g : model.Stage) → MachineStands self.old v → v.phase ≡ model.Open t g
+            → OnErr result (MachineStands self.new v) }
+    {
+        let before = self.cum();
+        match self.take_sack(sack) {
+            Ok(()) => {
+                let moved = before < self.cum();
+                self.due.owe_forward(true);
+                self.settle();
+                self.renew(Alarm::Fragments, moved);
+                Ok(())
+            }
+            Err(fault) => Err(fault),
+        }
+    }
+
+    /// The sender takes a SACK.
+    ///
+    /// # Errors
+    /// The first fault that it has; nothing changed then.
+    #[inline(always)]
+    fn take_sack(&mut self, sack: &Sack<'_>) -> Result<(), SackFault>
+        ensures answer { (v : EndView) (t : model.Tags) (g : model.Stage) → MachineStands self.old v → v.phase ≡ model.Open t g
+            → reason_meaning result ≡ sack_fault v.sender (sack_meaning sack.now) }
+        ensures step { (v : EndView) (t : model.Tags) (g : model.Stage) → MachineStands self.old v → v.phase ≡ model.Open t g
+            → MachineStands self.new (record v { sender = sack_after v.sender (sack_meaning sack.now) }) }
+    {
+        match &mut self.life {
+            Life::Unjoined(_) => Ok(()),
+            Life::Joined(association) => association.traffic.on_sack(sack),
+        }
+    }
+
+    /// The index up to which all is acknowledged.
+    fn cum(&self) -> u64
+        ensures { (v : EndView) → MachineStands self.now v → result ≡ v.sender.cum }
+    {
+        match &self.life {
+            Life::Unjoined(_) => 0,
+            Life::Joined(association) => association.traffic.cum(),
+        }
+    }
+
+    /// A timer counts anew; where its peer went on it waits anew, too (RFC 9260, 6.3.2 and 9.2).
+    pub(crate) fn renew(&mut self, alarm: Alarm, moved: bool)
+        ensures { (v : EndView) → MachineStands self.old v
+            → MachineStands self.new (with_timer (alarm_meaning alarm) (renewed v.moment moved (v.timers (alarm_meaning alarm))) v) }
+    {
+        let timer = self.timers.get(alarm);
+        self.timers.put(alarm, timer.renewed(self.moment, moved));
+    }
+
+    /// The cumulative TSN of a SHUTDOWN comes, and acknowledges; with standard closing one that moves the acknowledged index is for the timer of
+    /// fragments what a SACK is (RFC 9260, 6.3.2 and 9.2). It takes no memory.
+    ///
+    /// # Errors
+    /// The first fault that it has; nothing changed then.
+    pub fn hear_shutdown(&mut self, tsn: u32) -> Result<(), SackFault>
+        ensures answer { (v : EndView) (t : model.Tags) (g : model.Stage) → MachineStands self.old v → v.phase ≡ model.Open t g
+            → reason_meaning result ≡ shutdown_fault v.sender tsn }
+        ensures step { (v : EndView) (t : model.Tags) (g : model.Stage) → MachineStands self.old v → v.phase ≡ model.Open t g
+            → OnOk result (MachineStands self.new (shutdown_counted v tsn)) }
+        ensures refused { (v : EndView) (t : model.Tags) (g : model.Stage) → MachineStands self.old v → v.phase ≡ model.Open t g
+            → OnErr result (MachineStands self.new v) }
+    {
+        let before = self.cum();
+        match self.take_shutdown(tsn) {
+            Ok(()) => {
+                self.settle();
+                self.renew_shut(before < self.cum());
+                Ok(())
+            }
+            Err(fault) => Err(fault),
+        }
+    }
+
+    /// With standard closing a SHUTDOWN that moved the acknowledged index renews the timer of fragments (RFC 9260, 6.3.2 and 9.2).
+    fn renew_shut(&mut self, moved: bool)
+        ensures { (v : EndView) → MachineStands self.old v
+            → MachineStands self.new (with_timer model.DataAlarm (shut_timer v.configuration.standard_closing moved v.moment (v.timers model.DataAlarm)) v) }
+    {
+        if self.config.standard_closing() && moved {
+            self.renew(Alarm::Fragments, true);
+        }
+    }
+
+    /// The sender takes the cumulative TSN of a SHUTDOWN.
+    ///
+    /// # Errors
+    /// The first fault that it has; nothing changed then.
+    fn take_shutdown(&mut self, tsn: u32) -> Result<(), SackFault>
+        ensures answer { (v : EndView) (t : model.Tags) (g : model.Stage) → MachineStands self.old v → v.phase ≡ model.Open t g
+            → reason_meaning result ≡ shutdown_fault v.sender tsn }
+        ensures step { (v : EndView) (t : model.Tags) (g : model.Stage) → MachineStands self.old v → v.phase ≡ model.Open t g
+            → MachineStands self.new (record v { sender = shutdown_after v.sender tsn }) }
+    {
+        match &mut self.life {
+            Life::Unjoined(_) => Ok(()),
+            Life::Joined(association) => association.traffic.on_shutdown(tsn),
+        }
+    }
+}

@@ -1,0 +1,151 @@
+//! How an end joins an association: a listener by the cookie that comes back, a caller by the first INIT ACK that it may take, two ends
+//! without packets (RFC 9260, 5.1). Each makes its traffic first, which alone wants memory, and then goes there.
+
+ghost use Rattle.std.specs.Prelude.{◌≡◌, ℕ, List, ◌<◌, ◌+◌, ◌^◌, length, IfOk, OnOk, OnErr};
+ghost use Rattle.sctp_model.specs.sender.SenderView.{fresh_sender};
+ghost use Rattle.sctp_model.specs.receiver.ReceiverView.{fresh_receiver};
+ghost use Rattle.sctp_model.specs.end.EndView.{EndView, format_for};
+ghost use Rattle.sctp_model.specs.end.EndView as model;
+ghost use Rattle.sctp_model.specs.end.Clock.{timers_in};
+ghost use Rattle.sctp_model.specs.end.Opening.{begun, echoing, opened};
+ghost use Rattle.sctp_wire.specs.ChunkTree.{init_meaning};
+ghost use Rattle.sctp_cookie.specs.CookieTree.{body_meaning};
+ghost use Rattle.sctp_association.specs.TimersMean.{timers_meaning};
+ghost use Rattle.sctp_association.specs.TrafficStands.{TrafficStands};
+ghost use Rattle.sctp_association.specs.MachineStands.{MachineStands};
+
+use crate::machine::Machine;
+use crate::state::carried::EchoedCookie;
+use crate::state::closing::turn_timers;
+use crate::state::due::Due;
+use crate::state::life::{Association, Life, Progress, Role};
+use crate::state::stage::{Stage, Tags};
+use crate::time::timer::Alarm;
+use crate::time::timers::Timers;
+use crate::traffic::{Sizes, Traffic};
+use sctp_cookie::CookieBody;
+use sctp_opening::Terms;
+use sctp_terms::{Config, Draw};
+use sctp_wire::{Init, NoMemory};
+use std::alloc::Global;
+use std::mem::replace;
+
+#[tactic(auto, unfolding(crate::specs::MachineStands::MachineStands))]
+impl Machine {
+    /// An end that is established at once with a peer that is set up alike and drew `peer`.
+    ///
+    /// # Errors
+    /// `NoMemory` where a growth was refused.
+    pub fn paired(alloc: Global, config: Config, own: Draw, peer: Draw) -> Result<Machine, NoMemory>
+        ensures { IfOk result (λ m. MachineStands m (opened config own peer)) }
+    {
+        let terms = Terms::alike(&config, own, peer);
+        let traffic = begun_for(alloc, &config, terms, config.buffer())?;
+        let tags = Tags {
+            own: own.tag(),
+            peer: peer.tag(),
+        };
+        Ok(Machine {
+            alloc,
+            config,
+            role: Role::Paired,
+            moment: 0,
+            due: Due::nothing(alloc),
+            timers: Timers::unused(),
+            delayed: None,
+            life: Life::Joined(Association {
+                tags,
+                terms,
+                progress: Progress::Open(Stage::Established),
+                traffic,
+            }),
+            room: Vec::new(alloc),
+        })
+    }
+
+    /// A listener joins on the terms of a cookie that opened, and its peer is to be told by a COOKIE ACK (RFC 9260, 5.1, D).
+    ///
+    /// # Errors
+    /// `NoMemory` where a growth was refused; nothing changed then.
+    pub fn begin(&mut self, body: &CookieBody) -> Result<(), NoMemory>
+        ensures step { (v : EndView) → MachineStands self.old v → OnOk result (MachineStands self.new (begun (body_meaning body.now) v)) }
+        ensures refused { (v : EndView) → MachineStands self.old v → OnErr result (MachineStands self.new v) }
+    {
+        let terms = Terms::of_cookie(body);
+        let traffic = begun_for(self.alloc, &self.config, terms, body.caller_rwnd)?;
+        let tags = Tags {
+            own: body.listener_tag,
+            peer: body.caller_tag,
+        };
+        let joined = Association {
+            tags,
+            terms,
+            progress: Progress::Open(Stage::Established),
+            traffic,
+        };
+        drop(replace(&mut self.life, Life::Joined(joined)));
+        self.due.begin();
+        turn_timers(&mut self.timers, Stage::Established);
+        Ok(())
+    }
+
+    /// A caller with this draw joins on the terms of the INIT ACK that it takes, and is to send its cookie back (RFC 9260, 5.1, C).
+    ///
+    /// # Errors
+    /// `NoMemory` where a growth was refused; nothing changed then.
+    pub fn echo(&mut self, draw: Draw, offer: &Init<'_>, cookie: &[u8]) -> Result<(), NoMemory>
+        requires { 4 + length cookie.now < 2 ^ 16 }
+        ensures step { (v : EndView) → MachineStands self.old v → OnOk result (MachineStands self.new (echoing v draw (init_meaning offer.now) cookie.now)) }
+        ensures refused { (v : EndView) → MachineStands self.old v → OnErr result (MachineStands self.new v) }
+    {
+        let terms = Terms::of_init_ack(&self.config, draw, offer);
+        let echoed = EchoedCookie::copied(self.alloc, cookie)?;
+        let reported = self
+            .due
+            .causes
+            .with_ack_report(self.alloc, &self.config, &offer.parameters)?;
+        let traffic = begun_for(self.alloc, &self.config, terms, offer.rwnd)?;
+        let tags = Tags {
+            own: draw.tag(),
+            peer: offer.tag,
+        };
+        let joined = Association {
+            tags,
+            terms,
+            progress: Progress::Echoing(echoed),
+            traffic,
+        };
+        drop(replace(&mut self.life, Life::Joined(joined)));
+        self.due.echo(reported);
+        echo_timers(&mut self.timers);
+        Ok(())
+    }
+}
+
+/// The traffic of an end that is set up so, on these terms.
+fn begun_for(
+    alloc: Global,
+    config: &Config,
+    terms: Terms,
+    peer_rwnd: u32,
+) -> Result<Traffic, NoMemory>
+    ensures { IfOk result (λ t. TrafficStands t (format_for terms.interleave)
+        (fresh_sender terms.own_tsn terms.outbound config.now.fragment peer_rwnd terms.partial)
+        (fresh_receiver terms.peer_tsn terms.inbound config.now.buffer)) }
+{
+    let sizes = Sizes {
+        fragment: config.fragment(),
+        buffer: config.buffer(),
+    };
+    Traffic::begun(alloc, terms, sizes, peer_rwnd)
+}
+
+/// The timers of a caller that sends its cookie back.
+fn echo_timers(timers: &mut Timers)
+    ensures { (t : model.Tags) (xs : List ℕ) → timers_meaning timers.new ≡ timers_in (model.Echoing t xs) (timers_meaning timers.old) }
+{
+    timers.stop(Alarm::Init);
+    timers.stop(Alarm::Fragments);
+    timers.stop(Alarm::Shutdown);
+    timers.stop(Alarm::ShutdownAck);
+}

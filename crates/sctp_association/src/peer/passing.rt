@@ -1,0 +1,61 @@
+//! Which verification tags an end looks for (RFC 9260, 8.5).
+
+ghost use Rattle.std.specs.Prelude.{◌≡◌, if◌then◌else◌};
+ghost use Rattle.sctp_model.specs.end.EndView.{EndView};
+ghost use Rattle.sctp_model.specs.end.Passing.{passes_tag};
+ghost use Rattle.sctp_association.specs.PhaseMeans.{phase_in, phase_unjoined};
+ghost use Rattle.sctp_association.specs.MachineStands.{MachineStands};
+
+use crate::machine::Machine;
+use crate::state::life::{Association, Life, Progress, Unjoined};
+use crate::state::stage::Tags;
+
+#[tactic(auto, unfolding(crate::specs::MachineStands::MachineStands))]
+impl Machine {
+    /// A packet under this tag is for this end: the tag is its own, or its peer's where it is reflected, which an ABORT and a SHUTDOWN
+    /// COMPLETE may do (RFC 9260, 8.5.1). Without an association every tag is.
+    pub fn passes_tag(&self, reflected: bool, tag: u32) -> bool
+        ensures { (v : EndView) → MachineStands self.now v → result ≡ passes_tag v.phase reflected tag }
+    {
+        match &self.life {
+            Life::Unjoined(unjoined) => unjoined.passes_tag(reflected, tag),
+            Life::Joined(association) => association.passes_tag(reflected, tag),
+        }
+    }
+}
+
+impl Unjoined {
+    /// The same before an association: a caller knows its own tag alone.
+    fn passes_tag(self, reflected: bool, tag: u32) -> bool
+        ensures { result ≡ passes_tag (phase_unjoined self) reflected tag }
+    {
+        match self {
+            Unjoined::Calling(draw) => !reflected && tag == draw.tag(),
+            Unjoined::Idle => true,
+            Unjoined::Listening => true,
+            Unjoined::Failed(_) => true,
+        }
+    }
+}
+
+impl Association {
+    /// The same in an association: once it is over, every tag is right.
+    fn passes_tag(&self, reflected: bool, tag: u32) -> bool
+        ensures { result ≡ passes_tag (phase_in self.now.tags self.now.progress) reflected tag }
+    {
+        match &self.progress {
+            Progress::Echoing(_) => tag == self.tags.asked(reflected),
+            Progress::Open(_) => tag == self.tags.asked(reflected),
+            Progress::Over(_) => true,
+        }
+    }
+}
+
+impl Tags {
+    /// The tag that is asked for.
+    fn asked(self, reflected: bool) -> u32
+        ensures { result ≡ (if reflected then self.peer else self.own) }
+    {
+        if reflected { self.peer } else { self.own }
+    }
+}

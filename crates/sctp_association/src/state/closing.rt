@@ -1,0 +1,88 @@
+//! How an end goes from state to state, and what follows at once (RFC 9260, 9.2).
+
+ghost use Rattle.std.specs.Prelude.{◌≡◌};
+ghost use Rattle.sctp_model.specs.end.EndView.{EndView};
+ghost use Rattle.sctp_model.specs.end.EndView as model;
+ghost use Rattle.sctp_model.specs.end.Clock.{turned, closed, timers_in};
+ghost use Rattle.sctp_model.specs.end.Closing.{rested};
+ghost use Rattle.sctp_terms.specs.Meanings.{end_meaning};
+ghost use Rattle.sctp_association.specs.TimersMean.{timers_meaning};
+ghost use Rattle.sctp_association.specs.StageMeans.{stage_meaning};
+ghost use Rattle.sctp_association.specs.MachineStands.{MachineStands};
+
+use crate::machine::Machine;
+use crate::state::life::{Life, Progress, Unjoined};
+use crate::state::stage::Stage;
+use crate::time::timers::Timers;
+use sctp_terms::End;
+
+#[tactic(auto, unfolding(crate::specs::MachineStands::MachineStands))]
+impl Machine {
+    /// An open association goes to this stage: what only another state sends is forgotten, and its timers rest.
+    pub fn turn(&mut self, stage: Stage)
+        ensures { (v : EndView) (t : model.Tags) (g : model.Stage) → MachineStands self.old v → v.phase ≡ model.Open t g
+            → MachineStands self.new (turned (model.Open t (stage_meaning stage)) v) }
+    {
+        self.due.turn(stage);
+        turn_timers(&mut self.timers, stage);
+        if let Life::Joined(association) = &mut self.life {
+            association.progress = Progress::Open(stage);
+        }
+    }
+
+    /// The end is closed for good, for this reason: it sends nothing more, and waits for nothing.
+    pub fn close(&mut self, why: End)
+        ensures { (v : EndView) → MachineStands self.old v → MachineStands self.new (closed (end_meaning why) v) }
+    {
+        let alloc = self.alloc;
+        self.due.clear(alloc);
+        self.timers.stop_all();
+        self.delayed = None;
+        match &mut self.life {
+            Life::Joined(association) => association.progress = Progress::Over(why),
+            Life::Unjoined(unjoined) => *unjoined = Unjoined::Failed(why),
+        }
+    }
+
+    /// An end that has nothing left to be acknowledged goes on with closing at once (RFC 9260, 9.2).
+    #[inline(always)]
+    pub fn rest(&mut self)
+        ensures { (v : EndView) → MachineStands self.old v → MachineStands self.new (rested v) }
+    {
+        let Some(opened) = self.opened() else {
+            return;
+        };
+        if opened.stage.is_established() {
+            return;
+        }
+        self.rest_in(opened.stage);
+    }
+
+    /// The same in this stage, in which the association is open.
+    #[inline(never)]
+    fn rest_in(&mut self, stage: Stage)
+        ensures { (v : EndView) (t : model.Tags) → MachineStands self.old v → v.phase ≡ model.Open t (stage_meaning stage) → MachineStands self.new (rested v) }
+    {
+        if !self.is_drained() {
+            return;
+        }
+        match stage {
+            Stage::ShutdownPending => {
+                self.turn(Stage::ShutdownSent);
+                self.due.shut();
+            }
+            Stage::ShutdownReceived => {
+                self.turn(Stage::ShutdownAckSent);
+                self.due.answer_shut();
+            }
+            _ => {}
+        }
+    }
+}
+
+/// The timers of an association that goes to this stage.
+pub(crate) fn turn_timers(timers: &mut Timers, stage: Stage)
+    ensures { (t : model.Tags) → timers_meaning timers.new ≡ timers_in (model.Open t (stage_meaning stage)) (timers_meaning timers.old) }
+{
+    timers.keep_open(stage.is_shutdown_sent(), stage.is_shutdown_ack_sent());
+}

@@ -1,0 +1,138 @@
+//! The timers of an end, by their names: which start, stop and rest together, and which expires first (RFC 9260, 6.3 and 9.2).
+
+ghost use Rattle.std.specs.Prelude.{◌≡◌};
+ghost use Rattle.sctp_model.specs.end.EndView.{unused_timer};
+ghost use Rattle.sctp_model.specs.end.Clock.{stopped, replaced};
+ghost use Rattle.sctp_model.specs.end.Moments.{earlier, earliest, all_alarms};
+ghost use Rattle.sctp_association.specs.TimersMean.{alarm_meaning, timer_meaning, timers_meaning, kept_if, open_timers, resting};
+ghost use Rattle.sctp_association.specs.StartsMean.{starts_at, started_from};
+ghost use Rattle.sctp_association.specs.PlainPacket.{fragments_alone};
+
+use crate::time::starts::Starts;
+use crate::time::timer::{Alarm, Timer};
+
+/// The earlier of two moments, where there are any.
+pub(crate) fn earlier(one: Option<u64>, other: Option<u64>) -> Option<u64>
+    ensures { result ≡ earlier one other }
+{
+    match one {
+        None => other,
+        Some(first) => match other {
+            None => Some(first),
+            Some(second) => Some(first.min(second)),
+        },
+    }
+}
+
+/// The five timers of an end.
+#[derive(Clone, Copy)]
+pub(crate) struct Timers {
+    init: Timer,
+    cookie: Timer,
+    fragments: Timer,
+    shutdown: Timer,
+    shutdown_ack: Timer,
+}
+
+impl Timers {
+    /// Timers that never ran.
+    pub(crate) fn unused() -> Timers
+        ensures { timers_meaning result ≡ (λ a. unused_timer) }
+    {
+        Timers {
+            init: Timer::unused(),
+            cookie: Timer::unused(),
+            fragments: Timer::unused(),
+            shutdown: Timer::unused(),
+            shutdown_ack: Timer::unused(),
+        }
+    }
+
+    /// One of them.
+    pub(crate) fn get(self, alarm: Alarm) -> Timer
+        ensures { timer_meaning result ≡ timers_meaning self (alarm_meaning alarm) }
+    {
+        match alarm {
+            Alarm::Init => self.init,
+            Alarm::Cookie => self.cookie,
+            Alarm::Fragments => self.fragments,
+            Alarm::Shutdown => self.shutdown,
+            Alarm::ShutdownAck => self.shutdown_ack,
+        }
+    }
+
+    /// Puts another timer in one's place.
+    pub(crate) fn put(&mut self, alarm: Alarm, timer: Timer)
+        ensures { timers_meaning self.new ≡ replaced (alarm_meaning alarm) (timer_meaning timer) (timers_meaning self.old) }
+    {
+        match alarm {
+            Alarm::Init => self.init = timer,
+            Alarm::Cookie => self.cookie = timer,
+            Alarm::Fragments => self.fragments = timer,
+            Alarm::Shutdown => self.shutdown = timer,
+            Alarm::ShutdownAck => self.shutdown_ack = timer,
+        }
+    }
+
+    /// Starts those that are to start, as far as they don't run, at this moment.
+    pub(crate) fn start_all(&mut self, starts: Starts, now: u64)
+        ensures { timers_meaning self.new ≡ started_from (starts_at starts) now (timers_meaning self.old) }
+    {
+        self.init.start_if(starts.init, now);
+        self.cookie.start_if(starts.cookie, now);
+        self.fragments.start_if(starts.fragments, now);
+        self.shutdown.start_if(starts.shutdown, now);
+        self.shutdown_ack.start_if(starts.shutdown_ack, now);
+    }
+
+    /// Starts that of fragments, where it is to start and doesn't run, at this moment.
+    pub(crate) fn start_fragments(&mut self, starts: bool, now: u64)
+        ensures { timers_meaning self.new ≡ started_from (starts_at (fragments_alone starts)) now (timers_meaning self.old) }
+    {
+        self.fragments.start_if(starts, now);
+    }
+
+    /// Stops a timer.
+    pub(crate) fn stop(&mut self, alarm: Alarm)
+        ensures { timers_meaning self.new ≡ replaced (alarm_meaning alarm) (stopped (timers_meaning self.old (alarm_meaning alarm))) (timers_meaning self.old) }
+    {
+        self.put(alarm, self.get(alarm).stopped());
+    }
+
+    /// Stops a timer, unless it is wanted.
+    pub(crate) fn stop_unless(&mut self, wanted: bool, alarm: Alarm)
+        ensures { timers_meaning self.new ≡ replaced (alarm_meaning alarm) (kept_if wanted (timers_meaning self.old (alarm_meaning alarm))) (timers_meaning self.old) }
+    {
+        self.put(alarm, self.get(alarm).kept_if(wanted));
+    }
+
+    /// Where an association is open the timers of its opening rest, and those of its closing where they aren't wanted.
+    pub(crate) fn keep_open(&mut self, shutdown: bool, shutdown_ack: bool)
+        ensures { timers_meaning self.new ≡ open_timers shutdown shutdown_ack (timers_meaning self.old) }
+    {
+        self.init = self.init.stopped();
+        self.cookie = self.cookie.stopped();
+        self.shutdown = self.shutdown.kept_if(shutdown);
+        self.shutdown_ack = self.shutdown_ack.kept_if(shutdown_ack);
+    }
+
+    /// Stops them all.
+    pub(crate) fn stop_all(&mut self)
+        ensures { timers_meaning self.new ≡ resting (timers_meaning self.old) }
+    {
+        self.init = self.init.stopped();
+        self.cookie = self.cookie.stopped();
+        self.fragments = self.fragments.stopped();
+        self.shutdown = self.shutdown.stopped();
+        self.shutdown_ack = self.shutdown_ack.stopped();
+    }
+
+    /// The earliest expiry of a timer that runs.
+    pub(crate) fn next_moment(self) -> Option<u64>
+        ensures { result ≡ earliest (timers_meaning self) all_alarms }
+    {
+        let closing = earlier(self.shutdown.expiry, self.shutdown_ack.expiry);
+        let open = earlier(self.fragments.expiry, closing);
+        earlier(self.init.expiry, earlier(self.cookie.expiry, open))
+    }
+}

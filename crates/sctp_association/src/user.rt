@@ -1,0 +1,8 @@
+//! The user's side of an endpoint (RFC 9260, 11.1): calls, and what he reads of its state.
+
+pub mod abort;
+pub mod agreed;
+pub mod calls;
+pub mod readers;
+pub mod rooms;
+pub mod status;

@@ -1,0 +1,137 @@
+//! What the user of an end calls (RFC 9260, 11.1).
+
+ghost use Rattle.std.specs.Prelude.{◌≡◌, option_map};
+ghost use Rattle.sctp_model.specs.end.EndView.{EndView};
+ghost use Rattle.sctp_model.specs.end.EndView as model;
+ghost use Rattle.sctp_model.specs.end.Clock.{at_moment, timers_in};
+ghost use Rattle.sctp_model.specs.end.UserCalls.{connect_answer, abandons, abandoned_at, shutdown_answer, shut};
+ghost use Rattle.sctp_send.specs.SenderAnswers.{answer_meaning, lane_for};
+ghost use Rattle.sctp_association.specs.TimersMean.{timers_meaning};
+ghost use Rattle.sctp_association.specs.MachineStands.{MachineStands};
+ghost use Rattle.sctp_association.specs.PhaseMeans.{is_idle};
+ghost use Rattle.sctp_association.specs.CallAnswers.{connect_meaning, connected, shutdown_meaning, call_of, SendAnswers, sent_view};
+
+use crate::machine::Machine;
+use crate::state::life::{Life, Unjoined};
+use crate::state::stage::Stage;
+use crate::time::timer::Alarm;
+use crate::time::timers::Timers;
+use sctp_send::{Abandoned, SendFault};
+use sctp_terms::{ConnectFault, Draw, ShutdownFault};
+use sctp_values::Ticket;
+use std::mem::replace;
+use thiserror::Error;
+
+/// Why a message isn't accepted.
+#[derive(Clone, Copy, Debug, PartialEq, Eq, Error)]
+pub enum Refused {
+    /// The association isn't established.
+    #[error("the association isn't established")]
+    NotOpen,
+    /// The sender refuses it, for the first reason that holds.
+    #[error(transparent)]
+    Fault(SendFault),
+}
+
+#[tactic(auto, unfolding(crate::specs::MachineStands::MachineStands))]
+impl Machine {
+    /// Calls the peer: an INIT is due (RFC 9260, 5.1, A and 11.1.2). It takes no memory.
+    ///
+    /// # Errors
+    /// `ConnectFault::State` where something happened to this end already; nothing changed then, not even its moment.
+    pub fn connect(&mut self, now: u64, draw: Draw) -> Result<(), ConnectFault>
+        ensures answer { (v : EndView) → MachineStands self.old v → connect_meaning result ≡ connect_answer v.phase }
+        ensures step { (v : EndView) → MachineStands self.old v → MachineStands self.new (connected v now draw result) }
+    {
+        if !self.is_idle() {
+            return Err(ConnectFault::State);
+        }
+        self.moment = self.moment.max(now);
+        drop(replace(&mut self.life, Life::Unjoined(Unjoined::Calling(draw))));
+        self.due.call();
+        call_timers(&mut self.timers);
+        Ok(())
+    }
+
+    /// Nothing happened to it yet.
+    fn is_idle(&self) -> bool
+        ensures { result ≡ is_idle self.now.life }
+    {
+        match &self.life {
+            Life::Unjoined(unjoined) => matches!(unjoined, Unjoined::Idle),
+            Life::Joined(_) => false,
+        }
+    }
+
+    /// Sends a message on a stream, ordered or not (RFC 9260, 11.1.5): `until` is the moment from which it is worthless, in milliseconds.
+    ///
+    /// # Errors
+    /// `NotOpen` where the association isn't established, before every other reason; else the first reason that the sender has. Nothing
+    /// changed; the bytes are dropped.
+    pub fn send(
+        &mut self,
+        stream: u16,
+        ordered: bool,
+        payload_id: u32,
+        bytes: Vec<u8>,
+        until: Option<u64>,
+    ) -> Result<Ticket, Refused>
+        ensures answer { (v : EndView) → MachineStands self.old v → SendAnswers v (call_of (lane_for stream ordered) payload_id bytes.items until) result }
+        ensures step { (v : EndView) → MachineStands self.old v → MachineStands self.new (sent_view v (call_of (lane_for stream ordered) payload_id bytes.items until) result) }
+    {
+        let Some(opened) = self.opened() else {
+            return Err(Refused::NotOpen);
+        };
+        if !opened.stage.is_established() {
+            return Err(Refused::NotOpen);
+        }
+        match self.queue(stream, ordered, payload_id, bytes, until) {
+            Ok(ticket) => Ok(ticket),
+            Err(fault) => Err(Refused::Fault(fault)),
+        }
+    }
+
+    /// Abandons the message with this ticket (RFC 3758, 3.5). It takes no memory.
+    pub fn abandon(&mut self, ticket: Ticket) -> Abandoned
+        ensures answer { (v : EndView) → MachineStands self.old v → answer_meaning result ≡ abandons v ticket.0 }
+        ensures step { (v : EndView) → MachineStands self.old v → MachineStands self.new (abandoned_at v ticket.0) }
+    {
+        let before = self.point();
+        let answer = self.abandon_one(ticket);
+        if !self.is_open() {
+            return answer;
+        }
+        self.when_abandoned(before);
+        answer
+    }
+
+    /// Shuts the association: what was sent is still delivered (RFC 9260, 9.2 and 11.1.3). Once that is begun, the call changes nothing. It
+    /// takes no memory.
+    ///
+    /// # Errors
+    /// `ShutdownFault::NotOpen` where no association is open; nothing changed.
+    pub fn shutdown(&mut self) -> Result<(), ShutdownFault>
+        ensures answer { (v : EndView) → MachineStands self.old v → shutdown_meaning result ≡ shutdown_answer v.phase }
+        ensures step { (v : EndView) → MachineStands self.old v → MachineStands self.new (shut v) }
+    {
+        let Some(opened) = self.opened() else {
+            return Err(ShutdownFault::NotOpen);
+        };
+        if !opened.stage.is_established() {
+            return Ok(());
+        }
+        self.turn(Stage::ShutdownPending);
+        self.rest();
+        Ok(())
+    }
+}
+
+/// The timers of an end that calls: that of the INIT stays as it is, the others rest.
+fn call_timers(timers: &mut Timers)
+    ensures { (d : model.Draw) → timers_meaning timers.new ≡ timers_in (model.Calling d) (timers_meaning timers.old) }
+{
+    timers.stop(Alarm::Cookie);
+    timers.stop(Alarm::Fragments);
+    timers.stop(Alarm::Shutdown);
+    timers.stop(Alarm::ShutdownAck);
+}

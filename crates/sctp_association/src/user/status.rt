@@ -1,0 +1,117 @@
+//! How much waits to go out, what the peer has room for, on which stream a message waits for the user, and what both ends agreed on.
+
+ghost use Rattle.std.specs.Prelude.{◌≡◌, ◌≤◌, ◌*◌, ℕ, length};
+ghost use Rattle.sctp_model.specs.numbers.Limits.{QUEUE_LIMIT, LONGEST_MESSAGE};
+ghost use Rattle.sctp_model.specs.messages.Format.{Format};
+ghost use Rattle.sctp_model.specs.sender.SenderView.{SenderView};
+ghost use Rattle.sctp_model.specs.receiver.ReceiverView.{ReceiverView};
+ghost use Rattle.sctp_model.specs.end.EndView.{EndView};
+ghost use Rattle.sctp_send.specs.Waiting.{queued_bytes};
+ghost use Rattle.sctp_recv.specs.Readable.{ReadableAnswer};
+ghost use Rattle.sctp_association.specs.Agreeing.{AgreedAnswer};
+ghost use Rattle.sctp_association.specs.MachineStands.{MachineStands};
+ghost use Rattle.sctp_association.specs.TrafficStands.{TrafficStands};
+
+use crate::machine::Machine;
+use crate::state::life::Life;
+use crate::traffic::Traffic;
+use crate::user::agreed::Agreed;
+
+impl Traffic {
+    /// How many messages wait for their numbers: at most 1,024.
+    pub(crate) fn queued(&self) -> usize
+        ensures count { (f : Format) (s : SenderView) (r : ReceiverView) → TrafficStands self.now f s r → result ≡ length s.queue }
+        ensures bound { (f : Format) (s : SenderView) (r : ReceiverView) → TrafficStands self.now f s r → result ≤ QUEUE_LIMIT }
+    {
+        match self {
+            Traffic::Plain(directions) => directions.sender.queued(),
+            Traffic::Interleaved(directions) => directions.sender.queued(),
+        }
+    }
+
+    /// The bytes of these messages.
+    pub(crate) fn queued_bytes(&self) -> u64
+        ensures bytes { (f : Format) (s : SenderView) (r : ReceiverView) → TrafficStands self.now f s r → result ≡ queued_bytes s }
+        ensures bound { (f : Format) (s : SenderView) (r : ReceiverView) → TrafficStands self.now f s r → result ≤ QUEUE_LIMIT * LONGEST_MESSAGE }
+    {
+        match self {
+            Traffic::Plain(directions) => directions.sender.queued_bytes(),
+            Traffic::Interleaved(directions) => directions.sender.queued_bytes(),
+        }
+    }
+
+    /// The peer's receiver window in bytes, as it last advertised it (RFC 9260, 3.3.2 and 3.3.4).
+    pub(crate) fn peer_window(&self) -> u32
+        ensures { (f : Format) (s : SenderView) (r : ReceiverView) → TrafficStands self.now f s r → result ≡ s.rwnd }
+    {
+        match self {
+            Traffic::Plain(directions) => directions.sender.peer_window(),
+            Traffic::Interleaved(directions) => directions.sender.peer_window(),
+        }
+    }
+
+    /// The first stream from one on, on which a message waits to be taken.
+    pub(crate) fn readable(&self, from: u16) -> Option<u16>
+        ensures { (f : Format) (s : SenderView) (r : ReceiverView) → TrafficStands self.now f s r → ReadableAnswer r.waiting from result }
+    {
+        match self {
+            Traffic::Plain(directions) => directions.receiver.readable(from),
+            Traffic::Interleaved(directions) => directions.receiver.readable(from),
+        }
+    }
+}
+
+#[tactic(auto, unfolding(crate::specs::MachineStands::MachineStands))]
+impl Machine {
+    /// How many messages wait for their numbers: none before an association, and at most 1,024.
+    pub fn queued(&self) -> usize
+        ensures count { (v : EndView) → MachineStands self.now v → result ≡ length v.sender.queue }
+        ensures bound { (v : EndView) → MachineStands self.now v → result ≤ QUEUE_LIMIT }
+    {
+        match &self.life {
+            Life::Unjoined(_) => 0,
+            Life::Joined(association) => association.traffic.queued(),
+        }
+    }
+
+    /// The bytes of these messages.
+    pub fn queued_bytes(&self) -> u64
+        ensures bytes { (v : EndView) → MachineStands self.now v → result ≡ queued_bytes v.sender }
+        ensures bound { (v : EndView) → MachineStands self.now v → result ≤ QUEUE_LIMIT * LONGEST_MESSAGE }
+    {
+        match &self.life {
+            Life::Unjoined(_) => 0,
+            Life::Joined(association) => association.traffic.queued_bytes(),
+        }
+    }
+
+    /// The peer's receiver window in bytes, as it last advertised it: 0 before an association (RFC 9260, 3.3.2 and 3.3.4).
+    pub fn peer_window(&self) -> u32
+        ensures { (v : EndView) → MachineStands self.now v → result ≡ v.sender.rwnd }
+    {
+        match &self.life {
+            Life::Unjoined(_) => 0,
+            Life::Joined(association) => association.traffic.peer_window(),
+        }
+    }
+
+    /// The first stream from one on, on which a message waits to be taken: none before an association.
+    pub fn readable(&self, from: u16) -> Option<u16>
+        ensures { (v : EndView) → MachineStands self.now v → ReadableAnswer v.receiver.waiting from result }
+    {
+        match &self.life {
+            Life::Unjoined(_) => None,
+            Life::Joined(association) => association.traffic.readable(from),
+        }
+    }
+
+    /// What both ends agreed on, also once the association is over: None before it, exactly where no stream is agreed on.
+    pub fn agreed(&self) -> Option<Agreed>
+        ensures { (v : EndView) → MachineStands self.now v → AgreedAnswer v.terms result }
+    {
+        match &self.life {
+            Life::Unjoined(_) => None,
+            Life::Joined(association) => Agreed::on(association.terms),
+        }
+    }
+}
