@@ -1,8 +1,8 @@
-//! The body of a cookie and its 40 bytes. It knows nothing of keys.
+//! The body of a cookie and its 40 bytes, without the MAC.
 //!
 //! | at | size | field |
 //! |---|---|---|
-//! | 0 | 8 | moment made, in milliseconds |
+//! | 0 | 8 | time of its making, in milliseconds |
 //! | 8 | 2 | listener's port |
 //! | 10 | 2 | caller's port |
 //! | 12 | 4 | listener's tag |
@@ -15,7 +15,7 @@
 //! | 36 | 1 | options: 1 partial reliability, 2 I-DATA |
 //! | 37 | 3 | zero |
 //!
-//! Numbers stand high byte first.
+//! Numbers are in network byte order.
 
 ghost use Rattle.std.specs.Prelude.{◌≡◌, true, false, length, MatchOption};
 ghost use Rattle.sctp_model.specs.end.Sealing.{IsInRange};
@@ -24,13 +24,13 @@ ghost use Rattle.sctp_cookie.specs.CookieTree.{body_meaning};
 
 use byteorder::{BigEndian, ByteOrder};
 
-/// The bytes of a body.
+/// The bytes of a cookie's body.
 pub const BODY_LENGTH: usize = 40;
 
 /// The bytes of a cookie: its body and its MAC.
 pub const COOKIE_LENGTH: usize = 72;
 
-/// The place of the options' byte in a body.
+/// The offset of the options' byte in a body.
 const OPTIONS_AT: usize = 36;
 
 /// The option of partial reliability (RFC 3758), in the options' byte.
@@ -42,38 +42,38 @@ const INTERLEAVING: u8 = 2;
 /// The two ports of an association.
 #[derive(Clone, Copy, PartialEq, Eq)]
 pub struct Ports {
-    /// The port of the end that was called.
+    /// The port of the endpoint that received the INIT.
     pub listener: u16,
-    /// The port of the end that called.
+    /// The port of the endpoint that sent the INIT.
     pub caller: u16,
 }
 
 /// What a listener must remember from an INIT until the COOKIE ECHO (RFC 9260, 5.1.3).
 #[derive(Clone, Copy, Debug, PartialEq, Eq)]
 pub struct CookieBody {
-    /// The moment at which the cookie was made, in milliseconds of the listener's clock.
+    /// The time at which the cookie was made, in milliseconds of the listener's clock.
     pub made: u64,
-    /// The port of the end that was called.
+    /// The port of the endpoint that received the INIT.
     pub listener_port: u16,
-    /// The port of the end that called.
+    /// The port of the endpoint that sent the INIT.
     pub caller_port: u16,
     /// The initiate tag of the listener's INIT ACK: packets to the listener carry it.
     pub listener_tag: u32,
     /// The initiate tag of the caller's INIT: packets to the caller carry it.
     pub caller_tag: u32,
-    /// The TSN of the listener's first DATA or I-DATA.
+    /// The listener's initial TSN.
     pub listener_tsn: u32,
-    /// The TSN of the caller's first DATA or I-DATA.
+    /// The caller's initial TSN.
     pub caller_tsn: u32,
-    /// The room in bytes that the caller advertised in its INIT.
+    /// The receive buffer in bytes that the caller advertised in its INIT (a_rwnd).
     pub caller_rwnd: u32,
     /// The number of streams on which the listener sends.
     pub streams_to_caller: u16,
     /// The number of streams on which the caller sends.
     pub streams_from_caller: u16,
-    /// Whether both ends use partial reliability (RFC 3758).
+    /// Whether both endpoints use partial reliability (RFC 3758).
     pub partial_reliability: bool,
-    /// Whether both ends use I-DATA (RFC 8260).
+    /// Whether both endpoints use I-DATA (RFC 8260).
     pub interleaving: bool,
 }
 
@@ -110,8 +110,8 @@ fn options_byte(body: &CookieBody) -> u8
     partial_reliability + interleaving
 }
 
-/// The body in the first 40 bytes of a cookie. None where these aren't 72 bytes of the layout: the
-/// options are above 3, or what must be zero isn't.
+/// The body in the first 40 bytes of a cookie. None if these aren't 72 bytes of the layout: the
+/// options are above 3, or a byte that must be zero isn't.
 #[tactic(auto, unfolding(crate::specs::CookieBody::has_form))]
 pub(crate) fn read_body(bytes: &[u8]) -> Option<CookieBody>
     ensures { MatchOption result (has_form bytes.now ≡ false) (λ body. (has_form bytes.now ≡ true) × (body_meaning body ≡ body_of bytes.now)) }
@@ -123,7 +123,7 @@ pub(crate) fn read_body(bytes: &[u8]) -> Option<CookieBody>
     }
 }
 
-// Whether these are 72 bytes of which the options and the zeros are as the layout has them.
+// Whether these are 72 bytes whose options and zeros are as the layout has them.
 #[tactic(auto, unfolding(crate::specs::CookieBody::has_form))]
 fn has_form(bytes: &[u8]) -> bool
     ensures { result ≡ has_form bytes.now }
@@ -135,7 +135,7 @@ fn has_form(bytes: &[u8]) -> bool
         && bytes[39] == 0
 }
 
-// The body whose fields stand in these bytes.
+// The body whose fields are in these bytes.
 #[tactic(auto, unfolding(crate::specs::CookieBody::body_of))]
 fn body_of(bytes: &[u8]) -> CookieBody
     requires { length bytes.now ≡ 72 }

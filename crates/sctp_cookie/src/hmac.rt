@@ -1,4 +1,4 @@
-//! HMAC with SHA-256 (RFC 2104), and the listener's key. It knows nothing of cookies.
+//! HMAC with SHA-256 (RFC 2104), and the listener's key.
 
 ghost use Rattle.std.specs.Prelude.{◌≡◌, ◌≤◌, ◌-◌, ◌++◌, List, ℕ, bit_xor, map, length, replicate};
 ghost use Rattle.sha2.specs.Sha256.{sha256};
@@ -31,7 +31,7 @@ impl Model for Key {
     ghost inverse = { λ bytes. record { bytes = bytes } };
 }
 
-/// Shows no byte of the key.
+/// Prints no byte of the key.
 impl fmt::Debug for Key {
     ghost use Rattle.std.specs.Prelude.{Some, codes};
 
@@ -43,7 +43,7 @@ impl fmt::Debug for Key {
 }
 
 impl Key {
-    /// The key of these bytes, which ought to be drawn at random and kept secret
+    /// The key with these bytes, which must be generated at random and kept secret
     /// (RFC 2104, 3).
     pub fn new(bytes: [u8; 32]) -> Self
         ensures { result ≡ bytes }
@@ -60,7 +60,7 @@ impl Key {
 }
 
 /// The message authentication code of `text` under `key`: HMAC with SHA-256 (RFC 2104, 2). A key
-/// may have any length; one longer than a block counts as its digest.
+/// may have any length; for one longer than a block its digest is used.
 pub fn hmac_sha256(key: &[u8], text: &[u8]) -> [u8; 32]
     ensures { result ≡ hmac key.now text.now }
 {
@@ -69,7 +69,7 @@ pub fn hmac_sha256(key: &[u8], text: &[u8]) -> [u8; 32]
     digest_of_two(&xored(&block, OUTER_PAD), &inner)
 }
 
-// The key as one block: a long key's digest or the key itself, filled up with zeros.
+// The key as one block: a long key's digest, or the key itself, followed by zeros.
 fn block_key(key: &[u8]) -> [u8; 64]
     ensures { result ≡ block_key key.now }
 {
@@ -80,7 +80,7 @@ fn block_key(key: &[u8]) -> [u8; 64]
     }
 }
 
-// A block that begins with these bytes and ends in zeros.
+// A block of these bytes followed by zeros.
 fn zero_filled(bytes: &[u8]) -> [u8; 64]
     requires { length bytes.now ≤ 64 }
     ensures { result ≡ bytes.now ++ replicate (64 - length bytes.now) 0 }
@@ -101,7 +101,7 @@ fn xored(block: &[u8; 64], pad: u8) -> [u8; 64]
     bytes
 }
 
-// The digest of two pieces taken as one message.
+// The digest of two byte strings, one after the other.
 fn digest_of_two(first: &[u8], second: &[u8]) -> [u8; 32]
     ensures { result ≡ sha256 (first.now ++ second.now) }
 {

@@ -1,4 +1,4 @@
-//! Cookies: a body and its MAC, made by [`seal`] and taken back by [`open`].
+//! Cookies: a body and its MAC, made by [`seal`] and checked by [`open`].
 
 ghost use Rattle.std.specs.Prelude.{◌≡◌, ◌+◌, ◌≤◌, ℕ, Result, Some, None, Ok, length, nat_lt, if◌then◌else◌};
 ghost use Rattle.std.specs.Str.{bytes_eq};
@@ -15,25 +15,25 @@ use crate::hmac::{Key, hmac_sha256};
 use sctp_values::COOKIE_LIFE;
 use thiserror::Error;
 
-/// Why a cookie isn't opened: the first check that fails, in this order.
+/// Why a cookie isn't valid: the first check that fails, in this order.
 #[derive(Clone, Copy, Debug, PartialEq, Eq, Error)]
 pub enum CookieFault {
-    /// The bytes aren't 72, or aren't of the layout: the options are above 3, or what must be zero
+    /// These aren't 72 bytes of the layout: the options are above 3, or a byte that must be zero
     /// isn't.
     #[error("the cookie is not of the layout")]
     Form,
     /// The last 32 bytes aren't the MAC of the first 40 under the key.
     #[error("the cookie has another MAC")]
     Mac,
-    /// The packet came between other ports than those of the INIT.
+    /// The packet's ports aren't those of the INIT.
     #[error("the cookie is for other ports")]
     Ports,
     /// The packet's verification tag isn't the listener's tag.
     #[error("the cookie is for another tag")]
     Tag,
-    /// The cookie is past its life, by so many microseconds or by more than 32 bits hold: the
+    /// The cookie's lifetime ended this many microseconds ago, 2^32 - 1 if there are more: the
     /// measure of staleness of the Stale Cookie cause (RFC 9260, 3.3.10.3). The body of such a
-    /// cookie is what [`open`] answers at the moment 0.
+    /// cookie is what [`open`] returns at time 0.
     #[error("the cookie is stale by {0} microseconds")]
     Stale(u32),
 }
@@ -42,7 +42,7 @@ pub enum CookieFault {
 pub fn seal(key: &Key, body: &CookieBody) -> [u8; COOKIE_LENGTH]
     ensures sealed { result ≡ sealed key.now (body_meaning body.now) }
 
-    // It opens until its life ends, to the same body.
+    // It opens to this body until its lifetime ends.
     ensures opens { (now : ℕ) → now ≤ body.now.made + COOKIE_LIFE
         → open_answer key.now result now (ports_of (body_meaning body.now)) body.now.listener_tag ≡ Ok (body_meaning body.now) }
 
@@ -56,7 +56,7 @@ pub fn seal(key: &Key, body: &CookieBody) -> [u8; COOKIE_LENGTH]
     cookie
 }
 
-/// The body of a cookie that came in a COOKIE ECHO (RFC 9260, 5.1.5), at the moment `now` in
+/// The body of a cookie that was received in a COOKIE ECHO (RFC 9260, 5.1.5) at the time `now`, in
 /// milliseconds of the clock by which it was made, in a packet between `ports` with the
 /// verification tag `tag`. The packet's source is the caller's port and its destination the
 /// listener's.
@@ -74,15 +74,15 @@ pub fn open(
     // The first check that fails, or the body.
     ensures answer { opened_meaning result ≡ open_answer key.now bytes.now now ports tag }
 
-    // It opens where the bytes are a body of the layout and its MAC, and the packet and the moment
-    // are right; each fault is so where the checks before it hold.
+    // It opens if the bytes are a body of the layout and its MAC, and the packet and the time
+    // are right; each fault is returned if its check fails and those before it pass.
     ensures meaning { Opened key.now bytes.now now ports tag (opened_meaning result) }
 
     // There is no other answer with that meaning.
     ensures only { (outcome : Result Body CookieFault) → Opened key.now bytes.now now ports tag outcome
         → opened_meaning result ≡ outcome }
 
-    // A stale cookie's body is what opens at the moment 0.
+    // A stale cookie's body is what is returned at time 0.
     ensures stale { (microseconds : ℕ) → result ≡ Err (CookieFault.Stale microseconds)
         → open_answer key.now bytes.now 0 ports tag ≡ Ok (body_of bytes.now) }
 {
@@ -128,8 +128,8 @@ fn has_mac(key: &Key, bytes: &[u8]) -> bool
     same_bytes(&hmac_sha256(key.as_bytes(), body), mac)
 }
 
-// Whether two lists of one length are the same. No step hangs on where they differ, so that the
-// time taken doesn't tell a forger how much of a MAC is right.
+// Whether two lists of one length are equal. No step depends on where they differ, so that the
+// time taken doesn't show an attacker how much of a MAC is right.
 fn same_bytes(left: &[u8], right: &[u8]) -> bool
     requires { length left.now ≡ length right.now }
     ensures { result ≡ bytes_eq left.now right.now }
@@ -151,7 +151,7 @@ fn ports_of(body: &CookieBody) -> Ports
     }
 }
 
-// By how many microseconds a body is past its life, if it is.
+// For how many microseconds a body's lifetime has been over, if it is.
 fn staleness(now: u64, body: &CookieBody) -> Option<u32>
     ensures { result ≡ (if nat_lt COOKIE_LIFE (age now (body_meaning body.now)) then Some (staleness now (body_meaning body.now)) else None) }
 {

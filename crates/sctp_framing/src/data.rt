@@ -1,4 +1,4 @@
-//! The format of DATA chunks (RFC 9260, 3.3.1): a message's fragments have consecutive TSNs, ordered messages have SSNs.
+//! The format of DATA chunks (RFC 9260, 3.3.1): the fragments of a message have consecutive TSNs, and ordered messages have SSNs.
 
 use crate::framing::Framing;
 use crate::numbers::as_number;

@@ -1,4 +1,4 @@
-//! The format of I-DATA chunks (RFC 8260, 2.1): fragments are numbered in their message, and all messages have MIDs.
+//! The format of I-DATA chunks (RFC 8260, 2.1): the fragments of a message are numbered, and all messages have MIDs.
 
 use crate::framing::Framing;
 use crate::numbers::as_number;

@@ -1,9 +1,9 @@
-//! Counts that are numbers of messages.
+//! Which counts are numbers of messages.
 
 ghost use Rattle.std.specs.Prelude.{◌≡◌};
 ghost use Rattle.sctp_model.specs.messages.Framing.{as_number};
 
-/// The count as a number: 2^64 - 1 is none.
+/// The count as the number of a message; 2^64 - 1 isn't one.
 pub(crate) fn as_number(count: Option<u64>) -> Option<u64>
     ensures { result ≡ as_number count }
 {

@@ -1,4 +1,4 @@
-//! CRC32c, by a register that takes sixteen bytes at a time, twice a turn, where a long run is folded before.
+//! CRC32c: a register takes sixteen bytes at a time, twice in each turn of the loop; a long run is folded first.
 
 ghost use Rattle.std.specs.Prelude.{◌≡◌, ◌↔◌, ℕ, ◌+◌, ◌*◌, ◌%◌, ◌<◌, ◌≤◌, ◌++◌, IsTrue, drop, take, length, replicate, bit_xor};
 ghost use Rattle.byteorder.specs.Endian.{little_number};
@@ -13,19 +13,19 @@ use byteorder::{ByteOrder, LittleEndian};
 
 /// The bytes of a packet's common header (RFC 9260, 3.1).
 pub const HEADER: usize = 12;
-/// Where the checksum stands in it, 4 bytes.
+/// The offset of the checksum in it; it has 4 bytes.
 pub(crate) const SUM_AT: usize = 8;
-/// The bytes that are taken at once, a table for each.
+/// The bytes that the register takes at once, a table for each.
 const PLACES: usize = 16;
-/// And in a turn.
+/// The bytes that it takes in a turn of the loop.
 const TURN: usize = 32;
-/// And where there are fewer.
+/// The bytes that it takes at once if fewer than `PLACES` are left.
 const HALF: usize = 8;
-/// From so many bytes on a run is folded: then what is saved pays for what is left of it.
+/// The shortest run that is folded: for a shorter one folding costs more than it saves.
 const LONG: usize = 480;
 
-/// The CRC32c of the bytes: the number that the checksum field of a packet holds, the low byte first,
-/// where these are the packet's bytes with that field zero (RFC 9260, 6.8 and appendix A).
+/// The CRC32c of the bytes: the number in the checksum field of a packet, low byte first, if these are the packet's bytes with that field
+/// zero (RFC 9260, 6.8 and appendix A).
 pub fn crc32c(bytes: &[u8]) -> u32
     ensures checksum { IsChecksum bytes.now result }
     ensures only { (sum : ℕ) → IsChecksum bytes.now sum → sum ≡ result }
@@ -34,7 +34,7 @@ pub fn crc32c(bytes: &[u8]) -> u32
     !after_all(u32::MAX, bytes)
 }
 
-/// The checksum of a packet: that of all its bytes, where its own field is zero, whatever lies there (RFC 9260, 6.8).
+/// The checksum of a packet: that of its bytes with zeros in the checksum field, whatever the field contains (RFC 9260, 6.8).
 pub(crate) fn packet_sum(bytes: &[u8]) -> u32
     requires { 12 ≤ length bytes.now }
     ensures { result ≡ crc32c (without_sum bytes.now) }
@@ -43,7 +43,7 @@ pub(crate) fn packet_sum(bytes: &[u8]) -> u32
     !after_all(after_header(header), chunks)
 }
 
-/// Whether the checksum's field of a packet holds the checksum.
+/// Whether the checksum field of a packet is its checksum.
 pub(crate) fn is_checked(bytes: &[u8]) -> bool
     requires { 12 ≤ length bytes.now }
     ensures { IsTrue result ↔ IsChecked bytes.now }
@@ -51,7 +51,7 @@ pub(crate) fn is_checked(bytes: &[u8]) -> bool
     LittleEndian::read_u32(&bytes[SUM_AT..]) == packet_sum(bytes)
 }
 
-/// The register after a common header whose checksum's field is zero.
+/// The register after a common header with zeros in its checksum field.
 fn after_header(bytes: &[u8]) -> u32
     requires { 8 ≤ length bytes.now }
     ensures { bits 32 result ≡ register_after (drop 1 divisor) (bits 32 4294967295) (message_bits (take 8 bytes.now ++ replicate 4 0)) }
@@ -85,7 +85,7 @@ fn after_runs(register: u32, bytes: &[u8]) -> u32
     after_short(stepped, rest)
 }
 
-/// The register after a long run of whole blocks: what is left of it leaves the same where 0 was before.
+/// The register after a long run of whole blocks: the same as 0 after what folding leaves of it.
 fn after_long(register: u32, bytes: &[u8]) -> u32
     requires blocks { length bytes.now % 32 ≡ 0 }
     requires long { 256 ≤ length bytes.now }
@@ -100,7 +100,7 @@ fn after_long(register: u32, bytes: &[u8]) -> u32
     after_short(0, &left)
 }
 
-/// The register after the bytes, a turn at a time while there are so many.
+/// The register after the bytes, 32 at a time as long as there are that many.
 #[inline(always)]
 fn after_short(register: u32, bytes: &[u8]) -> u32
     ensures { bits 32 result ≡ register_after (drop 1 divisor) (bits 32 register) (message_bits bytes.now) }
@@ -115,7 +115,7 @@ fn after_short(register: u32, bytes: &[u8]) -> u32
     after_few(stepped, rest)
 }
 
-/// The register after fewer bytes, of which sixteen are taken at once, if there are so many.
+/// The register after fewer than 32 bytes: the first sixteen are taken at once, if there are that many.
 #[inline(always)]
 fn after_few(register: u32, bytes: &[u8]) -> u32
     ensures { bits 32 result ≡ register_after (drop 1 divisor) (bits 32 register) (message_bits bytes.now) }
@@ -126,7 +126,7 @@ fn after_few(register: u32, bytes: &[u8]) -> u32
     after_last(after_sixteen(register, bytes), &bytes[PLACES..])
 }
 
-/// The register after still fewer: mostly none.
+/// The register after fewer than sixteen bytes: mostly there are none.
 #[inline(always)]
 fn after_last(register: u32, bytes: &[u8]) -> u32
     ensures { bits 32 result ≡ register_after (drop 1 divisor) (bits 32 register) (message_bits bytes.now) }
@@ -137,7 +137,7 @@ fn after_last(register: u32, bytes: &[u8]) -> u32
     after_end(register, bytes)
 }
 
-/// The register after some, of which eight are taken at once, if there are so many.
+/// The register after 1 to 15 bytes: the first eight are taken at once, if there are that many.
 #[inline(never)]
 fn after_end(register: u32, bytes: &[u8]) -> u32
     ensures { bits 32 result ≡ register_after (drop 1 divisor) (bits 32 register) (message_bits bytes.now) }
@@ -159,7 +159,7 @@ fn after_rest(register: u32, bytes: &[u8]) -> u32
     stepped
 }
 
-/// The register after a byte, whose lowest bit comes first.
+/// The register after a byte, its lowest bit first.
 fn after_byte(register: u32, byte: u8) -> u32
     ensures { bits 32 result ≡ register_after (drop 1 divisor) (bits 32 register) (bits 8 byte) }
 {
@@ -185,8 +185,8 @@ fn after_eight(register: u32, bytes: &[u8]) -> u32
     left_by_eight(register, bytes, 0)
 }
 
-/// What the first eight bytes leave once so many more have come, all zero: what each byte leaves, added up, where the first four have the register
-/// added.
+/// The register after the first eight bytes and `follow` zero bytes: the sum of what each byte leaves, with the register added to the first
+/// four.
 #[inline(always)]
 fn left_by_eight(register: u32, bytes: &[u8], follow: usize) -> u32
     requires bytes { 8 ≤ length bytes.now }
@@ -204,7 +204,7 @@ fn left_by_eight(register: u32, bytes: &[u8], follow: usize) -> u32
         ^ entry(follow + 7, mixed % 256)
 }
 
-/// What the first eight bytes leave where no register is added and nothing follows.
+/// The register after the first eight bytes, from 0.
 #[inline(always)]
 fn left_alone(bytes: &[u8]) -> u32
     requires { 8 ≤ length bytes.now }
@@ -220,7 +220,7 @@ fn left_alone(bytes: &[u8]) -> u32
         ^ entry(7, u32::from(bytes[0]))
 }
 
-/// What the table has for a byte that so many bytes follow.
+/// The number in the tables for a byte that `place` bytes follow.
 #[inline(always)]
 fn entry(place: usize, byte: u32) -> u32
     requires place { place < 16 }

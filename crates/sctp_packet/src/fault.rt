@@ -1,21 +1,21 @@
-//! Why bytes are no packet.
+//! Why bytes aren't a packet.
 
 use sctp_wire::WireFault;
 use thiserror::Error;
 
-/// Why bytes are no packet: the first check that fails, in this order.
+/// Why bytes aren't a packet: the first check that fails, in this order.
 #[derive(Clone, Copy, Debug, PartialEq, Eq, Error)]
 pub enum PacketFault {
-    /// Fewer bytes than the common header has, 12.
+    /// There are fewer bytes than the 12 of the common header (RFC 9260, 3.1).
     #[error("a packet has 12 bytes at least")]
     Short,
-    /// The checksum's field holds another number than the checksum.
+    /// The checksum field isn't the CRC32c of the packet (RFC 9260, 6.8).
     #[error("the checksum is wrong")]
     Checksum,
-    /// The header alone, without a chunk.
+    /// There is no chunk after the header.
     #[error("there is no chunk")]
     NoChunk,
-    /// What stands behind the header is no list of chunks; the offset counts from the packet's first byte.
+    /// What follows the header isn't a list of chunks; the offset counts from the packet's first byte.
     #[error("{0}")]
     Wire(WireFault),
 }

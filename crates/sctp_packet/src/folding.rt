@@ -1,22 +1,22 @@
-//! Long runs of bytes, folded before the tables of the checksum take what is left of them: no table is asked for a byte that is folded.
+//! Folding of long runs of bytes, before the tables of the checksum take what is left of them: a byte that is folded needs no table.
 
 ghost use Rattle.std.specs.Prelude.{◌≡◌, ℕ, ◌+◌, ◌-◌, ◌*◌, ◌/◌, ◌%◌, ◌<◌, ◌≤◌, bit_xor, length, slice_index};
 ghost use Rattle.sctp_packet.specs.Folding.{byte_of, mixed_byte, reaching, IsFolded, IsLeft};
 
 use byteorder::{ByteOrder, LittleEndian};
 
-/// The bytes that are taken at once: four words, none of which reaches another.
+/// The bytes that are folded at once: four words, none of which is added to another.
 pub(crate) const BLOCK: usize = 32;
-/// The zeros in front: as many as the farthest that a byte reaches, 209, up to whole words.
+/// The zeros before the run in the buffer: 209, the farthest that a byte is moved, rounded up to whole words.
 const FRONT: usize = 216;
-/// What is left of a run, whole blocks: the same number of bytes.
+/// The bytes that are left of a folded run: whole blocks.
 pub(crate) const LEFT: usize = 224;
-/// The most bytes of a run, whole blocks: a packet of the largest limit has fewer.
+/// The most bytes of a run: whole blocks; a packet of the largest limit has fewer.
 pub(crate) const MOST: usize = 1_536;
-/// The room for them and the zeros in front.
+/// The buffer for a run and the zeros before it.
 pub(crate) const ROOM: usize = 1_752;
 
-/// Folds the run's bytes before `ends`, a block at a time, into a room of zeros.
+/// Folds the run's bytes before `ends`, a block at a time, into a buffer of zeros.
 pub(crate) fn fold(register: u32, bytes: &[u8], ends: usize, room: &mut [u8])
     requires blocks { ends % 32 ≡ 0 }
     requires some { 32 ≤ ends }

@@ -1,4 +1,4 @@
-//! Laws of the definitions, which hold of all bytes and packets.
+//! Laws: theorems about all bytes and packets, as the contracts of functions that do nothing.
 
 ghost use Rattle.std.specs.Prelude.{ℕ, List};
 ghost use Rattle.sctp_model.specs.wire.Packet.{Packet};
@@ -15,7 +15,7 @@ pub fn one_packet()
     one_reading();
 }
 
-/// What is written for a packet whose chunks stand where they may reads as this packet: its header and its chunks.
+/// What is written for a packet whose chunks may be bundled so parses as this packet: its header and its chunks.
 pub fn written_packet_reads()
     ensures { (bytes : List ℕ) (p : Packet) → WritesPacket bytes p → ArePlaced p.chunks → ReadsPacket bytes p }
 {

@@ -1,4 +1,4 @@
-//! A packet from bytes: length, checksum, then the chunks (RFC 9260, 3 and 6.8).
+//! Parsing a packet: length, checksum, then the chunks (RFC 9260, 3 and 6.8).
 
 ghost use Rattle.std.specs.Prelude.{◌≡◌, MatchResult};
 ghost use Rattle.sctp_model.specs.wire.Packet as meaning;
@@ -10,31 +10,31 @@ use crate::fault::PacketFault;
 use byteorder::{BigEndian, ByteOrder};
 use sctp_wire::{Chunks, one_reading, read_chunks};
 
-/// A packet that was read, its chunks where they lie in the bytes.
+/// A packet that was received; its chunks are slices of the bytes.
 #[derive(Drop)]
 pub struct Packet<'a> {
-    /// The port that it comes from.
+    /// The source port.
     pub source: u16,
-    /// The port that it goes to.
+    /// The destination port.
     pub destination: u16,
     /// The verification tag.
     pub tag: u32,
-    /// The chunks, one at least.
+    /// The chunks, at least one.
     pub chunks: Chunks<'a>,
 }
 
-/// The packet that bytes are. It takes no memory.
+/// Parses a packet. It allocates no memory.
 ///
 /// # Errors
-/// The first of these that holds: `Short`, `Checksum`, `NoChunk`, and `Wire` with the fault of the chunks, whose offset
+/// The first of these that applies: `Short`, `Checksum`, `NoChunk`, and `Wire` with the fault of the chunks, whose offset
 /// counts from the packet's first byte.
 pub fn read_packet(bytes: &[u8]) -> Result<Packet<'_>, PacketFault>
-    // It answers one of the two, with the packet that the bytes are or with their fault.
+    // It returns the packet that the bytes are, or their fault.
     ensures exact { MatchResult result (λ packet. ReadsPacket bytes.now (packet_meaning packet)) (λ fault. FaultsPacket bytes.now fault) }
-    // Where the bytes are a packet, it is this one.
+    // If the bytes are a packet, it is this one.
     ensures packet { (p : meaning.Packet) → ReadsPacket bytes.now p
         → MatchResult result (λ packet. packet_meaning packet ≡ p) (λ _. ⊥) }
-    // Where they have a fault, it is this one.
+    // If they have a fault, it is this one.
     ensures fault { (f : PacketFault) → FaultsPacket bytes.now f
         → MatchResult result (λ _. ⊥) (λ fault. fault ≡ f) }
 {

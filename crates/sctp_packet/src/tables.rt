@@ -1,7 +1,7 @@
-//! What each byte leaves in the register of a checksum, for each of sixteen places.
+//! The tables of CRC32c: what each byte leaves in the register, for each of sixteen positions.
 
-/// The first index is how many bytes follow, the second the byte: the number is the register after that byte and those bytes, all
-/// zero, where nothing came before. That each one is the remainder which the definition gives is proved.
+/// The first index is the number of bytes that follow, the second the byte: the number is the register after that byte and those bytes, all
+/// zero, if it was 0 before. Each is proved to be the remainder that the definition gives.
 pub(crate) static TABLES: [[u32; 256]; 16] = [
     [
         0x00000000, 0xF26B8303, 0xE13B70F7, 0x1350F3F4, 0xC79A971F, 0x35F1141C, 0x26A1E7E8,

@@ -1,4 +1,4 @@
-//! A packet in the making: its header, and chunks for as long as they fit (RFC 9260, 3 and 6.10).
+//! Building a packet: its header, and chunks as long as they fit (RFC 9260, 3 and 6.10).
 
 ghost use Rattle.std.specs.Prelude.{◌≡◌, ◌<◌, ◌≤◌, ◌+◌, ◌^◌, ◌++◌, [], true, length, take, drop, vec_len, vec_capacity, IfOk, OnOk, OnErr, IfSome, MatchOption, MatchResult};
 ghost use Rattle.byteorder.specs.Endian.{little_bytes};
@@ -16,17 +16,17 @@ use sctp_wire::{Chunk, chunks_are_read, write_chunk, written_each_reads};
 use std::alloc::Global;
 use std::marker::Model;
 
-/// A packet in the making: the most bytes that it may have, its ports and tag, and the chunks put in so far.
+/// A packet under construction: its size limit, its ports and verification tag, and the chunks put in so far.
 ///
-/// It takes no memory before its first chunk: with that one it takes the room for it alone, and with the second, once, the room for all that it may
-/// have. In a room that it was given it takes what is wanting there.
+/// It allocates nothing before its first chunk: then it allocates memory for that one alone, and with the second, once, for a packet of the limit.
+/// If it was given a buffer, it allocates what that lacks.
 #[derive(Drop)]
 pub struct PacketWriter {
     limit: u16,
     source: u16,
     destination: u16,
     tag: u32,
-    // nothing, or the header with zero for the checksum and the chunks behind it
+    // nothing, or the header with zero for the checksum, and the chunks after it
     bytes: Vec<u8>,
 }
 
@@ -50,14 +50,15 @@ impl Model for PacketWriter {
 }
 
 impl PacketWriter {
-    /// A packet of at most `limit` bytes, header and padding counted, with these ports and this tag, without a chunk.
+    /// A packet without chunks, of at most `limit` bytes, header and padding included, with these ports and this verification tag.
     pub fn new(alloc: Global, limit: u16, source: u16, destination: u16, tag: u32) -> PacketWriter
         ensures { result ≡ empty_draft limit source destination tag }
     {
         PacketWriter::in_room(Vec::new(alloc), limit, source, destination, tag)
     }
 
-    /// The same, made in a room that nobody needs any more: what lies there is forgotten.
+    /// A packet without chunks, as [`PacketWriter::new`] makes it, built in the memory of `room`, a buffer that isn't needed any more: its
+    /// contents are dropped.
     pub fn in_room(
         room: Vec<u8>,
         limit: u16,
@@ -78,7 +79,7 @@ impl PacketWriter {
         }
     }
 
-    /// The bytes that are left for chunks with their padding.
+    /// The bytes that are left for chunks and their padding.
     pub fn room(&self) -> usize
         ensures room { result ≡ room_in self.now }
         ensures small { result < 2 ^ 16 }
@@ -86,11 +87,11 @@ impl PacketWriter {
         usize::from(self.limit).saturating_sub(self.bytes.len().max(HEADER))
     }
 
-    /// Puts a chunk that can be written behind the others. False exactly where the packet, with it and its
-    /// padding, would pass its limit; nothing is put in then.
+    /// Appends a chunk, which must be one that can be written (`Chunk::fits`). False if and only if the packet, with it and its
+    /// padding, would exceed its limit; nothing is appended then.
     ///
     /// # Errors
-    /// `NoMemory` where the chunk fits and memory ran out; nothing is put in then. It comes only at the first chunk and at the second.
+    /// `NoMemory` if the chunk fits and allocation fails; nothing is appended then. Only the first and the second chunk allocate.
     pub fn try_chunk(&mut self, chunk: &Chunk<'_>) -> Result<bool, NoMemory>
         requires { Fits (chunk_meaning chunk.now) }
         ensures answer { IfOk result (λ put. put ≡ has_room self.old (chunk_meaning chunk.now)) }
@@ -103,7 +104,7 @@ impl PacketWriter {
         if size > self.room() {
             return Ok(false);
         }
-        // The laws give that the bytes with this chunk read as the chunks with it.
+        // By these laws the bytes with this chunk read as the chunks with it.
         written_each_reads();
         chunks_are_read();
         let (source, destination, tag) = (self.source, self.destination, self.tag);
@@ -112,7 +113,7 @@ impl PacketWriter {
         Ok(true)
     }
 
-    /// The packet's bytes: its header with the checksum, and the chunks as they are written. None exactly where there is no chunk.
+    /// The packet's bytes: its header with the checksum, and its chunks. None if and only if there is no chunk.
     pub fn finish(self) -> Option<Vec<u8>>
         ensures packet { MatchOption result (self.chunks ≡ []) (λ packet. WritesPacket packet.items (packet_of self)) }
         ensures size { IfSome result (λ packet. length packet.items ≡ size_of_packet self.chunks) }
@@ -124,7 +125,8 @@ impl PacketWriter {
         }
     }
 
-    /// The same; where there is no chunk, the room in which the packet was to be made, whatever lies there.
+    /// The packet's bytes, as [`PacketWriter::finish`] returns them; if there is no chunk, the buffer for them is returned as an error, for
+    /// further use, with any contents.
     pub fn finish_or_room(self) -> Result<Vec<u8>, Vec<u8>>
         ensures packet { MatchResult result (λ packet. WritesPacket packet.items (packet_of self)) (λ _. self.chunks ≡ []) }
         ensures size { IfOk result (λ packet. length packet.items ≡ size_of_packet self.chunks) }
@@ -140,8 +142,8 @@ impl PacketWriter {
     }
 }
 
-/// Makes room for a chunk of so many bytes. Before the first chunk that is all, and the header is written; behind one it is the room for the
-/// whole packet, unless it is there.
+/// Reserves capacity for a chunk of `size` bytes. Before the first chunk that is all, and the header is written; after one it is capacity for
+/// the whole packet, unless it is there.
 fn begin(
     bytes: &mut Vec<u8>,
     size: usize,
@@ -167,7 +169,7 @@ fn begin(
     bytes.extend_from_slice(&header).map_err(|_| NoMemory)
 }
 
-/// Appends a chunk's bytes, for which there is room.
+/// Appends a chunk's bytes, for which there is capacity.
 fn put(bytes: &mut Vec<u8>, chunk: &Chunk<'_>)
     requires fits { Fits (chunk_meaning chunk.now) }
     requires room { vec_len bytes.old + length (written (chunk_meaning chunk.now)) ≤ vec_capacity bytes.old }
