@@ -1,9 +1,9 @@
 # What sctp-trace, sctp-end and sctp-look share; each sources it, with its own folder in $root.
-# launches NAME CRATE ROW   which program it is; the row of crates/sctp_rows in which it says its forms
+# launches NAME CRATE ROW   which program it is; the row of crates/sctp_rows with its usage text
 # run_program WORDS..       runs it, as `rt run` proved and built it, if it is that of the sources as they are; else it returns
-# refuse_odd WORDS..        ends where a word isn't UTF-8, since `rt try` takes no such word
-# run_sources WORDS..       runs the sources by `rt try`, which proves nothing, and ends with their status
-# fail TEXT STATUS          ends with this text on standard error
+# refuse_odd WORDS..        exits if a word isn't UTF-8, since `rt try` takes no such word
+# run_sources WORDS..       runs the sources by `rt try`, which proves nothing, and exits with their status
+# fail TEXT STATUS          exits with this text on standard error
 
 launches() {
     name=$1 forms_row=$3
@@ -19,25 +19,25 @@ fail() {
     exit "$2"
 }
 
-# A remark for who sits at a terminal.
-tell() {
+# A remark, if standard error is a terminal.
+remark() {
     if [ -t 2 ]; then
         printf '%s: %s\n' "$name" "$1" >&2
     fi
 }
 
-# All that the sums are of: what crates stand on, their files, the program and its sums, the toolchain's name.
+# All files that the sums are of: the list of crates, their files, the program and its sums, the toolchain's name.
 files() {
     find "$root/crates.txt" "$root"/crates/*/src "$root"/crates/*/specs "$root"/crates/*/proofs "$crate/args" "$crate/status" \
         "$program" "$program.stamp" "${toolchain%/*/*}/WHAT" ! -type d "$@" 2>/dev/null
 }
 
-# A line for each of them: where it stands, its size, when its contents and when anything about it changed last.
+# A line for each of them: its path, its size, when its contents and when anything about it changed last.
 listed() {
     files -printf '%p %i %s %T@ %C@\n'
 }
 
-# Whether the sources are those of the last proved build, by the sums of their contents that `rt run` goes by: 0 yes, 9 no.
+# Whether the sources are those of the last proved build, by the sums of their contents that `rt run` uses: 0 yes, 9 no.
 sums() {
     cd -- "$crate" && python3 -B - "$toolchain" <<'END'
 import os, sys
@@ -55,7 +55,7 @@ END
 }
 
 # Whether the contents are those of the build. If so, the times and sizes that the files had before are noted, but for files that
-# changed within two seconds: a clock that stood still might give those the same times once more.
+# changed within two seconds: a later change might get the same times.
 is_same() {
     listed 2>/dev/null >"$noted.$$"
     (sums) >/dev/null 2>&1
@@ -68,8 +68,8 @@ is_same() {
     return "$1"
 }
 
-# The files are looked at by their times and sizes, and their contents are read where those aren't the noted ones. Where the
-# toolchain can't be asked, no source may be newer than the program.
+# The files are compared by their times and sizes, and their contents are read if those aren't the noted ones. If the toolchain can't
+# be asked, no source may be newer than the program.
 is_current() {
     [ -x "$program" ] || return 1
     if toolchain=$(command -v rt); then
@@ -90,12 +90,12 @@ run_program() {
     fi
 }
 
-# What the program says in a row of crates/sctp_rows, which the gate compares with what it writes: of faults, up to this status.
+# What the program writes to standard error in a row of crates/sctp_rows, which the gate compares with the program: up to this status.
 said_in_row() {
     sed -n "/^= $1\$/,/^status $2\$/{s/^! \{0,1\}//p;}" "$root/crates/sctp_rows/stdout" 2>/dev/null | grep ''
 }
 
-# The forms of the program, as it says them.
+# The usage text of the program.
 forms() {
     said_in_row "$forms_row" 1 | sed -n '/^usage:/,$p'
 }
@@ -126,10 +126,10 @@ limit() {
     lines_of own | sed -n 's/^checked: no-answer: //p'
 }
 
-# `rt try` reads no terminal, and stops at a pause in its input and at 64 MiB: it gets all that comes as a file.
+# `rt try` reads no terminal, and stops at a pause in its input and at 64 MiB: it gets the whole input as a file.
 run_sources() {
     command -v rt >/dev/null 2>&1 || fail "no program of these sources is built, and the toolchain (rt) is not on the PATH" 3
-    tell 'the sources as they are, nothing proved (a minute)'
+    remark 'the sources as they are, nothing proved (a minute)'
     folder=$(mktemp -d) || exit 3
     trap 'rm -rf -- "$folder"' EXIT
     trap 'exit 130' HUP INT TERM

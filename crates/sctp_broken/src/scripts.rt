@@ -57,8 +57,8 @@ pub const GIVEN_UP: [Step; 15] = [
     Deliver(B, 0),
 ];
 
-/// The bytes of the long message, 15 times: chunks, so that a fragment that is cut shorter by its length leaves chunks behind it. Started at
-/// most of its words they read; what they then do differs.
+/// The bytes of the long message, which repeats them 15 times: chunks, so that a fragment cut shorter by its length leaves chunks after it. Read from
+/// most of its words on they are chunks, too, with other effects.
 const CHUNKS: [u8; 100] = [
     0x0b, 0, 0, 4, 0xbf, 0, 0, 4, 4, 0, 0, 8, 0x3f, 0, 0, 4, 8, 0, 0, 4, 9, 0, 0, 0x0c, 0, 6, 0, 8,
     0x7f, 0, 0, 4, 7, 0, 0, 8, 0, 0, 0, 0, 3, 0, 0, 0x10, 0, 0, 0, 5, 0, 1, 0, 0, 0, 0, 0, 0, 5, 0,

@@ -1,4 +1,4 @@
--- The words behind a command, one by one.
+-- The words of a command, one by one.
 use Rattle.std.proofs.Common.{◌≡◌, ℕ, List, [], ◌∷◌, sym, ap, ◌∙◌, subst}
 use Rattle.sctp_end.specs.Commands.{draw_fields}
 use Rattle.sctp_end.specs.Fields.{Field, ANumber, ATag, Value, IsValue}

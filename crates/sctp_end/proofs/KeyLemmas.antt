@@ -1,4 +1,4 @@
--- The word for a key is its digits: it decodes to the key, and what decodes and comes back is a key.
+-- The word for a key is its digits: it decodes to the key, and what decodes and encodes to itself again is a key.
 use Rattle.std.proofs.Common.{◌≡◌, ℕ, List, [], ◌∷◌, length, arith, sym, subst, ap, ◌∙◌}
 use Rattle.std.specs.Prelude.{Result, Ok, Err, MatchResult}
 use Rattle.hex.specs.Hex.{encode_lower, decode_sized, IsBytes}

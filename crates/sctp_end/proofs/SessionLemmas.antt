@@ -1,4 +1,4 @@
--- What becomes of a session by its end's calls.
+-- What the endpoint's calls make of a session.
 use Rattle.std.proofs.Common.{◌≡◌, ◌∙◌, ℕ, Bool, true, false, List, [], ◌∷◌, ◌⊎◌, inl, inr, refl, sym, subst}
 use Rattle.std.specs.Prelude.{not, Option, Some, None, Result, Ok, Err, slice_get}
 use Rattle.std.specs.declared.vec.Vec.{Vec}

@@ -1,4 +1,4 @@
--- The answers to the lines of a text, one after another: each line is answered where the ones before it left the end.
+-- The answers to the lines of a text, one after another: each line is answered in the state that the ones before it left.
 use Rattle.std.specs.Prelude.{◌≡◌, ℕ, List, [], ◌∷◌, ◌++◌, Some, None}
 use Rattle.sctp_end.specs.declared.call.Call.{Call}
 use Rattle.sctp_end.specs.declared.reply.Reply.{Reply}
@@ -10,8 +10,8 @@ use Rattle.sctp_text.specs.TextLines.{lines_of}
 use Rattle.sctp_words.specs.declared.line_fault.LineError.TheVariants as error
 use Rattle.sctp_words.specs.declared.line_fault.LineFault.{LineFault}
 
--- What is written for a line, and what it leaves: nothing is where it does nothing; a call is done and answered; and a fault, or want of memory for the
--- bytes of a word, is told and changes nothing.
+-- What is written for a line, and what it leaves: nothing if it does nothing; a call is made and answered; and a fault, or a failed allocation of a word's
+-- bytes, is reported and changes nothing.
 pub data AnswersLine (s : Standing) (line : List ℕ) : List ℕ → Standing → Type 0 where
   Silent : Finds line None → AnswersLine s line [] s
   Called : (c : Call) (r : Reply) (after : Standing) → Finds line (Some c) → Performs s c r after → AnswersLine s line (reply_line r) after

@@ -1,4 +1,4 @@
--- The commands: their names, which are all different, and the fields behind each.
+-- The commands: their names, which are all different, and the fields of each.
 use Rattle.std.specs.Prelude.{ℕ, if◌then◌else◌, List, [], ◌∷◌, length, Option, None, Some, codes, bytes_eq}
 use Rattle.sctp_end.specs.Fields.{Field, ANumber, ATag, AKind, AnUntil, SomeBytes, Value}
 use Rattle.sctp_end.specs.declared.command.Command.{Command}
@@ -59,7 +59,7 @@ fields_of State = []
 fields_of Held = []
 fields_of Status = []
 
--- how many words stand behind a command
+-- the number of words after a command's name
 abbrev pub arguments_of : Command → ℕ
 arguments_of c = length (fields_of c)
 

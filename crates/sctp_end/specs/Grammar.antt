@@ -13,15 +13,15 @@ use Rattle.sctp_words.specs.declared.line_fault.LineFault.TheVariants.{TooLong, 
 use Rattle.sctp_words.specs.Fields.{Values, AreValues}
 use Rattle.sctp_words.specs.Lines.{IsSilent, kind_of}
 
--- What a command asks for with these words behind it.
+-- What a command with these words asks for.
 abbrev pub Spells : Command → List (List ℕ) → Call → Type 0
 Spells c args call = (vs : Values Value (fields_of c)) × AreValues Value IsValue (fields_of c) args vs × (call ≡ meaning_of c vs)
 
--- the line is this command with these words behind it
+-- the line is this command with these words
 abbrev pub IsLineOf : List ℕ → Command → List (List ℕ) → Type 0
 IsLineOf line c args = words_of line ≡ name_of c ∷ args
 
--- What is wrong with a line, fault by fault; of one end no line is out of order.
+-- What is wrong with a line, fault by fault; with one endpoint no line is out of order.
 abbrev pub HasFault : List ℕ → LineFault → Type 0
 HasFault line TooLong = LONGEST_LINE < length line
 HasFault line UnknownCommand = (IsSilent line → ⊥) × ((c : Command) (args : List (List ℕ)) → IsLineOf line c args → ⊥)
@@ -48,7 +48,7 @@ abbrev pub Finds : List ℕ → Option Call → Type 0
 Finds line None = HasNoFault line × IsSilent line
 Finds line (Some call) = HasNoFault line × Asks line call
 
--- The fault of a line. Memory may be wanting for the bytes of a word, on a line of a command with as many words as it has.
+-- The fault of a line. The allocation of a word's bytes may fail, on a line of a command with as many words as it has.
 abbrev pub Refuses : List ℕ → LineError → Type 0
 Refuses line (error.Fault fault) = IsFirstFaultOf line fault
 Refuses line error.NoMemory = (c : Command) × (args : List (List ℕ)) × IsLineOf line c args × (length args ≡ arguments_of c)

@@ -1,4 +1,4 @@
--- What an end answers to a call, and what the call leaves: over the definitions of an end.
+-- What an endpoint answers to a call, and what the call leaves: over the definitions of its state machine.
 use Rattle.std.specs.Prelude.{◌≡◌, ℕ, max, Bool, true, false, List, [], ◌∷◌, Option, Some, None, option_map}
 use Rattle.sctp_model.specs.wire.Chunk.{ChunkMeaning}
 use Rattle.sctp_model.specs.wire.Packet.{Packet}
@@ -32,25 +32,25 @@ use Rattle.sctp_end.specs.declared.reply.Refusal.TheVariants.{NotIdle, NoSuchStr
 use Rattle.sctp_end.specs.declared.reply.Reply.{Reply}
 use Rattle.sctp_end.specs.declared.reply.Reply.TheVariants as reply
 
--- What stands between two lines: the end, the draw for the packets that come, and the moment, in milliseconds.
+-- The state between two lines: the endpoint, the random values (tag and initial TSN) for packets that arrive, and the time, in milliseconds.
 pub record Standing : Type 0 where
   pub view : EndView
   pub draw : Draw
   pub now : ℕ
 
--- ---- what is told
+-- ---- answers
 
 -- of connect
 abbrev pub connect_reply : model.ConnectAnswer → Reply
 connect_reply model.Called = reply.Done
 connect_reply model.NotIdle = reply.Refused NotIdle
 
--- and the end that it leaves
+-- and the endpoint that it leaves
 abbrev pub connect_leaves : model.ConnectAnswer → Standing → Draw → EndView
 connect_leaves model.Called s d = called (at_moment s.view s.now) d
 connect_leaves model.NotIdle s d = s.view
 
--- of a packet that came
+-- of a packet that arrived
 abbrev pub TellsPacket : strays.Verdict → Reply → Type 0
 TellsPacket strays.Taken r = r ≡ reply.Taken
 TellsPacket (strays.Dropped n) r = (reason : Reason) × (n ≡ reason_code reason) × (r ≡ reply.Dropped reason)
@@ -86,7 +86,7 @@ TellsAbort (model.Aborts p) r = (bytes : List ℕ) × WritesPacket bytes p × (r
 TellsAbort model.NoPeer r = r ≡ reply.Refused NoPeer
 TellsAbort model.TooLong r = r ≡ reply.Refused ReasonTooLong
 
--- the calls that may want memory and then change nothing; of a packet a beginning may have acted
+-- the calls that allocate and, if that fails, change nothing; of a packet the chunks before the failing one may have taken effect
 abbrev pub may_want : Call → Bool
 may_want call.Build = true
 may_want (call.Send stream kind payload until bytes) = true

@@ -14,7 +14,7 @@ use Rattle.sctp_words.specs.Fields.{kind_word}
 use Rattle.sctp_words.specs.Lines.{kind_of}
 use Rattle.sctp_words.specs.Names.{state_word, end_word, number_word}
 
--- the code that is printed for a refusal: 6 of a message, and 3 of an abort, are want of memory
+-- the code that is printed for a refusal: 6 of a message, and 3 of an abort, would be a failed allocation
 abbrev pub refusal_code : Refusal → ℕ
 refusal_code NotIdle = 1
 refusal_code NoSuchStream = 1

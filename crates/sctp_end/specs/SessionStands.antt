@@ -6,11 +6,11 @@ use Rattle.sctp_end.specs.declared.reply.Reply.{Reply}
 use Rattle.sctp_end.specs.declared.session.Session.{Session}
 use Rattle.sctp_end.specs.Performing.{Standing, Performs}
 
--- the end as this view has it, with the session's draw and moment
+-- the endpoint as this view has it, with the session's random values and time
 abbrev pub standing : Session → EndView → Standing
 standing s v = record { view = v; draw = s.draw; now = s.moment }
 
--- A session was asked for this, whatever view its end stands for, and answered so.
+-- A session was asked for this, whatever view its endpoint stands for, and answered so.
 abbrev pub Performed : Session → Call → Reply → Session → Type 0
 Performed old c r new =
     (v : EndView) → EndpointStands old.endpoint v → (w : EndView) × Performs (standing old v) c r (standing new w) × EndpointStands new.endpoint w

@@ -30,11 +30,11 @@ Settles words c =
     (vs : Values Value setting_fields) × AreValues Value IsValue setting_fields words vs
     × (configuration_fault (plain_of vs) ≡ None) × (c ≡ asked (mode_of vs) (plain_of vs))
 
--- a word that stands there, or doesn't
+-- an optional word
 abbrev pub word_if : Bool → List ℕ → List (List ℕ)
 word_if b word = if b then word ∷ [] else []
 
--- The words say this configuration: behind MODE, the fifth, may stand `delay` and `standard-closing`, in this order.
+-- The words say this configuration: after MODE, the fifth, may be `delay` and `standard-closing`, in this order.
 abbrev pub Configures : List (List ℕ) → Configuration → Type 0
 Configures words c =
     (front back : List (List ℕ)) × (delay standard : Bool) × (plain : Configuration)
@@ -58,10 +58,10 @@ SetsUpListener words v =
     × (words ≡ name ∷ codes "listener" ∷ (settings ++ last ∷ [])) × Configures settings c × IsKey last key × IsUnder key seal
     × (v ≡ fresh_end c (Listener seal) Listening)
 
--- The words, the program's own name first, set up this end. Others are wrong.
+-- The words, the program's own name first, set up this endpoint. Others are wrong.
 abbrev pub SetsUp : List (List ℕ) → EndView → Type 0
 SetsUp words v = SetsUpCaller words v ⊎ SetsUpListener words v
 
--- before the first line: the draw is (1, 1), and the moment 0
+-- before the first line: the random values are tag 1 and TSN 1, and the time 0
 abbrev pub first_standing : EndView → Standing
 first_standing v = record { view = v; draw = record { tag = 1; tsn = 1 }; now = 0 }

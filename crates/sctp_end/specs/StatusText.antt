@@ -1,4 +1,4 @@
--- The words of a status: what an end tells of itself on one line.
+-- The words of a status.
 use Rattle.std.specs.Prelude.{ℕ, Bool, true, false, List, [], ◌∷◌, Option, None, Some, option_map, codes, decimal}
 use Rattle.sctp_association.specs.declared.user.agreed.Agreed.{Agreed}
 use Rattle.sctp_terms.specs.Meanings.{state_meaning, end_meaning}
@@ -14,7 +14,7 @@ mode_on false true = mode_word PartialData
 mode_on true false = mode_word IData
 mode_on true true = mode_word PartialIData
 
--- what both ends agreed on, or `-` in place of each: the streams out
+-- what both endpoints agreed on, or `-` in place of each: the streams out
 abbrev pub outbound_word : Option Agreed → List ℕ
 outbound_word None = codes "-"
 outbound_word (Some a) = decimal a.outbound

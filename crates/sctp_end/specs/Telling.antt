@@ -1,4 +1,4 @@
--- What a status says of an end.
+-- What a status says of an endpoint.
 use Rattle.std.specs.Prelude.{◌≡◌, length, option_map}
 use Rattle.sctp_model.specs.sender.Readers.{outstanding}
 use Rattle.sctp_model.specs.receiver.ReceiverView.{held_bytes}
@@ -10,7 +10,7 @@ use Rattle.sctp_recv.specs.Readable.{ReadableAnswer}
 use Rattle.sctp_association.specs.Agreeing.{AgreedAnswer}
 use Rattle.sctp_end.specs.declared.status.Status.{Status}
 
--- Each of its numbers and names is the end's; what is readable is the lowest of all streams on which a message waits, and none where none waits.
+-- Each of its numbers and names is the endpoint's; readable is the lowest of all streams on which a message waits, and none if none waits.
 pub record IsStatus (v : EndView) (x : Status) : Type 0 where
   pub state : state_meaning x.state ≡ state_of v.phase
   pub ended : option_map end_meaning x.ended ≡ ended_of v.phase

@@ -1,6 +1,6 @@
--- How the configurations of both ends of a pair are made.
+-- The configurations of the two endpoints of a pair.
 use Rattle.sctp_model.specs.end.EndView.{Configuration}
 
--- the same at the other end: its own port is the peer's here
+-- the other endpoint's configuration: the two ports exchanged
 abbrev pub turned_round : Configuration → Configuration
 turned_round c = record c { own_port = c.peer_port; peer_port = c.own_port }

@@ -1,4 +1,4 @@
--- What the events and outcomes of a pair say, in the words of the world.
+-- The meaning of a pair's events and outcomes, in the words of the model's world.
 use Rattle.std.specs.Prelude.{ℕ, List, Option, None, Some, Result, Ok, Err}
 use Rattle.sctp_model.specs.sender.Queueing as refusals
 use Rattle.sctp_model.specs.end.UserCalls as calls
@@ -17,14 +17,14 @@ use Rattle.sctp_events.specs.declared.outcome.Refusal.TheVariants as refusal
 use Rattle.sctp_events.specs.declared.outcome.Outcome.{Outcome}
 use Rattle.sctp_events.specs.declared.outcome.Outcome.TheVariants as outcome
 
--- an end, in the words of the world
+-- an endpoint
 abbrev pub side_meaning : Side → world.Side
 side_meaning side.A = world.A
 side_meaning side.B = world.B
 
 -- ---- events
 
--- What an event asks for: that something happens; or that a stranger's bytes come to an end, whatever they are.
+-- What an event asks for: an event of the model; or that a third party's bytes, whatever they are, arrive at an endpoint.
 pub data Wanted : Type 0 where
   Happens : (event : meaning.Event) → Wanted
   BringsBytes : (to : world.Side) → (bytes : List ℕ) → Wanted
@@ -73,7 +73,7 @@ outcome_meaning (outcome.Fate fate) = meaning.Fate (answer_meaning fate)
 outcome_meaning (outcome.Message message) = meaning.Message (handed_of message)
 outcome_meaning outcome.Empty = meaning.NoMessage
 
--- what a result tells; want of memory is the answer that isn't there
+-- the answer of a result; a failed allocation is no answer
 abbrev pub answer_of : Result Outcome NoMemory → Option meaning.Outcome
 answer_of (Ok outcome) = Some (outcome_meaning outcome)
 answer_of (Err _) = None

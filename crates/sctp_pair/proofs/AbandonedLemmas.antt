@@ -1,4 +1,4 @@
--- Which messages a moment or a call abandons: those that weren't before and are now; at a moment none but those that are late.
+-- Which messages a time or a call abandons: those that weren't abandoned before and are now; at a time only those whose lifetime is over.
 use Rattle.std.proofs.Common.{◌≡◌, ℕ, zero, suc, ◌≤◌, max, Bool, true, false, not, ◌&&◌, List, [], ◌∷◌, ◌++◌, refl, sym, ap, ◌∙◌, arith, map, append_assoc}
 use Rattle.std.specs.Prelude.{if◌then◌else◌, filter, nat_lt, ◌||◌, ◌==◌}
 use Rattle.std.proofs.lemmas.List.{append-nil}

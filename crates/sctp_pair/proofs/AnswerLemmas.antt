@@ -1,4 +1,4 @@
--- What an end answers with, or tells by its user's abort: a packet of one chunk, which stands where it may, and as long as is told.
+-- The packet with which an endpoint answers or aborts: one chunk, in a permitted place, of the length that is reported.
 use Rattle.std.proofs.Common.{◌≡◌, ℕ, ◌+◌, ◌==◌, Bool, true, false, List, [], ◌∷◌, ◌++◌, length, replicate, Option, Some, None, refl, ap, ◌∙◌, subst, arith, length-append}
 use Rattle.std.specs.Prelude.{if◌then◌else◌, nat_le}
 use Rattle.std.specs.List.{flat_map}

@@ -1,5 +1,4 @@
--- The chunks of a packet that an end builds stand where they may: an INIT has a packet of its own, a COOKIE ECHO is the first chunk, and all
--- others may stand anywhere.
+-- The chunks of a packet that an endpoint builds are in permitted places: INIT has a packet of its own, COOKIE ECHO is first, others may be anywhere.
 use Rattle.std.proofs.Common.{◌≡◌, ℕ, ◌+◌, Bool, true, false, List, [], ◌∷◌, ◌++◌, map, None, refl}
 use Rattle.sctp_model.specs.wire.Chunk.{ChunkMeaning, Data, IData, Init, InitAck, Sack, Heartbeat, HeartbeatAck, Abort, Shutdown, ShutdownAck, Error, CookieEcho, CookieAck, ShutdownComplete, ForwardTsn, IForwardTsn, Unknown, size_of_chunk}
 use Rattle.sctp_model.specs.wire.Places.{stands_alone, misplaced_behind, ArePlaced}

@@ -1,4 +1,4 @@
--- No end's moment is past the clock: each is told the clock alone.
+-- No endpoint's time is past the clock: each is notified of the clock only.
 use Rattle.std.proofs.Common.{◌≡◌, ℕ, ◌≤◌, max, [], ◌∷◌, Option, None, refl, sym, subst, arith}
 use Rattle.sctp_model.specs.wire.Packet.{Packet}
 use Rattle.sctp_model.specs.end.EndView.{EndView}

@@ -1,4 +1,4 @@
--- The tickets that are late, one after the other: the next one above those found so far, until there is none.
+-- The tickets whose lifetime is over, one after the other: the next one above those found so far, until there is none.
 use Rattle.std.proofs.Common.{◌≡◌, ℕ, zero, suc, ◌+◌, ◌-◌, ◌<◌, ◌≤◌, Bool, true, false, ◌&&◌, List, [], ◌∷◌, ◌++◌, length, map, Some, None, refl, sym, ap, ◌∙◌, arith}
 use Rattle.std.specs.Prelude.{◌==◌, ◌||◌, nat_lt, filter}
 use Rattle.std.specs.List.{list_any}

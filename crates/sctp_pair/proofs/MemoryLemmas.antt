@@ -1,4 +1,4 @@
--- What the answer to an event says of the memory that it takes.
+-- What the answer to an event says of its allocations.
 use Rattle.std.proofs.Common.{◌≡◌, sym, subst}
 use Rattle.std.specs.Prelude.{Result, Ok, Err, OnErr}
 use Rattle.sctp_model.specs.world.World.{World}

@@ -1,4 +1,4 @@
--- What bytes read as, and what a moment leaves where they don't read.
+-- What bytes read as, and what a time leaves if they can't be read.
 use Rattle.std.proofs.Common.{◌≡◌, ℕ, List, Option, None, Some, Result, Ok, Err, refl, inl, inr, ◌⊎◌, subst}
 use Rattle.sctp_model.specs.numbers.Numbers.{AreBytes}
 use Rattle.sctp_model.specs.wire.Packet as meaning

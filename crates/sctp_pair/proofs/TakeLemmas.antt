@@ -1,4 +1,4 @@
--- Nothing is taken where nothing waits.
+-- Nothing is taken if nothing waits.
 use Rattle.std.proofs.Common.{◌≡◌, ℕ, List, [], ◌∷◌, None, refl}
 use Rattle.std.specs.Prelude.{slice_get}
 use Rattle.sctp_model.specs.receiver.ReceiverView.{Handed}

@@ -1,4 +1,4 @@
--- The step of a moment.
+-- The step of time.
 use Rattle.std.proofs.Common.{◌≡◌, ℕ, ◌^◌, ◌<◌, max, Some, subst}
 use Rattle.sctp_model.specs.end.Moments.{ticked}
 use Rattle.sctp_model.specs.world.World.{A, B, World, logged}

@@ -1,4 +1,4 @@
--- The premises on strangers in the words of a key, and that what was read from bytes has cookies of bytes.
+-- The premises on third parties in the words of a key, and that what was read from bytes has cookies of bytes.
 use Rattle.std.proofs.Common.{ℕ, zero, suc, ◌++◌, List, [], ◌∷◌, inl, inr, subst, arith}
 use Rattle.sctp_model.specs.numbers.Numbers.{AreBytes}
 use Rattle.sctp_model.specs.numbers.Lists.{Has}

@@ -6,7 +6,7 @@ use Rattle.sctp_endpoint.specs.Handled.{IsRead}
 use Rattle.sctp_events.specs.declared.event.Event.{Event}
 use Rattle.sctp_events.specs.Events.{Wanted, Happens, BringsBytes, event_meaning}
 
--- The world's event that is asked for. A stranger's bytes bring the packet that they are, or none where they don't read.
+-- The world's event that is asked for. A third party's bytes bring the packet as which they read, or none if they can't be read.
 abbrev pub IsMeant : Wanted → meaning.Event → Type 0
 IsMeant (Happens e) d = d ≡ e
 IsMeant (BringsBytes s bytes) d = (p : Option Packet) × IsRead bytes p × (d ≡ meaning.Foreign s p)

@@ -1,4 +1,4 @@
--- Which events take memory. Of any other none can be wanting.
+-- Which events allocate. No allocation can fail in any other.
 use Rattle.std.specs.Prelude.{◌≡◌, max, true, false, Some, slice_get}
 use Rattle.sctp_model.specs.numbers.Lists.{item_at}
 use Rattle.sctp_model.specs.wire.Packet.{Packet}
@@ -8,8 +8,8 @@ use Rattle.sctp_model.specs.receiver.ReceiverView.{Handed}
 use Rattle.sctp_model.specs.world.World.{Side, World, end_of, bag_of}
 use Rattle.sctp_model.specs.world.Events.{Event, OpenBoth, At, Drawing, Connect, Build, Deliver, Foreign, Send, Abandon, Take, Shutdown, Abort}
 
--- Something grows in this world if the event happens: ends are made, where they may be; a note of what a moment or a user abandons, or of a message
--- taken; a bag. What is drawn, a call and a shutdown want no memory, nor does a packet that the bag doesn't have.
+-- Something grows in this world if the event happens: endpoints are made, if they may be; a log of what a time or a user abandons, or of a message
+-- taken; a bag. Random values, a call and a shutdown allocate nothing, nor does a packet that the bag doesn't have.
 abbrev pub TakesMemory : World → Event → Type 0
 TakesMemory w (OpenBoth x y) = w.openable ≡ true
 TakesMemory w (At m) = (s : Side) × (has_late (end_of w s).sender (max w.clock m) ≡ true)

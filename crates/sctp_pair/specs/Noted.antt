@@ -16,23 +16,23 @@ use Rattle.sctp_values.specs.declared.ticket.Ticket.{Ticket}
 use Rattle.sctp_pair.specs.Taken.{AreLogged}
 use Rattle.sctp_pair.specs.declared.taken.StreamLog.{StreamLog}
 
--- the tickets numbered with each packet, one packet's behind another's
+-- the tickets that were given TSNs, packet by packet
 abbrev pub tickets_noted : List (Vec Ticket Global) → List ℕ
 tickets_noted packets = joined (map (λ tickets. map ticket_number tickets.items) packets)
 
--- These lists say of an end and of its user's log what the world does.
+-- These lists say of an endpoint and of its user's log what the world says.
 pub record AreNoted (packets : List (Vec Ticket Global)) (gone : List Ticket) (logs : List StreamLog) (e : EndView) (l : Log) : Type 0 where
   pub numbers : tickets_noted packets ≡ numbered e
   pub order : map ticket_number gone ≡ l.order
   pub taken : AreLogged logs e.receiver.taken
 
--- ---- what a moment abandons
+-- ---- what a time abandons
 
 -- the tickets of messages that are past their time and may be abandoned, rising
 abbrev pub late_tickets : SenderView → (now : ℕ) → List ℕ
 late_tickets v now = filter (is_to_expire v now) (count_up 1 v.tickets)
 
--- All that the moment abandons is among these tickets, in its order, and of these nothing else is abandoned after it.
+-- All that the time abandons is among these tickets, in its order, and of these nothing else is abandoned after it.
 abbrev pub IsWatched : EndView → (now : ℕ) → List Ticket → Type 0
 IsWatched e now tickets =
     newly_abandoned e.sender (ticked e now).sender (ticked e now).sender.tickets ≡ filter (λ k. abandoned (ticked e now).sender k) (map ticket_number tickets)

@@ -19,7 +19,7 @@ use Rattle.sctp_events.specs.declared.outcome.Outcome.{Outcome}
 
 -- ---- several events
 
--- What comes to pass from a world on: events, the answer to each, and the worlds that they lead through, that world not counted.
+-- A course from a world on: events, the answer to each, and the worlds that they lead through, that world not counted.
 pub record Course : Type 0 where
   pub events : List meaning.Event
   pub answers : List (Option meaning.Outcome)
@@ -48,7 +48,7 @@ answers_of outcomes = map (λ o. Some (outcome_meaning o)) outcomes
 abbrev pub and_then : Course → meaning.Event → Option meaning.Outcome → World → Course
 and_then c e o x = record { events = c.events ++ e ∷ []; answers = c.answers ++ o ∷ []; worlds = c.worlds ++ x ∷ [] }
 
--- Memory was wanting in the last event, which takes some, and in none before.
+-- An allocation failed in the last event, which allocates, and in none before.
 pub record IsCut (w : World) (c : Course) : Type 0 where
   pub before : Course
   pub outcomes : List Outcome
@@ -58,7 +58,7 @@ pub record IsCut (w : World) (c : Course) : Type 0 where
   pub left : World
   pub cut : c ≡ and_then before event None left
 
--- It was so; or it was wanting before the first event, where there is one, for the outcomes.
+-- It was so; or the allocation for the outcomes failed before the first event, if there is one.
 abbrev pub IsWanting : World → List Event → Course → Type 0
 IsWanting w events c = ((0 < length events) × (c.answers ≡ [])) ⊎ IsCut w c
 
@@ -70,11 +70,11 @@ RunLeaves w events (Err _) c =
 
 -- ---- what is promised
 
--- one course, and another behind it
+-- one course, and another after it
 abbrev pub followed_by : Course → Course → Course
 followed_by c d = record { events = c.events ++ d.events; answers = c.answers ++ d.answers; worlds = c.worlds ++ d.worlds }
 
--- a course from the start, of ends that are set up within the limits, led to this world
+-- a course from the start, of endpoints that are set up within the limits, led to this world
 pub record IsRunTo (s : Setup) (before : Course) (w : World) : Type 0 where
   pub configured : (x : world.Side) → IsConfiguration (configuration_of s x)
   pub leads : LeadsOn (start s) before
@@ -85,8 +85,8 @@ pub record MeetsPremises (s : Setup) (c : Course) : Type 0 where
   pub strangers : Premises s.sealing c.events
   pub aged : Aged (start s) c.events c.worlds
 
--- What holds of a course that goes on from a world: with the one before it is one course, from which a further call may go on; and where that one meets the
--- premises, both directions are safe in each of its worlds from there on, and once an end has completed nothing is missing there.
+-- What holds of a course that goes on from a world: with the one before it is one course, from which a further call may go on; and if that one meets the
+-- premises, both directions are safe in each of its worlds from there on, and once an endpoint has completed its association nothing is missing there.
 pub record Promises (s : Setup) (before : Course) (w : World) (c : Course) : Type 0 where
   pub whole : IsRunTo s (followed_by before c) (last_of w c.worlds)
   pub safe : MeetsPremises s (followed_by before c) → AreAllSafe (w ∷ c.worlds)

@@ -4,7 +4,7 @@ use Rattle.sctp_model.specs.world.World.{Side, A, B, World, end_of}
 use Rattle.sctp_pair.specs.Sides.{side_of, SideStands}
 use Rattle.sctp_pair.specs.declared.pair.Pair.{Pair}
 
--- no end was told a moment past the clock
+-- no endpoint's time is past the clock
 abbrev pub IsOnTime : World → Type 0
 IsOnTime w = (s : Side) → (end_of w s).moment ≤ w.clock
 

@@ -14,7 +14,7 @@ use Rattle.sctp_pair.specs.declared.one_side.OneSide.{OneSide}
 
 -- ---- one side of the world
 
--- the end, its bag and its user's log
+-- the endpoint, its bag and its user's log
 pub record SideView : Type 0 where
   pub end : EndView
   pub bag : List Packet
@@ -29,11 +29,11 @@ abbrev pub with_side : World → Side → SideView → World
 with_side w A h = record w { a = h.end; from_a = h.bag; log_a = h.log }
 with_side w B h = record w { b = h.end; from_b = h.bag; log_b = h.log }
 
--- the same, where something came to the end
+-- .. after something has arrived at the endpoint
 abbrev pub left : World → Side → SideView → World
 left w s h = record (with_side w s h) { openable = false }
 
--- a side that a moment leaves: its end, and in its user's log what the moment abandoned
+-- a side after a time: its endpoint, and in its user's log what was abandoned then
 abbrev pub ticked_side : SideView → (now : ℕ) → SideView
 ticked_side v now = record v {
   end = ticked v.end now;
@@ -60,7 +60,7 @@ pub record IsItem (ps : List Packet) (number : ℕ) (bytes : List ℕ) : Type 0 
   pub writes : WritesPacket bytes packet
   pub reads : ReadsPacket bytes packet
 
--- Each part of a side of a pair stands for its part of the world's: the end, the bag, and all that is noted.
+-- Each part of a side of a pair stands for its part of the world's: the endpoint, the bag, and the logs.
 pub record KeepsSide (h : OneSide) (v : SideView) : Type 0 where
   pub end : EndpointStands h.end v.end
   pub bag : ArePackets h.bag.items v.bag

@@ -18,12 +18,12 @@ IsLogged (Some l) hs = IsStreamLog l hs
 abbrev pub AreLogged : List StreamLog → (ℕ → List Handed) → Type 0
 AreLogged ls taken = (s : ℕ) → IsLogged (slice_get ls s) (taken s)
 
--- the log has room for one message more
+-- the log has space for one more message
 pub record HasRoom (l : StreamLog) : Type 0 where
   pub numbers : vec_len l.numbers < vec_capacity l.numbers
   pub unordered : l.unordered + 1 < 2 ^ 64
 
--- there is a log of the stream, and it has room
+-- there is a log of the stream, and it has space
 pub record HasRoomAt (ls : List StreamLog) (s : ℕ) : Type 0 where
   pub within : s < length ls
   pub room : (l : StreamLog) → slice_get ls s ≡ Some l → HasRoom l

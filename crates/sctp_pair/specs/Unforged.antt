@@ -1,4 +1,4 @@
--- The premises on strangers in the words of a key, for a pair whose listener seals its cookies with it.
+-- The premises on third parties in the words of a key, for a pair whose listener seals its cookies with it.
 use Rattle.std.specs.Prelude.{ℕ, List, Some}
 use Rattle.sctp_model.specs.numbers.Numbers.{AreBytes}
 use Rattle.sctp_model.specs.numbers.Lists.{Has}
@@ -11,14 +11,14 @@ use Rattle.sctp_model.specs.world.Premises.{drawn_in, Premises}
 use Rattle.sctp_cookie.specs.Seals.{IsUnder, IsSealed}
 use Rattle.sctp_packet.specs.PacketBytes.{ReadsPacket}
 
--- A stranger's packet. It carries none of these tags, no INIT in it asks for one (FRESH), and no COOKIE ECHO in it has a cookie that the key seals
+-- A third party's packet. It carries none of these tags, no INIT in it proposes one (FRESH), and no COOKIE ECHO in it has a cookie that the key seals
 -- (UNFORGED).
 pub record IsWithoutKey (key tags : List ℕ) (p : Packet) : Type 0 where
   pub untagged : Has tags p.tag → ⊥
   pub inits : (m : InitMeaning) → Has p.chunks (Init m) → Has tags m.tag → ⊥
   pub cookies : (cookie : List ℕ) → Has p.chunks (CookieEcho cookie) → IsSealed key cookie → ⊥
 
--- FRESH and UNFORGED, of the events of a run: whoever else sends to either end is such a stranger.
+-- FRESH and UNFORGED, of the events of a run: whoever else sends to either endpoint is such a third party.
 abbrev pub KeyPremises : (key : List ℕ) → List Event → Type 0
 KeyPremises key es = (x : Side) (p : Packet) → Has es (Foreign x (Some p)) → IsWithoutKey key (drawn_in es) p
 
@@ -26,11 +26,11 @@ KeyPremises key es = (x : Side) (p : Packet) → Has es (Foreign x (Some p)) →
 abbrev pub HasByteCookies : Packet → Type 0
 HasByteCookies p = (cookie : List ℕ) → Has p.chunks (CookieEcho cookie) → AreBytes cookie
 
--- .. and in each packet of a stranger
+-- .. and in each packet of a third party
 abbrev pub HaveByteCookies : List Event → Type 0
 HaveByteCookies es = (x : Side) (p : Packet) → Has es (Foreign x (Some p)) → HasByteCookies p
 
--- Under the key's seal the premises say the same in both words, where cookies are bytes.
+-- Under the key's seal the premises say the same in both words, if cookies are bytes.
 pub record PremisesOfKey (key : List ℕ) (s : Sealing) (es : List Event) : Type 0 where
   pub in_words_of_the_key : Premises s es → KeyPremises key es
   pub in_words_of_the_seal : HaveByteCookies es → KeyPremises key es → Premises s es

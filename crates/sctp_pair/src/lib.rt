@@ -10,10 +10,10 @@
 //!
 //! - `Pair::new` and `Pair::with_key` make a caller A and a listener B, whose cookies are sealed with the key of bytes 0 to 31, or with the
 //!   given key.
-//! - `Pair::step` makes one step of the world and returns what that step answers: an endpoint opened, time, random values, a call, a packet
-//!   built, one of a bag delivered, a third party's packet, a message sent, abandoned or taken, shutdown, abort. If an allocation fails, an
-//!   arriving packet has taken effect up to the failing chunk, and any other event has changed nothing; only events that allocate can fail
-//!   so (`TakesMemory` of `specs/Memory`), never random values, a call or a shutdown.
+//! - `Pair::step` makes one step of the world and returns what that step answers: both endpoints opened without packets, time, random values,
+//!   a call, a packet built, one of a bag delivered, a third party's packet, a message sent, abandoned or taken, shutdown, abort. If an
+//!   allocation fails, an arriving packet has taken effect up to the failing chunk, and any other event has changed nothing; only events
+//!   that allocate can fail so (`TakesMemory` of `specs/Memory`), never random values, a call or a shutdown.
 //! - `Pair::run` makes the steps of several events and returns their answers.
 //! - **Both promise that the association is safe** (`Promised` of `specs/PairRuns`): if the course of the pair from its start meets the three
 //!   premises (FRESH: no third party's packet carries a tag that an endpoint generates in the run, or an INIT that proposes one;

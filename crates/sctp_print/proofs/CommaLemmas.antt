@@ -1,4 +1,4 @@
--- Lists as words: what is put behind commas, and what is joined by them.
+-- Lists as words: items after commas, and items joined by commas.
 use Rattle.std.proofs.Common.{◌≡◌, ℕ, zero, suc, ◌-◌, ◌<◌, ◌≤◌, Bool, true, false, cond, List, [], ◌∷◌, ◌++◌, length, Option, Some, None, unwrap_or, option_map, refl, append_assoc, arith}
 use Rattle.std.specs.List.{flat_map}
 use Rattle.sctp_model.specs.wire.Chunk.{padded}

@@ -10,11 +10,11 @@ use Rattle.sctp_print.specs.declared.words.TheConstants.{COMMA, DASH, COLON}
 
 -- ---- words
 
--- a letter where a flag is set
+-- a letter if a flag is set
 abbrev pub letter : ℕ → Bool → List ℕ
 letter c set = if set then c ∷ [] else []
 
--- `-` where there is nothing
+-- `-` for nothing
 abbrev pub or_dash : List ℕ → List ℕ
 or_dash [] = DASH ∷ []
 or_dash (c ∷ cs) = c ∷ cs
@@ -31,7 +31,7 @@ tag_word tag = encode_lower (big_bytes 4 tag)
 abbrev pub flag_word : Bool → List ℕ
 flag_word set = if set then codes "1" else codes "0"
 
--- each item behind a comma
+-- each item after a comma
 abbrev pub each_behind_comma : {X : Type 0} → (X → List ℕ) → List X → List ℕ
 each_behind_comma word [] = []
 each_behind_comma word (x ∷ xs) = COMMA ∷ (word x ++ each_behind_comma word xs)
@@ -41,7 +41,7 @@ abbrev pub joined : {X : Type 0} → (X → List ℕ) → List X → List ℕ
 joined word [] = DASH ∷ []
 joined word (x ∷ xs) = word x ++ each_behind_comma word xs
 
--- a gap block: its ends
+-- a gap block: start and end
 abbrev pub block_word : BlockMeaning → List ℕ
 block_word b = decimal b.start ++ (DASH ∷ decimal b.end)
 
@@ -63,7 +63,7 @@ type_word x = decimal x.kind
 abbrev pub word_name : Bool → List ℕ
 word_name begin = if begin then codes "id" else codes "fsn"
 
--- a piece of user data: its chunk's name, its flags, and its fields behind their names, two of which are given
+-- DATA or I-DATA: the chunk's name, its flags, and its fields after their names, two of which are given
 abbrev pub piece_words : (name number word : List ℕ) → PieceMeaning → List (List ℕ)
 piece_words name number word p =
     name ∷ flags_word p ∷ codes "tsn" ∷ decimal p.tsn ∷ codes "stream" ∷ decimal p.stream ∷ number ∷ decimal p.number

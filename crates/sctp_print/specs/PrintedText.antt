@@ -69,14 +69,14 @@ abbrev pub IsTextOf : (List ℕ → List ℕ → Bool → Type 0) → Result (Li
 IsTextOf IsText (Ok bytes) text was_read = IsText bytes text was_read
 IsTextOf IsText (Err e) text was_read = (was_read ≡ false) × (text ≡ hex_fault_line)
 
--- what is printed for the word behind `packet`
+-- what is printed for the word after `packet`
 abbrev pub IsPacketTextOf : List ℕ → List ℕ → Bool → Type 0
 IsPacketTextOf word text was_read = IsTextOf IsPacketText (decode_of word) text was_read
 
--- what is printed for the word behind `chunks`
+-- what is printed for the word after `chunks`
 abbrev pub IsChunksTextOf : List ℕ → List ℕ → Bool → Type 0
 IsChunksTextOf word text was_read = IsTextOf IsChunksText (decode_of word) text was_read
 
--- what was added behind other text
+-- what was appended to other text
 abbrev pub Adds : (List ℕ → Bool → Type 0) → List ℕ → List ℕ → Bool → Type 0
 Adds IsText old new was_read = (text : List ℕ) × (new ≡ old ++ text) × IsText text was_read

@@ -1,4 +1,4 @@
--- The commands are told apart by their names and by how many words stand behind them: what holds of all of them, by their list, and which command a word names.
+-- The commands are told apart by name and number of words: what holds of all of them, by their list, and which command a word names.
 use Rattle.std.proofs.Common.{◌≡◌, ℕ, ◌==◌, ◌&&◌, if◌then◌else◌, Bool, true, false, not, ◌⊎◌, inl, inr, List, [], ◌∷◌, Option, None, Some, length, slice_index, nat_lt, refl, sym, ap, ◌∙◌}
 use Rattle.std.specs.List.{list_all}
 use Rattle.std.specs.Str.{bytes_eq}

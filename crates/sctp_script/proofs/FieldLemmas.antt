@@ -1,4 +1,4 @@
--- A word says one value of its field or none, and so do the words behind a command.
+-- A word says one value of its field or none, and so do the words of a command.
 use Rattle.std.proofs.Common.{◌≡◌, ℕ, suc, ◌==◌, cond, ◌^◌, ◌⊎◌, inl, inr, List, [], ◌∷◌, length, slice_index, Option, None, Some, codes, refl, sym, ap, ◌∙◌, subst, arith}
 use Rattle.std.specs.Str.{bytes_eq}
 use Rattle.std.proofs.lemmas.Bool.{cases_Bool, cases_lt}

@@ -1,4 +1,4 @@
--- Tickets that are written one by one behind spaces.
+-- Tickets that are written one by one, each after a space.
 use Rattle.std.proofs.Common.{◌≡◌, ℕ, ◌+◌, ◌<◌, List, [], ◌∷◌, ◌++◌, length, take, get_or, map, decimal, refl, sym, ap, ◌∙◌, append_assoc}
 use Rattle.std.proofs.lemmas.List.{append-nil, take_more, map-append}
 use Rattle.sctp_values.specs.declared.ticket.Ticket.{Ticket}

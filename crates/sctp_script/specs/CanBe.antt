@@ -5,7 +5,7 @@ use Rattle.sctp_model.specs.end.EndView.{IsDraw}
 use Rattle.sctp_model.specs.world.Events.{OpenBoth, At, Drawing, Connect, Foreign}
 use Rattle.sctp_events.specs.Events.{Wanted, Happens, BringsBytes}
 
--- Chance hands in draws, and a moment has 64 bits. A stranger's packet is brought as bytes, never as it reads.
+-- Tags aren't 0, and a time has 64 bits. A third party's packet is given as bytes, never as what they read as.
 abbrev pub CanBe : Wanted → Type 0
 CanBe (Happens (OpenBoth x y)) = IsDraw x × IsDraw y
 CanBe (Happens (At m)) = m < 2 ^ 64

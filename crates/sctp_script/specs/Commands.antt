@@ -1,4 +1,4 @@
--- The commands of a script: their names and the fields behind each. No two have both alike: `pair` alone has two forms, by how many words stand behind it.
+-- The commands of a script: their names and their fields. No two have the same name and number of words: only `pair` has two forms.
 use Rattle.std.specs.Prelude.{ℕ, ◌==◌, Bool, true, false, if◌then◌else◌, List, [], ◌∷◌, ◌++◌, length, Option, None, Some, codes, bytes_eq}
 use Rattle.sctp_script.specs.Fields.{Field, ASide, ANumber, ATag, AMode, ADelay, AKind, AnUntil, SomeBytes}
 use Rattle.sctp_script.specs.declared.command.Command.{Command}
@@ -51,11 +51,11 @@ fields_of Take = ASide ∷ ANumber 16 ∷ []
 fields_of Shutdown = ASide ∷ []
 fields_of Abort = ASide ∷ SomeBytes ∷ []
 
--- how many words stand behind a command
+-- the number of words after a command's name
 abbrev pub arguments_of : Command → ℕ
 arguments_of c = length (fields_of c)
 
--- a command's form where so many words stand behind it
+-- a command's form for this number of words
 abbrev pub form_of : Command → ℕ → Command
 form_of Pair n = if n == 6 then DelayedPair else Pair
 form_of DelayedPair n = if n == 6 then DelayedPair else Pair
@@ -70,13 +70,13 @@ first_named word (c ∷ cs) = if bytes_eq word (name_of c) then Some c else firs
 abbrev pub command_named : List ℕ → Option Command
 command_named word = first_named word commands
 
--- what stands before any other command, in either form
+-- the command that precedes all others, in either form
 abbrev pub is_pair : Command → Bool
 is_pair Pair = true
 is_pair DelayedPair = true
 is_pair _ = false
 
--- bytes stand behind it
+-- it has a field of bytes
 abbrev pub has_bytes : Command → Bool
 has_bytes Foreign = true
 has_bytes Send = true

@@ -1,4 +1,4 @@
--- The words behind a command: what a word may say, by its field.
+-- The fields of a command, and the values of each.
 use Rattle.std.specs.Prelude.{◌≡◌, ℕ, List, Option}
 use Rattle.sctp_model.specs.messages.Format.{Kind}
 use Rattle.sctp_model.specs.world.World.{Side}

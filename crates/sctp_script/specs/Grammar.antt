@@ -34,7 +34,7 @@ CommandValues c = Values Value (fields_of c)
 abbrev pub draw_of : (tag tsn : ℕ) → Draw
 draw_of tag tsn = record { tag = tag; tsn = tsn }
 
--- What a command with these values says; `open` draws tag 1 for A and tag 2 for B, and TSN 1 for both.
+-- What a command with these values says; `open` has tag 1 for A and tag 2 for B, and initial TSN 1 for both.
 abbrev pub meaning_of : (c : Command) → CommandValues c → LineMeaning
 meaning_of command.Pair (limit, (fragment, (buffer, (streams, (mode, rest))))) = Pairs (asked mode (sizes limit fragment buffer streams))
 meaning_of command.DelayedPair (limit, (fragment, (buffer, (streams, (mode, rest))))) = Pairs (record (asked mode (sizes limit fragment buffer streams)) { delay = true })
@@ -58,17 +58,17 @@ AreGood command.Pair (limit, (fragment, (buffer, (streams, (mode, rest))))) = co
 AreGood command.DelayedPair (limit, (fragment, (buffer, (streams, (mode, rest))))) = configuration_fault (sizes limit fragment buffer streams) ≡ None
 AreGood _ vs = Unit {0}
 
--- What a command says with these words behind it.
+-- What a command with these words says.
 abbrev pub Spells : Command → List (List ℕ) → LineMeaning → Type 0
 Spells c args m = (vs : CommandValues c) × AreValues Value IsValue (fields_of c) args vs × AreGood c vs × (m ≡ meaning_of c vs)
 
 -- ---- lines
 
--- the line is this command with these words behind it
+-- the line is this command with these words
 abbrev pub IsLineOf : List ℕ → Command → List (List ℕ) → Type 0
 IsLineOf line c args = words_of line ≡ name_of c ∷ args
 
--- What is wrong with a line, fault by fault; `paired` says whether a `pair` line stood before it.
+-- What is wrong with a line, fault by fault; `paired` says whether there was a `pair` line before it.
 abbrev pub HasFault : Bool → List ℕ → LineFault → Type 0
 HasFault paired line TooLong = LONGEST_LINE < length line
 HasFault paired line UnknownCommand = (IsSilent line → ⊥) × ((c : Command) (args : List (List ℕ)) → IsLineOf line c args → ⊥)

@@ -1,4 +1,4 @@
--- The line of each outcome. The end and the stream that a line names stand in the event that it answers.
+-- The line of each outcome. The endpoint and the stream in it are those of the event that it answers.
 use Rattle.std.specs.Prelude.{ℕ, List, [], ◌∷◌, codes, decimal}
 use Rattle.sctp_model.specs.sender.Queueing as message
 use Rattle.sctp_model.specs.sender.Abandoning as fate
@@ -14,12 +14,12 @@ use Rattle.sctp_text.specs.SpacedWords.{line_of}
 
 -- ---- what is named
 
--- the name of an end
+-- the name of an endpoint
 abbrev pub side_word : Side → List ℕ
 side_word A = codes "A"
 side_word B = codes "B"
 
--- the end that answers: where a packet is delivered, the one that it comes to; A for an event of no end, whose line names none
+-- the endpoint that answers: for a packet that is delivered, the one at which it arrives; A for an event of neither, whose line names none
 abbrev pub end_named : Wanted → Side
 end_named (Happens (Build x)) = x
 end_named (Happens (Deliver x n)) = other x
@@ -38,7 +38,7 @@ stream_named w = 0
 
 -- ---- the words of outcomes
 
--- the codes of a refused message; 6 is want of memory, which is no outcome
+-- the codes of a refused message; 6 would be a failed allocation, which is no outcome
 abbrev pub refusal_code : message.Refusal → ℕ
 refusal_code message.NoSuchStream = 1
 refusal_code message.Empty = 2
@@ -54,13 +54,13 @@ fate_code fate.Acknowledged = 3
 fate_code fate.Unknown = 4
 fate_code fate.Reliable = 5
 
--- what this end tells of a message that was sent; 7 where it isn't established
+-- what this endpoint answers to a message to be sent; 7 if it isn't established
 abbrev pub told_words : Side → SendAnswer → List (List ℕ)
 told_words x (Ticket k) = codes "ticket" ∷ side_word x ∷ decimal k ∷ []
 told_words x (Refused r) = codes "refused" ∷ decimal (refusal_code r) ∷ []
 told_words x NotOpen = codes "refused" ∷ decimal 7 ∷ []
 
--- the words of an outcome at this end, and on this stream
+-- the words of an outcome at this endpoint and on this stream
 abbrev pub outcome_words : Side → ℕ → Outcome → List (List ℕ)
 outcome_words x s Done = codes "ok" ∷ []
 outcome_words x s RefusedState = codes "refused" ∷ decimal 1 ∷ []

@@ -19,7 +19,7 @@ abbrev pub Finds : Bool → List ℕ → Option Acting → Type 0
 Finds paired line None = Says paired line Silent
 Finds paired line (Some a) = Says paired line (acting_meaning a)
 
--- The fault of a line. Memory may be wanting for the bytes of a word, on a line with as many words as its command has.
+-- The fault of a line. The allocation of a word's bytes may fail, on a line with as many words as its command has.
 abbrev pub Refuses : Bool → List ℕ → LineError → Type 0
 Refuses paired line (error.Fault fault) = Says paired line (Fault fault)
 Refuses paired line error.NoMemory =

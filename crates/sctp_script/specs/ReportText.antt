@@ -17,12 +17,12 @@ use Rattle.sctp_text.specs.SpacedWords.{line_of}
 abbrev pub ticket_number : Ticket → ℕ
 ticket_number k = k.0
 
--- a line of words and numbers, left out where there is no number
+-- a line of words and numbers, left out if there is no number
 abbrev pub numbers_line : List (List ℕ) → List ℕ → List ℕ
 numbers_line words [] = []
 numbers_line words (n ∷ ns) = line_of (words ++ map decimal (n ∷ ns))
 
--- where an end stands, and how it ended
+-- an endpoint's state, and how its association ended
 abbrev pub end_line : Side → State → Option Ended → List ℕ
 end_line x state ended = line_of (codes "end" ∷ side_word x ∷ state_word state ∷ end_word ended ∷ [])
 
@@ -34,7 +34,7 @@ numbered_line x tickets = numbers_line (codes "numbered" ∷ side_word x ∷ [])
 abbrev pub abandoned_line : Side → List ℕ → List ℕ
 abandoned_line x tickets = numbers_line (codes "abandoned" ∷ side_word x ∷ []) tickets
 
--- the numbers of the ordered messages that were handed over on a stream
+-- the numbers of the ordered messages delivered on a stream
 abbrev pub handed_line : Side → (stream : ℕ) → List ℕ → List ℕ
 handed_line x stream numbers = numbers_line (codes "handed" ∷ side_word x ∷ decimal stream ∷ codes "o" ∷ []) numbers
 
@@ -43,7 +43,7 @@ abbrev pub count_line : Side → (stream count : ℕ) → List ℕ
 count_line x stream zero = []
 count_line x stream (suc n) = line_of (codes "handed" ∷ side_word x ∷ decimal stream ∷ codes "u" ∷ decimal (suc n) ∷ [])
 
--- ---- what was handed over
+-- ---- what was delivered
 
 -- the number of an ordered message, which has one
 abbrev pub ordered_number : Handed → Option ℕ
@@ -68,7 +68,7 @@ streams_lines x r (suc n) = streams_lines x r n ++ stream_lines x n (handed r n)
 
 -- ---- the report
 
--- an end's lines
+-- the lines of an endpoint
 abbrev pub end_report : Side → EndView → Log → List ℕ
 end_report x e l =
     end_line x (state_of e.phase) (ended_of e.phase)

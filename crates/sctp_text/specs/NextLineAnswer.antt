@@ -15,7 +15,7 @@ given_by (Ok TooLong) = []
 given_by (Ok End) = []
 given_by (Err _) = []
 
--- what an answer says of the line that it gives, or of what is held and of how much was given behind it
+-- what an answer says of the line that it gives, or of what is held then and of how much was given
 abbrev pub IsAnswer : Result NextLine ReadFault → Reading → Type 0
 IsAnswer (Ok (Ended line)) now = IsOneLine line.items × (length line.items ≤ LONGEST_LINE) × (now.given ≤ LONGEST_TEXT)
 IsAnswer (Ok (Last line)) now =
@@ -24,7 +24,7 @@ IsAnswer (Ok TooLong) now = IsTooLong now.given now.held
 IsAnswer (Ok End) now = now.held ≡ []
 IsAnswer (Err _) now = Unit {0}
 
--- P, where the answer comes at the end of the input
+-- P, if the answer is given at the end of the input
 abbrev pub AtTheEnd : Result NextLine ReadFault → Type 0 → Type 0
 AtTheEnd (Ok (Ended line)) P = Unit {0}
 AtTheEnd (Ok (Last line)) P = P
@@ -32,13 +32,13 @@ AtTheEnd (Ok TooLong) P = Unit {0}
 AtTheEnd (Ok End) P = P
 AtTheEnd (Err _) P = Unit {0}
 
--- how many failures of the source an answer tells
+-- the number of failed calls of the source that an answer reports
 abbrev pub failed_reads : {X : Type 0} → Result X ReadFault → ℕ
 failed_reads (Ok _) = 0
 failed_reads (Err Failed) = 1
 failed_reads (Err NoMemory) = 0
 
--- where this text was read and these lines of it were given before the answer: what is given with it, or that these are all
+-- if this text was read and these lines of it were given before the answer: the lines given with it, or that these are all
 abbrev pub GivesOn : List ℕ → List (List ℕ) → Result NextLine ReadFault → Reading → Type 0
 GivesOn text lines (Ok (Ended line)) now = HasGiven text (lines ++ line.items ∷ []) now
 GivesOn text lines (Ok (Last line)) now = (ended_lines_of text ≡ lines) × (lines_of text ≡ lines ++ line.items ∷ [])

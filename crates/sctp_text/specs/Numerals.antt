@@ -9,7 +9,7 @@ pub record IsDecimal (word : List ℕ) (n : ℕ) : Type 0 where
   pub plain : slice_index word 0 ≡ 48 → length word ≡ 1
   pub value : digits_value 10 word ≡ n
 
--- bytes as two digits each, of lower case; `-` where there is no byte
+-- bytes as two lower-case digits each; `-` if there are none
 abbrev pub hex_word : List ℕ → List ℕ
 hex_word [] = codes "-"
 hex_word (b ∷ bs) = encode_lower (b ∷ bs)

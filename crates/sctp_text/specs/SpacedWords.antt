@@ -2,7 +2,7 @@
 use Rattle.std.specs.Prelude.{◌≡◌, ◌≢◌, ℕ, Bool, true, false, if◌then◌else◌, ◌==◌, List, [], ◌∷◌, ◌++◌, All}
 use Rattle.sctp_text.specs.declared.limits.TheConstants.{LINE_FEED, SPACE}
 
--- each word behind a space
+-- each word after a space
 abbrev pub each_behind_space : List (List ℕ) → List ℕ
 each_behind_space [] = []
 each_behind_space (w ∷ ws) = SPACE ∷ (w ++ each_behind_space ws)
@@ -21,12 +21,12 @@ abbrev pub onto_first : ℕ → List (List ℕ) → List (List ℕ)
 onto_first c [] = (c ∷ []) ∷ []
 onto_first c (w ∷ ws) = (c ∷ w) ∷ ws
 
--- the words of a line: what stands between its spaces, so that there is always one, and some may be empty
+-- the words of a line: the stretches between its spaces, at least one, some of them perhaps empty
 abbrev pub words_of : List ℕ → List (List ℕ)
 words_of [] = [] ∷ []
 words_of (c ∷ cs) = if c == SPACE then [] ∷ words_of cs else onto_first c (words_of cs)
 
--- the words that are left of a line, or none at its end
+-- the words left of a line, none at its end
 abbrev pub words_left : Bool → List ℕ → List (List ℕ)
 words_left true rest = []
 words_left false rest = words_of rest

@@ -3,7 +3,7 @@ use Rattle.std.specs.Prelude.{ℕ, List, [], take, Result, Ok, Err}
 use Rattle.sctp_text.specs.declared.source_sink.FromRead.{FromRead}
 use Rattle.sctp_text.specs.declared.source_sink.ToWrite.{ToWrite}
 
--- the bytes that a call moved: as many of the slice's first ones as it answers, none where it failed
+-- the bytes that a call moved: as many of the slice's first ones as it returns, none if it failed
 abbrev pub moved : {E : Type 0} → Result ℕ E → List ℕ → List ℕ
 moved (Ok count) bytes = take count bytes
 moved (Err _) bytes = []

@@ -1,4 +1,4 @@
--- The lines of a text: what stands between its line feeds, and what stands behind the last one, if that is anything. How a reader of lines goes on.
+-- The lines of a text: the bytes between its line feeds, and those after the last one, if there are any. The state of a reader of lines.
 use Rattle.std.specs.Prelude.{◌≡◌, ℕ, ◌+◌, ◌<◌, ◌≤◌, ◌==◌, min, Bool, false, if◌then◌else◌, ◌⊎◌, List, [], ◌∷◌, ◌++◌, length}
 use Rattle.std.specs.List.{All, flat_map, slice_split, position_or_len}
 use Rattle.sctp_text.specs.declared.block.TheConstants.{BLOCK}
@@ -26,7 +26,7 @@ without_last [] = []
 without_last (part ∷ []) = []
 without_last (part ∷ next ∷ parts) = part ∷ without_last (next ∷ parts)
 
--- the parts but the last one where that is empty
+-- the parts, without the last one if that is empty
 abbrev pub without_empty_last : List (List ℕ) → List (List ℕ)
 without_empty_last [] = []
 without_empty_last (part ∷ []) = if length part == 0 then [] else part ∷ []
@@ -36,13 +36,13 @@ without_empty_last (part ∷ next ∷ parts) = part ∷ without_empty_last (next
 abbrev pub ended_lines_of : List ℕ → List (List ℕ)
 ended_lines_of text = without_last (slice_split is_line_feed text)
 
--- all lines: what stands behind the last line feed is one too, unless it is empty
+-- all lines: the bytes after the last line feed are one too, unless there are none
 abbrev pub lines_of : List ℕ → List (List ℕ)
 lines_of text = without_empty_last (slice_split is_line_feed text)
 
 -- ---- laws: a text has its lines in one way
 
--- lines with their line feeds, and any rest behind them
+-- lines with their line feeds, and any rest after them
 pub record SplitInOneWay (lines : List (List ℕ)) (rest : List ℕ) : Type 0 where
   pub ended : All IsOneLine lines → ended_lines_of (joined lines ++ rest) ≡ lines ++ ended_lines_of rest
   pub all : All IsOneLine lines → lines_of (joined lines ++ rest) ≡ lines ++ lines_of rest
@@ -63,15 +63,15 @@ pub record IsLines (text : List ℕ) : Type 0 where
 abbrev pub first_length : List ℕ → ℕ
 first_length text = position_or_len is_line_feed text
 
--- how many it has with the line feed that ends it, where that is there
+-- how many it has with the line feed that ends it, if there is one
 abbrev pub first_end : List ℕ → ℕ
 first_end text = min (first_length text + 1) (length text)
 
--- behind so many bytes of a text the first line of this text is too long, or makes the whole text too long
+-- after so many bytes of a text, the first line of this text is too long, or makes the whole text too long
 abbrev pub IsTooLong : ℕ → List ℕ → Type 0
 IsTooLong given text = (LONGEST_LINE < first_length text) ⊎ (LONGEST_TEXT < given + first_end text)
 
--- behind so many bytes of a text a line may begin with this
+-- after so many bytes of a text, a line that isn't too long may begin with this
 pub record MayBegin (given : ℕ) (line : List ℕ) : Type 0 where
   pub one_line : IsOneLine line
   pub small : length line ≤ LONGEST_LINE
@@ -79,12 +79,12 @@ pub record MayBegin (given : ℕ) (line : List ℕ) : Type 0 where
 
 -- ---- a reader of lines
 
--- what is read behind what was held: nothing, or all but the last block of it may begin the line
+-- what is read after what was held: nothing, or all but the last block of it may begin the line
 abbrev pub IsReadFor : ℕ → List ℕ → List ℕ → Type 0
 IsReadFor given held bytes =
     (bytes ≡ []) ⊎ ((early : List ℕ) × (late : List ℕ) × (bytes ≡ early ++ late) × (length late ≤ BLOCK) × MayBegin given (held ++ early))
 
--- where a reader of lines stands: the bytes that it has read and not given yet, and how many it has given
+-- the state of a reader of lines: the bytes that it has read and not given yet, and how many it has given
 pub record Reading : Type 0 where
   pub held : List ℕ
   pub given : ℕ

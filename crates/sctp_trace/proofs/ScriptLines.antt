@@ -1,4 +1,4 @@
--- LINES is there for every text: first lines without a fault go on to the first line with one, or to the last that a line feed ends.
+-- LINES is defined for every text: first lines without a fault go on to the first line with one, or to the last that a line feed ends.
 use Rattle.std.proofs.Common.{◌≡◌, ℕ, ◌+◌, ◌<◌, ◌≤◌, ◌⊎◌, inl, inr, Bool, true, List, [], ◌∷◌, ◌++◌, length, Option, Some, None, refl, sym, ap, ◌∙◌, subst, arith, append_assoc, length-append}
 use Rattle.std.specs.List.{All}
 use Rattle.std.proofs.lemmas.Bool.{cases_lt}

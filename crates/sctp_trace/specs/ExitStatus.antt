@@ -1,4 +1,4 @@
--- How the program ends by its words: the exit status, and what was read, written and said of faults.
+-- How the program ends by its words: the exit status, and what was read, written and reported.
 use Rattle.std.specs.Prelude.{◌≡◌, ℕ, ◌⊎◌, Bool, if◌then◌else◌, List, [], ◌++◌, Result, Ok, Err, Option, Some, None, codes, decimal}
 use Rattle.clap.specs.Faults.{fault_of}
 use Rattle.clap.specs.Kinds.{IsAmong}
@@ -30,7 +30,7 @@ Tells (Err NoMemory) status said = (status ≡ FAILED) × (said ≡ [])
 Tells (Err (Line n fault)) status said =
     ((status ≡ REFUSED) × (said ≡ refused_line n fault)) ⊎ ((status ≡ FAILED) × Begins said (refused_line n fault))
 
--- a script was run: how it ended, and what was told of that; `end` says that all input was read
+-- a script was run: how it ended, and what was reported; `end` says that all input was read
 abbrev pub Runs : Type 0 → ℕ → List ℕ → List ℕ → List ℕ → Type 0
 Runs end status read written said =
     (ended : Result (Unit {0}) ScriptFault) × IsAnswered end ended read written × Tells ended status said

@@ -29,7 +29,7 @@ pub data Form : Type 0 where
   Run : Form
   Packet Chunks : (hex : List ℕ) → Form
 
--- the word for HEX among what clap found behind a subcommand; in a form it is there
+-- the word for HEX among what clap found after a subcommand; in a form it is there
 abbrev pub hex_of : List Row → List ℕ
 hex_of rows = unwrap_or (first_of (codes "HEX") rows) []
 

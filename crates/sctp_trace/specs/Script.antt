@@ -1,5 +1,5 @@
--- What a script writes, and which of its lines has the first fault: over its bytes, the grammar of its lines and the steps of two ends.
--- A script's state is the world of its two ends, once there was a `pair` line. Want of memory is no answer of a step here.
+-- What a script writes, and which of its lines has the first fault: over its bytes, the grammar of its lines and the steps of two endpoints.
+-- A script's state is the world of its two endpoints, once there was a `pair` line. A failed allocation is no answer of a step here.
 use Rattle.std.specs.Prelude.{◌≡◌, ℕ, suc, ◌<◌, ◌≤◌, ◌⊎◌, Bool, true, false, List, [], ◌∷◌, ◌++◌, length, Option, Some, None, Result, Ok, Err}
 use Rattle.std.specs.List.{All}
 use Rattle.sctp_model.specs.sender.Words.{count_up}
@@ -26,13 +26,13 @@ use Rattle.sctp_text.specs.declared.limits.TheConstants.{LONGEST_TEXT}
 abbrev pub LISTENER_KEY : List ℕ
 LISTENER_KEY = count_up 0 32
 
--- how two ends are set up with this configuration of A's, B with this seal
+-- how two endpoints are set up with this configuration of A's, B with this seal
 abbrev pub set_up : Configuration → Sealing → Setup
 set_up c s = record { alike = c; a_port = c.own_port; b_port = c.peer_port; sealing = s }
 
 -- ---- lines that act
 
--- whether a `pair` line came
+-- whether there was a `pair` line
 abbrev pub is_paired : Option World → Bool
 is_paired None = false
 is_paired (Some w) = true
@@ -78,14 +78,14 @@ HasFirstFault end paired given text fault =
     ((fault ≡ TooLong) × IsTooLong given text)
     ⊎ ((IsTooLong given text → ⊥) × ((line : List ℕ) × BeginsWith end text line × IsFirstFaultOf paired line fault))
 
--- First lines of a text, each with its line feed, have no fault, write this and lead to this state; the rest stands behind them.
+-- First lines of a text, each with its line feed, have no fault, write this and lead to this state; the rest follows them.
 pub record IsFront (text : List ℕ) (front : List (List ℕ)) (rest written : List ℕ) (state : Option World) : Type 0 where
   pub each : All IsOneLine front
   pub whole : text ≡ joined front ++ rest
   pub small : length (joined front) ≤ LONGEST_TEXT
   pub goes : Goes None front written state
 
--- the line behind first lines has this fault; lines count from 1
+-- the line after first lines has this fault; lines count from 1
 pub record IsFaulty (end : Type 0) (text : List ℕ) (n : ℕ) (fault : LineFault) (written : List ℕ) : Type 0 where
   pub front : List (List ℕ)
   pub rest : List ℕ
@@ -134,7 +134,7 @@ IsAnswered end (Err Write) read written = BeginsLines read written ⊎ (end × B
 IsAnswered end (Err NoMemory) read written = BeginsLines read written ⊎ (end × BeginsOutput read written)
 IsAnswered end (Err (Line n fault)) read written = FaultsFirst end read n fault written
 
--- how many failures of the reader an answer tells
+-- the number of failed calls of the reader that an answer reports
 abbrev pub failed_reads : {X : Type 0} → Result X ScriptFault → ℕ
 failed_reads (Ok _) = 0
 failed_reads (Err Read) = 1
@@ -142,7 +142,7 @@ failed_reads (Err Write) = 0
 failed_reads (Err NoMemory) = 0
 failed_reads (Err (Line n fault)) = 0
 
--- how many failures of the writer an answer tells
+-- the number of failed calls of the writer that an answer reports
 abbrev pub failed_writes : {X : Type 0} → Result X ScriptFault → ℕ
 failed_writes (Ok _) = 0
 failed_writes (Err Read) = 0

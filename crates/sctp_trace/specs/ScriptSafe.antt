@@ -1,4 +1,5 @@
--- The theorem on scripts: where only strangers speak besides the two ends, and no packet comes too late, each world that the lines of a script lead through is safe.
+-- The theorem on scripts: if only third parties send besides the two endpoints, and no packet arrives too late, each world that the lines of a script lead
+-- through is safe.
 use Rattle.std.specs.Prelude.{◌≡◌, ℕ, ◌⊎◌, Bool, true, false, List, [], ◌∷◌, map, None, Some}
 use Rattle.sctp_model.specs.end.EndView.{Configuration}
 use Rattle.sctp_model.specs.end.Configured.{IsConfiguration}
@@ -14,7 +15,7 @@ use Rattle.sctp_pair.specs.Unforged.{KeyPremises}
 use Rattle.sctp_script.specs.Grammar.{Silent, Pairs, Acts, Says}
 use Rattle.sctp_trace.specs.Script.{LISTENER_KEY, Goes}
 
--- The events of lines without a fault, one for each that acts behind `pair`; the truth value says whether `pair` stood before.
+-- The events of lines without a fault, one for each that acts after `pair`; the truth value says whether there was a `pair` line before.
 abbrev pub AreEventsOf : Bool → List (List ℕ) → List Event → Type 0
 AreEventsOf paired [] events = events ≡ []
 AreEventsOf paired (line ∷ lines) events =
@@ -23,7 +24,7 @@ AreEventsOf paired (line ∷ lines) events =
     ⊎ ((wanted : Wanted) × (e : Event) × (es : List Event) × Says paired line (Acts wanted) × IsMeant wanted e × AreEventsOf paired lines es
     × (events ≡ e ∷ es)))
 
--- What the lines of a script lead through to a world: two ends are set up within the limits, and the events of these lines, none of which
+-- What the lines of a script lead through to a world: two endpoints are set up within the limits, and the events of these lines, none of which
 -- wants memory, pass from START through these worlds.
 pub record Course (lines : List (List ℕ)) (w : World) : Type 0 where
   pub setup : Setup
@@ -37,7 +38,7 @@ pub record Course (lines : List (List ℕ)) (w : World) : Type 0 where
   pub ends : last_of (start setup) worlds ≡ w
 
 -- Lines without a fault have a course to where they lead. If its events meet FRESH and UNFORGED, and it is AGED, both directions are safe in each of its
--- worlds, whatever is lost, repeated or reordered, and once an end has completed its association nothing is missing there.
+-- worlds, whatever is lost, repeated or reordered, and once an endpoint has completed its association nothing is missing there.
 abbrev pub ScriptsAreSafe : Type 0
 ScriptsAreSafe = (lines : List (List ℕ)) (written : List ℕ) (w : World) → Goes None lines written (Some w) →
     (c : Course lines w) × (KeyPremises LISTENER_KEY c.events → Aged (start c.setup) c.events c.worlds → AreAllSafe (start c.setup ∷ c.worlds))

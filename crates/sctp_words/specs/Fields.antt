@@ -5,7 +5,7 @@ use Rattle.sctp_terms.specs.declared.mode.Mode.{Mode}
 use Rattle.sctp_terms.specs.declared.mode.Mode.TheVariants.{Data, PartialData, IData, PartialIData}
 use Rattle.sctp_text.specs.Numerals.{IsDecimal}
 
--- a number that a field of so many bits holds
+-- a number that a field of this many bits holds
 abbrev pub IsNumber : ℕ → List ℕ → ℕ → Type 0
 IsNumber bits word n = IsDecimal word n × (n < 2 ^ bits)
 
@@ -13,7 +13,7 @@ IsNumber bits word n = IsDecimal word n × (n < 2 ^ bits)
 abbrev pub IsTag : List ℕ → ℕ → Type 0
 IsTag word n = IsNumber 32 word n × (0 < n)
 
--- when a message is handed over (RFC 9260, 6.6)
+-- ordered or unordered delivery (RFC 9260, 6.6)
 abbrev pub kind_word : Kind → List ℕ
 kind_word Ordered = codes "o"
 kind_word Unordered = codes "u"
@@ -25,7 +25,7 @@ mode_word PartialData = codes "data-pr"
 mode_word IData = codes "idata"
 mode_word PartialIData = codes "idata-pr"
 
--- behind a mode: SACKs may wait for a second packet (RFC 9260, 6.2)
+-- after a mode: SACKs may be delayed for a second packet (RFC 9260, 6.2)
 abbrev pub delay_word : List ℕ
 delay_word = codes "delay"
 
@@ -33,7 +33,7 @@ delay_word = codes "delay"
 abbrev pub standard_closing_word : List ℕ
 standard_closing_word = codes "standard-closing"
 
--- the moment from which a message is worthless, in milliseconds, or none
+-- the end of a message's lifetime, in milliseconds, or no limit
 abbrev pub IsUntil : List ℕ → Option ℕ → Type 0
 IsUntil word None = word ≡ codes "-"
 IsUntil word (Some n) = IsNumber 64 word n

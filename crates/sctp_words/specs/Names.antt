@@ -2,7 +2,7 @@
 use Rattle.std.specs.Prelude.{ℕ, List, Option, None, Some, codes, decimal}
 use Rattle.sctp_model.specs.end.EndView.{State, Closed, Listen, CookieWait, CookieEchoed, InStage, Stage, Established, ShutdownPending, ShutdownSent, ShutdownReceived, ShutdownAckSent, Ended, Completed, Aborted, AbortedHere, TimedOut, StaleCookie}
 
--- a number, `-` where there is none
+-- a number, `-` if there is none
 abbrev pub number_word : Option ℕ → List ℕ
 number_word (Some n) = decimal n
 number_word None = codes "-"
@@ -23,7 +23,7 @@ state_word CookieWait = codes "CookieWait"
 state_word CookieEchoed = codes "CookieEchoed"
 state_word (InStage stage) = stage_word stage
 
--- the name of how an association ended, `-` where it hasn't
+-- the name of how an association ended, `-` if it hasn't
 abbrev pub end_word : Option Ended → List ℕ
 end_word None = codes "-"
 end_word (Some Completed) = codes "Completed"

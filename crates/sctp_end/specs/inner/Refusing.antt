@@ -1,4 +1,4 @@
--- What is told of a call that changed nothing: the refusal that the definitions answer, or that memory was wanting.
+-- The answer to a call that changed nothing: the refusal that the definitions answer, or that an allocation failed.
 use Rattle.std.specs.Prelude.{◌≡◌, ℕ, ◌⊎◌, List}
 use Rattle.sctp_model.specs.world.Calls.{Call as Message}
 use Rattle.sctp_model.specs.end.EndView.{EndView}

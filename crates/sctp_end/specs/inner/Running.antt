@@ -12,7 +12,7 @@ use Rattle.sctp_text.specs.TextLines.{Reading, HasGiven}
 
 -- ---- failed calls
 
--- how many failed calls of the reader an answer tells
+-- the number of failed calls of the reader that an answer reports
 abbrev pub failed_reads : {X : Type 0} → Result X RunFault → ℕ
 failed_reads (Ok _) = 0
 failed_reads (Err Read) = 1
@@ -35,7 +35,7 @@ abbrev pub IsWritten : Result (Unit {0}) RunFault → (whole written : List ℕ)
 IsWritten (Ok _) whole written = written ≡ whole
 IsWritten (Err _) whole written = Begins written whole
 
--- the line was answered, and the session stands for what it left; or a beginning of an answer is written
+-- the line was answered, and the session stands for what it left; or a prefix of an answer is written
 abbrev pub LineLeaves : Result (Unit {0}) RunFault → Standing → (line written : List ℕ) → Session → Type 0
 LineLeaves (Ok _) s line written new = (w : EndView) × AnswersLine s line written (standing new w) × EndpointStands new.endpoint w
 LineLeaves (Err _) s line written new = (whole : List ℕ) × (after : Standing) × AnswersLine s line whole after × Begins written whole

@@ -5,12 +5,12 @@ use Rattle.sctp_end.specs.SetUpWords.{Configures, IsKey}
 use Rattle.sctp_end.specs.declared.set_up.Role.{Role}
 use Rattle.sctp_end.specs.declared.set_up.Role.TheVariants.{Caller, Listener}
 
--- the word that says what an end is
+-- the word for a role
 abbrev pub role_word : Role → List ℕ
 role_word Caller = codes "caller"
 role_word Listener = codes "listener"
 
--- whether these words begin with this one, and what stands behind it; else all of them
+-- whether these words begin with this one, and the words after it; else all of them
 abbrev pub IsSplit : List ℕ → List (List ℕ) → Bool → List (List ℕ) → Type 0
 IsSplit word words true rest = words ≡ word ∷ rest
 IsSplit word words false rest = (words ≡ rest) × ((others : List (List ℕ)) → words ≡ word ∷ others → ⊥)

@@ -14,13 +14,13 @@ IsGathered given (Ok (Some stop.LineFeed)) line rest = (tail : List ℕ) × (res
 IsGathered given (Ok (Some stop.TooLong)) line rest = IsTooLong given (line ++ rest)
 IsGathered given (Err _) line rest = Unit {0}
 
--- P, where the input ended
+-- P, if the input has ended
 abbrev pub AtEndOfInput : {E : Type 0} → Result (Option Stop) E → Type 0 → Type 0
 AtEndOfInput (Ok None) P = P
 AtEndOfInput (Ok (Some _)) P = Unit {0}
 AtEndOfInput (Err _) P = Unit {0}
 
--- what of a block goes with a line: all of it, the line's end with its line feed, or nothing where the text is too long
+-- what of a block is discarded with a line: all of it, the line's end with its line feed, or nothing if the text is too long
 abbrev pub IsPassed : Option SkippedLine → ℕ → List ℕ → ℕ → List ℕ → Type 0
 IsPassed None given block now rest = IsOneLine block × (rest ≡ []) × (now ≡ given + length block)
 IsPassed (Some skipped.Ended) given block now rest = (line : List ℕ) × IsOneLine line × (block ≡ ended line ++ rest) × (now ≡ given + length (ended line))

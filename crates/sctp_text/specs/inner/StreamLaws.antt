@@ -3,7 +3,7 @@ use Rattle.std.specs.Prelude.{ℕ, List, [], ◌++◌, Option, None, Some}
 use Rattle.std.specs.Io.KnownBytes.{Consumes, Appends}
 use Rattle.std.proofs.Common.{refl, sym, ◌∙◌, ap, append_assoc, append-nil}
 
--- known bytes lose nothing where nothing is read, and what is read first and then is lost as one
+-- known bytes lose nothing if nothing is read, and two reads in a row lose the bytes joined
 pub consumes_none : (left : Option (List ℕ)) → Consumes left left []
 consumes_none None = tt
 consumes_none (Some bytes) = refl

@@ -27,7 +27,7 @@ abbrev pub fault_of : ReadFault → ScriptFault
 fault_of read.Failed = Read
 fault_of read.NoMemory = NoMemory
 
--- what is written of some bytes: all of them, or a part where the writer failed
+-- what is written of some bytes: all of them, or a part if the writer failed
 abbrev pub IsWrittenOf : Result (Unit {0}) ScriptFault → List ℕ → List ℕ → Type 0
 IsWrittenOf (Ok _) whole written = written ≡ whole
 IsWrittenOf (Err Read) whole written = ⊥
@@ -35,7 +35,7 @@ IsWrittenOf (Err Write) whole written = (more : List ℕ) × (whole ≡ written 
 IsWrittenOf (Err NoMemory) whole written = ⊥
 IsWrittenOf (Err (Line n fault)) whole written = ⊥
 
--- what is gathered of some bytes: all of them, or nothing where memory is wanting
+-- what is gathered of some bytes: all of them, or nothing if an allocation failed
 abbrev pub IsGatheredOf : Result (Unit {0}) ScriptFault → List ℕ → List ℕ → Type 0
 IsGatheredOf (Ok _) whole here = here ≡ whole
 IsGatheredOf (Err Read) whole here = ⊥
@@ -43,7 +43,7 @@ IsGatheredOf (Err Write) whole here = ⊥
 IsGatheredOf (Err NoMemory) whole here = here ≡ []
 IsGatheredOf (Err (Line n fault)) whole here = ⊥
 
--- what of the bytes that were gathered is written, and what stays gathered; where the writer failed nothing stays
+-- what of the bytes that were gathered is written, and what stays gathered; if the writer failed nothing stays
 abbrev pub IsPassedOn : Result (Unit {0}) ScriptFault → List ℕ → List ℕ → List ℕ → Type 0
 IsPassedOn (Ok _) gathered written rest = gathered ≡ written ++ rest
 IsPassedOn (Err Read) gathered written rest = ⊥
@@ -92,7 +92,7 @@ BeginsFront text written =
     (front : List (List ℕ)) × (rest outcomes more : List ℕ) × (state : Option World) × IsFront text front rest outcomes state
     × (outcomes ≡ written ++ more)
 
--- what an answer says of the bytes so far, whatever lines come behind those that acted; `end` says that all input was read
+-- what an answer says of the bytes so far, whatever lines follow those that acted; `end` says that all input was read
 abbrev pub EndsAs : Type 0 → Result (Unit {0}) ScriptFault → List ℕ → List ℕ → Type 0
 EndsAs end (Ok _) read written = end × IsOutput read written
 EndsAs end (Err Read) read written = BeginsFront read written
