@@ -39,7 +39,16 @@ for sizes in 17 64 "17 1114112"; do
     say "$told"
 done
 if there "${CXX:-c++}" "the header in C++"; then
-    printf '#include "sctp_endpoint.h"\nint main() { struct sctp_endpoint e = SCTP_ENDPOINT_INIT; sctp_endpoint_free(&e); return sctp_endpoint_abi() != SCTP_EP_ABI; }\n' > "$at/plus.cc"
+    cat > "$at/plus.cc" <<'PLUS'
+#include "sctp_endpoint.h"
+int main(int count, char **) {
+    struct sctp_endpoint e = SCTP_ENDPOINT_INIT;
+    struct sctp_endpoint_config config = SCTP_ENDPOINT_CONFIG(5000 + count, 5001 + count);
+    if (sctp_endpoint_caller(&e, &config) != SCTP_EP_OK) return 1;
+    sctp_endpoint_free(&e);
+    return sctp_endpoint_abi() != SCTP_EP_ABI;
+}
+PLUS
     "${CXX:-c++}" -std=c++11 -Wall -Wextra -Werror -I"$prefix/include" -o "$at/plus" "$at/plus.cc" "${static[@]}"
     "$at/plus"
     say "the header in C++"
@@ -138,11 +147,22 @@ wait "$listener"
 diff "$at/lines" "$at/came"
 say "2000 lines over UDP"
 
-# ---- the page's first program
-awk '/^```c$/ { inside = 1; next } /^```$/ { inside = 0 } inside' docs/C.md > "$at/first.c"
+# ---- the page's first program, and its trace: a header of 24 bytes, and 16 before each packet
+block() { awk -v wanted="$1" '/^```c$/ { inside = ++count == wanted; next } /^```$/ { inside = 0 } inside' docs/C.md; }
+block 1 > "$at/first.c"
 "$cc" "${flags[@]}" -o "$at/first" "$at/first.c" "${static[@]}"
 [ "$("$at/first")" = "Hi" ]
 say "the first program of docs/C.md: $(wc -l < "$at/first.c") lines"
+{
+    printf '#include <stdint.h>\n#include <stdio.h>\n'
+    block 2
+    echo 'int main(void) { uint8_t packet[12] = { 0 }; trace(stdout, 1500, packet, 12); trace(stdout, 2000, packet, 12); return 0; }'
+} > "$at/trace.c"
+"$cc" "${flags[@]}" -o "$at/trace" "$at/trace.c"
+"$at/trace" > "$at/trace.pcap"
+[ "$(wc -c < "$at/trace.pcap")" = 80 ]
+[ "$(od -An -tu4 -j20 -N12 "$at/trace.pcap" | tr -s ' ')" = " 248 1 500000" ]
+say "the trace of docs/C.md"
 
 # ---- from Rust and Python
 if there cargo "bindings/rust"; then

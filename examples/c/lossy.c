@@ -36,7 +36,7 @@ static uint32_t chance(uint32_t below) {
 }
 
 static struct sctp_endpoint_draw draw(void) {
-    struct sctp_endpoint_draw d = { 1 + chance(UINT32_MAX), chance(UINT32_MAX) };
+    struct sctp_endpoint_draw d = { 1 + chance(UINT32_MAX), chance(UINT32_MAX), { 0 } };
     return d;
 }
 
@@ -60,7 +60,7 @@ static void carry(struct peer *from, const uint8_t *bytes, size_t length) {
 static void transmit(struct peer *peer) {
     uint8_t room[SCTP_EP_LONGEST_PACKET];
     uint64_t tickets[SCTP_EP_MOST_TICKETS];
-    struct sctp_endpoint_sent sent = { 0, 0 };
+    struct sctp_endpoint_sent sent = { 0 };
     for (;;) {
         must(sctp_endpoint_poll_transmit(&peer->end, now, room, sizeof room, tickets, SCTP_EP_MOST_TICKETS, &sent), "poll_transmit");
         if (sent.length == 0) return;
@@ -75,7 +75,7 @@ static void deliver(struct peer *from, struct peer *to) {
     from->in_flight = 0;
     for (size_t i = 0; i < count; i++) {
         uint8_t room[SCTP_EP_LONGEST_PACKET];
-        struct sctp_endpoint_verdict verdict = { 0, 0, 0 };
+        struct sctp_endpoint_verdict verdict = { 0 };
         struct sctp_endpoint_draw d = draw();
         must(sctp_endpoint_handle_packet(&to->end, now, coming[i].bytes, coming[i].length, &d, room, sizeof room, &verdict), "handle_packet");
         if (verdict.verdict == SCTP_EP_ANSWER) carry(to, room, verdict.length);
@@ -126,7 +126,7 @@ static struct sctp_endpoint_status status(struct peer *peer) {
 static void open_both(unsigned mode) {
     struct sctp_endpoint_config config = SCTP_ENDPOINT_CONFIG(5000, 5001);
     struct sctp_endpoint_draw d = draw();
-    struct sctp_endpoint_key key;
+    struct sctp_endpoint_key key = { { 0 }, { 0 } };
     for (size_t i = 0; i < sizeof key.bytes; i++) key.bytes[i] = (uint8_t)chance(256);
     config.outbound = config.inbound = STREAMS;
     config.partial = (mode & 1) != 0, config.interleave = (mode & 2) != 0;

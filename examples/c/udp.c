@@ -49,9 +49,10 @@ static void fill(void *at, size_t length) {
 }
 
 static struct sctp_endpoint_draw draw(void) {
-    struct sctp_endpoint_draw d;
-    do fill(&d, sizeof d);
+    struct sctp_endpoint_draw d = { 0 };
+    do fill(&d.tag, sizeof d.tag);
     while (d.tag == 0);
+    fill(&d.tsn, sizeof d.tsn);
     return d;
 }
 
@@ -70,7 +71,7 @@ static void put(const struct sockaddr_in *to, const uint8_t *packet, size_t leng
 static bool transmit(void) {
     uint8_t packet[SCTP_EP_LONGEST_PACKET];
     uint64_t tickets[SCTP_EP_MOST_TICKETS];
-    struct sctp_endpoint_sent sent = { 0, 0 };
+    struct sctp_endpoint_sent sent = { 0 };
     for (int i = 0; i < PACKETS_A_TURN; i++) {
         uint32_t result = sctp_endpoint_poll_transmit(&end, now(), packet, sizeof packet, tickets, SCTP_EP_MOST_TICKETS, &sent);
         if (result != SCTP_EP_OK || sent.length == 0) return result == SCTP_EP_NO_MEMORY;
@@ -83,7 +84,7 @@ static bool transmit(void) {
  * that the peer may still have to ask for again. */
 static void receive(void) {
     uint8_t packet[65536], room[SCTP_EP_LONGEST_PACKET];
-    struct sctp_endpoint_verdict verdict = { 0, 0, 0 };
+    struct sctp_endpoint_verdict verdict = { 0 };
     struct sockaddr_in from;
     socklen_t size = sizeof from;
     struct sctp_endpoint_draw d = draw();
@@ -129,9 +130,9 @@ static void open_socket(const char *port) {
 static void start(int argc, char **argv) {
     struct sctp_endpoint_config config = SCTP_ENDPOINT_CONFIG(5001, 5000);
     struct sctp_endpoint_draw d = draw();
-    struct sctp_endpoint_key key;
+    struct sctp_endpoint_key key = { { 0 }, { 0 } };
     config.buffer = BUFFER, config.outbound = config.inbound = 1;
-    fill(&key, sizeof key);
+    fill(key.bytes, sizeof key.bytes);
     if ((input_ended = argc == 3)) {
         if (sctp_endpoint_listener(&end, &config, &key) != SCTP_EP_OK) exit(1);
         return;
