@@ -136,16 +136,18 @@ else
     say "left out, no usrsctp.h (libusrsctp-dev): usrsctp in one process"
 fi
 
-# ---- one end over UDP, twice
+# ---- one endpoint over UDP, twice
 "$cc" "${flags[@]}" -o "$at/udp" examples/c/udp.c "${static[@]}"
 seq 1 2000 > "$at/lines"
-"$at/udp" listen 19899 > "$at/came" 2> "$at/listener" &
-listener=$!
-sleep 0.3
+listen() { # WORD..: a listener, of which all that it prints is kept
+    "$@" listen 19899 > "$at/received" 2> "$at/listener" &
+    listener=$!
+    sleep 1
+}
+heard() { wait "$listener" && diff "$at/lines" "$at/received" && say "2000 lines over UDP: $1"; }
+listen "$at/udp"
 timeout 60 "$at/udp" call 19900 127.0.0.1 19899 < "$at/lines" 2> "$at/caller"
-wait "$listener"
-diff "$at/lines" "$at/came"
-say "2000 lines over UDP"
+heard "C to C"
 
 # ---- the page's first program, and its trace: a header of 24 bytes, and 16 before each packet
 block() { awk -v wanted="$1" '/^```c$/ { inside = ++count == wanted; next } /^```$/ { inside = 0 } inside' docs/C.md; }
@@ -168,9 +170,20 @@ say "the trace of docs/C.md"
 if there cargo "bindings/rust"; then
     (cd bindings/rust && SCTP_ENDPOINT_PREFIX=$prefix CARGO_TARGET_DIR=$at/rust cargo test --quiet --offline > "$at/rust.log" 2>&1) || { cat "$at/rust.log"; exit 1; }
     say "bindings/rust: $(grep -c '^test result: ok' "$at/rust.log") suites"
+    (cd bindings/rust && SCTP_ENDPOINT_PREFIX=$prefix CARGO_TARGET_DIR=$at/rust cargo build --quiet --offline --example udp)
+    listen "$at/udp"
+    timeout 60 "$at/rust/debug/examples/udp" call 19900 127.0.0.1:19899 < "$at/lines" 2> "$at/caller"
+    heard "Rust to C"
 fi
 if there python3 "bindings/python"; then
     (cd bindings/python && SCTP_ENDPOINT_LIBRARY=$prefix/lib/libsctp_endpoint.so.1 python3 -B -m unittest -q 2> "$at/python.log") || { cat "$at/python.log"; exit 1; }
     say "bindings/python"
+    export SCTP_ENDPOINT_LIBRARY=$prefix/lib/libsctp_endpoint.so.1
+    listen python3 -B bindings/python/udp.py
+    timeout 60 "$at/udp" call 19900 127.0.0.1 19899 < "$at/lines" 2> "$at/caller"
+    heard "C to Python"
+    listen "$at/udp"
+    timeout 60 python3 -B bindings/python/udp.py call 19900 127.0.0.1 19899 < "$at/lines" 2> "$at/caller"
+    heard "Python to C"
 fi
 say "all passed"
