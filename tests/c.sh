@@ -1,6 +1,6 @@
 #!/usr/bin/env bash
-# The library for C, tried: tests/c.sh, behind (cd crates/sctp_c && rt lib). It needs `rt` and a C compiler; C++, valgrind, libusrsctp, cargo
-# and python3 are used where they are, and it says what it leaves out. It takes some minutes, and prints a line for each try.
+# The library for C, tried: tests/c.sh, after (cd crates/sctp_c && rt lib). It needs `rt` and a C compiler; C++, valgrind, libusrsctp, cargo
+# and python3 are used if they are there, and it says what it leaves out. It takes some minutes, and prints a line for each try.
 
 set -euo pipefail
 root=$(CDPATH='' cd -- "$(dirname -- "$0")/.." && pwd -P)

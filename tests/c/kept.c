@@ -5,7 +5,7 @@
 #include <stdlib.h>
 #include <string.h>
 
-enum { AT_A_TIME = 19, HEAD = 16 }; /* messages; bytes before a block, where its size stands */
+enum { AT_A_TIME = 19, HEAD = 16 }; /* messages; bytes before a block, which hold its size */
 
 struct sctp_endpoint_block rattle_alloc(size_t size, size_t alignment);
 struct sctp_endpoint_block rattle_realloc(void *at, size_t old_size, size_t size, size_t alignment);

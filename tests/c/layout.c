@@ -5,7 +5,7 @@
 
 #define HOLDS(x) do { if (!(x)) { fprintf(stderr, "line %d: %s\n", __LINE__, #x); return 1; } } while (0)
 
-/* A struct with bytes behind it that no call may write. */
+/* A struct with bytes after it that no call may write. */
 #define BEFORE 0xa5
 #define IN_BYTES(type) union { struct type it; uint8_t bytes[sizeof(struct type) + 64]; }
 static int is_kept(const uint8_t *bytes, size_t from, size_t to) {
@@ -35,7 +35,7 @@ int main(void) {
     HOLDS(sizeof(struct sctp_endpoint) == 16 && sizeof config == 36 && sizeof own == 24 && sizeof(struct sctp_endpoint_key) == 48);
     HOLDS(sizeof(struct sctp_endpoint_sent) == 32 && sizeof(struct sctp_endpoint_verdict) == 32);
 
-    /* Texts: of each result, and of the version; with a 0 behind them, and not at all where that doesn't fit. */
+    /* Texts: of each result, and of the version; with a 0 after them, and not at all if that doesn't fit. */
     for (uint32_t code = 0; code < 30; code++) HOLDS(sctp_endpoint_name(code, name, sizeof name) == strlen(name) && strlen(name) > 3);
     HOLDS(sctp_endpoint_version(name, sizeof name) == 5 && strcmp(name, SCTP_EP_VERSION) == 0);
     memset(name, 'x', sizeof name);
@@ -67,7 +67,7 @@ int main(void) {
     HOLDS(sctp_endpoint_opened(&a, &config, &later, &peer) == SCTP_EP_BAD_RESERVED && sctp_endpoint_opened(&a, &config, &own, &later) == SCTP_EP_BAD_RESERVED);
     HOLDS(!a.full);
 
-    /* Two ends, opened at once; opened twice. */
+    /* Two endpoints, opened at once; opened twice. */
     HOLDS(sctp_endpoint_opened(&a, &config, &own, &peer) == SCTP_EP_OK);
     HOLDS(sctp_endpoint_opened(&a, &config, &own, &peer) == SCTP_EP_MISUSE && sctp_endpoint_caller(&a, &config) == SCTP_EP_MISUSE);
     config.own_port = 5001, config.peer_port = 5000;
@@ -84,7 +84,7 @@ int main(void) {
     memset(&status, BEFORE, sizeof status);
     HOLDS(sctp_endpoint_status(&a, &status.it) == SCTP_EP_OK && status.it.queued == 2 && status.it.queued_bytes == 13 && status.it.peer_window == 4194304);
 
-    /* A room that is too small takes nothing. */
+    /* Nothing is written to a buffer that is too small. */
     memset(&sent, BEFORE, sizeof sent);
     HOLDS(sctp_endpoint_poll_transmit(&a, 0, room, 1231, tickets, SCTP_EP_MOST_TICKETS, &sent.it) == SCTP_EP_NEEDS_ROOM && sent.it.length == 1232);
     HOLDS(is_kept(sent.bytes, sizeof sent.it, sizeof sent.bytes) && sent.it.reserved[0] == 0 && sent.it.reserved[3] == 0);
@@ -111,7 +111,7 @@ int main(void) {
         HOLDS(is_kept(verdict.bytes, sizeof verdict.it, sizeof verdict.bytes));
     }
 
-    /* What came. */
+    /* What was received. */
     memset(&status, BEFORE, sizeof status);
     HOLDS(sctp_endpoint_status(&b, &status.it) == SCTP_EP_OK && status.it.held_bytes == 13 && status.it.state == SCTP_EP_ESTABLISHED);
     HOLDS(status.it.ended == SCTP_EP_NOT_ENDED && status.it.outbound == 64 && status.it.inbound == 64 && status.it.interleaved && status.it.partial);

@@ -1,4 +1,4 @@
-/* Each allocation refused in its turn: the call that wanted it says so, changed nothing that it doesn't own up to, and succeeds when
+/* Each allocation fails in its turn: the call that made it says so, changed nothing that the header doesn't name, and succeeds when
  * it is made again; nothing leaks. The allocator is the program's own, which is why no libsctp_endpoint_malloc.a is linked. */
 #include "sctp_endpoint.h"
 #include <stdio.h>
@@ -34,7 +34,7 @@ void rattle_dealloc(void *at) {
     free(at);
 }
 
-/* The answer of a call, which is made again where memory was refused for it. */
+/* A call, which is made again if its allocation failed. */
 #define TRY(call) do { \
     uint32_t r_ = (call); \
     if (r_ == SCTP_EP_NO_MEMORY) refusals++, r_ = (call); \
