@@ -48,10 +48,15 @@ extern "C" {
 /* Returns the ABI version that the library was built with: compare it with SCTP_EP_ABI if it is loaded at run time. */
 uint32_t sctp_endpoint_abi(void);
 
+/* Writes the library's SCTP_EP_VERSION to `text`, with a 0 after it, and returns its length without that. If `text` is too small, nothing is
+ * written: SCTP_EP_LONGEST_NAME bytes are always enough. */
+size_t sctp_endpoint_version(char *text, size_t text_length);
+
 #define SCTP_EP_LONGEST_PACKET 1500   /* bytes: no endpoint builds a longer packet */
 #define SCTP_EP_MOST_TICKETS 74       /* no packet carries the first fragment of more messages */
 #define SCTP_EP_LONGEST_MESSAGE 65536 /* bytes: send accepts no longer message. A peer's may be as long as the receive buffer */
 #define SCTP_EP_NEVER UINT64_MAX      /* in place of a time: never */
+#define SCTP_EP_LONGEST_NAME 96       /* bytes: no text is longer, with the 0 after it */
 
 enum sctp_endpoint_result {
     SCTP_EP_OK = 0,
@@ -63,7 +68,7 @@ enum sctp_endpoint_result {
     SCTP_EP_NO_MEMORY = 6,      /* memory allocation failed */
     SCTP_EP_NOT_OPEN = 7,       /* the association isn't established; shutdown: nor is it being closed */
     SCTP_EP_BAD_STATE = 8,      /* the call isn't allowed in this state */
-    SCTP_EP_NOTHING = 9,        /* no message is ready */
+    SCTP_EP_NOTHING = 9,        /* there is none: no message is ready; a packet doesn't have what is asked for */
     SCTP_EP_NEEDS_ROOM = 10,    /* the buffer is too small: the length says how many bytes it must have. Nothing is lost */
     SCTP_EP_MISUSE = 11,        /* the handle is empty; a call that makes an endpoint: it isn't empty */
     SCTP_EP_BAD_DRAW = 12,      /* a tag is 0 */
@@ -75,6 +80,9 @@ enum sctp_endpoint_result {
     SCTP_EP_BAD_BUFFER = 24,
     SCTP_EP_BAD_STREAMS = 25
 };
+
+/* Writes what a result means, in a few words, as sctp_endpoint_version does. */
+size_t sctp_endpoint_name(uint32_t code, char *text, size_t text_length);
 
 /* ---- an endpoint */
 
@@ -114,13 +122,15 @@ struct sctp_endpoint_config {
 
 /* Two random values from a secure source, new ones for each call. Who can guess them can inject packets (RFC 9260, 5.3.1). */
 struct sctp_endpoint_draw {
-    uint32_t tag; /* the verification tag of packets to this endpoint: not 0 */
-    uint32_t tsn; /* the first TSN that it sends */
+    uint32_t tag;         /* the verification tag of packets to this endpoint: not 0 */
+    uint32_t tsn;         /* the first TSN that it sends */
+    uint32_t reserved[4]; /* 0 */
 };
 
 /* Secret random bytes that authenticate a listener's state cookies (RFC 9260, 5.1.3); listeners may share them. */
 struct sctp_endpoint_key {
     uint8_t bytes[32];
+    uint32_t reserved[4]; /* 0 */
 };
 
 /* Makes an endpoint that opens the association, by sctp_endpoint_connect.
@@ -140,7 +150,8 @@ void sctp_endpoint_free(struct sctp_endpoint *handle);
 
 /* ---- packets and time */
 
-/* Opens the association: the next packet is an INIT. BAD_DRAW, MISUSE, BAD_STATE unless it is a caller on which connect wasn't called yet. */
+/* Opens the association: the next packet is an INIT. BAD_DRAW, MISUSE, BAD_RESERVED, BAD_STATE unless it is a caller on which connect wasn't
+ * called yet. */
 uint32_t sctp_endpoint_connect(struct sctp_endpoint *handle, uint64_t now, const struct sctp_endpoint_draw *draw);
 
 enum sctp_endpoint_verdict_kind {
@@ -157,23 +168,25 @@ enum sctp_endpoint_reason {
     SCTP_EP_COOKIE = 5   /* its state cookie isn't one that this listener made for this peer */
 };
 struct sctp_endpoint_verdict {
-    size_t length;       /* of the answer; at NEEDS_ROOM the bytes that the buffer must have */
-    uint32_t verdict;    /* enum sctp_endpoint_verdict_kind */
-    uint32_t reason;     /* enum sctp_endpoint_reason: why it was dropped */
+    size_t length;        /* of the answer; at NEEDS_ROOM the bytes that the buffer must have */
+    uint32_t verdict;     /* enum sctp_endpoint_verdict_kind */
+    uint32_t reason;      /* enum sctp_endpoint_reason: why it was dropped */
+    uint32_t reserved[4]; /* 0 */
 };
 
 /* Processes a received packet: its bytes from the common header on. The draw is used if it is an INIT to a listener; pass a new one each time.
  * The buffer is for the answer: it has at least the endpoint's packet limit, else NEEDS_ROOM, with the limit as the length.
  * The peer's address is the one that a packet with the verdict TAKEN was received from: its tag was right. An ANSWER or a DROPPED packet
- * says nothing about its sender. BAD_DRAW; MISUSE; NO_MEMORY: the chunks before the one whose memory couldn't be allocated were processed,
+ * says nothing about its sender. BAD_DRAW; MISUSE; BAD_RESERVED; NO_MEMORY: the chunks before the one whose memory couldn't be allocated were processed,
  * and the same packet may be passed again. */
 uint32_t sctp_endpoint_handle_packet(struct sctp_endpoint *handle, uint64_t now, const uint8_t *packet, size_t packet_length,
                                      const struct sctp_endpoint_draw *draw, uint8_t *buffer, size_t buffer_length,
                                      struct sctp_endpoint_verdict *verdict);
 
 struct sctp_endpoint_sent {
-    size_t length;       /* of the packet, 0 if there is none; at NEEDS_ROOM the bytes that the buffer must have */
-    uint64_t tickets;    /* how many messages have their first fragment in it */
+    size_t length;        /* of the packet, 0 if there is none; at NEEDS_ROOM the bytes that the buffer must have */
+    uint64_t tickets;     /* how many messages have their first fragment in it */
+    uint32_t reserved[4]; /* 0 */
 };
 
 /* Returns the next packet to send, with the tickets of the messages whose first fragments it carries. It counts as sent: call this after
@@ -286,11 +299,25 @@ struct sctp_endpoint_status {
     uint16_t outbound, inbound; /* the streams agreed on; 0 before that */
     bool interleaved;           /* I-DATA was agreed on */
     bool partial;               /* partial reliability was agreed on */
-    uint32_t reserved[4];       /* 0 */
+    uint32_t reassembly_bytes;  /* of held_bytes, those that can't be taken yet: of messages of which fragments are missing, and of ordered ones
+                                 * after such a message. If they are near the configured buffer, it is too small (SCTP_ENDPOINT_CONFIG) */
+    uint32_t reserved[3];       /* 0 */
 };
 
-/* MISUSE. */
+/* Returns the status. MISUSE. */
 uint32_t sctp_endpoint_status(struct sctp_endpoint *handle, struct sctp_endpoint_status *status);
+
+/* ---- what a packet says, without an endpoint */
+
+/* Reads ports and verification tag of a packet, for a program with several peers at one socket. The tag is that of the endpoint which the
+ * packet is for, 0 with an INIT. Nothing else of the packet is checked, so it may be anyone's. NOTHING if it is shorter than 12 bytes. */
+uint32_t sctp_endpoint_peek_packet(const uint8_t *packet, size_t packet_length, uint16_t *source, uint16_t *destination, uint32_t *tag);
+
+/* Reads why a peer aborted: the first cause of the first ABORT in a packet, 12 for a user's abort (RFC 9260, 3.3.10), 0 if it has none; and its
+ * information, which is the reason of a user's abort. It is what the packet says, whoever sent it: that an endpoint accepted it is seen by its
+ * verdict TAKEN and by `ended`. NOTHING if the bytes aren't a valid packet with an ABORT; NEEDS_ROOM, with cause and length. */
+uint32_t sctp_endpoint_abort_cause(const uint8_t *packet, size_t packet_length, uint16_t *cause, uint8_t *buffer, size_t buffer_length,
+                                   size_t *length);
 
 /* ---- memory: what the library calls */
 

@@ -1,6 +1,6 @@
 #!/usr/bin/env bash
-# The library for C, tried: tests/c.sh, behind (cd crates/sctp_c && rt lib). It needs `rt` and a C compiler; C++, valgrind, libusrsctp, cargo
-# and python3 are used where they are, and it says what it leaves out. It takes some minutes, and prints a line for each try.
+# The library for C, tried: tests/c.sh, after (cd crates/sctp_c && rt lib). It needs `rt` and a C compiler; C++, valgrind, libusrsctp, cargo
+# and python3 are used if they are there, and it says what it leaves out. It takes some minutes, and prints a line for each try.
 
 set -euo pipefail
 root=$(CDPATH='' cd -- "$(dirname -- "$0")/.." && pwd -P)
@@ -39,7 +39,16 @@ for sizes in 17 64 "17 1114112"; do
     say "$told"
 done
 if there "${CXX:-c++}" "the header in C++"; then
-    printf '#include "sctp_endpoint.h"\nint main() { struct sctp_endpoint e = SCTP_ENDPOINT_INIT; sctp_endpoint_free(&e); return sctp_endpoint_abi() != SCTP_EP_ABI; }\n' > "$at/plus.cc"
+    cat > "$at/plus.cc" <<'PLUS'
+#include "sctp_endpoint.h"
+int main(int count, char **) {
+    struct sctp_endpoint e = SCTP_ENDPOINT_INIT;
+    struct sctp_endpoint_config config = SCTP_ENDPOINT_CONFIG(5000 + count, 5001 + count);
+    if (sctp_endpoint_caller(&e, &config) != SCTP_EP_OK) return 1;
+    sctp_endpoint_free(&e);
+    return sctp_endpoint_abi() != SCTP_EP_ABI;
+}
+PLUS
     "${CXX:-c++}" -std=c++11 -Wall -Wextra -Werror -I"$prefix/include" -o "$at/plus" "$at/plus.cc" "${static[@]}"
     "$at/plus"
     say "the header in C++"
@@ -127,30 +136,54 @@ else
     say "left out, no usrsctp.h (libusrsctp-dev): usrsctp in one process"
 fi
 
-# ---- one end over UDP, twice
+# ---- one endpoint over UDP, twice
 "$cc" "${flags[@]}" -o "$at/udp" examples/c/udp.c "${static[@]}"
 seq 1 2000 > "$at/lines"
-"$at/udp" listen 19899 > "$at/came" 2> "$at/listener" &
-listener=$!
-sleep 0.3
+listen() { # WORD..: a listener, of which all that it prints is kept
+    "$@" listen 19899 > "$at/received" 2> "$at/listener" &
+    listener=$!
+    sleep 1
+}
+heard() { wait "$listener" && diff "$at/lines" "$at/received" && say "2000 lines over UDP: $1"; }
+listen "$at/udp"
 timeout 60 "$at/udp" call 19900 127.0.0.1 19899 < "$at/lines" 2> "$at/caller"
-wait "$listener"
-diff "$at/lines" "$at/came"
-say "2000 lines over UDP"
+heard "C to C"
 
-# ---- the page's first program
-awk '/^```c$/ { inside = 1; next } /^```$/ { inside = 0 } inside' docs/C.md > "$at/first.c"
+# ---- the page's first program, and its trace: a header of 24 bytes, and 16 before each packet
+block() { awk -v wanted="$1" '/^```c$/ { inside = ++count == wanted; next } /^```$/ { inside = 0 } inside' docs/C.md; }
+block 1 > "$at/first.c"
 "$cc" "${flags[@]}" -o "$at/first" "$at/first.c" "${static[@]}"
 [ "$("$at/first")" = "Hi" ]
 say "the first program of docs/C.md: $(wc -l < "$at/first.c") lines"
+{
+    printf '#include <stdint.h>\n#include <stdio.h>\n'
+    block 2
+    echo 'int main(void) { uint8_t packet[12] = { 0 }; trace(stdout, 1500, packet, 12); trace(stdout, 2000, packet, 12); return 0; }'
+} > "$at/trace.c"
+"$cc" "${flags[@]}" -o "$at/trace" "$at/trace.c"
+"$at/trace" > "$at/trace.pcap"
+[ "$(wc -c < "$at/trace.pcap")" = 80 ]
+[ "$(od -An -tu4 -j20 -N12 "$at/trace.pcap" | tr -s ' ')" = " 248 1 500000" ]
+say "the trace of docs/C.md"
 
 # ---- from Rust and Python
 if there cargo "bindings/rust"; then
     (cd bindings/rust && SCTP_ENDPOINT_PREFIX=$prefix CARGO_TARGET_DIR=$at/rust cargo test --quiet --offline > "$at/rust.log" 2>&1) || { cat "$at/rust.log"; exit 1; }
     say "bindings/rust: $(grep -c '^test result: ok' "$at/rust.log") suites"
+    (cd bindings/rust && SCTP_ENDPOINT_PREFIX=$prefix CARGO_TARGET_DIR=$at/rust cargo build --quiet --offline --example udp)
+    listen "$at/udp"
+    timeout 60 "$at/rust/debug/examples/udp" call 19900 127.0.0.1:19899 < "$at/lines" 2> "$at/caller"
+    heard "Rust to C"
 fi
 if there python3 "bindings/python"; then
     (cd bindings/python && SCTP_ENDPOINT_LIBRARY=$prefix/lib/libsctp_endpoint.so.1 python3 -B -m unittest -q 2> "$at/python.log") || { cat "$at/python.log"; exit 1; }
     say "bindings/python"
+    export SCTP_ENDPOINT_LIBRARY=$prefix/lib/libsctp_endpoint.so.1
+    listen python3 -B bindings/python/udp.py
+    timeout 60 "$at/udp" call 19900 127.0.0.1 19899 < "$at/lines" 2> "$at/caller"
+    heard "C to Python"
+    listen "$at/udp"
+    timeout 60 python3 -B bindings/python/udp.py call 19900 127.0.0.1 19899 < "$at/lines" 2> "$at/caller"
+    heard "Python to C"
 fi
 say "all passed"

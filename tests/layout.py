@@ -17,6 +17,7 @@ SIZES = {'u8': 1, 'u16': 2, 'u32': 4, 'u64': 8, 'usize': 8, 'bool': 1, '*mut u8'
 PYTHON = {'u8': 'c_uint8', 'u16': 'c_uint16', 'u32': 'c_uint32', 'u64': 'c_uint64', 'usize': 'c_size_t', 'bool': 'c_bool', '*mut u8': 'c_void_p'}
 STRUCT = re.compile(r'#\[repr\(C\)\]\s*(?:#\[[^\]]*\]\s*)*pub struct (\w+) \{(.*?)\n\}', re.S)
 CALL = re.compile(r'#\[unsafe\(no_mangle\)\]\s*pub extern "C" fn (\w+)\((.*?)\)(?: -> (\w+))?\s*(?:\n|\{)', re.S)
+TEXTS = {'sctp_endpoint_name', 'sctp_endpoint_version'}  # bytes that are characters in C
 SHORTER = {'bytes_length': 'length', 'count': 'length'}  # in a clause `length` is a function: the code's names of such parameters
 faults = []
 
@@ -108,6 +109,8 @@ def compare_header(structs, calls):
         same(f'fields of {c_name(name)}, in code and header', [in_c(*field) for field in fields], have_structs.get(c_name(name)))
     for name, (given, result) in calls.items():
         wanted = ([in_c(*parameter) for parameter in given], C[result] if result else 'void')
+        if name in TEXTS:
+            wanted = ([re.sub('^uint8_t', 'char', parameter) for parameter in wanted[0]], wanted[1])
         same(f'{name}, in code and header', wanted, have_calls.get(name))
 
 

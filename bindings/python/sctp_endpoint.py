@@ -26,7 +26,7 @@ class Refused(Exception):
     """The library refused a call, which changed nothing: `result` says why, `str` in words."""
 
     def __init__(self, result: "Result"):
-        super().__init__(f"{result.name}: {_WORDS[result]}")
+        super().__init__(f"{result.name}: {_text('name', result)}")
         self.result = result
 
 
@@ -50,64 +50,6 @@ class Result(enum.IntEnum):
     BAD_FRAGMENT = 23
     BAD_BUFFER = 24
     BAD_STREAMS = 25
-
-
-_WORDS = {
-    Result.NO_SUCH_STREAM: "the stream isn't below the number of streams agreed on",
-    Result.EMPTY: "the message has no bytes",
-    Result.TOO_LONG: "the message has more than 65,536 bytes, or the reason of an ABORT doesn't fit one packet",
-    Result.QUEUE_FULL: "1,024 messages are queued: send again after the next SACK",
-    Result.SPENT: "the TSNs or the tickets of this association are used up",
-    Result.NO_MEMORY: "memory allocation failed",
-    Result.NOT_OPEN: "the association isn't established",
-    Result.BAD_STATE: "the call isn't allowed in this state",
-    Result.NOTHING: "no message is ready",
-    Result.NEEDS_ROOM: "the buffer is too small",
-    Result.MISUSE: "the endpoint was not made",
-    Result.BAD_DRAW: "a tag is 0",
-    Result.BAD_RESERVED: "a reserved number isn't 0",
-    Result.BAD_PORT: "a port is 0",
-    Result.BAD_PACKET_LIMIT: "the packet limit isn't in 576 to 1,500",
-    Result.BAD_FRAGMENT: "the fragment isn't in 4 to 1,400, or 32 bytes of headers and it don't fit a packet",
-    Result.BAD_BUFFER: "the receive buffer isn't in 65,536 to 16,777,216",
-    Result.BAD_STREAMS: "a number of streams isn't in 1 to 1,024",
-}
-
-
-class State(enum.IntEnum):
-    CLOSED = 1
-    LISTEN = 2
-    COOKIE_WAIT = 3
-    COOKIE_ECHOED = 4
-    ESTABLISHED = 5
-    SHUTDOWN_PENDING = 6
-    SHUTDOWN_SENT = 7
-    SHUTDOWN_RECEIVED = 8
-    SHUTDOWN_ACK_SENT = 9
-
-
-class Ended(enum.IntEnum):
-    COMPLETED = 1
-    ABORTED = 2
-    ABORTED_HERE = 3
-    TIMED_OUT = 4
-    STALE_COOKIE = 5
-
-
-class Fate(enum.IntEnum):
-    WITHDRAWN = 1
-    ABANDONED = 2
-    ACKNOWLEDGED = 3
-    UNKNOWN = 4
-    RELIABLE = 5
-
-
-class Reason(enum.IntEnum):
-    FAULT = 1
-    PORTS = 2
-    TAG = 3
-    STATE = 4
-    COOKIE = 5
 
 
 def _number(value: int, bits: int, name: str) -> int:
@@ -184,7 +126,7 @@ class Config(Structure):
 class Draw(Structure):
     """Two random values, from `secrets` unless they are given: a verification tag, which isn't 0, and a first TSN."""
 
-    _fields_ = [("tag", c_uint32), ("tsn", c_uint32)]
+    _fields_ = [("tag", c_uint32), ("tsn", c_uint32), ("_reserved", c_uint32 * 4)]
 
     def __init__(self, tag: Optional[int] = None, tsn: Optional[int] = None):
         super().__init__(
@@ -194,15 +136,15 @@ class Draw(Structure):
 
 
 class _Key(Structure):
-    _fields_ = [("bytes", c_uint8 * 32)]
+    _fields_ = [("bytes", c_uint8 * 32), ("_reserved", c_uint32 * 4)]
 
 
 class _Verdict(Structure):
-    _fields_ = [("length", c_size_t), ("verdict", c_uint32), ("reason", c_uint32)]
+    _fields_ = [("length", c_size_t), ("verdict", c_uint32), ("reason", c_uint32), ("_reserved", c_uint32 * 4)]
 
 
 class _Sent(Structure):
-    _fields_ = [("length", c_size_t), ("tickets", c_uint64)]
+    _fields_ = [("length", c_size_t), ("tickets", c_uint64), ("_reserved", c_uint32 * 4)]
 
 
 class _Message(Structure):
@@ -232,7 +174,8 @@ class _Status(Structure):
         ("inbound", c_uint16),
         ("interleaved", c_bool),
         ("partial", c_bool),
-        ("_reserved", c_uint32 * 4),
+        ("reassembly_bytes", c_uint32),
+        ("_reserved", c_uint32 * 3),
     ]
 
 
@@ -266,11 +209,27 @@ class Status(NamedTuple):
     queued: int
     queued_bytes: int
     held_bytes: int
+    reassembly_bytes: int
     peer_window: int
     outbound: int
     inbound: int
     interleaved: bool
     partial: bool
+
+
+class PacketHeader(NamedTuple):
+    """The ports and the verification tag of a packet: the tag is that of the endpoint which the packet is for, 0 with an INIT."""
+
+    source: int
+    destination: int
+    tag: int
+
+
+class AbortCause(NamedTuple):
+    """Why a peer aborted: the first cause, 12 for a user's abort (RFC 9260, 3.3.10), 0 if there is none; and its information, for 12 the reason."""
+
+    cause: int
+    info: bytes
 
 
 _end, _bytes, _u64s = POINTER(_Handle), POINTER(c_uint8), POINTER(c_uint64)
@@ -294,20 +253,53 @@ _calls = {
     "abort": (_end, c_char_p, c_size_t, _bytes, c_size_t, POINTER(c_size_t)),
     "status": (_end, POINTER(_Status)),
     "abi": (),
+    "version": (c_char_p, c_size_t),
+    "name": (c_uint32, c_char_p, c_size_t),
+    "peek_packet": (c_char_p, c_size_t, POINTER(c_uint16), POINTER(c_uint16), POINTER(c_uint32)),
+    "abort_cause": (c_char_p, c_size_t, POINTER(c_uint16), _bytes, c_size_t, POINTER(c_size_t)),
 }
+_RESULTS = {"free": None, "version": c_size_t, "name": c_size_t}
 
 
 def _load():
     library = ctypes.CDLL(os.environ.get("SCTP_ENDPOINT_LIBRARY", "libsctp_endpoint.so.1"))
     for name, arguments in _calls.items():
         call = getattr(library, "sctp_endpoint_" + name)
-        call.argtypes, call.restype = arguments, None if name == "free" else c_uint32
+        call.argtypes, call.restype = arguments, _RESULTS.get(name, c_uint32)
     if library.sctp_endpoint_abi() != 1:
         raise ImportError("libsctp_endpoint.so.1 is for another version of this module")
     return {name: getattr(library, "sctp_endpoint_" + name) for name in _calls}
 
 
 _call = _load()
+
+
+def _text(name: str, *arguments) -> str:
+    text = ctypes.create_string_buffer(96)
+    return text.raw[: _call[name](*arguments, text, len(text))].decode()
+
+
+def version() -> str:
+    """The version of the library."""
+    return _text("version")
+
+
+def peek_packet(packet: bytes) -> Optional[PacketHeader]:
+    """Ports and verification tag of a packet, for a program with several peers at one socket; None if it is shorter than 12 bytes. Nothing else of
+    the packet is checked, so it may be anyone's."""
+    packet, source, destination, tag = _data(packet, "packet"), c_uint16(), c_uint16(), c_uint32()
+    if _call["peek_packet"](packet, len(packet), byref(source), byref(destination), byref(tag)) != _OK:
+        return None
+    return PacketHeader(source.value, destination.value, tag.value)
+
+
+def abort_cause(packet: bytes) -> Optional[AbortCause]:
+    """What the first ABORT in a packet says, whoever sent it; None if the bytes aren't a valid packet with an ABORT."""
+    packet, cause, length = _data(packet, "packet"), c_uint16(), c_size_t()
+    room = (c_uint8 * len(packet))()
+    if _call["abort_cause"](packet, len(packet), byref(cause), room, len(room), byref(length)) != _OK:
+        return None
+    return AbortCause(cause.value, bytes(room[: length.value]))
 
 
 class Endpoint:
@@ -445,6 +437,7 @@ class Endpoint:
             told.queued,
             told.queued_bytes,
             told.held_bytes,
+            told.reassembly_bytes,
             told.peer_window,
             told.outbound,
             told.inbound,

@@ -2,7 +2,7 @@
 
 import unittest
 
-from sctp_endpoint import Config, Draw, Ended, Endpoint, Fate, Reason, Refused, Result, State
+from sctp_endpoint import Config, Draw, Ended, Endpoint, Fate, Reason, Refused, Result, State, abort_cause, peek_packet, version
 
 
 def exchange(a, b, now):
@@ -61,6 +61,12 @@ class Talk(unittest.TestCase):
         self.refused(Result.TOO_LONG, caller.send, 0, bytes(65537))
         self.assertEqual(caller.handle_packet(0, b"x").reason, Reason.FAULT)
         abort = caller.abort(b"enough")
+        self.assertEqual(abort_cause(abort), (12, b"enough"))
+        self.assertIsNone(abort_cause(b"enough"))
+        self.assertEqual(peek_packet(abort)[:2], (5000, 5001))
+        self.assertIsNone(peek_packet(abort[:11]))
+        self.assertEqual(str(Refused(Result.QUEUE_FULL)), "QUEUE_FULL: 1,024 messages are queued: send again after the next SACK")
+        self.assertEqual(version(), "0.1.0")
         self.assertIsNone(listener.handle_packet(0, abort).reason)
         self.assertEqual([caller.status().ended, listener.status().ended], [Ended.ABORTED_HERE, Ended.ABORTED])
         self.refused(Result.NOT_OPEN, caller.send, 0, b"x")

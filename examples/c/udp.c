@@ -49,9 +49,10 @@ static void fill(void *at, size_t length) {
 }
 
 static struct sctp_endpoint_draw draw(void) {
-    struct sctp_endpoint_draw d;
-    do fill(&d, sizeof d);
+    struct sctp_endpoint_draw d = { 0 };
+    do fill(&d.tag, sizeof d.tag);
     while (d.tag == 0);
+    fill(&d.tsn, sizeof d.tsn);
     return d;
 }
 
@@ -70,7 +71,7 @@ static void put(const struct sockaddr_in *to, const uint8_t *packet, size_t leng
 static bool transmit(void) {
     uint8_t packet[SCTP_EP_LONGEST_PACKET];
     uint64_t tickets[SCTP_EP_MOST_TICKETS];
-    struct sctp_endpoint_sent sent = { 0, 0 };
+    struct sctp_endpoint_sent sent = { 0 };
     for (int i = 0; i < PACKETS_A_TURN; i++) {
         uint32_t result = sctp_endpoint_poll_transmit(&end, now(), packet, sizeof packet, tickets, SCTP_EP_MOST_TICKETS, &sent);
         if (result != SCTP_EP_OK || sent.length == 0) return result == SCTP_EP_NO_MEMORY;
@@ -82,28 +83,28 @@ static bool transmit(void) {
 /* A datagram was received. If memory allocation fails, it counts as lost. An answer after the association has ended is a SHUTDOWN COMPLETE
  * that the peer may still have to ask for again. */
 static void receive(void) {
-    uint8_t packet[65536], room[SCTP_EP_LONGEST_PACKET];
-    struct sctp_endpoint_verdict verdict = { 0, 0, 0 };
+    uint8_t packet[65536], buffer[SCTP_EP_LONGEST_PACKET];
+    struct sctp_endpoint_verdict verdict = { 0 };
     struct sockaddr_in from;
     socklen_t size = sizeof from;
     struct sctp_endpoint_draw d = draw();
     ssize_t length = recvfrom(udp, packet, sizeof packet, 0, (struct sockaddr *)&from, &size);
     if (length < 0) return;
-    if (sctp_endpoint_handle_packet(&end, now(), packet, (size_t)length, &d, room, sizeof room, &verdict) != SCTP_EP_OK) return;
-    if (verdict.verdict == SCTP_EP_ANSWER) put(&from, room, verdict.length);
+    if (sctp_endpoint_handle_packet(&end, now(), packet, (size_t)length, &d, buffer, sizeof buffer, &verdict) != SCTP_EP_OK) return;
+    if (verdict.verdict == SCTP_EP_ANSWER) put(&from, buffer, verdict.length);
     if (verdict.verdict == SCTP_EP_ANSWER && status().ended == SCTP_EP_COMPLETED) linger_until = now() + LINGER;
     if (verdict.verdict == SCTP_EP_TAKEN) peer = from; /* its tag was right: this is the peer's address */
 }
 
 /* Prints the messages that were received. */
 static void take(void) {
-    struct sctp_endpoint_message told = { 0 };
+    struct sctp_endpoint_message message = { 0 };
     uint16_t stream = 0;
-    while (sctp_endpoint_readable(&end, 0, &stream) == SCTP_EP_OK && sctp_endpoint_peek(&end, stream, &told) == SCTP_EP_OK) {
-        uint8_t *room = malloc(told.length);
-        if (!room) return; /* it stays */
-        if (sctp_endpoint_take(&end, stream, &told, room, told.length) == SCTP_EP_OK) fwrite(room, 1, told.length, stdout), putchar('\n');
-        free(room);
+    while (sctp_endpoint_readable(&end, 0, &stream) == SCTP_EP_OK && sctp_endpoint_peek(&end, stream, &message) == SCTP_EP_OK) {
+        uint8_t *buffer = malloc(message.length);
+        if (!buffer) return; /* it stays */
+        if (sctp_endpoint_take(&end, stream, &message, buffer, message.length) == SCTP_EP_OK) fwrite(buffer, 1, message.length, stdout), putchar('\n');
+        free(buffer);
     }
     fflush(stdout);
 }
@@ -129,9 +130,9 @@ static void open_socket(const char *port) {
 static void start(int argc, char **argv) {
     struct sctp_endpoint_config config = SCTP_ENDPOINT_CONFIG(5001, 5000);
     struct sctp_endpoint_draw d = draw();
-    struct sctp_endpoint_key key;
+    struct sctp_endpoint_key key = { { 0 }, { 0 } };
     config.buffer = BUFFER, config.outbound = config.inbound = 1;
-    fill(&key, sizeof key);
+    fill(key.bytes, sizeof key.bytes);
     if ((input_ended = argc == 3)) {
         if (sctp_endpoint_listener(&end, &config, &key) != SCTP_EP_OK) exit(1);
         return;

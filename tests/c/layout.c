@@ -5,7 +5,7 @@
 
 #define HOLDS(x) do { if (!(x)) { fprintf(stderr, "line %d: %s\n", __LINE__, #x); return 1; } } while (0)
 
-/* A struct with bytes behind it that no call may write. */
+/* A struct with bytes after it that no call may write. */
 #define BEFORE 0xa5
 #define IN_BYTES(type) union { struct type it; uint8_t bytes[sizeof(struct type) + 64]; }
 static int is_kept(const uint8_t *bytes, size_t from, size_t to) {
@@ -16,7 +16,9 @@ static int is_kept(const uint8_t *bytes, size_t from, size_t to) {
 int main(void) {
     struct sctp_endpoint a = SCTP_ENDPOINT_INIT, b = SCTP_ENDPOINT_INIT, other = SCTP_ENDPOINT_INIT;
     struct sctp_endpoint_config config = SCTP_ENDPOINT_CONFIG(5000, 5001), wrong;
-    struct sctp_endpoint_draw own = { 7, 100 }, peer = { 9, 500 }, none = { 0, 1 };
+    struct sctp_endpoint_draw own = { 7, 100, { 0 } }, peer = { 9, 500, { 0 } }, none = { 0, 1, { 0 } }, later = own;
+    struct sctp_endpoint_key key = { { 7 }, { 0 } };
+    char name[SCTP_EP_LONGEST_NAME];
     uint8_t room[SCTP_EP_LONGEST_PACKET], text[8] = "message";
     uint64_t tickets[SCTP_EP_MOST_TICKETS], ticket = 0;
     IN_BYTES(sctp_endpoint_status) status;
@@ -24,13 +26,21 @@ int main(void) {
     IN_BYTES(sctp_endpoint_sent) sent;
     IN_BYTES(sctp_endpoint_verdict) verdict;
     uint32_t fate = 0;
-    uint16_t stream = 0;
+    uint16_t stream = 0, source = 0, destination = 0, cause = 0;
+    uint32_t tag = 0;
     size_t length = 0;
     bool is = false;
 
     HOLDS(sctp_endpoint_abi() == SCTP_EP_ABI);
-    HOLDS(sizeof(struct sctp_endpoint) == 16 && sizeof config == 36 && sizeof own == 8 && sizeof(struct sctp_endpoint_key) == 32);
-    HOLDS(sizeof(struct sctp_endpoint_sent) == 16 && sizeof(struct sctp_endpoint_verdict) == 16);
+    HOLDS(sizeof(struct sctp_endpoint) == 16 && sizeof config == 36 && sizeof own == 24 && sizeof(struct sctp_endpoint_key) == 48);
+    HOLDS(sizeof(struct sctp_endpoint_sent) == 32 && sizeof(struct sctp_endpoint_verdict) == 32);
+
+    /* Texts: of each result, and of the version; with a 0 after them, and not at all if that doesn't fit. */
+    for (uint32_t code = 0; code < 30; code++) HOLDS(sctp_endpoint_name(code, name, sizeof name) == strlen(name) && strlen(name) > 3);
+    HOLDS(sctp_endpoint_version(name, sizeof name) == 5 && strcmp(name, SCTP_EP_VERSION) == 0);
+    memset(name, 'x', sizeof name);
+    HOLDS(sctp_endpoint_version(name, 5) == 5 && name[0] == 'x' && sctp_endpoint_version(name, 6) == 5 && name[5] == 0 && name[6] == 'x');
+    HOLDS(sctp_endpoint_name(4, NULL, 0) > 0);
 
     /* Nothing is in the handle. */
     memset(&status, 0, sizeof status);
@@ -51,36 +61,49 @@ int main(void) {
     wrong = config; wrong.outbound = 0; HOLDS(sctp_endpoint_caller(&a, &wrong) == SCTP_EP_BAD_STREAMS);
     wrong = config; wrong.inbound = 1025; HOLDS(sctp_endpoint_caller(&a, &wrong) == SCTP_EP_BAD_STREAMS);
     for (int i = 0; i < 4; i++) { wrong = config; wrong.reserved[i] = 1u << 31; HOLDS(sctp_endpoint_caller(&a, &wrong) == SCTP_EP_BAD_RESERVED); }
+    for (int i = 0; i < 4; i++) { key.reserved[i] = 1; HOLDS(sctp_endpoint_listener(&a, &config, &key) == SCTP_EP_BAD_RESERVED); key.reserved[i] = 0; }
     HOLDS(sctp_endpoint_opened(&a, &config, &none, &peer) == SCTP_EP_BAD_DRAW && sctp_endpoint_opened(&a, &config, &own, &none) == SCTP_EP_BAD_DRAW);
+    later.reserved[3] = 1;
+    HOLDS(sctp_endpoint_opened(&a, &config, &later, &peer) == SCTP_EP_BAD_RESERVED && sctp_endpoint_opened(&a, &config, &own, &later) == SCTP_EP_BAD_RESERVED);
     HOLDS(!a.full);
 
-    /* Two ends, opened at once; opened twice. */
+    /* Two endpoints, opened at once; opened twice. */
     HOLDS(sctp_endpoint_opened(&a, &config, &own, &peer) == SCTP_EP_OK);
     HOLDS(sctp_endpoint_opened(&a, &config, &own, &peer) == SCTP_EP_MISUSE && sctp_endpoint_caller(&a, &config) == SCTP_EP_MISUSE);
     config.own_port = 5001, config.peer_port = 5000;
     HOLDS(sctp_endpoint_opened(&b, &config, &peer, &own) == SCTP_EP_OK);
 
     HOLDS(sctp_endpoint_connect(&a, 0, &own) == SCTP_EP_BAD_STATE && sctp_endpoint_connect(&a, 0, &none) == SCTP_EP_BAD_DRAW);
+    HOLDS(sctp_endpoint_connect(&a, 0, &later) == SCTP_EP_BAD_RESERVED);
     HOLDS(sctp_endpoint_send(&a, 64, true, 0, text, 7, SCTP_EP_NEVER, &ticket) == SCTP_EP_NO_SUCH_STREAM);
     HOLDS(sctp_endpoint_send(&a, 0, true, 0, text, 0, SCTP_EP_NEVER, &ticket) == SCTP_EP_EMPTY && ticket == 0);
+    HOLDS(sctp_endpoint_send(&a, 0, true, 0, NULL, 0, SCTP_EP_NEVER, &ticket) == SCTP_EP_EMPTY && ticket == 0);
     HOLDS(sctp_endpoint_send(&a, 3, false, 51, text, 7, SCTP_EP_NEVER, &ticket) == SCTP_EP_OK && ticket == 1);
     HOLDS(sctp_endpoint_send(&a, 4, true, 52, text, 6, SCTP_EP_NEVER, &ticket) == SCTP_EP_OK && ticket == 2);
 
     memset(&status, BEFORE, sizeof status);
     HOLDS(sctp_endpoint_status(&a, &status.it) == SCTP_EP_OK && status.it.queued == 2 && status.it.queued_bytes == 13 && status.it.peer_window == 4194304);
 
-    /* A room that is too small takes nothing. */
+    /* Nothing is written to a buffer that is too small. */
     memset(&sent, BEFORE, sizeof sent);
     HOLDS(sctp_endpoint_poll_transmit(&a, 0, room, 1231, tickets, SCTP_EP_MOST_TICKETS, &sent.it) == SCTP_EP_NEEDS_ROOM && sent.it.length == 1232);
-    HOLDS(is_kept(sent.bytes, sizeof sent.it, sizeof sent.bytes));
+    HOLDS(is_kept(sent.bytes, sizeof sent.it, sizeof sent.bytes) && sent.it.reserved[0] == 0 && sent.it.reserved[3] == 0);
+    HOLDS(sctp_endpoint_poll_transmit(&a, 0, NULL, 0, NULL, 0, &sent.it) == SCTP_EP_NEEDS_ROOM && sent.it.length == 1232);
     memset(tickets, BEFORE, sizeof tickets);
     HOLDS(sctp_endpoint_poll_transmit(&a, 0, room, 1232, tickets, 1, &sent.it) == SCTP_EP_OK && sent.it.length > 12 && sent.it.tickets == 2);
     HOLDS(tickets[0] == 1 && is_kept((uint8_t *)tickets, 8, sizeof tickets));
+    HOLDS(sctp_endpoint_peek_packet(room, sent.it.length, &source, &destination, &tag) == SCTP_EP_OK && source == 5000 && destination == 5001 && tag == 9);
+    HOLDS(sctp_endpoint_peek_packet(room, 11, &source, &destination, &tag) == SCTP_EP_NOTHING);
+    HOLDS(sctp_endpoint_peek_packet(NULL, 0, &source, &destination, &tag) == SCTP_EP_NOTHING && tag == 9);
+    HOLDS(sctp_endpoint_abort_cause(room, sent.it.length, &cause, text, sizeof text, &length) == SCTP_EP_NOTHING && cause == 0 && length == 0);
     memset(&verdict, BEFORE, sizeof verdict);
     HOLDS(sctp_endpoint_handle_packet(&b, 0, room, sent.it.length, &own, room, 1231, &verdict.it) == SCTP_EP_NEEDS_ROOM && verdict.it.length == 1232);
     {
         uint8_t answer[1232];
         HOLDS(sctp_endpoint_handle_packet(&b, 0, room, sent.it.length, &none, answer, sizeof answer, &verdict.it) == SCTP_EP_BAD_DRAW);
+        HOLDS(sctp_endpoint_handle_packet(&b, 0, room, sent.it.length, &later, answer, sizeof answer, &verdict.it) == SCTP_EP_BAD_RESERVED);
+        HOLDS(sctp_endpoint_handle_packet(&b, 0, NULL, 0, &own, answer, sizeof answer, &verdict.it) == SCTP_EP_OK && verdict.it.reason == SCTP_EP_FAULT);
+        HOLDS(verdict.it.reserved[0] == 0 && verdict.it.reserved[3] == 0);
         HOLDS(sctp_endpoint_handle_packet(&b, 0, room, 11, &own, answer, sizeof answer, &verdict.it) == SCTP_EP_OK);
         HOLDS(verdict.it.verdict == SCTP_EP_DROPPED && verdict.it.reason == SCTP_EP_FAULT && verdict.it.length == 0);
         HOLDS(sctp_endpoint_handle_packet(&b, 0, room, sent.it.length, &own, answer, sizeof answer, &verdict.it) == SCTP_EP_OK);
@@ -88,11 +111,12 @@ int main(void) {
         HOLDS(is_kept(verdict.bytes, sizeof verdict.it, sizeof verdict.bytes));
     }
 
-    /* What came. */
+    /* What was received. */
     memset(&status, BEFORE, sizeof status);
     HOLDS(sctp_endpoint_status(&b, &status.it) == SCTP_EP_OK && status.it.held_bytes == 13 && status.it.state == SCTP_EP_ESTABLISHED);
     HOLDS(status.it.ended == SCTP_EP_NOT_ENDED && status.it.outbound == 64 && status.it.inbound == 64 && status.it.interleaved && status.it.partial);
-    HOLDS(status.it.tickets == 0 && status.it.outstanding == 0 && status.it.next_moment == SCTP_EP_NEVER && status.it.reserved[0] == 0 && status.it.reserved[3] == 0);
+    HOLDS(status.it.reassembly_bytes == 0 && status.it.reserved[2] == 0);
+    HOLDS(status.it.tickets == 0 && status.it.outstanding == 0 && status.it.next_moment == SCTP_EP_NEVER && status.it.reserved[0] == 0);
     HOLDS(is_kept(status.bytes, sizeof status.it, sizeof status.bytes));
     HOLDS(sctp_endpoint_status(&a, &status.it) == SCTP_EP_OK && status.it.outstanding == 2 && status.it.tickets == 2 && status.it.next_moment == 1000);
     memset(&message, BEFORE, sizeof message);
@@ -100,6 +124,7 @@ int main(void) {
     HOLDS(sctp_endpoint_readable(&b, 5, &stream) == SCTP_EP_NOTHING && sctp_endpoint_readable(&other, 0, &stream) == SCTP_EP_MISUSE && stream == 4);
     HOLDS(sctp_endpoint_peek(&b, 0, &message.it) == SCTP_EP_NOTHING && sctp_endpoint_take(&b, 0, &message.it, room, 7) == SCTP_EP_NOTHING);
     HOLDS(sctp_endpoint_take(&b, 3, &message.it, room, 6) == SCTP_EP_NEEDS_ROOM && message.it.length == 7);
+    HOLDS(sctp_endpoint_take(&b, 3, &message.it, NULL, 0) == SCTP_EP_NEEDS_ROOM && message.it.length == 7);
     HOLDS(sctp_endpoint_peek(&b, 4, &message.it) == SCTP_EP_OK && message.it.ordered && message.it.numbered && message.it.number == 0);
     HOLDS(sctp_endpoint_take(&b, 3, &message.it, room, 7) == SCTP_EP_OK && memcmp(room, text, 7) == 0);
     HOLDS(message.it.stream == 3 && !message.it.ordered && message.it.payload_id == 51 && message.it.length == 7);
@@ -111,6 +136,15 @@ int main(void) {
     HOLDS(sctp_endpoint_abandoned(&a, 1, &is) == SCTP_EP_OK && is && sctp_endpoint_acknowledged(&a, 1, &is) == SCTP_EP_OK && !is);
     HOLDS(sctp_endpoint_abort(&b, text, 7, room, 1231, &length) == SCTP_EP_NEEDS_ROOM && length == 1232);
     HOLDS(sctp_endpoint_abort(&b, text, 7, room, 1232, &length) == SCTP_EP_OK && length > 12);
+    {
+        uint8_t why[8] = { 0 };
+        size_t packet = length;
+        HOLDS(sctp_endpoint_abort_cause(room, packet, &cause, why, 6, &length) == SCTP_EP_NEEDS_ROOM && cause == 12 && length == 7 && why[0] == 0);
+        HOLDS(sctp_endpoint_abort_cause(room, packet, &cause, why, 7, &length) == SCTP_EP_OK && length == 7 && memcmp(why, text, 7) == 0);
+        HOLDS(sctp_endpoint_abort_cause(room, packet, &cause, NULL, 0, &length) == SCTP_EP_NEEDS_ROOM);
+    }
+    HOLDS(sctp_endpoint_abort(&a, NULL, 0, room, 1232, &length) == SCTP_EP_OK && length == 20);
+    HOLDS(sctp_endpoint_abort_cause(room, length, &cause, NULL, 0, &length) == SCTP_EP_OK && cause == 12 && length == 0);
     HOLDS(sctp_endpoint_abort(&b, text, 7, room, 1232, &length) == SCTP_EP_BAD_STATE);
     HOLDS(sctp_endpoint_shutdown(&b) == SCTP_EP_NOT_OPEN && sctp_endpoint_send(&b, 0, true, 0, text, 7, SCTP_EP_NEVER, &ticket) == SCTP_EP_NOT_OPEN);
 

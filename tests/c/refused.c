@@ -1,4 +1,4 @@
-/* Each allocation refused in its turn: the call that wanted it says so, changed nothing that it doesn't own up to, and succeeds when
+/* Each allocation fails in its turn: the call that made it says so, changed nothing that the header doesn't name, and succeeds when
  * it is made again; nothing leaks. The allocator is the program's own, which is why no libsctp_endpoint_malloc.a is linked. */
 #include "sctp_endpoint.h"
 #include <stdio.h>
@@ -34,7 +34,7 @@ void rattle_dealloc(void *at) {
     free(at);
 }
 
-/* The answer of a call, which is made again where memory was refused for it. */
+/* A call, which is made again if its allocation failed. */
 #define TRY(call) do { \
     uint32_t r_ = (call); \
     if (r_ == SCTP_EP_NO_MEMORY) refusals++, r_ = (call); \
@@ -45,14 +45,14 @@ static struct sctp_endpoint ends[2];
 static uint8_t text[4000];
 
 static void exchange(void) {
-    struct sctp_endpoint_draw d = { 9, 500 };
+    struct sctp_endpoint_draw d = { 9, 500, { 0 } };
     for (int turn = 0; turn < 16; turn++) {
         struct sctp_endpoint *from = &ends[turn % 2], *to = &ends[(turn + 1) % 2];
         for (;;) {
             uint8_t packet[SCTP_EP_LONGEST_PACKET], answer[SCTP_EP_LONGEST_PACKET];
             uint64_t tickets[SCTP_EP_MOST_TICKETS];
-            struct sctp_endpoint_sent sent = { 0, 0 };
-            struct sctp_endpoint_verdict verdict = { 0, 0, 0 };
+            struct sctp_endpoint_sent sent = { 0 };
+            struct sctp_endpoint_verdict verdict = { 0 };
             TRY(sctp_endpoint_poll_transmit(from, 0, packet, sizeof packet, tickets, SCTP_EP_MOST_TICKETS, &sent));
             if (sent.length == 0) break;
             TRY(sctp_endpoint_handle_packet(to, 0, packet, sent.length, &d, answer, sizeof answer, &verdict));
@@ -65,8 +65,8 @@ static void exchange(void) {
 
 static void talk(void) {
     struct sctp_endpoint_config config = SCTP_ENDPOINT_CONFIG(5000, 5001);
-    struct sctp_endpoint_draw d = { 7, 100 };
-    struct sctp_endpoint_key key = { { 7 } };
+    struct sctp_endpoint_draw d = { 7, 100, { 0 } };
+    struct sctp_endpoint_key key = { { 7 }, { 0 } };
     struct sctp_endpoint_message told;
     struct sctp_endpoint_status status;
     uint8_t room[sizeof text];

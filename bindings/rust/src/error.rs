@@ -1,5 +1,6 @@
 //! Why a call of the library is refused, in the words of `sctp_endpoint.h`.
 
+use crate::raw;
 use std::fmt;
 
 const OK: u32 = 0;
@@ -62,24 +63,38 @@ impl Error {
     }
 }
 
+impl Error {
+    fn code(self) -> u32 {
+        match self {
+            Error::NoSuchStream => 1,
+            Error::Empty => 2,
+            Error::TooLong => 3,
+            Error::QueueFull => 4,
+            Error::Spent => 5,
+            Error::NoMemory => 6,
+            Error::NotOpen => 7,
+            Error::BadState => 8,
+            Error::NeedsRoom(_) => NEEDS_ROOM,
+            Error::BadPort => 21,
+            Error::BadPacketLimit => 22,
+            Error::BadFragment => 23,
+            Error::BadBuffer => 24,
+            Error::BadStreams => 25,
+            Error::Unknown(other) => other,
+        }
+    }
+}
+
+/// In the library's words.
 impl fmt::Display for Error {
     fn fmt(&self, f: &mut fmt::Formatter<'_>) -> fmt::Result {
+        let mut text = [0; 96];
+        let length = unsafe { raw::sctp_endpoint_name(self.code(), text.as_mut_ptr(), text.len()) };
+        write!(f, "{}", String::from_utf8_lossy(&text[..length]))?;
         match self {
-            Error::NoSuchStream => write!(f, "the stream isn't below the number of streams agreed on"),
-            Error::Empty => write!(f, "the message has no bytes"),
-            Error::TooLong => write!(f, "the message has more than 65,536 bytes, or the reason of an ABORT doesn't fit one packet"),
-            Error::QueueFull => write!(f, "1,024 messages are queued: send again after the next SACK"),
-            Error::Spent => write!(f, "the TSNs or the tickets of this association are used up"),
-            Error::NoMemory => write!(f, "memory allocation failed"),
-            Error::NotOpen => write!(f, "the association isn't established"),
-            Error::BadState => write!(f, "the call isn't allowed in this state"),
-            Error::NeedsRoom(bytes) => write!(f, "the buffer is too small: {bytes} bytes are needed"),
-            Error::BadPort => write!(f, "a port is 0"),
-            Error::BadPacketLimit => write!(f, "the packet limit isn't in 576 to 1,500"),
-            Error::BadFragment => write!(f, "the fragment isn't in 4 to 1,400, or 32 bytes of headers and it don't fit a packet"),
-            Error::BadBuffer => write!(f, "the receive buffer isn't in 65,536 to 16,777,216"),
-            Error::BadStreams => write!(f, "a number of streams isn't in 1 to 1,024"),
-            Error::Unknown(result) => write!(f, "result {result} of the library, which is for another header"),
+            Error::NeedsRoom(bytes) => write!(f, ": {bytes} bytes are needed"),
+            Error::Unknown(result) => write!(f, ": {result}"),
+            _ => Ok(()),
         }
     }
 }

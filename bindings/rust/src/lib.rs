@@ -5,12 +5,15 @@
 //! An [`Endpoint`] may be moved to another thread.
 
 mod error;
+mod packets;
 mod raw;
 mod values;
 
 pub use error::Error;
+pub use packets::{abort_cause, peek_packet, version};
 pub use values::{
-    Config, Draw, Ended, Fate, Head, Message, Reason, Sent, SentInto, State, Status, Verdict, VerdictInto,
+    AbortCause, Config, Draw, Ended, Fate, Head, Message, PacketHeader, Reason, Sent, SentInto, State, Status,
+    Verdict, VerdictInto,
 };
 
 use error::{checked, checked_at};
@@ -60,7 +63,7 @@ impl Endpoint {
 
     /// An endpoint that waits for a peer. The key, secret random bytes, authenticates its state cookies; listeners may share it.
     pub fn listener(config: &Config, key: [u8; 32]) -> Result<Endpoint, Error> {
-        Endpoint::made(|end| unsafe { raw::sctp_endpoint_listener(end, &config.raw(), &raw::Key { bytes: key }) })
+        Endpoint::made(|end| unsafe { raw::sctp_endpoint_listener(end, &config.raw(), &raw::Key { bytes: key, reserved: [0; 4] }) })
     }
 
     /// An endpoint that is established at once, without packets; its peer is opened with the two draws exchanged.
@@ -280,6 +283,7 @@ impl Endpoint {
             queued: told.queued,
             queued_bytes: told.queued_bytes,
             held_bytes: told.held_bytes,
+            reassembly_bytes: told.reassembly_bytes,
             peer_window: told.peer_window,
             outbound: told.outbound,
             inbound: told.inbound,

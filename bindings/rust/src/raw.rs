@@ -30,11 +30,13 @@ pub struct Config {
 pub struct Draw {
     pub tag: u32,
     pub tsn: u32,
+    pub reserved: [u32; 4],
 }
 
 #[repr(C)]
 pub struct Key {
     pub bytes: [u8; 32],
+    pub reserved: [u32; 4],
 }
 
 #[repr(C)]
@@ -43,6 +45,7 @@ pub struct Verdict {
     pub length: usize,
     pub verdict: u32,
     pub reason: u32,
+    pub reserved: [u32; 4],
 }
 
 #[repr(C)]
@@ -50,6 +53,7 @@ pub struct Verdict {
 pub struct Sent {
     pub length: usize,
     pub tickets: u64,
+    pub reserved: [u32; 4],
 }
 
 #[repr(C)]
@@ -80,11 +84,14 @@ pub struct Status {
     pub inbound: u16,
     pub interleaved: bool,
     pub partial: bool,
-    pub reserved: [u32; 4],
+    pub reassembly_bytes: u32,
+    pub reserved: [u32; 3],
 }
 
 extern "C" {
     pub fn sctp_endpoint_abi() -> u32;
+    pub fn sctp_endpoint_version(text: *mut u8, text_length: usize) -> usize;
+    pub fn sctp_endpoint_name(code: u32, text: *mut u8, text_length: usize) -> usize;
     pub fn sctp_endpoint_caller(handle: *mut Handle, config: *const Config) -> u32;
     pub fn sctp_endpoint_listener(handle: *mut Handle, config: *const Config, key: *const Key) -> u32;
     pub fn sctp_endpoint_opened(handle: *mut Handle, config: *const Config, own: *const Draw, peer: *const Draw) -> u32;
@@ -142,4 +149,19 @@ extern "C" {
         length: *mut usize,
     ) -> u32;
     pub fn sctp_endpoint_status(handle: *mut Handle, status: *mut Status) -> u32;
+    pub fn sctp_endpoint_peek_packet(
+        packet: *const u8,
+        packet_length: usize,
+        source: *mut u16,
+        destination: *mut u16,
+        tag: *mut u32,
+    ) -> u32;
+    pub fn sctp_endpoint_abort_cause(
+        packet: *const u8,
+        packet_length: usize,
+        cause: *mut u16,
+        buffer: *mut u8,
+        buffer_length: usize,
+        length: *mut usize,
+    ) -> u32;
 }

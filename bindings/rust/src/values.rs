@@ -70,7 +70,7 @@ pub struct Draw {
 
 impl Draw {
     pub(crate) fn raw(self) -> raw::Draw {
-        raw::Draw { tag: self.tag.get(), tsn: self.tsn }
+        raw::Draw { tag: self.tag.get(), tsn: self.tsn, reserved: [0; 4] }
     }
 }
 
@@ -148,6 +148,24 @@ pub struct Head {
     pub payload_id: u32,
 }
 
+/// The ports and the verification tag of a packet, by [`peek_packet`](crate::peek_packet).
+#[derive(Clone, Copy, Debug, PartialEq, Eq)]
+pub struct PacketHeader {
+    pub source: u16,
+    pub destination: u16,
+    /// That of the endpoint which the packet is for; 0 with an INIT.
+    pub tag: u32,
+}
+
+/// Why a peer aborted, by [`abort_cause`](crate::abort_cause).
+#[derive(Clone, Debug, PartialEq, Eq)]
+pub struct AbortCause {
+    /// The first cause: 12 for a user's abort (RFC 9260, 3.3.10), 0 if the ABORT has none.
+    pub cause: u16,
+    /// Its information: the reason of a user's abort.
+    pub info: Vec<u8>,
+}
+
 /// What has become of a message that is abandoned.
 #[derive(Clone, Copy, Debug, PartialEq, Eq)]
 pub enum Fate {
@@ -209,6 +227,9 @@ pub struct Status {
     pub queued_bytes: u64,
     /// Bytes of user data in the receive buffer: received and not taken, messages in part included.
     pub held_bytes: u64,
+    /// Of these, those that can't be taken yet: of messages of which fragments are missing, and of ordered ones after such a message. If they
+    /// are near the configured buffer, it is too small.
+    pub reassembly_bytes: u32,
     /// The peer's receiver window in bytes, as last advertised.
     pub peer_window: u64,
     pub outbound: u16,

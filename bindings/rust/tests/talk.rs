@@ -1,4 +1,4 @@
-use sctp_endpoint::{Config, Draw, Ended, Endpoint, Error, Fate, Reason, State, Verdict, VerdictInto, LONGEST_PACKET, MOST_TICKETS};
+use sctp_endpoint::{abort_cause, peek_packet, version, AbortCause, Config, Draw, Ended, Endpoint, Error, Fate, Reason, State, Verdict, VerdictInto, LONGEST_PACKET, MOST_TICKETS};
 use std::num::NonZeroU32;
 
 fn draw(tag: u32) -> Draw {
@@ -64,6 +64,11 @@ fn refusals_say_why() {
     assert_eq!(caller.handle_packet(0, b"x", draw(7)), Ok(Verdict::Dropped(Reason::Fault)));
     assert_eq!(caller.abort(&[0; 1_500]), Err(Error::TooLong));
     let abort = caller.abort(b"enough").unwrap();
+    assert_eq!(abort_cause(&abort), Some(AbortCause { cause: 12, info: b"enough".to_vec() }));
+    assert_eq!(abort_cause(b"enough"), None);
+    let header = peek_packet(&abort).unwrap();
+    assert_eq!((header.source, header.destination, header.tag), (5_000, 5_001, 9));
+    assert_eq!(peek_packet(&abort[..11]), None);
     assert_eq!(listener.handle_packet(0, &abort, draw(8)), Ok(Verdict::Taken));
     assert_eq!(listener.status().ended, Some(Ended::Aborted));
     assert_eq!(caller.status().ended, Some(Ended::AbortedHere));
@@ -115,6 +120,19 @@ fn buffers_of_the_caller_are_enough() {
 
 #[test]
 fn errors_say_why() {
+    assert_eq!(version(), env!("CARGO_PKG_VERSION"));
     assert_eq!(Error::QueueFull.to_string(), "1,024 messages are queued: send again after the next SACK");
     assert_eq!(Error::NeedsRoom(5).to_string(), "the buffer is too small: 5 bytes are needed");
+}
+
+#[test]
+fn bytes_of_a_message_in_part_are_counted() {
+    let (mut caller, mut listener) = opened();
+    caller.send(0, true, 0, &[5; 2_000], None).unwrap();
+    let first = caller.poll_transmit(10).unwrap().unwrap();
+    listener.handle_packet(10, &first.packet, draw(9)).unwrap();
+    let status = listener.status();
+    assert!(status.reassembly_bytes > 0 && u64::from(status.reassembly_bytes) == status.held_bytes);
+    exchange(&mut caller, &mut listener, 10);
+    assert_eq!((listener.status().held_bytes, listener.status().reassembly_bytes), (2_000, 0));
 }

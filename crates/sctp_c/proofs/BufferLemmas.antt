@@ -1,5 +1,5 @@
--- What fits a buffer: a packet, where it has place for the longest one of its end; a message, where it has place for its bytes.
-use Rattle.std.proofs.Common.{◌≡◌, ℕ, ◌≤◌, ◌<◌, ◌-◌, ◌^◌, List, ◌++◌, length, drop, min, ◌∙◌, ap, arith}
+-- What fits a buffer: a packet, if the buffer has space for the longest one of its endpoint; a message, if it has space for its bytes; a text.
+use Rattle.std.proofs.Common.{◌≡◌, ℕ, suc, ◌≤◌, ◌<◌, ◌-◌, ◌^◌, List, [], ◌∷◌, ◌++◌, length, drop, set, min, refl, ◌∙◌, ap, arith}
 use Rattle.std.specs.Prelude.{Option, Some, None, Result, Ok, Err, IfOk, IfErr, IfSome}
 use Rattle.std.specs.declared.vec.Vec.{Vec}
 use Rattle.std.specs.declared.alloc.Global.{Global}
@@ -33,8 +33,15 @@ pub abort_fits : (limit : ℕ) (r : Result (Vec ℕ Global) AbortFault) (n : ℕ
 abort_fits limit (Err why) n within large = tt
 abort_fits limit (Ok packet) n within large = omega (arith, within, large)
 
--- a message that is copied into a buffer that has place for it
+-- a message that is copied into a buffer that has space for it
 pub message_put : (bytes old new : List ℕ) (r : Result ℕ ℕ) → IfOk r (λ many. (many ≡ length bytes) × (new ≡ bytes ++ drop many old))
     → IfErr r (λ many. (many ≡ min (length bytes) (2 ^ 64 - 1)) × (length old < many)) → length bytes ≤ length old → new ≡ bytes ++ drop (length bytes) old
 message_put bytes old new (Ok many) put none large = put.1 ∙ ap (λ (n : ℕ). bytes ++ drop n old) put.0
 message_put bytes old new (Err many) put none large = absurd (omega (arith, none.0, none.1, large))
+
+-- a text and a 0 after it
+pub put_zero : (text old : List ℕ) → length text < length old → set (text ++ drop (length text) old) (length text) 0 ≡ text ++ 0 ∷ drop (suc (length text)) old
+put_zero [] [] fits = absurd (omega (arith, fits))
+put_zero [] (x ∷ old) fits = refl
+put_zero (t ∷ text) [] fits = absurd (omega (arith, fits))
+put_zero (t ∷ text) (x ∷ old) fits = ap (λ (xs : List ℕ). t ∷ xs) (put_zero text old (omega (arith, fits)))

@@ -1,11 +1,11 @@
 -- The texts that C gets: what each result means.
-use Rattle.std.specs.Prelude.{◌≡◌, ◌<◌, ◌≤◌, ◌+◌, ℕ, ◌==◌, if◌then◌else◌, List, ◌∷◌, ◌++◌, length, drop, codes}
+use Rattle.std.specs.Prelude.{◌≡◌, ◌<◌, ◌≤◌, ℕ, suc, ◌==◌, if◌then◌else◌, List, ◌∷◌, ◌++◌, length, drop, codes}
 
 -- the length is that of this text; if the buffer has space for it and a 0, both are at its beginning, and after them it is as it was; else it is all
 -- as it was
 pub record IsText (text : List ℕ) (count : ℕ) (old new : List ℕ) : Type 0 where
-  pub length : count ≡ length text
-  pub put : length text < length old → new ≡ text ++ 0 ∷ drop (1 + length text) old
+  pub size : count ≡ length text
+  pub put : length text < length old → new ≡ text ++ 0 ∷ drop (suc (length text)) old
   pub narrow : length old ≤ length text → new ≡ old
 
 -- the faults of a configuration

@@ -2,7 +2,7 @@
 use Rattle.std.specs.Prelude.{◌≡◌, ◌≤◌, ◌*◌, [], ◌∷◌, length}
 use Rattle.sctp_model.specs.numbers.Limits.{WINDOW, QUEUE_LIMIT, LONGEST_MESSAGE}
 use Rattle.sctp_model.specs.sender.Readers.{outstanding}
-use Rattle.sctp_model.specs.receiver.ReceiverView.{held_bytes}
+use Rattle.sctp_model.specs.receiver.ReceiverView.{held_bytes, size_of_pieces}
 use Rattle.sctp_model.specs.end.EndView.{EndView, state_of, ended_of}
 use Rattle.sctp_model.specs.end.Moments.{next_moment}
 use Rattle.sctp_send.specs.Waiting.{queued_bytes}
@@ -24,7 +24,8 @@ pub record IsStatus (s : SctpStatus) (v : EndView) : Type 0 where
   pub inbound : s.inbound ≡ v.receiver.streams
   pub interleaved : s.interleaved ≡ v.terms.interleave
   pub partial : s.partial ≡ v.terms.partial
-  pub reserved : s.reserved ≡ 0 ∷ 0 ∷ 0 ∷ 0 ∷ []
+  pub reassembly : s.reassembly_bytes ≡ size_of_pieces v.receiver.kept
+  pub reserved : s.reserved ≡ 0 ∷ 0 ∷ 0 ∷ []
 
 -- and none of these is larger: TSNs outstanding, messages queued and their bytes, and bytes received and not taken
 pub record IsWithin (s : SctpStatus) (v : EndView) : Type 0 where

@@ -1,9 +1,10 @@
 -- What C gets of a packet, of a message, of a result, and what a call leaves.
-use Rattle.std.specs.Prelude.{◌≡◌, ℕ, ◌-◌, ◌^◌, min, not, false, if◌then◌else◌, List, [], ◌∷◌, ◌++◌, length, map, take, drop, Option, Some, None, Result, Ok, Err, IfOk, OnErr}
+use Rattle.std.specs.Prelude.{◌≡◌, ℕ, ◌-◌, ◌^◌, min, nat_le, not, Bool, true, false, if◌then◌else◌, List, [], ◌∷◌, ◌++◌, length, map, take, drop, Option, Some, None, Result, Ok, Err, IfOk, OnErr}
 use Rattle.std.specs.declared.vec.Vec.{Vec}
 use Rattle.std.specs.declared.alloc.Global.{Global}
 use Rattle.sctp_model.specs.world.Calls.{Call}
 use Rattle.sctp_model.specs.wire.Packet.{Packet}
+use Rattle.sctp_model.specs.wire.Typed.{Typed}
 use Rattle.sctp_model.specs.receiver.ReceiverView.{Handed}
 use Rattle.sctp_model.specs.receiver.Reading.{lane_of}
 use Rattle.sctp_model.specs.end.EndView.{Draw, EndView}
@@ -24,7 +25,7 @@ use Rattle.sctp_endpoint.specs.declared.transmit.Sent.{Sent}
 use Rattle.sctp_endpoint.specs.declared.endpoint.Endpoint.{Endpoint}
 use Rattle.sctp_c.specs.Codes.{refused_code}
 use Rattle.sctp_c.specs.Holds.{Holds, TransmitsIn, HandledIn, SendsNotes, GivesNotes, TakesNote}
-use Rattle.sctp_c.specs.declared.codes.TheConstants.{OK, TOO_LONG, NO_MEMORY, BAD_STATE}
+use Rattle.sctp_c.specs.declared.codes.TheConstants.{OK, TOO_LONG, NO_MEMORY, BAD_STATE, NOTHING, NEEDS_ROOM}
 use Rattle.sctp_c.specs.declared.crossing.SctpMessage.{SctpMessage}
 use Rattle.sctp_c.specs.declared.crossing.SctpSent.{SctpSent}
 use Rattle.sctp_c.specs.declared.crossing.SctpVerdict.{SctpVerdict}
@@ -95,6 +96,19 @@ pub record Aborted (v : EndView) (reason : List ℕ) (e : Option Endpoint) (code
   pub answers : AbortAnswers v reason answer
   pub step : Holds e (aborted_view v reason answer)
   pub told : AbortTold answer code count old new
+
+-- ---- the cause of an ABORT in a packet
+
+-- its information is at the beginning of the buffer if that has space for it; after it the buffer is as it was
+abbrev pub InfoTold : (fits : Bool) → (info : List ℕ) → (code : ℕ) → (old new : List ℕ) → Type 0
+InfoTold true info n old new = (n ≡ OK) × (new ≡ info ++ drop (length info) old)
+InfoTold false info n old new = (n ≡ NEEDS_ROOM) × (new ≡ old)
+
+-- what C gets of it: if there is none, all is as it was; else its code and length, and its information
+abbrev pub CauseTold : Option Typed → (code cause_old cause count_old count : ℕ) → (old new : List ℕ) → Type 0
+CauseTold None n cause_old cause count_old count old new = (n ≡ NOTHING) × (cause ≡ cause_old) × (count ≡ count_old) × (new ≡ old)
+CauseTold (Some t) n cause_old cause count_old count old new =
+    (cause ≡ t.kind) × (count ≡ length t.value) × InfoTold (nat_le (length t.value) (length old)) t.value n old new
 
 -- ---- a message that C sends
 

@@ -54,6 +54,7 @@ pub(crate) fn put_tickets(tickets: &[Ticket], buffer: &mut [u64]) -> u64
 }
 
 /// Copies a text and a 0 after it to the beginning of a buffer, if it has space for both. The result is how many bytes the text has.
+#[tactic(auto, using(crate::proofs::BufferLemmas::put_zero))]
 pub(crate) fn put_text(text: &[u8], buffer: &mut [u8]) -> usize
     ensures { IsText text.now result buffer.old buffer.new }
 {

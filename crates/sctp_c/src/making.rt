@@ -108,7 +108,8 @@ pub extern "C" fn sctp_endpoint_opened(
         → IsMade (is_full handle.old.slot.endpoint) (is_zeroed own.now.reserved && (is_zeroed peer.now.reserved && is_zeroed config.now.reserved)) config.now result }
     ensures kept { ((result ≡ OK) → ⊥) → handle.new ≡ handle.old }
 {
-    let are_zeroed = is_zeroed(&own.reserved) && (is_zeroed(&peer.reserved) && is_zeroed(&config.reserved));
+    let are_zeroed = is_zeroed(&own.reserved)
+        && (is_zeroed(&peer.reserved) && is_zeroed(&config.reserved));
     let (Some(own), Some(peer)) = (Draw::new(own.tag, own.tsn), Draw::new(peer.tag, peer.tsn))
     else {
         return BAD_DRAW;

@@ -11,10 +11,10 @@ ghost use Rattle.sctp_endpoint.specs.EndpointStands.{EndpointStands};
 ghost use Rattle.sctp_c.specs.Holds.{Holds};
 ghost use Rattle.sctp_c.specs.Told.{IsHead, IsTold, Takes};
 
+use crate::buffers::put_bytes;
 use crate::codes::{MISUSE, NEEDS_ROOM, NOTHING, OK};
 use crate::crossing::SctpMessage;
 use crate::handle::SctpEndpoint;
-use crate::buffers::put_bytes;
 use sctp_endpoint::{Endpoint, Message};
 
 /// A message as C gets it, but for its bytes, of which there are so many.

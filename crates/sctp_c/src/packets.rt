@@ -169,7 +169,7 @@ pub extern "C" fn sctp_endpoint_handle_packet(
     ensures untold { ((result ≡ OK) → ⊥) → buffer.new ≡ buffer.old }
     ensures narrow { (v : EndView) → Holds handle.old.slot.endpoint v → IsDraw draw.now → length buffer.old < v.configuration.limit
         → (result ≡ NEEDS_ROOM) × (verdict.new.length ≡ v.configuration.limit) × (verdict.new.verdict ≡ 0) × (verdict.new.reason ≡ 0)
-            × (handle.new.slot.endpoint ≡ handle.old.slot.endpoint) }
+        × (handle.new.slot.endpoint ≡ handle.old.slot.endpoint) }
     ensures reserved { (v : EndView) → Holds handle.old.slot.endpoint v → IsDraw draw.now → verdict.new.reserved ≡ ZEROED }
     ensures did { (v : EndView) (o : Option meaning.Packet) → Holds handle.old.slot.endpoint v → IsDraw draw.now → v.configuration.limit ≤ length buffer.old
         → IsRead packet.now o → Heard v now (drawn draw.now) o handle.new.slot.endpoint result verdict.new buffer.old buffer.new }

@@ -44,8 +44,10 @@ pub struct SctpStatus {
     pub interleaved: bool,
     /// Partial reliability was agreed on.
     pub partial: bool,
+    /// Of `held_bytes`, those that can't be taken yet: of messages of which fragments are missing, and of ordered ones after them.
+    pub reassembly_bytes: u32,
     /// 0.
-    pub reserved: [u32; 4],
+    pub reserved: [u32; 3],
 }
 
 /// The number of a state.
@@ -108,7 +110,8 @@ fn status_of(end: &Endpoint) -> SctpStatus
         inbound: end.inbound(),
         interleaved: end.is_interleaved(),
         partial: end.is_partial(),
-        reserved: [0; 4],
+        reassembly_bytes: end.reassembly_bytes(),
+        reserved: [0; 3],
     }
 }
 

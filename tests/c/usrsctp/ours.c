@@ -13,7 +13,7 @@ static void must(uint32_t result, const char *what) { need(result == SCTP_EP_OK,
 
 /* Chance that repeats itself, so that a run can be repeated: no source for real draws and keys. */
 static struct sctp_endpoint_draw draw(void) {
-    struct sctp_endpoint_draw d = { 1 + chance(UINT32_MAX), chance(UINT32_MAX) };
+    struct sctp_endpoint_draw d = { 1 + chance(UINT32_MAX), chance(UINT32_MAX), { 0 } };
     return d;
 }
 
@@ -26,7 +26,7 @@ static struct sctp_endpoint_status status(void) {
 
 void we_open(void) {
     struct sctp_endpoint_config config = SCTP_ENDPOINT_CONFIG(PORT, PORT + 1);
-    struct sctp_endpoint_key key;
+    struct sctp_endpoint_key key = { { 0 }, { 0 } };
     struct sctp_endpoint_draw d = draw();
     for (size_t i = 0; i < sizeof key.bytes; i++) key.bytes[i] = (uint8_t)chance(256);
     config.outbound = config.inbound = STREAMS, config.buffer = wanted.narrow ? 65536 : 1 << 22, config.fragment = FRAGMENT, config.delay = chance(2);
@@ -61,7 +61,7 @@ bool we_send(uint32_t number) {
 
 void we_hear(const struct packet *packet) {
     uint8_t room[SCTP_EP_LONGEST_PACKET];
-    struct sctp_endpoint_verdict verdict = { 0, 0, 0 };
+    struct sctp_endpoint_verdict verdict = { 0 };
     struct sctp_endpoint_draw d = draw();
     must(sctp_endpoint_handle_packet(&end, now, packet->bytes, packet->length, &d, room, sizeof room, &verdict), "handle_packet");
     need(verdict.reason != SCTP_EP_FAULT && verdict.reason != SCTP_EP_PORTS, "a packet of usrsctp's is unreadable", verdict.reason);
@@ -77,7 +77,7 @@ static void begin(uint64_t its_ticket) {
 void we_transmit(void) {
     uint8_t room[SCTP_EP_LONGEST_PACKET];
     uint64_t tickets[SCTP_EP_MOST_TICKETS];
-    struct sctp_endpoint_sent sent = { 0, 0 };
+    struct sctp_endpoint_sent sent = { 0 };
     for (;;) {
         must(sctp_endpoint_poll_transmit(&end, now, room, sizeof room, tickets, SCTP_EP_MOST_TICKETS, &sent), "poll_transmit");
         if (sent.length == 0) return;
