@@ -29,7 +29,7 @@ abbrev pub with_side : World → Side → SideView → World
 with_side w A h = record w { a = h.end; from_a = h.bag; log_a = h.log }
 with_side w B h = record w { b = h.end; from_b = h.bag; log_b = h.log }
 
--- .. after something has arrived at the endpoint
+-- the world with another side, at whose endpoint something has arrived: the two can't be opened without packets any more
 abbrev pub left : World → Side → SideView → World
 left w s h = record (with_side w s h) { openable = false }
 

@@ -15,7 +15,7 @@ consumes_more (Some xs) None last a b h _ = absurd h
 consumes_more (Some xs) (Some ys) None a b _ h = absurd h
 consumes_more (Some xs) (Some ys) (Some zs) a b h k = h ∙ ap (λ rest. a ++ rest) k ∙ sym (append_assoc a b zs)
 
--- the same of what is written
+-- known bytes gain nothing if nothing is written, and two writes in a row gain the bytes joined
 pub appends_none : (held : Option (List ℕ)) → Appends held held []
 appends_none None = tt
 appends_none (Some bytes) = sym (append-nil bytes)
