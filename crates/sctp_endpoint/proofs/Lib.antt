@@ -8,3 +8,4 @@ pub mod PassingLemmas
 pub mod ArrivingLemmas
 pub mod HandlingLemmas
 pub mod LogLemmas
+pub mod PacketLemmas

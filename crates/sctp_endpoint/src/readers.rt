@@ -4,7 +4,7 @@ ghost use Rattle.std.specs.Prelude.{◌≡◌, ◌≤◌, ◌*◌, Some, None, M
 ghost use Rattle.sctp_model.specs.sender.Readers.{outstanding, acknowledged, abandoned};
 ghost use Rattle.sctp_model.specs.numbers.Limits.{WINDOW, QUEUE_LIMIT, LONGEST_MESSAGE};
 ghost use Rattle.sctp_model.specs.sender.Abandoning.{has_late};
-ghost use Rattle.sctp_model.specs.receiver.ReceiverView.{held_bytes};
+ghost use Rattle.sctp_model.specs.receiver.ReceiverView.{held_bytes, size_of_pieces};
 ghost use Rattle.sctp_model.specs.end.EndView.{EndView, state_of, ended_of};
 ghost use Rattle.sctp_model.specs.end.Moments.{next_moment};
 ghost use Rattle.sctp_terms.specs.Meanings.{end_meaning, state_meaning};
@@ -66,6 +66,16 @@ impl Endpoint {
         ensures bound { (v : EndView) → EndpointStands self.now v → result ≤ v.configuration.buffer }
     {
         self.machine.held_bytes()
+    }
+
+    /// Of `held_bytes`, those that `take` can't return yet: the user data of messages of which a fragment is missing, and of ordered messages that
+    /// follow such a message on their stream. If they fill the receive buffer, `Config::buffer`, no message becomes complete any more: a peer that
+    /// has begun more messages on different streams than the buffer can hold whole (RFC 8260) is then stalled for good. If no message waits for
+    /// `take` the answer takes a few steps; else some for each stream.
+    pub fn reassembly_bytes(&self) -> u32
+        ensures { (v : EndView) → EndpointStands self.now v → result ≡ size_of_pieces v.receiver.kept }
+    {
+        self.machine.reassembly_bytes()
     }
 
     /// What it was set up with.

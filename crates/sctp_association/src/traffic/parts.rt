@@ -2,7 +2,7 @@
 
 ghost use Rattle.std.specs.Prelude.{◌≡◌, ◌≤◌, option_map, false};
 ghost use Rattle.sctp_model.specs.numbers.Limits.{WINDOW};
-ghost use Rattle.sctp_model.specs.receiver.ReceiverView.{held_bytes};
+ghost use Rattle.sctp_model.specs.receiver.ReceiverView.{held_bytes, size_of_pieces};
 ghost use Rattle.sctp_model.specs.sender.Readers.{point, unsettled, drained, outstanding, acknowledged, abandoned};
 ghost use Rattle.sctp_model.specs.sender.Abandoning.{expired, timed_out, abandon_answer, abandon_after};
 ghost use Rattle.sctp_model.specs.end.EndView.{EndView, has_association};
@@ -120,6 +120,16 @@ impl Machine {
         match &self.life {
             Life::Unjoined(_) => 0,
             Life::Joined(association) => association.traffic.held_bytes(),
+        }
+    }
+
+    /// Of the bytes held, those of messages that can't be delivered yet: a fragment is missing, or an earlier message of their stream.
+    pub fn reassembly_bytes(&self) -> u32
+        ensures { (v : EndView) → MachineStands self.now v → result ≡ size_of_pieces v.receiver.kept }
+    {
+        match &self.life {
+            Life::Unjoined(_) => 0,
+            Life::Joined(association) => association.traffic.reassembly_bytes(),
         }
     }
 

@@ -5,7 +5,7 @@ ghost use Rattle.sctp_model.specs.numbers.Serial.{tsn};
 ghost use Rattle.sctp_model.specs.wire.Chunk.{Sack};
 ghost use Rattle.sctp_model.specs.messages.Format.{Format};
 ghost use Rattle.sctp_model.specs.sender.SenderView.{SenderView};
-ghost use Rattle.sctp_model.specs.receiver.ReceiverView.{ReceiverView, IsCumulative, held_bytes};
+ghost use Rattle.sctp_model.specs.receiver.ReceiverView.{ReceiverView, IsCumulative, held_bytes, size_of_pieces};
 ghost use Rattle.sctp_model.specs.receiver.PieceTaken.{PieceTaken};
 ghost use Rattle.sctp_model.specs.receiver.ForwardTaken.{ForwardTaken};
 ghost use Rattle.sctp_model.specs.receiver.SackMade.{IsSack, sack_sent, TakeLeaves};
@@ -104,6 +104,16 @@ impl Traffic {
         match self {
             Traffic::Plain(directions) => directions.receiver.held_bytes(),
             Traffic::Interleaved(directions) => directions.receiver.held_bytes(),
+        }
+    }
+
+    /// Of the bytes held, those of messages that can't be delivered yet.
+    pub(crate) fn reassembly_bytes(&self) -> u32
+        ensures { (f : Format) (s : SenderView) (r : ReceiverView) → TrafficStands self.now f s r → result ≡ size_of_pieces r.kept }
+    {
+        match self {
+            Traffic::Plain(directions) => directions.receiver.reassembly_bytes(),
+            Traffic::Interleaved(directions) => directions.receiver.reassembly_bytes(),
         }
     }
 
