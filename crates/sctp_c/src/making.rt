@@ -25,6 +25,20 @@ pub extern "C" fn sctp_endpoint_abi() -> u32
     1
 }
 
+/// Whether the reserved numbers that a listener is made with are all 0.
+fn are_listening_zeroed(config: &SctpConfig, key: &SctpKey) -> bool
+    ensures { result ≡ (is_zeroed config.now.reserved && is_zeroed key.now.reserved) }
+{
+    is_zeroed(&config.reserved) && is_zeroed(&key.reserved)
+}
+
+/// Whether the reserved numbers that an opened endpoint is made with are all 0.
+fn are_opened_zeroed(own: &SctpDraw, peer: &SctpDraw, config: &SctpConfig) -> bool
+    ensures { result ≡ (is_zeroed own.now.reserved && (is_zeroed peer.now.reserved && is_zeroed config.now.reserved)) }
+{
+    is_zeroed(&own.reserved) && (is_zeroed(&peer.reserved) && is_zeroed(&config.reserved))
+}
+
 /// Puts an endpoint that was made into the handle.
 fn keep(alloc: Global, handle: &mut SctpEndpoint, end: Endpoint) -> u32
     requires { handle.old.slot.endpoint ≡ None }
@@ -80,7 +94,7 @@ pub extern "C" fn sctp_endpoint_listener(
     if handle.is_full() {
         return MISUSE;
     }
-    if !(is_zeroed(&config.reserved) && is_zeroed(&key.reserved)) {
+    if !are_listening_zeroed(config, key) {
         return BAD_RESERVED;
     }
     match config_of(config) {
@@ -108,8 +122,7 @@ pub extern "C" fn sctp_endpoint_opened(
         → IsMade (is_full handle.old.slot.endpoint) (is_zeroed own.now.reserved && (is_zeroed peer.now.reserved && is_zeroed config.now.reserved)) config.now result }
     ensures kept { ((result ≡ OK) → ⊥) → handle.new ≡ handle.old }
 {
-    let are_zeroed = is_zeroed(&own.reserved)
-        && (is_zeroed(&peer.reserved) && is_zeroed(&config.reserved));
+    let are_zeroed = are_opened_zeroed(own, peer, config);
     let (Some(own), Some(peer)) = (Draw::new(own.tag, own.tsn), Draw::new(peer.tag, peer.tsn))
     else {
         return BAD_DRAW;

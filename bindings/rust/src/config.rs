@@ -1,0 +1,75 @@
+//! What an endpoint is made with.
+
+use crate::raw;
+
+/// What an endpoint is configured with; `sctp_endpoint.h` has the ranges.
+///
+/// The receive buffer has at least the number of streams the peer sends on times its longest message: else, with I-DATA, messages in part on
+/// several streams can fill it, and nothing more is received.
+#[derive(Clone, Copy, Debug)]
+pub struct Config {
+    pub own_port: u16,
+    pub peer_port: u16,
+    pub packet_limit: u16,
+    pub fragment: u16,
+    pub buffer: u32,
+    pub outbound: u16,
+    pub inbound: u16,
+    /// Offer I-DATA (RFC 8260).
+    pub interleave: bool,
+    /// Offer partial reliability (RFC 3758).
+    pub partial: bool,
+    /// Delay SACKs for a second packet, 200 ms at most.
+    pub delay: bool,
+    /// Close by the timers of RFC 9260: a peer that never stops sending can delay closing without limit.
+    pub standard_closing: bool,
+}
+
+impl Config {
+    /// Packets of 1,232 bytes, 64 streams each way, a receive buffer of 4 MiB (64 messages of 65,536 bytes), both extensions.
+    pub fn new(own_port: u16, peer_port: u16) -> Config {
+        Config {
+            own_port,
+            peer_port,
+            packet_limit: 1_232,
+            fragment: 1_200,
+            buffer: 4 << 20,
+            outbound: 64,
+            inbound: 64,
+            interleave: true,
+            partial: true,
+            delay: false,
+            standard_closing: true,
+        }
+    }
+
+    pub(crate) fn raw(&self) -> raw::Config {
+        raw::Config {
+            own_port: self.own_port,
+            peer_port: self.peer_port,
+            packet_limit: self.packet_limit,
+            fragment: self.fragment,
+            buffer: self.buffer,
+            outbound: self.outbound,
+            inbound: self.inbound,
+            interleave: self.interleave,
+            partial: self.partial,
+            delay: self.delay,
+            standard_closing: self.standard_closing,
+            reserved: [0; 4],
+        }
+    }
+}
+
+/// Two random values from a secure source, new ones for each call: a verification tag, which isn't 0, and a first TSN.
+#[derive(Clone, Copy, Debug)]
+pub struct Draw {
+    pub tag: std::num::NonZeroU32,
+    pub tsn: u32,
+}
+
+impl Draw {
+    pub(crate) fn raw(self) -> raw::Draw {
+        raw::Draw { tag: self.tag.get(), tsn: self.tsn, reserved: [0; 4] }
+    }
+}
