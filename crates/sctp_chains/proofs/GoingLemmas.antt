@@ -1,4 +1,4 @@
--- Chains that go, as they lie in memory.
+-- Chains that are dropped, as they are in memory.
 use Rattle.std.proofs.Common.{◌≡◌, ℕ, suc, ◌-◌, ◌<◌, ◌≤◌, List, [], length, get_or, set, take, drop, map, inl, inr, refl, sym, ◌∙◌, ap, subst, arith}
 use Rattle.std.specs.List.{remove}
 use Rattle.sctp_model.specs.numbers.Lists.{Has}

@@ -1,4 +1,4 @@
--- A fragment is filed among chains as they lie in memory.
+-- A fragment is filed among chains as they are in memory.
 use Rattle.std.proofs.Common.{◌≡◌, ℕ, ◌<◌, ◌≤◌, true, List, ◌∷◌, ◌++◌, length, get_or, set, take, drop, map, Some, None, refl, sym, ◌∙◌, ap, subst, arith}
 use Rattle.std.specs.List.{insert, remove}
 use Rattle.sctp_model.specs.numbers.Lists.{Has}

@@ -1,4 +1,4 @@
--- What continues the last chain lies behind all of them.
+-- What continues the last chain is after all of them.
 use Rattle.std.proofs.Common.{◌≡◌, ℕ, zero, suc, ◌<◌, true, List, [], ◌∷◌, length, get_or, inl, inr, sym, ◌∙◌, ap, subst, arith}
 use Rattle.sctp_model.specs.numbers.Lists.{Has, AreInOrder}
 use Rattle.sctp_chains.specs.Links.{ChainKept, is_linked, IsChain, IsBelow, AreChains}

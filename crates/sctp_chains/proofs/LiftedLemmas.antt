@@ -1,4 +1,4 @@
--- A chain is taken out and another stands in its place until it is put back; of two, the one behind may go for good.
+-- A chain is taken out, with another in its position until it is put back; of two, the later one may be dropped for good.
 use Rattle.std.proofs.Common.{◌≡◌, ℕ, zero, suc, ◌<◌, ◌≤◌, List, [], ◌∷◌, length, get_or, set, map, refl, sym, ◌∙◌, ap, subst, arith}
 use Rattle.std.specs.List.{remove}
 use Rattle.sctp_chains.specs.Links.{ChainKept, chain_of, one_of, one_if_whole}

@@ -1,4 +1,4 @@
--- The lowest index of a lane whose messages have no number: its chunks lie by their indexes.
+-- The lowest index of a lane whose messages have no number: its chunks are ordered by their indexes.
 use Rattle.std.proofs.Common.{◌≡◌, ℕ, ◌^◌, ◌<◌, ◌≤◌, false, List, [], ◌∷◌, length, get_or, Option, None, Some, inl, refl, sym, ◌∙◌, ap, subst, arith}
 use Rattle.std.specs.Prelude.{is_some}
 use Rattle.sctp_model.specs.numbers.Lists.{Has}

@@ -1,4 +1,4 @@
--- The chains at the front that are known not to be whole, where chains come, change and go.
+-- The chains at the front that are known not to be complete, when chains are added, changed and removed.
 use Rattle.std.proofs.Common.{◌≡◌, ℕ, zero, suc, ◌-◌, ◌<◌, ◌≤◌, true, false, List, [], ◌∷◌, length, get_or, set, take, map, inl, inr, refl, sym, ◌∙◌, ap, subst, arith}
 use Rattle.std.specs.List.{insert, remove}
 use Rattle.std.proofs.lemmas.Bool.{cases_Bool, cases_lt}

@@ -1,4 +1,4 @@
--- From a place on, chains go up to a rank: one after another, and then the front of one.
+-- From a position on, chains are dropped up to a rank: one after another, and then the front of one.
 use Rattle.std.proofs.Common.{false, ◌≡◌, ℕ, suc, ◌-◌, ◌<◌, ◌≤◌, List, [], ◌∷◌, ◌++◌, length, get_or, set, take, drop, filter, inl, inr, sym, ◌∙◌, ap, subst, arith}
 use Rattle.std.specs.List.{remove}
 use Rattle.std.proofs.lemmas.List.{set_split, length-drop}

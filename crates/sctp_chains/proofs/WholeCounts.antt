@@ -1,4 +1,4 @@
--- How many chains are whole messages, where chains come, change and go.
+-- How many chains are complete messages, when chains are added, changed and removed.
 use Rattle.std.proofs.Common.{◌≡◌, ℕ, zero, suc, ◌+◌, ◌<◌, ◌≤◌, true, false, List, [], ◌∷◌, length, get_or, set, map, inl, inr, refl, sym, ◌∙◌, ap, arith, Some}
 use Rattle.std.specs.Prelude.{is_some}
 use Rattle.std.specs.List.{insert, remove}

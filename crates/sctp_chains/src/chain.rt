@@ -1,4 +1,5 @@
-//! Fragments that follow one another. Nothing here knows of numbers or formats.
+//! A chain: fragments that follow one another. Numbers of messages and formats are unknown here; a fragment has a rank. A chain has 72 bytes, and
+//! 24 more for each fragment that it has capacity for: one for a chunk between two gaps.
 
 ghost use Rattle.std.specs.Prelude.{◌≡◌, ◌≤◌, ◌+◌, ◌<◌, ◌&&◌, true, if◌then◌else◌, OnOk, OnErr, IfOk};
 ghost use Rattle.std.specs.VecDeque.{deque_len, deque_capacity};
@@ -12,21 +13,21 @@ use std::alloc::Global;
 use std::collections::VecDeque;
 use std::mem::replace;
 
-/// What the chunk that begins a message says of it: its own index, and the payload protocol identifier.
+/// What the first chunk of a message says of it: its own index, and the payload protocol identifier.
 #[derive(Clone, Copy)]
 pub(crate) struct Head {
     pub(crate) index: u64,
     pub(crate) payload_id: u32,
 }
 
-/// Fragments of consecutive ranks. Only with the first may a message begin, and only with the last may one end. Its fields stand so that no
-/// byte lies between them: where every other chunk is lost, each that came is a chain.
+/// Fragments of consecutive ranks. Only the first may begin a message, and only the last may end one. The order of the fields leaves no byte
+/// between them unused: if every other chunk is lost, each that is received is a chain.
 #[derive(Drop)]
 pub(crate) struct Chain {
     pub(crate) first: Rank,
-    /// The message's index, where one begins with it.
+    /// The message's index, if the chain begins one.
     pub(crate) index: u64,
-    /// The message's payload protocol identifier, where one begins with it.
+    /// The message's payload protocol identifier, if the chain begins one.
     pub(crate) payload_id: u32,
     pub(crate) begins: bool,
     pub(crate) ends: bool,
@@ -58,7 +59,7 @@ impl Chain {
         self.first().saturating_add(behind as u128)
     }
 
-    /// What it says of a message, where one begins with it.
+    /// What the chain says of a message, if it begins one.
     pub(crate) fn head(&self) -> Option<Head>
         ensures { result ≡ (chain_of self.now).head }
     {
@@ -71,24 +72,24 @@ impl Chain {
         })
     }
 
-    /// Whether it continues a fragment: begins right behind it, in the same message.
+    /// Whether it continues a fragment: it begins right after it, in the same message.
     pub(crate) fn continues(&self, part: &Part) -> bool
         ensures { result ≡ is_linked (one_of part.now) (chain_of self.now) }
     {
         self.first().saturating_sub(part.rank) == 1 && (!part.end && !self.begins)
     }
 
-    /// 1 where it is a whole message, else 0.
+    /// 1 if it is a complete message, else 0.
     pub(crate) fn whole(&self) -> usize
         ensures { result ≡ one_if_whole (chain_of self.now) }
     {
         one_if(self.ends, self.begins)
     }
 
-    /// Puts a fragment behind it.
+    /// Appends a fragment.
     ///
     /// # Errors
-    /// Memory ran out, and nothing changed.
+    /// Allocation failed, and nothing changed.
     #[inline(always)]
     pub(crate) fn push_back(&mut self, part: Part) -> Result<(), NoMemory>
         ensures joined { IsChain (chain_of self.old) → is_linked (chain_of self.old) (one_of part) ≡ true → OnOk result (chain_of self.new ≡ join (chain_of self.old) (one_of part)) }
@@ -100,10 +101,10 @@ impl Chain {
         Ok(())
     }
 
-    /// Puts a fragment before it.
+    /// Prepends a fragment.
     ///
     /// # Errors
-    /// Memory ran out, and nothing changed.
+    /// Allocation failed, and nothing changed.
     pub(crate) fn push_front(&mut self, part: Part) -> Result<(), NoMemory>
         ensures joined { IsChain (chain_of self.old) → is_linked (one_of part) (chain_of self.old) ≡ true → OnOk result (chain_of self.new ≡ join (one_of part) (chain_of self.old)) }
         ensures refused { OnErr result (chain_of self.new ≡ chain_of self.old) }
@@ -114,10 +115,10 @@ impl Chain {
         Ok(())
     }
 
-    /// Makes room for so many fragments more.
+    /// Reserves memory for a number of further fragments.
     ///
     /// # Errors
-    /// Memory ran out.
+    /// Allocation failed.
     pub(crate) fn reserve(&mut self, more: usize) -> Result<(), NoMemory>
         ensures same { chain_of self.new ≡ chain_of self.old }
         ensures length { deque_len self.new.parts ≡ deque_len self.old.parts }
@@ -126,7 +127,7 @@ impl Chain {
         self.parts.reserve(more).map_err(|_| NoMemory)
     }
 
-    /// Puts a fragment behind it, and another chain behind that. The longer of the two has room for all of them.
+    /// Appends a fragment, and another chain after that. The longer of the two has capacity for all of them.
     pub(crate) fn close_gap(&mut self, part: Part, right: Chain)
         requires { HasJointRoom self.old right }
         ensures { IsOneOf (chain_of self.old) (one_of part) (chain_of right) (chain_of self.new) }
@@ -140,7 +141,7 @@ impl Chain {
         self.ends = right.ends;
     }
 
-    /// Notes what it says of a message.
+    /// Sets what it says of a message.
     fn begin(&mut self, head: Option<Head>)
         ensures { chain_of self.new ≡ record (chain_of self.old) { head = head } }
     {
@@ -153,7 +154,7 @@ impl Chain {
 }
 
 impl Part {
-    /// Whether it continues a chain: stands right behind its last fragment, in the same message.
+    /// Whether it continues a chain: it follows its last fragment, in the same message.
     pub(crate) fn continues(&self, chain: &Chain) -> bool
         ensures { result ≡ is_linked (chain_of chain.now) (one_of self.now) }
     {
@@ -161,14 +162,14 @@ impl Part {
     }
 }
 
-/// 1 where a chain that ends a message, or doesn't, begins one as well, else 0.
+/// 1 if a chain both begins and ends a message, else 0.
 pub(crate) fn one_if(ends: bool, begins: bool) -> usize
     ensures { result ≡ (if (ends && begins) then 1 else 0) }
 {
     if ends && begins { 1 } else { 0 }
 }
 
-/// No chain: it stands where one was taken out that is put back. It takes no memory.
+/// An empty chain: a placeholder in the list while a chain is taken out of it to be changed. Nothing is allocated.
 pub(crate) fn nothing(alloc: Global) -> Chain {
     Chain {
         first: Rank::of(0),
@@ -183,7 +184,7 @@ pub(crate) fn nothing(alloc: Global) -> Chain {
 /// A chain of one fragment.
 ///
 /// # Errors
-/// Memory ran out.
+/// Allocation failed.
 pub(crate) fn alone(alloc: Global, part: Part) -> Result<Chain, NoMemory>
     ensures { IfOk result (λ c. chain_of c ≡ one_of part) }
 {

@@ -1,4 +1,4 @@
-//! The kept chunks of one lane.
+//! The kept chunks of one lane: of one stream, ordered or unordered.
 
 ghost use Rattle.std.specs.Prelude.{◌≡◌, ◌≤◌, ℕ, suc, true, false, not, [], ◌∷◌, filter, Some, IfSome, IfOk, OnOk, OnErr, OnSome};
 ghost use Rattle.sctp_model.specs.messages.Format.{Lane, Unordered, is_numbered};
@@ -25,7 +25,7 @@ use sctp_wire::Piece;
 use std::alloc::Global;
 use std::marker::PhantomData;
 
-/// The kept chunks of one lane, in one format of user data.
+/// The kept chunks of one stream and kind, ordered or unordered, in one format of user data.
 #[derive(Drop)]
 pub struct Chains<F: Framing> {
     alloc: Global,
@@ -36,7 +36,7 @@ pub struct Chains<F: Framing> {
 
 #[tactic(auto, unfolding(crate::specs::StandsFor::StandsFor, crate::specs::StandsFor::chain_count, crate::specs::StandsFor::whole_count))]
 impl<F: Framing> Chains<F> {
-    /// Of a lane of which nothing is kept.
+    /// No chunks. Nothing is allocated.
     pub fn new(alloc: Global) -> Chains<F>
         ensures { (l : Lane) → StandsFor F.format result l [] }
     {
@@ -48,21 +48,21 @@ impl<F: Framing> Chains<F> {
         }
     }
 
-    /// The bytes of all chunks kept.
+    /// The data bytes of all chunks kept.
     pub fn held_bytes(&self) -> u32
         ensures { (l : Lane) (kept : Kept) → StandsFor F.format self.now l kept → result ≡ size_of_pieces kept }
     {
         self.held
     }
 
-    /// How many chains are whole messages, at the most: no more messages than that can be taken out before another chunk is added.
+    /// An upper bound on the complete messages: no more than that can be taken out before another chunk is added.
     pub fn whole_count(&self) -> usize
         ensures { result ≡ whole_count self.now }
     {
         self.filed.whole
     }
 
-    /// Whether nothing is to be taken from a number on, nor let go below it, in a lane that is numbered, so far as can be told without a search.
+    /// Whether no message can be taken from a number on, and no chunk be dropped below it, in a numbered lane, as far as known without a search.
     #[inline(always)]
     pub fn is_resting(&self, number: u64) -> bool
         ensures { (l : Lane) (kept : Kept) → StandsFor F.format self.now l kept → is_numbered F.format l.kind ≡ true → result ≡ true → IsResting F.format l kept number }
@@ -73,7 +73,7 @@ impl<F: Framing> Chains<F> {
         self.filed.whole == 0 && rank_at(Some(number), 0) <= self.filed.chains.get(0).first()
     }
 
-    /// The lowest index of the chunks kept, in a lane whose messages have no number: none exactly where none is kept.
+    /// The lowest index of the chunks kept, in a lane whose messages have no number; None if and only if no chunk is kept. It looks at the first chain alone.
     pub fn lowest_index(&self) -> Option<u64>
         ensures { (l : Lane) (kept : Kept) → StandsFor F.format self.now l kept → is_numbered F.format l.kind ≡ false → IsLowestIndex kept result }
     {
@@ -83,7 +83,7 @@ impl<F: Framing> Chains<F> {
         Some((self.filed.chains.get(0).first() % 18_446_744_073_709_551_616) as u64)
     }
 
-    /// Whether this fragment of this message is kept already, where that can be: under DATA a fragment is its TSN.
+    /// Whether this fragment of this message is kept already under I-DATA; false under DATA, whose fragments are known by their TSNs.
     pub fn is_held(&self, piece: &Piece<'_>, number: Option<u64>) -> bool
         ensures { (i : ℕ) (l : Lane) (kept : Kept) → StandsFor F.format self.now l kept → IsOf F.format l (counted i (piece_meaning piece.now) number)
             → result ≡ is_repeated F.format kept (counted i (piece_meaning piece.now) number) }
@@ -99,10 +99,10 @@ impl<F: Framing> Chains<F> {
         at < self.filed.chains.len() && self.filed.chains.get(at).first() <= rank
     }
 
-    /// Keeps a chunk, with this index and number in place of its wire values. Its data is copied, to a spare block if one suits.
+    /// Keeps a chunk, with this index and number in place of its wire values. Its data is copied, into a spare block if one fits.
     ///
     /// # Errors
-    /// Memory ran out, and nothing changed.
+    /// Allocation failed, and nothing changed.
     pub fn add(
         &mut self,
         spare: &mut Spare,
@@ -122,10 +122,10 @@ impl<F: Framing> Chains<F> {
         Ok(())
     }
 
-    /// The whole message that a chunk is alone, where no chunk of its number or a lower one is kept: it needn't be filed.
+    /// The message that a chunk is by itself, if no chunk of its number or a lower one is kept: then it needn't be added.
     ///
     /// # Errors
-    /// Memory ran out.
+    /// Allocation failed.
     #[inline(always)]
     pub fn alone(
         &self,
@@ -158,7 +158,7 @@ impl<F: Framing> Chains<F> {
             || rank_at(Some(number), u64::MAX) < self.filed.chains.get(0).first()
     }
 
-    /// Takes the whole message with the lowest number within these bounds, and lets go of all chunks up to its number. Of several with one
+    /// Takes the complete message with the lowest number within these bounds, and drops all chunks up to its number. Of several with that
     /// number, which an honest peer never sends, it is the one that begins with the lowest index.
     pub fn take_lowest(&mut self, from: u64, last: u64) -> Option<Whole>
         ensures taken { (l : Lane) (kept : Kept) → StandsFor F.format self.old l kept → is_numbered F.format l.kind ≡ true
@@ -175,7 +175,7 @@ impl<F: Framing> Chains<F> {
         Some(whole_of(chain, found.head, Some(number)))
     }
 
-    /// Takes the whole message that this chunk is one of, and lets go of what goes with it: under I-DATA all chunks of its number.
+    /// Takes the complete message of this chunk, and drops what belongs to it: under I-DATA all chunks of its number.
     pub fn take_with(&mut self, piece: &Piece<'_>, index: u64, number: Option<u64>) -> Option<Whole>
         ensures taken { (l : Lane) (kept : Kept) → StandsFor F.format self.old l kept → Has kept (counted index (piece_meaning piece.now) number)
             → TakesWith F.format l kept (counted index (piece_meaning piece.now) number) result self.new }
@@ -193,7 +193,7 @@ impl<F: Framing> Chains<F> {
         Some(whole_of(chain, found.head, number))
     }
 
-    /// Lets go of the chunks below a number, in a lane that is numbered.
+    /// Drops the chunks below a number, in a numbered lane.
     pub fn drop_below(&mut self, number: u64)
         ensures { (l : Lane) (kept : Kept) → StandsFor F.format self.old l kept → is_numbered F.format l.kind ≡ true
             → StandsFor F.format self.new l (from_number number kept) }
@@ -204,8 +204,8 @@ impl<F: Framing> Chains<F> {
         }
     }
 
-    /// Lets go of the unordered chunks that a FORWARD leaves behind: those up to its index or, where they are numbered, those below
-    /// one past the largest number skipped.
+    /// Drops the unordered chunks that a FORWARD-TSN or I-FORWARD-TSN discards: those up to the index `jump` or, if they are numbered,
+    /// those below `skip`, one past the largest number skipped.
     pub fn let_go(&mut self, jump: u64, skip: u64)
         ensures { (l : Lane) (kept : Kept) → StandsFor F.format self.old l kept → l.kind ≡ Unordered
             → StandsFor F.format self.new l (filter (λ x. not (lets_go F.format x.index x.number jump skip)) kept) }
@@ -221,7 +221,7 @@ impl<F: Framing> Chains<F> {
 /// A chunk as a fragment to be filed, its data copied.
 ///
 /// # Errors
-/// Memory ran out.
+/// Allocation failed.
 fn part_of<F: Framing>(
     alloc: Global,
     spare: &mut Spare,

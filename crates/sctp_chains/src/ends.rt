@@ -1,4 +1,4 @@
-//! A chain taken out of a queue: at an end, no other moves. Nothing here knows what a chain is.
+//! Removing a chain from the list: at either end of it no other is moved.
 
 ghost use Rattle.std.specs.Prelude.{◌≡◌, ◌<◌, ◌↔◌, length, slice_index_or, IfNone, IfSome, IsSome, OnSome};
 ghost use Rattle.std.specs.List.{remove};
@@ -6,7 +6,7 @@ ghost use Rattle.std.specs.List.{remove};
 use crate::chain::Chain;
 use sctp_sequence::Sequence;
 
-/// Takes out the chain at a place.
+/// Removes the chain at a position.
 #[inline(always)]
 pub(crate) fn remove_at(chains: &mut Sequence<Chain>, at: usize) -> Option<Chain>
     ensures value { IfSome result (λ c. c ≡ slice_index_or chains.old.items at c) }

@@ -1,4 +1,9 @@
-//! The chains of a lane in their order, and how many of them may be whole messages.
+//! The chains of a lane in their order, and how many of them may be complete messages.
+//!
+//! A search for complete messages looks at the chains within its bounds, and at none as long as no chain can be complete: those that became
+//! complete are counted, at least as many as are. If one is, each chain is looked at once: of the first `passed` chains it is known
+//! that none is complete, and a search begins after them. So the fragments of one message cost the same however many of its chains are kept,
+//! also while later messages are complete and wait.
 
 ghost use Rattle.std.specs.Prelude.{◌≡◌, ◌≤◌, ◌+◌, [], suc, length, map, MatchOption, IfSome, OnSome, OnOk, OnErr};
 ghost use Rattle.sctp_chains.specs.Links.{chain_of, one_of, one_if_whole, whole_in, AreChains};
@@ -14,13 +19,13 @@ use sctp_sequence::Sequence;
 use sctp_values::NoMemory;
 use std::alloc::Global;
 
-/// Chains in rising order. So long as none can be whole, nobody needs to look for one that is.
+/// Chains in rising order.
 #[derive(Drop)]
 pub(crate) struct Filed {
     pub(crate) chains: Sequence<Chain>,
-    /// How many became whole messages and weren't taken out one by one: at least as many as are whole.
+    /// How many became complete messages and weren't taken out one by one: at least as many as are complete.
     pub(crate) whole: usize,
-    /// So many at the front are known not to be whole, so that a search begins behind them.
+    /// How many at the front are known not to be complete, so that a search begins after them.
     pub(crate) passed: usize,
     ghost counted: { whole_in (map chain_of chains.items) ≤ whole },
     ghost known: { AreOpen passed (map chain_of chains.items) },
@@ -41,7 +46,7 @@ impl Filed {
     /// Files a fragment.
     ///
     /// # Errors
-    /// Memory ran out, and nothing changed.
+    /// Allocation failed, and nothing changed.
     #[inline(always)]
     pub(crate) fn file(&mut self, alloc: Global, part: Part) -> Result<(), NoMemory>
         ensures few { OnOk result (length self.new.chains.items ≤ suc (length self.old.chains.items)) }
@@ -60,7 +65,7 @@ impl Filed {
         Ok(())
     }
 
-    /// Takes out the chain at a place. Its callers have it in line, since one of them runs for each message.
+    /// Removes the chain at a position. It is inlined, since one of its callers runs for each message.
     #[inline(always)]
     pub(crate) fn remove(&mut self, held: &mut u32, at: usize) -> Option<Chain>
         ensures fewer { OnSome result (suc (length self.new.chains.items) ≡ length self.old.chains.items) }
@@ -73,7 +78,7 @@ impl Filed {
         Some(chain)
     }
 
-    /// From a place on, lets go of all fragments of ranks up to this one. Where none lies there, as at most messages, that is all in line.
+    /// From a position on, drops all fragments of ranks up to this one. At most messages there is none: that test is inlined.
     #[inline(always)]
     pub(crate) fn drop_upto(&mut self, held: u32, at: usize, upto: u128) -> u32
         ensures fewer { length self.new.chains.items ≤ length self.old.chains.items }
@@ -93,7 +98,7 @@ impl Filed {
         left
     }
 
-    /// The first whole message that begins with one of these ranks. Where no chain is whole it looks at none.
+    /// The first complete message that begins with one of these ranks. If no chain can be complete, none is looked at.
     #[inline(always)]
     pub(crate) fn first_whole(&self, from: u128, last: u128) -> Looked
         ensures found { AreChains (map chain_of self.now.chains.items) → IsFirstWhole (map chain_of self.now.chains.items) from last result.found }
@@ -108,7 +113,7 @@ impl Filed {
         first_whole(&self.chains, self.passed, from, last)
     }
 
-    /// The same, and it notes which chains needn't be looked at again.
+    /// The first complete message that begins with one of these ranks; which chains needn't be looked at again is recorded.
     #[inline(always)]
     pub(crate) fn find(&mut self, from: u128, last: u128) -> Option<Found>
         ensures same { self.new.chains.items ≡ self.old.chains.items }

@@ -1,4 +1,9 @@
-//! A fragment is filed: it lengthens a chain, closes the gap between two, or is a chain of its own.
+//! Filing a fragment: it lengthens a chain, closes the gap between two, or is a chain of its own.
+//!
+//! A chunk that continues the last chain, as in a message received in order, costs no search (`file`), one that continues another chain a binary
+//! search, whatever else is kept. One that fills a gap moves the parts of the shorter chain beside it; a chain that is new or removed moves the
+//! shorter side of its block, 256 chains at most, and at either end of the list nothing. A chain that grows by a fragment is changed in its
+//! position; one that is joined with another is taken out, with an empty one in its position meanwhile, and put back, also if allocation fails.
 
 ghost use Rattle.std.specs.Prelude.{◌≡◌, ◌≤◌, ◌<◌, ◌+◌, suc, nat_lt, length, get_or, map, OnOk, OnErr, IfOk};
 ghost use Rattle.sctp_chains.specs.Links.{chain_of, one_of, whole_in, AreChains};
@@ -9,7 +14,7 @@ use sctp_sequence::Sequence;
 use sctp_values::NoMemory;
 use std::alloc::Global;
 
-/// How many chains lie below a rank.
+/// How many chains are below a rank.
 pub(crate) fn place(chains: &Sequence<Chain>, rank: u128) -> usize
     ensures bound { result ≤ length chains.now.items }
     ensures place { AreChains (map chain_of chains.now.items) → IsPlace rank (map chain_of chains.now.items) result }
@@ -21,7 +26,7 @@ pub(crate) fn place(chains: &Sequence<Chain>, rank: u128) -> usize
     )
 }
 
-/// The chain before a place that a fragment continues.
+/// The chain before a position, if the fragment continues it.
 fn linked_before(chains: &Sequence<Chain>, at: usize, part: &Part) -> Option<usize>
     ensures { at ≤ length chains.now.items → IsLinkBefore (map chain_of chains.now.items) at (one_of part.now) result }
 {
@@ -32,7 +37,7 @@ fn linked_before(chains: &Sequence<Chain>, at: usize, part: &Part) -> Option<usi
     None
 }
 
-/// The chain at a place, if it continues a fragment.
+/// The chain at a position, if it continues the fragment.
 fn linked_behind(chains: &Sequence<Chain>, at: usize, part: &Part) -> Option<usize>
     ensures { IsLinkBehind (map chain_of chains.now.items) at (one_of part.now) result }
 {
@@ -45,16 +50,16 @@ fn linked_behind(chains: &Sequence<Chain>, at: usize, part: &Part) -> Option<usi
 /// The chain that a fragment was filed in.
 #[derive(Clone, Copy)]
 pub(crate) struct FiledIn {
-    /// Its place.
+    /// Its position.
     pub(crate) at: usize,
-    /// 1 where it is a whole message, else 0.
+    /// 1 if it is a complete message, else 0.
     pub(crate) whole: usize,
 }
 
-/// Files a fragment. One that continues the last chain, as all do of a message that comes in its order, goes there without a search.
+/// Files a fragment. One that continues the last chain, as all of a message received in order do, needs no search.
 ///
 /// # Errors
-/// Memory ran out, and nothing changed.
+/// Allocation failed, and nothing changed.
 #[inline(always)]
 pub(crate) fn file(
     alloc: Global,
@@ -76,10 +81,10 @@ pub(crate) fn file(
     file_among(alloc, chains, part)
 }
 
-/// Puts a fragment behind the chain at a place; it answers 1 where that is a whole message, else 0.
+/// Appends a fragment to the chain at a position; returns 1 if that is then a complete message, else 0.
 ///
 /// # Errors
-/// Memory ran out, and nothing changed.
+/// Allocation failed, and nothing changed.
 #[inline(always)]
 fn lengthen(chains: &mut Sequence<Chain>, at: usize, part: Part) -> Result<usize, NoMemory>
     requires { at < length chains.old.items }
@@ -92,10 +97,10 @@ fn lengthen(chains: &mut Sequence<Chain>, at: usize, part: Part) -> Result<usize
     Ok(chain.whole())
 }
 
-/// Puts a fragment before the chain at a place; it answers 1 where that is a whole message, else 0.
+/// Prepends a fragment to the chain at a position; returns 1 if that is then a complete message, else 0.
 ///
 /// # Errors
-/// Memory ran out, and nothing changed.
+/// Allocation failed, and nothing changed.
 fn begin_earlier(chains: &mut Sequence<Chain>, at: usize, part: Part) -> Result<usize, NoMemory>
     requires { at < length chains.old.items }
     ensures size { length chains.new.items ≡ length chains.old.items }
@@ -110,7 +115,7 @@ fn begin_earlier(chains: &mut Sequence<Chain>, at: usize, part: Part) -> Result<
 /// Files a fragment wherever it belongs.
 ///
 /// # Errors
-/// Memory ran out, and nothing changed.
+/// Allocation failed, and nothing changed.
 #[inline(never)]
 fn file_among(alloc: Global, chains: &mut Sequence<Chain>, part: Part) -> Result<FiledIn, NoMemory>
     ensures few { OnOk result (length chains.new.items ≤ suc (length chains.old.items)) }
@@ -146,10 +151,10 @@ fn file_among(alloc: Global, chains: &mut Sequence<Chain>, part: Part) -> Result
     }
 }
 
-/// Makes room in the longer of two chains for the fragments of the shorter, and one more.
+/// Reserves memory in the longer of two chains for the fragments of the shorter, and one more.
 ///
 /// # Errors
-/// Memory ran out.
+/// Allocation failed.
 fn make_joint_room(left: &mut Chain, right: &mut Chain) -> Result<(), NoMemory>
     ensures left { chain_of left.new ≡ chain_of left.old }
     ensures right { chain_of right.new ≡ chain_of right.old }
@@ -163,10 +168,10 @@ fn make_joint_room(left: &mut Chain, right: &mut Chain) -> Result<(), NoMemory>
     left.reserve(behind.saturating_add(1))
 }
 
-/// Makes one chain of a chain, a fragment behind it, and the chain behind that; it answers 1 where that is a whole message, else 0.
+/// Makes one chain of a chain, a fragment after it, and the chain after that; returns 1 if that is a complete message, else 0.
 ///
 /// # Errors
-/// Memory ran out, and nothing changed.
+/// Allocation failed, and nothing changed.
 fn join_all(
     alloc: Global,
     chains: &mut Sequence<Chain>,

@@ -1,4 +1,6 @@
-//! Fragments go: a message that is taken, or what a rank leaves behind. The bytes held are counted.
+//! Dropping fragments: of a message that is taken, or those up to a rank. The bytes held are counted.
+//!
+//! Only the chains that are dropped are looked at, or, if all of them are, the last one alone: then no byte is held, and they are dropped at once.
 
 ghost use Rattle.std.specs.Prelude.{◌≡◌, ℕ, ◌≤◌, ◌+◌, ◌-◌, suc, length, map, take, MatchOption, IfNone, IfSome, OnSome};
 ghost use Rattle.sctp_chains.specs.Links.{chain_of, bytes_of, one_if_whole, whole_in};
@@ -11,7 +13,7 @@ use crate::rank::Rank;
 use sctp_sequence::Sequence;
 use std::collections::VecDeque;
 
-/// A number less the bytes of a part, 0 where it has more.
+/// A number less the bytes of a part, 0 if the part has more.
 fn less_one(held: u32, part: &Vec<u8>) -> u32
     ensures { result ≡ held - length part.now.items }
 {
@@ -21,7 +23,7 @@ fn less_one(held: u32, part: &Vec<u8>) -> u32
     }
 }
 
-/// A number less the bytes of the first `count` of these parts, 0 where they have more.
+/// A number less the bytes of the first `count` of these parts, 0 if they have more.
 #[tactic(auto, using(crate::proofs::SizeLemmas::size_more))]
 fn less(held: u32, parts: &VecDeque<Vec<u8>>, count: usize) -> u32
     ensures { result ≡ held - size_of_parts (map bytes_of (take count parts.now.items)) }
@@ -33,14 +35,14 @@ fn less(held: u32, parts: &VecDeque<Vec<u8>>, count: usize) -> u32
     left
 }
 
-/// A number less the bytes of all of these parts, 0 where they have more.
+/// A number less the bytes of all of these parts, 0 if they have more.
 fn less_all(held: u32, parts: &VecDeque<Vec<u8>>) -> u32
     ensures { result ≡ held - size_of_parts (map bytes_of parts.now.items) }
 {
     less(held, parts, parts.len())
 }
 
-/// Takes out the chain at a place.
+/// Removes the chain at a position.
 #[inline(always)]
 pub(crate) fn remove(chains: &mut Sequence<Chain>, held: &mut u32, at: usize) -> Option<Chain>
     ensures fewer { OnSome result (suc (length chains.new.items) ≡ length chains.old.items) }
@@ -54,7 +56,7 @@ pub(crate) fn remove(chains: &mut Sequence<Chain>, held: &mut u32, at: usize) ->
     Some(chain)
 }
 
-/// From a place on, lets go of all fragments of ranks up to this one: where no chain stays, of all at once, and then no byte is held.
+/// From a position on, drops all fragments of ranks up to this one: if no chain stays, all at once, and then no byte is held.
 pub(crate) fn drop_upto(chains: &mut Sequence<Chain>, held: u32, at: usize, upto: u128) -> u32
     ensures fewer { length chains.new.items ≤ length chains.old.items }
     ensures whole { whole_in (map chain_of chains.new.items) ≤ whole_in (map chain_of chains.old.items) }
@@ -69,7 +71,7 @@ pub(crate) fn drop_upto(chains: &mut Sequence<Chain>, held: u32, at: usize, upto
     drop_each(chains, held, at, upto)
 }
 
-/// The same, one chain after another.
+/// From a position on, drops all fragments of ranks up to this one, one chain after another.
 fn drop_each(chains: &mut Sequence<Chain>, held: u32, at: usize, upto: u128) -> u32
     ensures fewer { length chains.new.items ≤ length chains.old.items }
     ensures whole { whole_in (map chain_of chains.new.items) ≤ whole_in (map chain_of chains.old.items) }
@@ -91,7 +93,7 @@ fn drop_each(chains: &mut Sequence<Chain>, held: u32, at: usize, upto: u128) -> 
     left
 }
 
-/// Lets go of a chain's fragments of ranks up to this one, and keeps those behind.
+/// Drops a chain's fragments of ranks up to this one, and keeps those after them.
 fn trim(chain: &mut Chain, held: u32, upto: u128) -> u32
     ensures trimmed { Trims upto (chain_of chain.old) (chain_of chain.new) held result }
     ensures whole { one_if_whole (chain_of chain.new) ≤ one_if_whole (chain_of chain.old) }

@@ -1,11 +1,11 @@
-//! The parts of two chains, and one between them, become one list: the shorter moves to the longer. Nothing here knows what a part is.
+//! Joining the parts of two chains, and one between them, in one list: the shorter is moved to the longer.
 
 ghost use Rattle.std.specs.Prelude.{◌≡◌, ◌≤◌, ◌+◌, ◌++◌, ◌∷◌};
 ghost use Rattle.std.specs.VecDeque.{deque_len, deque_capacity};
 
 use std::collections::VecDeque;
 
-/// Puts a part behind these, and more behind that. There is room for them.
+/// Appends a part to these, and `more` after that. There is capacity for them.
 pub(crate) fn put_behind(
     parts: &mut VecDeque<Vec<u8>>,
     between: Vec<u8>,
@@ -18,7 +18,7 @@ pub(crate) fn put_behind(
     let _ = parts.append(&mut behind);
 }
 
-/// Puts a part before these, and more before that. There is room for them.
+/// Prepends a part to these, and `more` before that. There is capacity for them.
 pub(crate) fn put_before(
     parts: &mut VecDeque<Vec<u8>>,
     between: Vec<u8>,

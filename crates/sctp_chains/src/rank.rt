@@ -1,10 +1,10 @@
-//! Where a fragment stands in its lane, as one number.
+//! The position of a fragment in its lane, as one number.
 
 ghost use Rattle.std.specs.Prelude.{◌≡◌};
 ghost use Rattle.sctp_chains.specs.Cells.{rank_at};
 ghost use Rattle.sctp_chains.specs.Links.{rank_in};
 
-/// A rank as it is kept: a number of 128 bits would lie at every sixteenth byte.
+/// A rank as it is stored, in two halves: a 128-bit number would be aligned to 16 bytes.
 #[derive(Clone, Copy)]
 pub(crate) struct Rank {
     pub(crate) number: u64,
@@ -12,7 +12,7 @@ pub(crate) struct Rank {
 }
 
 impl Rank {
-    /// A rank to be kept.
+    /// A rank to be stored.
     pub(crate) fn of(rank: u128) -> Rank
         ensures { rank_in result ≡ rank }
     {
@@ -22,7 +22,7 @@ impl Rank {
         }
     }
 
-    /// The rank that is kept.
+    /// The rank that is stored.
     pub(crate) fn value(self) -> u128
         ensures { result ≡ rank_in self }
     {

@@ -1,4 +1,4 @@
-//! Whole messages among chains.
+//! Searching for complete messages among chains.
 
 ghost use Rattle.std.specs.Prelude.{◌≡◌, ◌≤◌, ◌<◌, nat_lt, length, map};
 ghost use Rattle.sctp_chains.specs.Links.{chain_of, AreChains};
@@ -8,18 +8,18 @@ use crate::chain::{Chain, Head};
 use crate::filing::place;
 use sctp_sequence::Sequence;
 
-/// A chain that is a whole message: its place, and what its first chunk says.
+/// A chain that is a complete message: its position, and what its first chunk says.
 #[derive(Clone, Copy)]
 pub(crate) struct Found {
     pub(crate) at: usize,
     pub(crate) head: Head,
 }
 
-/// What a search found.
+/// The result of a search.
 #[derive(Clone, Copy)]
 pub(crate) struct Looked {
     pub(crate) found: Option<Found>,
-    /// So many chains at the front are known then to be no whole messages.
+    /// How many chains at the front are known, after it, not to be complete messages.
     pub(crate) passed: usize,
 }
 
@@ -35,7 +35,7 @@ fn start(chains: &Sequence<Chain>, rank: u128) -> usize
     )
 }
 
-/// The whole message of the chain at a place.
+/// The complete message that the chain at a position is, if it is one.
 fn whole_at(chains: &Sequence<Chain>, at: usize) -> Option<Found>
     requires { at < length chains.now.items }
     ensures { IsWholeHere (map chain_of chains.now.items) at result }
@@ -47,7 +47,7 @@ fn whole_at(chains: &Sequence<Chain>, at: usize) -> Option<Found>
     }
 }
 
-/// The whole message that the fragment of a rank is one of.
+/// The complete message that the fragment of a rank belongs to, if it is complete.
 pub(crate) fn whole_with(chains: &Sequence<Chain>, rank: u128) -> Option<Found>
     ensures { AreChains (map chain_of chains.now.items) → IsWholeWithRank (map chain_of chains.now.items) rank result }
 {
@@ -58,7 +58,7 @@ pub(crate) fn whole_with(chains: &Sequence<Chain>, rank: u128) -> Option<Found>
     None
 }
 
-/// The place of the first chain, from one on, that is a whole message or begins past a rank; how many there are, where none is.
+/// The position of the first chain, from `from` on, that is a complete message or begins past a rank; the number of chains, if there is none.
 #[inline(always)]
 fn stop(chains: &Sequence<Chain>, from: usize, last: u128) -> usize
     ensures { IsStop last (map chain_of chains.now.items) from result }
@@ -72,8 +72,8 @@ fn stop(chains: &Sequence<Chain>, from: usize, last: u128) -> usize
     chains.len()
 }
 
-/// The first whole message that begins with one of these ranks, where so many chains at the front are known to be none: it looks at no
-/// chain before the first rank, and at none of these. Its callers have it in line, since one of them runs for each message.
+/// The first complete message that begins with one of these ranks. Chains before the first rank, and the `passed` chains at the front, which are
+/// known not to be complete, aren't looked at. It is inlined, since one of its callers runs for each message.
 #[inline(always)]
 pub(crate) fn first_whole(chains: &Sequence<Chain>, passed: usize, from: u128, last: u128) -> Looked
     ensures found { AreChains (map chain_of chains.now.items) → AreOpen passed (map chain_of chains.now.items)

@@ -1,4 +1,9 @@
-//! Blocks of memory that held the data of messages, and hold that of the next ones. Nothing here shows in what is kept or handed over.
+//! Memory of messages that the user returned, reused for the data of the next ones. It doesn't affect what is kept or delivered.
+//!
+//! Memory is kept message by message, the last one returned first to be used: at most as many as waited at once, as far as they were counted, since the
+//! first one was returned, and only as long as their blocks have no more bytes together than are given (a receiver gives the size of its buffer). A block is
+//! used for data that fits in it and fills at least half of it; one that isn't used is freed. Its bytes are overwritten, which for a block of the
+//! same length is a copy and no more. Until a message is returned nothing is allocated for any, and one for which allocation fails is freed.
 
 ghost use Rattle.std.specs.Prelude.{◌≡◌, IfOk, OnOk};
 
@@ -6,23 +11,23 @@ use crate::whole::Fragments;
 use sctp_values::NoMemory;
 use std::alloc::Global;
 
-/// The blocks of messages that were taken and came back. Until one comes back there are none, and no memory is made ready for any.
+/// The blocks of messages that were taken and returned. Until one is returned there are none, and nothing is allocated for any.
 #[derive(Drop)]
 pub struct Spare {
-    /// What came back, the last one first to be used.
+    /// The messages returned, the last one first to be used.
     messages: Vec<Fragments>,
-    /// How many bytes their blocks take.
+    /// The bytes of their blocks.
     bytes: usize,
-    /// Whether a message came back.
+    /// Whether a message was ever returned.
     used: bool,
-    /// So many messages wait.
+    /// How many messages wait.
     waiting: usize,
-    /// So many waited at once, since the first one came back: of more none are kept.
+    /// The most that waited at once, since the first one was returned: the blocks of no more are kept.
     most: usize,
 }
 
 impl Spare {
-    /// No blocks. It takes no memory.
+    /// No blocks. Nothing is allocated.
     pub fn new(alloc: Global) -> Spare {
         Spare {
             messages: Vec::new(alloc),
@@ -33,11 +38,11 @@ impl Spare {
         }
     }
 
-    /// A copy of these bytes, in the block that came back last where they fit and fill at least half of it. Else that block goes, and they have one of
-    /// their own.
+    /// A copy of these bytes, in the block that was returned last if they fit and fill at least half of it. Else that block is freed, and a new
+    /// one is allocated.
     ///
     /// # Errors
-    /// Memory ran out.
+    /// Allocation failed.
     #[inline(always)]
     pub fn copy(&mut self, alloc: Global, bytes: &[u8]) -> Result<Vec<u8>, NoMemory>
         ensures { IfOk result (λ block. block.items ≡ bytes.now) }
@@ -51,7 +56,7 @@ impl Spare {
         Vec::from_slice(alloc, bytes).map_err(|_| NoMemory)
     }
 
-    /// So many messages more wait: as many may be kept, once one came back. Where memory runs out no more are kept than before.
+    /// Counts `more` messages that wait: the blocks of as many may be kept, once one was returned. If allocation fails, no more are kept than before.
     #[inline(always)]
     pub fn waits(&mut self, more: usize) {
         self.waiting = self.waiting.saturating_add(more);
@@ -60,14 +65,14 @@ impl Spare {
         }
     }
 
-    /// A message that waited was taken.
+    /// Counts a message that waited and was taken.
     #[inline(always)]
     pub fn taken(&mut self) {
         self.waiting = self.waiting.saturating_sub(1);
     }
 
-    /// A message that was taken comes back. Its blocks are kept, unless those of as many are as waited at once, or all would take more bytes than these.
-    /// It takes no memory.
+    /// Returns the blocks of a message that was taken. They are kept, unless those of as many are kept as waited at once, or all would have more bytes than
+    /// `most_bytes`. Nothing is allocated.
     pub fn give_back(&mut self, parts: Fragments, most_bytes: u32) {
         self.used = true;
         let bytes = self.bytes.saturating_add(size_of(&parts));
@@ -82,7 +87,7 @@ impl Spare {
         }
     }
 
-    /// Makes room for as many messages as wait, where there is memory.
+    /// Reserves memory for the blocks of as many messages as wait, if allocation succeeds.
     fn make_room(&mut self) {
         let more = self.waiting.saturating_sub(self.messages.len());
         if self.messages.reserve(more).is_ok() {
@@ -90,7 +95,7 @@ impl Spare {
         }
     }
 
-    /// Takes a block of the message that came back last: of its first fragment that is left.
+    /// Takes a block of the message that was returned last: that of its first fragment that is left.
     #[inline(always)]
     fn block(&mut self) -> Option<Vec<u8>> {
         let block = match self.messages.pop()? {
@@ -108,10 +113,10 @@ impl Spare {
     }
 }
 
-/// Puts bytes in the place of those of a block, without a growth where there were as many.
+/// Replaces the bytes of a block; it doesn't grow if there were as many.
 ///
 /// # Errors
-/// Memory ran out.
+/// Allocation failed.
 #[inline(always)]
 fn refill(block: &mut Vec<u8>, bytes: &[u8]) -> Result<(), NoMemory>
     ensures { OnOk result (block.new.items ≡ bytes.now) }
@@ -125,12 +130,12 @@ fn refill(block: &mut Vec<u8>, bytes: &[u8]) -> Result<(), NoMemory>
     block.extend_from_slice(bytes).map_err(|_| NoMemory)
 }
 
-/// Whether so many bytes fit a block of so much room, and fill at least half of it.
+/// Whether `bytes` bytes fit a block with a capacity of `room`, and fill at least half of it.
 fn suits(room: usize, bytes: usize) -> bool {
     bytes <= room && room / 2 <= bytes
 }
 
-/// How many bytes the blocks of a message take, 2^64 - 1 where there are more.
+/// The bytes of a message's blocks, 2^64 - 1 if there are more.
 fn size_of(parts: &Fragments) -> usize {
     match parts {
         Fragments::One([block]) => block.capacity(),
@@ -138,7 +143,7 @@ fn size_of(parts: &Fragments) -> usize {
     }
 }
 
-/// How many bytes these blocks take, 2^64 - 1 where there are more.
+/// The bytes of these blocks, 2^64 - 1 if there are more.
 fn size_of_blocks(blocks: &[Vec<u8>]) -> usize {
     let mut sum: usize = 0;
     for block in blocks {
@@ -147,14 +152,14 @@ fn size_of_blocks(blocks: &[Vec<u8>]) -> usize {
     sum
 }
 
-/// A message's data so that its first fragment's block is used first.
+/// A message's blocks in the order in which its first fragment's is used first.
 #[inline(never)]
 fn in_turn(mut blocks: Vec<Vec<u8>>) -> Fragments {
     blocks.reverse();
     Fragments::Many(blocks)
 }
 
-/// Lets go of a message's blocks. It stands by itself so that a message that is kept pays nothing for it.
+/// Frees a message's blocks. It is a function of its own so that a message that is kept pays nothing for it.
 #[inline(never)]
 fn let_go(parts: Fragments) {
     let _ = parts;

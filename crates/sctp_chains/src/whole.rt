@@ -1,4 +1,4 @@
-//! A message that became whole.
+//! A message whose fragments have all been received.
 
 ghost use Rattle.std.specs.Prelude.{◌≡◌};
 ghost use Rattle.sctp_chains.specs.Links.{chain_of};
@@ -8,12 +8,12 @@ ghost use Rattle.sctp_chains.specs.WholeOf.{IsWholeOf};
 use crate::chain::{Chain, Head};
 use std::collections::VecDeque;
 
-/// The data of a message's fragments. One alone lies here, without a list.
+/// The data of a message's fragments. That of a single one is here itself, without a list.
 #[derive(Debug, PartialEq, Drop)]
 pub enum Fragments {
-    /// The data of one.
+    /// The data of a single fragment.
     One([Vec<u8>; 1]),
-    /// Those of more, first to last.
+    /// The data of several, first to last.
     Many(Vec<Vec<u8>>),
 }
 
@@ -30,7 +30,7 @@ impl Fragments {
     }
 }
 
-/// A message taken out, its fragments as they were recorded.
+/// A complete message that was taken out, its fragments as they were recorded.
 #[derive(Debug, Drop)]
 pub struct Whole {
     /// The index of its first chunk.
@@ -43,7 +43,7 @@ pub struct Whole {
     pub parts: Fragments,
 }
 
-/// The parts of a chain as a message's: a list only where there are more than one.
+/// The parts of a chain as those of a message: a list only if there are several.
 #[inline(always)]
 fn fragments_of(mut parts: VecDeque<Vec<u8>>) -> Fragments
     ensures { fragments_in result ≡ parts.items }
@@ -56,7 +56,7 @@ fn fragments_of(mut parts: VecDeque<Vec<u8>>) -> Fragments
     Fragments::Many(parts.into_vec())
 }
 
-/// A chain as the whole message that it is.
+/// A chain as the complete message that it is.
 #[inline(always)]
 pub(crate) fn whole_of(chain: Chain, head: Head, number: Option<u64>) -> Whole
     ensures { IsWholeOf (chain_of chain) head number result }

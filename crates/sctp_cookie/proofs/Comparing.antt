@@ -1,4 +1,4 @@
--- Two lists compared without an early end: the differences are collected, and where none is left the lists are one.
+-- Two lists compared without an early exit: the differences are collected, and if there are none the lists are one.
 use Rattle.std.proofs.Common.{◌≡◌, ℕ, ◌+◌, ◌%◌, ◌<◌, List, length, get_or, bit_or, bit_xor, nat_eq, refl, sym, ◌∙◌, subst, ap, arith, below_more}
 use Rattle.std.specs.Str.{bytes_eq}
 use Rattle.std.specs.Int.{bit_at}

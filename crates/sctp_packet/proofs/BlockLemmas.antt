@@ -1,4 +1,4 @@
--- A block of a run: its bytes and what reaches them, read and written in a part of a room.
+-- A block of a run: its bytes and what folding moves to them, read and written in a part of a buffer.
 use Rattle.std.proofs.Common.{◌≡◌, ℕ, ◌+◌, ◌-◌, ◌<◌, ◌≤◌, ◌^◌, ◌++◌, inl, inr, List, bit_xor, length, take, drop, refl, sym, ap, ◌∙◌, arith}
 use Rattle.std.specs.Prelude.{slice_index}
 use borrow.Rule.Slice.PartMut.{put_mid}

@@ -1,4 +1,4 @@
--- Eight bytes to which a register is added: it reaches the first four, and the others stand above them as they are.
+-- Eight bytes to which a register is added: it reaches the first four, and the others are as they were.
 use Rattle.std.proofs.Common.{◌≡◌, ℕ, ◌+◌, ◌*◌, ◌/◌, ◌%◌, ◌^◌, ◌<◌, List, bit_xor, refl, sym, ap, ◌∙◌, arith}
 use Rattle.std.specs.Prelude.{slice_index}
 use Rattle.std.specs.Int.Bits.{xor_zero_l}

@@ -1,5 +1,4 @@
--- The sparse multiple x^209 + x^144 + x^54 + x^39 + x^14 + 1 of the polynomial, and its eighth power, by which whole bytes go: what is taken away in
--- front and added 65, 155, 170, 195 and 209 bytes on leaves the register as it was.
+-- Folding by the multiple x^209 + x^144 + x^54 + x^39 + x^14 + 1 of the polynomial: a byte taken away and added 65, 155, 170, 195 and 209 bytes further on leaves the register as it was.
 use Rattle.std.proofs.Common.{◌≡◌, ℕ, zero, suc, ◌+◌, ◌-◌, ◌*◌, ◌/◌, ◌%◌, ◌^◌, ◌<◌, ◌≤◌, Bool, true, false, if◌then◌else◌, ◌==◌, bit_xor, refl, sym, ap, ◌∙◌, arith}
 use Rattle.std.specs.Int.Bits.{xor_zero_l}
 use Rattle.std.proofs.lemmas.Nat.{xor_lt, xor_block, pow-add, pow_pos}

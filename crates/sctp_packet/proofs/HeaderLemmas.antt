@@ -1,5 +1,4 @@
--- A packet's header read back from its bytes, and the bytes from what is read: its fields are where they are written, and the checksum is taken
--- over the bytes with zero in its field.
+-- A packet's header reads back from its bytes, and the bytes from what is read; the checksum is taken over the bytes with zero in its field.
 use Rattle.std.proofs.Common.{◌≡◌, ℕ, zero, suc, ◌+◌, ◌^◌, ◌<◌, ◌≤◌, Bool, true, false, not, List, [], ◌∷◌, ◌++◌, map, length, drop, get_or, refl, sym, ap, subst, ◌∙◌, arith, length-drop}
 use Rattle.std.proofs.lemmas.Nat.{be_bytes_2, be_bytes_4, le_bytes_4}
 use Rattle.std.proofs.lemmas.List.{drop-drop, get_or-drop, length-map}

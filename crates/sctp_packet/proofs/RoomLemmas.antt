@@ -1,4 +1,4 @@
--- A room in which a run of bytes is folded, a block at a time.
+-- A buffer in which a run of bytes is folded, a block at a time.
 use Rattle.std.proofs.Common.{◌≡◌, ℕ, zero, suc, replicate, ◌+◌, ◌-◌, ◌*◌, ◌/◌, ◌%◌, ◌^◌, ◌<◌, ◌≤◌, inl, inr, List, length, bit_xor, refl, sym, ap, ◌∙◌, arith}
 use Rattle.std.specs.Prelude.{slice_index, take, drop, [], ◌++◌}
 use Rattle.std.proofs.lemmas.Grind.{common_steps}

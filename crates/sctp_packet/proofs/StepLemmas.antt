@@ -1,5 +1,4 @@
--- A register over which zero bits go is a sum: of numbers added without carries, each goes its own way, and what stands above the bits that
--- have gone comes down. So eight bytes leave what each leaves in its place.
+-- The register is linear: after zero bits a sum without carries is the sum of what each summand leaves, so eight bytes leave what each leaves in its position.
 use Rattle.std.proofs.Common.{◌≡◌, ℕ, zero, suc, ◌+◌, ◌*◌, ◌/◌, ◌%◌, ◌^◌, ◌<◌, bit_xor, refl, sym, ap, ◌∙◌, arith}
 use Rattle.std.specs.Int.Bits.{xor_assoc, xor_zero_r}
 use Rattle.std.proofs.lemmas.Nat.{xor_mod, xor_shr, xor_comm, xor_block, shr-shr}

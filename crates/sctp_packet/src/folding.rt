@@ -53,7 +53,7 @@ fn fold_block(register: u32, bytes: &[u8], at: usize, room: &mut [u8])
     );
 }
 
-/// What is left of the run behind `ends`, a block at a time.
+/// Writes what folding leaves of the run, its last 224 bytes, to `left`, a block at a time.
 pub(crate) fn leave(bytes: &[u8], room: &[u8], ends: usize, left: &mut [u8])
     requires within { ends + 224 ≤ length bytes.now }
     requires room { 216 + ends + 224 ≤ length room.now }
@@ -67,7 +67,7 @@ pub(crate) fn leave(bytes: &[u8], room: &[u8], ends: usize, left: &mut [u8])
     }
 }
 
-/// What is left at a place of the run, put at a place among what is left.
+/// Writes what folding leaves of the block at `from` of the run to `left`, at `at`.
 #[inline(always)]
 fn leave_block(bytes: &[u8], room: &[u8], from: usize, at: usize, left: &mut [u8])
     requires bytes { from + 32 ≤ length bytes.now }
@@ -82,8 +82,8 @@ fn leave_block(bytes: &[u8], room: &[u8], from: usize, at: usize, left: &mut [u8
     set_block(0, taken, before, &mut left[at..at + BLOCK]);
 }
 
-/// A block: its bytes, with a register added to the first, and what reaches each from the bytes in front of the block. The parts' lengths are
-/// known, and all words are read before one is written, so that two at a time can be.
+/// Writes a block: its bytes, with a register added to the first four, and with what folding moves to each from the bytes before the block. The
+/// lengths of the slices are known, and all words are read before one is written, so that a compiler can take two at a time.
 #[inline(always)]
 fn set_block(register: u32, bytes: &[u8], before: &[u8], block: &mut [u8])
     requires bytes { length bytes.now ≡ 32 }
@@ -102,7 +102,7 @@ fn set_block(register: u32, bytes: &[u8], before: &[u8], block: &mut [u8])
     put(block, 24, fourth);
 }
 
-/// What reaches the eight bytes at a place from those before them.
+/// What folding moves to the eight bytes at a position from those before them.
 #[inline(always)]
 fn reaching(room: &[u8], at: usize) -> u64
     requires far { 209 ≤ at }
@@ -116,7 +116,7 @@ fn reaching(room: &[u8], at: usize) -> u64
         ^ word(room, at - 209)
 }
 
-/// The eight bytes from a place on, as one number, the lowest first.
+/// The eight bytes at a position as one number, the lowest first.
 #[inline(always)]
 fn word(bytes: &[u8], at: usize) -> u64
     requires { at + 8 ≤ length bytes.now }
@@ -125,7 +125,7 @@ fn word(bytes: &[u8], at: usize) -> u64
     LittleEndian::read_u64(&bytes[at..])
 }
 
-/// Writes eight bytes from a place on, and leaves the others.
+/// Writes eight bytes at a position.
 #[inline(always)]
 fn put(bytes: &mut [u8], at: usize, value: u64)
     requires { at + 8 ≤ length bytes.old }

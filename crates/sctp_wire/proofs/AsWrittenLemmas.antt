@@ -1,4 +1,4 @@
--- A list is as it is written where each item but the last is filled with zeros and nothing stands behind the last.
+-- A list is as it is written if each item but the last is padded with zeros and nothing follows the last.
 use Rattle.std.proofs.Common.{◌≡◌, ℕ, ◌-◌, ◌<◌, ◌≤◌, inl, inr, Bool, true, false, List, [], ◌∷◌, ◌++◌, length, take, drop, replicate, refl, sym, ap, ◌∙◌, append_assoc, append-nil, arith, length-drop, ⊎_elim, ◌≢◌}
 use Rattle.std.specs.Prelude.{Option, Some, None, ◌==◌, ◌↔◌, is_some, unwrap_or, EachIndex, slice_index}
 use Rattle.std.proofs.lemmas.List.{drop-drop, drop_all, take-append-drop, take_at, drop_at, length-take-le, nil_from_length, ext_get_or, get_or-replicate, append_cancel_left}

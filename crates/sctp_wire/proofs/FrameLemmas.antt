@@ -1,5 +1,4 @@
--- The first chunk of bytes: where its frame is right it is read, and what is read is a chunk; else it is wrong
--- by the first check that fails.
+-- The first chunk of bytes: if its frame is right it is read, and what is read is a chunk; else it is wrong by the first check that fails.
 use Rattle.std.proofs.Common.{◌≡◌, ℕ, suc, ◌+◌, ◌-◌, ◌<◌, ◌≤◌, ◌^◌, inl, inr, Bool, true, false, List, [], ◌∷◌, ◌++◌, length, take, drop, refl, sym, ap, ◌∙◌, subst, append_assoc, arith, length-append, length-drop, ⊎_elim, Ok, Err}
 use Rattle.std.specs.Prelude.{slice_index}
 use Rattle.std.proofs.lemmas.List.{drop-drop, take-append-drop, take_at, drop_at, length-take-le}

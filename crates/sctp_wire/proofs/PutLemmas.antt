@@ -1,4 +1,4 @@
--- What stands behind a list where its padding and an item were appended.
+-- What follows a list after its padding and an item were appended.
 use Rattle.std.proofs.Common.{◌≡◌, ℕ, List, ◌++◌, length, replicate, refl, append_assoc}
 use Rattle.sctp_model.specs.wire.Chunk.{padding_after}
 use Rattle.sctp_model.specs.numbers.Numbers.{u16_bytes}

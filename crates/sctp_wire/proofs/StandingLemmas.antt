@@ -1,4 +1,4 @@
--- The first bytes of a chunk tell its type, and so whether it is data, an INIT or reflected, and where it may stand.
+-- The first bytes of a chunk give its type, and so whether it is data, an INIT or reflected, and how it may be bundled.
 use Rattle.std.proofs.Common.{◌≡◌, ℕ, ◌<◌, false, List, [], ◌∷◌, ◌++◌, length, drop, refl, sym, ap, ◌∙◌, arith, Ok}
 use Rattle.std.specs.Prelude.{◌==◌, ◌||◌, ◌&&◌, None, slice_index}
 use Rattle.std.proofs.lemmas.Grind.{common_steps}

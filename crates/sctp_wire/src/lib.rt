@@ -34,7 +34,8 @@
 //!
 //! `read_chunks`, the iterators and readers of `Chunks`, `fits`, `written_length`, `unknown_chunk` and `unknown_parameter` allocate no memory.
 //!
-//! What a body may still get away with: nothing that a caller can see. `Debug` texts and the faults' messages are outside of the contracts.
+//! What a body may still get away with: nothing that a caller can see. `Debug` texts and the faults' messages are outside of the contracts. A wrong
+//! chunk, layout or item is refused by the private function's own clause, or in its proof; the public clause follows from these.
 #![tactic(auto)]
 
 mod as_written;

@@ -52,9 +52,9 @@ pub(crate) fn sack_fits(sack: &Sack<'_>) -> bool
 /// |---|---|---|
 /// | 0 | 4 | cumulative TSN |
 /// | 4 | 4 | a_rwnd |
-/// | 8 | 2 | number of gap blocks |
+/// | 8 | 2 | number of gap ack blocks |
 /// | 10 | 2 | number of duplicate TSNs |
-/// | 12 | 4 each | gap blocks: start 2, end 2 |
+/// | 12 | 4 each | gap ack blocks: start 2, end 2 |
 /// | after them | 4 each | duplicate TSNs |
 #[tactic(auto, unfolding(crate::specs::chunks::Sack::sack_at))]
 pub(crate) fn read_sack(value: &[u8]) -> Sack<'_>
