@@ -177,8 +177,8 @@ struct sctp_endpoint_verdict {
 /* Processes a received packet: its bytes from the common header on. The draw is used if it is an INIT to a listener; pass a new one each time.
  * The buffer is for the answer: it has at least the endpoint's packet limit, else NEEDS_ROOM, with the limit as the length.
  * The peer's address is the one that a packet with the verdict TAKEN was received from: its tag was right. An ANSWER or a DROPPED packet
- * says nothing about its sender. BAD_DRAW; MISUSE; BAD_RESERVED; NO_MEMORY: the chunks before the one whose memory couldn't be allocated were processed,
- * and the same packet may be passed again. */
+ * says nothing about its sender. BAD_DRAW; MISUSE; BAD_RESERVED; NO_MEMORY: the chunks before the one whose memory couldn't be allocated were
+ * processed, and the same packet may be passed again. */
 uint32_t sctp_endpoint_handle_packet(struct sctp_endpoint *handle, uint64_t now, const uint8_t *packet, size_t packet_length,
                                      const struct sctp_endpoint_draw *draw, uint8_t *buffer, size_t buffer_length,
                                      struct sctp_endpoint_verdict *verdict);
