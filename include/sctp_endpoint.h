@@ -1,5 +1,5 @@
 /* One endpoint of an SCTP association: RFC 9260, with FORWARD-TSN (RFC 3758) and I-DATA (RFC 8260). The library opens no socket, reads no
- * clock and draws no random numbers: received packets, the current time and random values are arguments, packets to send and received
+ * clock and generates no random numbers: received packets, the current time and random values are arguments, packets to send and received
  * messages are results. docs/C.md has a first program, the loop of a program over UDP, and what to set.
  *
  * What a caller must observe, since no call can check it:
@@ -7,7 +7,7 @@
  *  - A struct sctp_endpoint is zeroed before its first call (SCTP_ENDPOINT_INIT), is read and written by these calls alone,
  *    and isn't copied. It may be moved, if the old place is forgotten.
  *  - A pointer may be NULL only if the length that follows it is 0; every other pointer is valid. Each is aligned, and what it points to is
- *    the caller's for the whole call. Memory that a call writes (behind a pointer to non-const) overlaps nothing else passed to that call.
+ *    the caller's for the whole call. Memory that a call writes (what a pointer to non-const points to) overlaps nothing else that it is given.
  *  - Memory that a call writes is initialised before the call: it may be all zero. A bool is 0 or 1.
  *  - One endpoint is used by one thread at a time, no matter which. Two endpoints share nothing.
  *  - No call is made from a signal handler, or in the child of a fork of a program with threads.
@@ -20,7 +20,7 @@
  * Times are milliseconds on any clock that doesn't go back, the same for all calls of an endpoint. A time before the latest one counts as the
  * latest. A time that is wrong can't be taken back: UINT64_MAX, passed as the current time, stops all timers of the endpoint for good.
  *
- * Memory comes from three functions, which are called on the thread that calls the library. libsctp_endpoint_malloc.a implements them by
+ * Memory is allocated by three functions, which are called on the thread that calls the library. libsctp_endpoint_malloc.a implements them by
  * malloc, realloc and free; a program that defines its own doesn't link that library (rattle_alloc below).
  *
  * Structs, calls and numbers are those of one ABI version, SCTP_EP_ABI. The shared library's soname ends with it (libsctp_endpoint.so.1 is
@@ -140,7 +140,7 @@ uint32_t sctp_endpoint_caller(struct sctp_endpoint *handle, const struct sctp_en
 /* Makes an endpoint that waits for a peer to open the association. Results as for a caller. */
 uint32_t sctp_endpoint_listener(struct sctp_endpoint *handle, const struct sctp_endpoint_config *config, const struct sctp_endpoint_key *key);
 
-/* Makes an endpoint that is established at once, without packets: its peer is opened with the two draws exchanged and the same
+/* Makes an endpoint that is established at once, without packets: its peer is opened with `own` and `peer` exchanged and the same
  * sizes, streams and extensions. BAD_DRAW, then as for a caller. */
 uint32_t sctp_endpoint_opened(struct sctp_endpoint *handle, const struct sctp_endpoint_config *config, const struct sctp_endpoint_draw *own,
                               const struct sctp_endpoint_draw *peer);
@@ -177,8 +177,8 @@ struct sctp_endpoint_verdict {
 /* Processes a received packet: its bytes from the common header on. The draw is used if it is an INIT to a listener; pass a new one each time.
  * The buffer is for the answer: it has at least the endpoint's packet limit, else NEEDS_ROOM, with the limit as the length.
  * The peer's address is the one that a packet with the verdict TAKEN was received from: its tag was right. An ANSWER or a DROPPED packet
- * says nothing about its sender. BAD_DRAW; MISUSE; BAD_RESERVED; NO_MEMORY: the chunks before the one whose memory couldn't be allocated were processed,
- * and the same packet may be passed again. */
+ * says nothing about its sender. BAD_DRAW; MISUSE; BAD_RESERVED; NO_MEMORY: the chunks before the one whose memory couldn't be allocated were
+ * processed, and the same packet may be passed again. */
 uint32_t sctp_endpoint_handle_packet(struct sctp_endpoint *handle, uint64_t now, const uint8_t *packet, size_t packet_length,
                                      const struct sctp_endpoint_draw *draw, uint8_t *buffer, size_t buffer_length,
                                      struct sctp_endpoint_verdict *verdict);

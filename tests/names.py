@@ -16,7 +16,8 @@ numbers, signs, and what is in quotes.
 A block ```sh is commands. A block ```rust is, piece by piece, in the file that the line above it names, `..` alone between two pieces. Of
 other blocks and of the text the names of crates, the pages and the links are looked up.
 
-With --words: the words of tests/words.txt, which pages, the header for C and public comments don't use, are looked for in all of these."""
+Beside the names, or alone with --words: the words of tests/words.txt, which pages, the header for C and public comments don't use, are looked
+for in all of these."""
 
 import os
 import re
@@ -28,10 +29,11 @@ RT = {'all', 'check', 'ci', 'doc', 'expand', 'fmt', 'lemma', 'lib', 'must-fail',
 # Names that stand in no file of the tree: of the C library, of the toolchain's line.
 ALLOWED = {'kit', 'logic', 'malloc_consolidate'}
 STD = {'Arc', 'Box', 'Option', 'Result', 'String', 'Vec', 'VecDeque'}
+MOST_EXCEPTIONS = 60
 ENDINGS = ('.antt', '.c', '.calls', '.edit', '.h', '.md', '.py', '.rattle', '.rt', '.script', '.sh', '.txt')
-OF_A_CRATE = ('src/', 'specs/', 'proofs/', 'must-fail/', 'wrong-bodies/')
+OF_A_CRATE = ('src/', 'specs/', 'proofs/', 'must-fail/', 'wrong-bodies.txt')
 REMARK = {'.rt': r'//.*', '.rattle': r'//.*', '.c': r'//.*', '.h': r'//.*', '.antt': r'--.*', '.py': r'(?m)^\s*#.*', '.sh': r'(?m)^\s*#.*'}
-NO_SOURCE = ('tests/names.py', 'tests/names.sh')
+NO_SOURCE = ('tests/names.py', 'tests/names.sh', 'tests/words.txt')
 
 WORD = re.compile(r'[A-Za-z_][A-Za-z0-9_]*')
 PATH = re.compile(r'[A-Za-z0-9_./*-]+')
@@ -61,12 +63,14 @@ class Tree:
                     self.ends.setdefault(end.split('/', at)[-1], []).append(path)
 
     def add(self, path):
-        """A file: a page, or one with names. An edit has its own name alone."""
+        """A file: a page, or one with names. An edit has its own name alone, a list of mutants the names of its entries."""
         stem, ending = os.path.splitext(path)
         if ending == '.md':
             self.pages.append(path)
             return
         text = '' if ending == '.edit' or path in NO_SOURCE else text_of(path)
+        if path.endswith('wrong-bodies.txt'):
+            text = ' '.join(entry.split('\n')[0].replace(' ', '_') for entry in text.split('\n\n'))
         if path.endswith('.gitignore'):
             self.made |= {os.path.join(os.path.dirname(path), line.rstrip('/')) for line in text.split()}
         words = set(WORD.findall(path)) | {os.path.basename(stem)}
@@ -274,8 +278,10 @@ def said_in(path):
 
 
 def private_words(pages):
-    """The faults of words: each word of the list that is used, but for the exceptions."""
+    """The faults of words: each word of the list that is used, but for the exceptions, of which there are 60 at most."""
     pattern, allowed = words_and_exceptions()
+    if len(allowed) > MOST_EXCEPTIONS:
+        yield f'tests/words.txt: {len(allowed)} exceptions, and {MOST_EXCEPTIONS} at most'
     sources = [path for path in sorted(tree_files('crates')) if path.endswith('.rt') and '/src/' in path]
     for path in [*pages, 'include/sctp_endpoint.h', *sources]:
         for number, line in said_in(path):
@@ -292,13 +298,15 @@ def tree_files(top):
 
 def main(words):
     tree = Tree()
-    if words[:1] == ['--words']:
-        faults = list(private_words(words[1:] or tree.pages))
+    faults = []
+    if words[:1] == ['--words'] or not words:
+        faults += private_words(words[1:] or tree.pages)
         print(*faults, f'{len(faults)} words that are not of the field', sep='\n')
-        return 1 if faults else 0
-    pages = words or tree.pages
-    faults = [fault for page in pages for fault in Page(tree, page).look()]
-    print(*faults, f'{len(pages)} pages, {len(faults)} faults', sep='\n')
+    if words[:1] != ['--words']:
+        pages = words or tree.pages
+        found = [fault for page in pages for fault in Page(tree, page).look()]
+        print(*found, f'{len(pages)} pages, {len(found)} faults', sep='\n')
+        faults += found
     return 1 if faults else 0
 
 

@@ -1,6 +1,6 @@
 """One endpoint of an SCTP association (RFC 9260, with FORWARD-TSN of RFC 3758 and I-DATA of RFC 8260), by ctypes over libsctp_endpoint.so.
 
-The library opens no socket, reads no clock and draws no random numbers but those of `Draw()`: received packets and the current time are
+The library opens no socket, reads no clock and generates no random numbers but those of `Draw()`: received packets and the current time are
 arguments, packets to send and received messages are results. `SCTP_ENDPOINT_LIBRARY` names the library's file; else the loader looks for
 libsctp_endpoint.so.1. An endpoint is used by one thread at a time.
 
@@ -332,7 +332,7 @@ class Endpoint:
 
     @classmethod
     def opened(cls, config: Config, own: Draw, peer: Draw) -> "Endpoint":
-        """An endpoint that is established at once, without packets; its peer is opened with the two draws exchanged."""
+        """An endpoint that is established at once, without packets; its peer is opened with `own` and `peer` exchanged."""
         return cls._made("opened", byref(config), byref(own), byref(peer))
 
     def __del__(self):

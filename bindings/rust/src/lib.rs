@@ -1,5 +1,5 @@
 //! One endpoint of an SCTP association: RFC 9260, with FORWARD-TSN (RFC 3758) and I-DATA (RFC 8260). It is a formally verified library, called
-//! by its C header `sctp_endpoint.h`: it opens no socket, reads no clock and draws no random numbers. Received packets, the current time and
+//! by its C header `sctp_endpoint.h`: it opens no socket, reads no clock and generates no random numbers. Received packets, the current time and
 //! random values are arguments, packets to send and received messages are results. Times are milliseconds on any clock that doesn't go back.
 //!
 //! An [`Endpoint`] may be moved to another thread.
@@ -68,7 +68,7 @@ impl Endpoint {
         Endpoint::made(|end| unsafe { raw::sctp_endpoint_listener(end, &config.raw(), &raw::Key { bytes: key, reserved: [0; 4] }) })
     }
 
-    /// An endpoint that is established at once, without packets; its peer is opened with the two draws exchanged.
+    /// An endpoint that is established at once, without packets; its peer is opened with `own` and `peer` exchanged.
     pub fn opened(config: &Config, own: Draw, peer: Draw) -> Result<Endpoint, Error> {
         Endpoint::made(|end| unsafe { raw::sctp_endpoint_opened(end, &config.raw(), &own.raw(), &peer.raw()) })
     }

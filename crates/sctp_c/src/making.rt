@@ -107,7 +107,7 @@ pub extern "C" fn sctp_endpoint_listener(
     }
 }
 
-/// Makes an endpoint that is established at once, without packets: its peer is opened with the two draws exchanged.
+/// Makes an endpoint that is established at once, without packets: its peer is opened with `own` and `peer` exchanged.
 #[unsafe(no_mangle)]
 pub extern "C" fn sctp_endpoint_opened(
     alloc: Global,

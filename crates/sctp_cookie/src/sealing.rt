@@ -20,21 +20,21 @@ use thiserror::Error;
 pub enum CookieFault {
     /// These aren't 72 bytes of the layout: the options are above 3, or a byte that must be zero
     /// isn't.
-    #[error("the cookie is not of the layout")]
+    #[error("these bytes don't have the layout of a cookie")]
     Form,
     /// The last 32 bytes aren't the MAC of the first 40 under the key.
-    #[error("the cookie has another MAC")]
+    #[error("the cookie's MAC is wrong")]
     Mac,
     /// The packet's ports aren't those of the INIT.
     #[error("the cookie is for other ports")]
     Ports,
     /// The packet's verification tag isn't the listener's tag.
-    #[error("the cookie is for another tag")]
+    #[error("the cookie is for another verification tag")]
     Tag,
     /// The cookie's lifetime ended this many microseconds ago, 2^32 - 1 if there are more: the
     /// measure of staleness of the Stale Cookie cause (RFC 9260, 3.3.10.3). The body of such a
     /// cookie is what [`open`] returns at time 0.
-    #[error("the cookie is stale by {0} microseconds")]
+    #[error("the cookie expired {0} microseconds ago")]
     Stale(u32),
 }
 

@@ -1,4 +1,4 @@
--- A packet whose chunks acted, all of them or those before the one that wanted memory: what its end received.
+-- A packet whose chunks acted, all of them or those before a failed allocation: it was received as the state machine receives it.
 use Rattle.std.proofs.Common.{◌≡◌, ℕ, inl, inr, Bool, true, false, List, [], ◌∷◌, ◌++◌, drop, Some, None, refl, sym, subst, ◌∙◌}
 use Rattle.std.specs.Prelude.{Result, Ok, Err, if◌then◌else◌, ◌||◌}
 use Rattle.sctp_model.specs.wire.Chunk.{ChunkMeaning}

@@ -1,4 +1,4 @@
--- Chunks that act one after the other: what acted so far, and what is still to come.
+-- Chunks act one after the other: what the ones so far left, and what the rest leaves after them.
 use Rattle.std.proofs.Common.{◌≡◌, ℕ, ◌<◌, Bool, true, false, List, [], ◌∷◌, ◌++◌, length, refl, sym, subst, append_assoc, arith}
 use Rattle.std.specs.Prelude.{◌==◌}
 use Rattle.std.proofs.lemmas.Grind.{common_steps}

@@ -1,4 +1,4 @@
--- Which ERROR closes an end: only a caller's whose cookie is on its way.
+-- Which ERROR closes an endpoint: only at a caller that has sent its COOKIE ECHO and waits for the COOKIE ACK.
 use Rattle.std.proofs.Common.{◌≡◌, ℕ, true, false, List, refl}
 use Rattle.sctp_model.specs.wire.Typed.{typed_in}
 use Rattle.sctp_model.specs.end.EndView.{Phase, Echoing}

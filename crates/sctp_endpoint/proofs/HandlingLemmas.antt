@@ -1,4 +1,4 @@
--- What bytes read as is what their packet is: handling them is receiving it.
+-- Bytes read as one packet or as none, so handling the bytes is receiving that packet.
 use Rattle.std.proofs.Common.{◌≡◌, ℕ, List, Option, Some, None, refl, sym, ap}
 use Rattle.std.specs.Prelude.{Result, Ok, Err, IfOk}
 use Rattle.sctp_model.specs.wire.Packet.{Packet}

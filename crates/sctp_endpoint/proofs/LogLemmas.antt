@@ -1,4 +1,4 @@
--- What is noted after each call, by what it leaves.
+-- Each call leaves the tickets returned, the messages numbered and the messages taken as its clause `logs` says.
 use Rattle.std.proofs.Common.{◌≡◌, ℕ, ◌-◌, ◌*◌, ◌≤◌, List, length, map, Option, Some, None, sym, subst, ap, arith}
 use Rattle.std.proofs.lemmas.List.{length-map}
 use Rattle.std.specs.Prelude.{Result, Ok, Err, option_map}

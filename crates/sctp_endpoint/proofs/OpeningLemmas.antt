@@ -1,4 +1,4 @@
--- A caller that waits for its COOKIE ACK, and what is told where nothing is kept of a packet.
+-- A caller that waits for its COOKIE ACK, and what is returned of a packet of which no state is kept.
 use Rattle.std.proofs.Common.{◌≡◌, ℕ, true, List, refl}
 use Rattle.std.proofs.lemmas.Bool.{false≢true}
 use Rattle.std.specs.Prelude.{Result, Ok, Err, OnErr}

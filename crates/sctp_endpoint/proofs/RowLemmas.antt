@@ -1,4 +1,4 @@
--- Rows of the tables that say what a chunk does, by what the code tested.
+-- Which row of the state machine's tables applies to a chunk, by what the code tested.
 use Rattle.std.proofs.Common.{◌≡◌, ◌∙◌, ℕ, Bool, true, false, [], ◌∷◌, refl, sym, ap, subst}
 use Rattle.std.proofs.lemmas.Bool.{false≢true}
 use Rattle.std.specs.Prelude.{Some, Result, Ok, Err, OnErr}

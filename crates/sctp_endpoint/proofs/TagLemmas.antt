@@ -1,5 +1,5 @@
--- A packet that wants memory isn't one that is dropped for its bytes, its ports or its tag: only an INIT ACK without a tag is dropped so by a
--- chunk, and that stands alone and wants nothing.
+-- A packet that is dropped for its bytes, its ports or its tag needs no memory: by a chunk only an INIT ACK with tag 0 is dropped so, and that stands
+-- alone and allocates nothing.
 use Rattle.std.proofs.Common.{◌≡◌, ℕ, ◌+◌, ◌<◌, ◌⊎◌, inl, inr, Bool, true, false, List, [], ◌∷◌, ◌++◌, drop, Option, Some, None, refl, sym, subst, ◌∙◌, arith}
 use Rattle.std.specs.Prelude.{if◌then◌else◌}
 use Rattle.sctp_model.specs.wire.Unknown.{chunk_rule}

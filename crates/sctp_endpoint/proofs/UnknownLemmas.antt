@@ -1,4 +1,4 @@
--- What a chunk of an unknown type leaves, by the rule of its type.
+-- What a chunk of an unrecognized type leaves, by the two highest bits of its type.
 use Rattle.std.proofs.Common.{◌≡◌, ℕ, Bool, true, false, List, sym, ap, ◌∙◌}
 use Rattle.std.specs.Prelude.{◌&&◌, if◌then◌else◌}
 use Rattle.sctp_model.specs.wire.Unknown.{RuleMeaning, chunk_rule}

@@ -1,3 +1,2 @@
 pub mod Acted
 pub mod Arrived
-pub mod Heard

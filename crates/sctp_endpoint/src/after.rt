@@ -1,4 +1,4 @@
-//! What a chunk leaves, what is noted of it for the end of its packet, and what is told of a packet.
+//! What a chunk leaves, what is noted of it for the end of its packet, and what is returned of a packet.
 
 ghost use Rattle.std.specs.Prelude.{◌≡◌};
 ghost use Rattle.sctp_model.specs.end.Arriving.{no_notes, noted, urged};
@@ -10,35 +10,35 @@ use sctp_terms::Reason;
 /// What a chunk leaves.
 #[derive(Drop)]
 pub(crate) enum After {
-    /// The packet goes on behind it.
+    /// The chunk was handled; those after it follow.
     GoesOn,
-    /// The packet goes on behind it, and is to be acknowledged at its end (RFC 9260, 6.2).
+    /// The chunk was handled, and the packet is to be acknowledged once its last chunk was (RFC 9260, 6.2).
     Acknowledges {
-        /// It brought user data.
+        /// It is a DATA or I-DATA chunk.
         is_data: bool,
-        /// The SACK may not wait.
+        /// The SACK may not be delayed.
         at_once: bool,
     },
-    /// The packet ends with it.
+    /// The chunk was handled; those after it are ignored.
     Ends,
-    /// It isn't listed in this state.
+    /// The chunk is ignored in this state.
     PassedOver,
-    /// The packet ends with it, and is answered by this one.
+    /// The packet is answered by this one; the chunks after it are ignored.
     Replies(Vec<u8>),
-    /// It drops the packet.
+    /// The packet is dropped.
     Drops(Reason),
 }
 
-/// What is noted of the chunks of a packet that have acted.
+/// What is noted of the chunks of a packet that were handled.
 #[derive(Clone, Copy)]
 pub(crate) struct Notes {
-    /// One of them was listed for the state that it found.
+    /// One of them wasn't ignored.
     pub(crate) listed: bool,
     /// One of them is to be acknowledged (RFC 9260, 6.2).
     pub(crate) acknowledges: bool,
-    /// One of these brought user data.
+    /// One of these is a DATA or I-DATA chunk.
     pub(crate) brings_data: bool,
-    /// One of these may not wait for its SACK.
+    /// For one of these the SACK may not be delayed.
     pub(crate) at_once: bool,
 }
 
@@ -55,7 +55,7 @@ impl Notes {
         }
     }
 
-    /// Behind a cookie that began an association.
+    /// After a cookie that began an association.
     pub(crate) fn of_cookie() -> Notes
         ensures { notes_meaning result ≡ noted Unnoted no_notes }
     {
@@ -67,7 +67,7 @@ impl Notes {
         }
     }
 
-    /// With one more that is to be acknowledged.
+    /// Notes one more chunk that is to be acknowledged.
     pub(crate) fn acknowledge(&mut self, is_data: bool, at_once: bool)
         ensures { notes_meaning self.new ≡ noted (ToAcknowledge is_data at_once) (notes_meaning self.old) }
     {
@@ -77,7 +77,7 @@ impl Notes {
         self.at_once = self.at_once || at_once;
     }
 
-    /// One of them may not wait for its SACK, or the packet left a gap.
+    /// The SACK may not be delayed: for one of the chunks, or because the packet left a gap.
     pub(crate) fn is_urged(self, gap: bool) -> bool
         ensures { result ≡ (urged gap (notes_meaning self)).at_once }
     {
@@ -85,22 +85,22 @@ impl Notes {
     }
 }
 
-/// What becomes of a packet at an end without an association.
+/// What was done with a packet at an endpoint without an association.
 #[derive(Drop)]
 pub(crate) enum Strayed {
-    /// Its first chunk began an association; the others act there.
+    /// Its first chunk began an association; the others are handled there.
     Begun,
-    /// It did nothing, and this is told of it.
+    /// It changed nothing, and this is returned.
     Told(Verdict),
 }
 
-/// What is told of a packet that came.
+/// What was done with a received packet.
 #[derive(Debug, PartialEq, Eq, Drop)]
 pub enum Verdict {
-    /// It acted.
+    /// At least one of its chunks was handled.
     Taken,
-    /// It was dropped.
+    /// It was dropped: it had no effect but that the time of its arrival was noted.
     Dropped(Reason),
-    /// It is answered: these bytes are a packet, at most those of the packet limit, which is to be sent at once.
+    /// It is answered: these bytes are a packet, no longer than the packet limit, to be sent to the peer at once.
     Answer(Vec<u8>),
 }

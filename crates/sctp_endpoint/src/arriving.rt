@@ -1,4 +1,4 @@
-//! A packet that comes: whether it is for this end, what its chunks do, and what is due at its end (RFC 9260, 5.1, 6.2, 8.4 and 8.5).
+//! A packet is received: whether it is for this endpoint, what its chunks do, and what is due after its last one (RFC 9260, 5.1, 6.2, 8.4 and 8.5).
 
 ghost use Rattle.std.specs.Prelude.{◌≡◌, ℕ, Bool, false, drop, Option, IfOk};
 ghost use Rattle.sctp_model.specs.wire.Packet as meaning;
@@ -26,28 +26,28 @@ use sctp_wire::Chunks;
 
 #[tactic(auto, unfolding(crate::specs::EndpointStands::EndpointStands))]
 impl Endpoint {
-    /// Takes a packet that came, without what carried it: its bytes from the common header on. `now` is this moment, in milliseconds; one
-    /// before the latest counts as that one.
+    /// Handles a received packet: its bytes from the common header on, without those of the protocol that carried it. `now` is the current time in
+    /// milliseconds; a time before the latest one counts as that one.
     ///
-    /// The draw counts only where an INIT comes to a listener without an association, which answers with it and forgets it: any other packet
-    /// leaves it unread. Who can't tell gives a fresh one with each packet, since nobody may guess the tag.
+    /// `draw` is used only if an INIT arrives at a listener without an association, which replies with these values and doesn't keep them; any other
+    /// packet leaves them unused. Pass fresh random values with each packet unless you know better: nobody may be able to guess a verification tag.
     ///
-    /// The verdict says whether it acted. An answer is a packet to send at once, within the packet limit; whatever else the end has to say comes from
-    /// `poll_transmit`. Messages that became whole wait for `take`. A packet that is dropped, whatever for, changes nothing but the moment; nor
-    /// does one that comes to an end without an association, unless a cookie in it opens: both are laws of the rows that this call follows
-    /// (`sctp_outcomes::packets_leave_no_trace`).
+    /// The verdict says whether the packet had an effect. An `Answer` is a packet to send at once, no longer than the packet limit; everything else
+    /// that is to be sent is returned by `poll_transmit`. Messages that are now complete wait for `take`. A packet that is dropped, for whatever
+    /// reason, changes nothing but the time; nor does one that arrives at an endpoint without an association, unless it has a valid cookie. Both are
+    /// laws of the transitions that this call follows (`sctp_outcomes::packets_leave_no_trace`).
     ///
     /// # Errors
-    /// `NoMemory` where a growth was refused: the end stands as after the packet cut before the chunk that wanted it, so the packet may be
-    /// handed in once more. Where that is the first chunk only the moment counts.
+    /// `NoMemory` if an allocation failed: only the chunks before the one that needed it took effect, so the packet may be passed in again. If
+    /// that was the first chunk, nothing but the time changed.
     pub fn handle_packet(&mut self, now: u64, bytes: &[u8], draw: Draw) -> Result<Verdict, NoMemory>
         ensures step { (v : EndView) (o : Option meaning.Packet) → EndpointStands self.old v → IsRead bytes.now o → Handled v now draw o result self.new }
         ensures within { (v : EndView) → EndpointStands self.old v → IfOk result (λ verdict. IsAnsweredWithin v.configuration.limit verdict) }
         ensures logs { (v : EndView) → EndpointStands self.old v → LeavesLogs v self.new }
     {
-        // It does nothing: its contract is that the end is sound.
+        // law: it is sound
         self.machine.sound();
-        self.machine.tell(now);
+        self.machine.advance_clock(now);
         match read_packet(bytes) {
             Err(_) => Ok(Verdict::Dropped(Reason::Fault)),
             Ok(packet) => arrive(&mut self.machine, packet, draw),
@@ -55,10 +55,10 @@ impl Endpoint {
     }
 }
 
-/// A packet that reads comes to an end that was told its moment. The draw is for an INIT.
+/// A well-formed packet is received, at a time already noted. The random values are for an INIT.
 ///
 /// # Errors
-/// Memory ran out: the chunks before the one that wanted it have acted.
+/// `NoMemory` if an allocation failed: the chunks before the failing one took effect.
 pub(crate) fn arrive(
     machine: &mut Machine,
     packet: Packet<'_>,
@@ -78,10 +78,10 @@ pub(crate) fn arrive(
     arrive_outside(machine, packet, draw)
 }
 
-/// A packet comes to an end without an association: it may begin one.
+/// A packet is received by an endpoint without an association: it may begin one.
 ///
 /// # Errors
-/// Memory ran out: the chunks before the one that wanted it have acted.
+/// `NoMemory` if an allocation failed: the chunks before the failing one took effect.
 #[inline(never)]
 fn arrive_outside(
     machine: &mut Machine,
@@ -102,7 +102,7 @@ fn arrive_outside(
     }
 }
 
-/// The chunks behind the first one.
+/// The chunks after the first one.
 fn behind_first(chunks: Chunks<'_>) -> Chunks<'_>
     ensures { result ≡ drop 1 chunks.entry }
 {
@@ -113,10 +113,10 @@ fn behind_first(chunks: Chunks<'_>) -> Chunks<'_>
     }
 }
 
-/// All chunks act, and what follows from all of them together is due once (RFC 9260, 6.2).
+/// Handles all chunks; what they ask for together, as a SACK, is then due once (RFC 9260, 6.2).
 ///
 /// # Errors
-/// Memory ran out: the chunks before the one that wanted it have acted.
+/// `NoMemory` if an allocation failed: the chunks before the failing one took effect.
 fn hear(
     machine: &mut Machine,
     tag: u32,
@@ -131,7 +131,7 @@ fn hear(
     told
 }
 
-/// The end of a packet, whatever ended it: a gap that it left counts where the end delays its SACKs (RFC 9260, 6.2).
+/// After the last chunk of a packet that is handled: its SACK is due, at once if the packet left a gap (RFC 9260, 6.2).
 fn end_packet(machine: &mut Machine, notes: Notes)
     ensures { (v : EndView) → MachineStands machine.old v
         → (gap : Bool) × LeavesGap v gap × MachineStands machine.new (packet_ended (urged gap (notes_meaning notes)) v) }

@@ -1,4 +1,4 @@
-//! What the user of an end calls, and what time does (RFC 9260, 11.1).
+//! The calls of an endpoint's user, and timers (RFC 9260, 11.1).
 
 ghost use Rattle.std.specs.Prelude.{◌≡◌, option_map};
 ghost use Rattle.sctp_model.specs.end.EndView.{EndView};
@@ -19,29 +19,30 @@ use sctp_values::Ticket;
 
 #[tactic(auto, unfolding(crate::specs::EndpointStands::EndpointStands))]
 impl Endpoint {
-    /// Calls the peer: an INIT is due (RFC 9260, 5.1, A, and 11.1.2). `now` is this moment, in milliseconds; the draw is this end's tag and
-    /// first TSN, fresh random numbers. It takes no memory.
+    /// Begins an association: an INIT is due (RFC 9260, 5.1, A, and 11.1.2). `now` is the current time in milliseconds; `draw` is this endpoint's
+    /// verification tag and initial TSN, fresh random values. It allocates no memory.
     ///
     /// # Errors
-    /// `ConnectFault::State` unless it is a caller to which nothing happened yet. Nothing changed then, not even its moment.
+    /// `ConnectFault::State` unless it is a caller that hasn't called yet. Nothing changed then, not even the time.
     pub fn connect(&mut self, now: u64, draw: Draw) -> Result<(), ConnectFault>
         ensures answer { (v : EndView) → EndpointStands self.old v → connect_meaning result ≡ connect_answer v.phase }
         ensures step { (v : EndView) → EndpointStands self.old v → EndpointStands self.new (connected v now draw result) }
         ensures logs { (v : EndView) → EndpointStands self.old v → LeavesLogs v self.new }
     {
-        // It does nothing: its contract is that the end is sound.
+        // law: it is sound
         self.machine.sound();
         self.machine.connect(now, draw)
     }
 
-    /// Queues a message for the peer on a stream, from 0, in the order of sending or as soon as it is whole (RFC 9260, 11.1.5, and 6.6).
-    /// `payload_id` goes with it for the peer's user. From the moment `until` on, in milliseconds, it is worthless: `on_moment` then
-    /// abandons it (RFC 3758, 3.5). The ticket names it in `abandon`, `acknowledged` and `abandoned`.
+    /// Queues a message for the peer on a stream, counted from 0: delivered in the order of sending, or unordered, as soon as it is complete (RFC 9260,
+    /// 11.1.5 and 6.6). `payload_id` is the payload protocol identifier, passed on to the peer's user. `until` is the end of its lifetime, in
+    /// milliseconds: an `on_moment` at or after it abandons the message (RFC 3758, 3.5). `next_moment` doesn't count lifetimes: call `on_moment` at
+    /// `until` too. The ticket identifies the message in `abandon`, `acknowledged` and `abandoned`.
     ///
     /// # Errors
-    /// `Refused::NotOpen` unless the association is established, before every other reason; then `Refused::Fault` with the first of the
-    /// sender's reasons: a stream that isn't there, no bytes, more than 65,536, too many messages that wait for their turn, no number
-    /// left, or no memory. Nothing changed; the bytes are dropped.
+    /// `Refused::NotOpen` unless the association is established, before every other error; then `Refused::Fault` with the first of the sender's
+    /// errors that applies: no such stream, no bytes, more than 65,536 bytes, 1,024 messages queued already, no ticket left, or an allocation that
+    /// failed. Nothing changed; the bytes are dropped.
     pub fn send(
         &mut self,
         stream: u16,
@@ -54,57 +55,58 @@ impl Endpoint {
         ensures step { (v : EndView) → EndpointStands self.old v → EndpointStands self.new (sent_view v (call_of (lane_for stream ordered) payload_id bytes.items until) result) }
         ensures logs { (v : EndView) → EndpointStands self.old v → GivesLogs v result self.new }
     {
-        // It does nothing: its contract is that the end is sound.
+        // law: it is sound
         self.machine.sound();
         self.machine.send(stream, ordered, payload_id, bytes, until)
     }
 
-    /// Takes the first message that waits on a stream (RFC 9260, 11.1.6): None where none does. Its room in the receive buffer is free then.
-    /// It takes no memory.
+    /// Returns the first message that waits on a stream (RFC 9260, 11.1.6), and None if none does. Its space in the receive buffer is then free; the peer
+    /// learns of it with the next SACK. It allocates no memory.
     pub fn take(&mut self, stream: u16) -> Option<Message>
         ensures step { (v : EndView) → EndpointStands self.old v → (t : EndView) × UserTakes v stream (option_map handed_of result) t × EndpointStands self.new t }
         ensures logs { (v : EndView) → EndpointStands self.old v → TakesLogs v stream result self.new }
     {
-        // It does nothing: its contract is that the end is sound.
+        // law: it is sound
         self.machine.sound();
         self.machine.take(stream)
     }
 
-    /// Gives up a message: what waits is withdrawn; what has gone out is skipped, where both ends agreed on that (RFC 3758, 3.5). The answer
-    /// says what has become of it. It takes no memory.
+    /// Abandons a message: one that is queued is withdrawn; one that was sent, in part at least, is abandoned if both endpoints support partial
+    /// reliability (RFC 3758, 3.5). The answer says what was done. It allocates no memory.
     pub fn abandon(&mut self, ticket: Ticket) -> Abandoned
         ensures answer { (v : EndView) → EndpointStands self.old v → answer_meaning result ≡ abandons v ticket.0 }
         ensures step { (v : EndView) → EndpointStands self.old v → EndpointStands self.new (abandoned_at v ticket.0) }
         ensures logs { (v : EndView) → EndpointStands self.old v → LeavesLogs v self.new }
     {
-        // It does nothing: its contract is that the end is sound.
+        // law: it is sound
         self.machine.sound();
         self.machine.abandon(ticket)
     }
 
-    /// Shuts the association: no message is accepted any more, and what was is still delivered (RFC 9260, 9.2 and 11.1.3). Once that is
-    /// begun the call changes nothing. It takes no memory.
+    /// Closes the association gracefully: no further message is accepted, and those accepted are still delivered (RFC 9260, 9.2 and 11.1.3). If the
+    /// shutdown has begun already the call changes nothing. It allocates no memory.
     ///
     /// # Errors
-    /// `ShutdownFault::NotOpen` where no association is open. Nothing changed.
+    /// `ShutdownFault::NotOpen` if no association is open. Nothing changed.
     pub fn shutdown(&mut self) -> Result<(), ShutdownFault>
         ensures answer { (v : EndView) → EndpointStands self.old v → shutdown_meaning result ≡ shutdown_answer v.phase }
         ensures step { (v : EndView) → EndpointStands self.old v → EndpointStands self.new (shut v) }
         ensures logs { (v : EndView) → EndpointStands self.old v → LeavesLogs v self.new }
     {
-        // It does nothing: its contract is that the end is sound.
+        // law: it is sound
         self.machine.sound();
         self.machine.shutdown()
     }
 
-    /// Time has come to this moment, in milliseconds: what is past its time is abandoned, then each timer that is due expires once, and what
-    /// it repeats is due again (RFC 9260, 6.3.3; RFC 3758, 3.5). A moment before the latest one counts as that one. Call it no later than
-    /// `next_moment` says, and `poll_transmit` afterwards. It takes no memory.
+    /// Advances the time to `now`, in milliseconds: messages whose lifetime is over are abandoned (RFC 3758, 3.5); then each timer that is due expires
+    /// once, and what it retransmits is due again (RFC 9260, 6.3.3); a delayed SACK whose time has come is due, too (RFC 9260, 6.2). A time before
+    /// the latest one counts as that one. Call it no later than `next_moment` says, and at the end of each message's lifetime, which `next_moment`
+    /// doesn't count; then call `poll_transmit`. It allocates no memory.
     pub fn on_moment(&mut self, now: u64)
         ensures step { (v : EndView) → EndpointStands self.old v → EndpointStands self.new (ticked v now) }
         ensures logs { (v : EndView) → EndpointStands self.old v → LeavesLogs v self.new }
     {
-        // It does nothing: its contract is that the end is sound.
+        // law: it is sound
         self.machine.sound();
         self.machine.on_moment(now);
     }

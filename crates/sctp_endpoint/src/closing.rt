@@ -1,5 +1,4 @@
-//! Chunks that end an association: ABORT, an ERROR that tells of a late cookie, SHUTDOWN ACK and SHUTDOWN COMPLETE (RFC 9260, 5.2.6, 9.1
-//! and 9.2).
+//! Chunks that end an association: ABORT, an ERROR for a stale cookie, SHUTDOWN ACK and SHUTDOWN COMPLETE (RFC 9260, 5.2.6, 9.1 and 9.2).
 
 ghost use Rattle.std.specs.Prelude.{◌≡◌, Bool, List, ℕ, IfOk, OnErr};
 ghost use Rattle.sctp_model.specs.wire.Typed.{typed_in};
@@ -26,7 +25,7 @@ pub(crate) fn on_abort(machine: &mut Machine) -> After
     After::Ends
 }
 
-/// An ERROR says nothing, but to a caller whose cookie came too late (RFC 9260, 3.3.10 and 5.2.6).
+/// An ERROR has no effect but at a caller whose cookie was stale (RFC 9260, 3.3.10 and 5.2.6).
 pub(crate) fn on_error(machine: &mut Machine, causes: &Causes<'_>) -> After
     ensures { (v : EndView) → MachineStands machine.old v → Left result v (ErrorActs v causes.now) machine.new }
 {
@@ -40,7 +39,7 @@ pub(crate) fn on_error(machine: &mut Machine, causes: &Causes<'_>) -> After
     After::Ends
 }
 
-/// One of the causes is a Stale Cookie (RFC 9260, 3.3.10.3).
+/// Whether one of the causes is a Stale Cookie (RFC 9260, 3.3.10.3).
 fn has_stale_cookie(causes: &Causes<'_>) -> bool
     ensures { result ≡ has_cause reports.STALE_COOKIE (typed_in causes.now) }
 {
@@ -52,10 +51,10 @@ fn has_stale_cookie(causes: &Causes<'_>) -> bool
     false
 }
 
-/// A SHUTDOWN ACK completes the association where one is awaited, and is answered by SHUTDOWN COMPLETE (RFC 9260, 9.2).
+/// A SHUTDOWN ACK that is awaited completes the association, and is answered by SHUTDOWN COMPLETE (RFC 9260, 9.2).
 ///
 /// # Errors
-/// Memory ran out for the answer, and nothing changed.
+/// `NoMemory` if the allocation of the answer failed; nothing changed then.
 pub(crate) fn on_shutdown_ack(machine: &mut Machine) -> Result<After, NoMemory>
     ensures step { (v : EndView) → MachineStands machine.old v → IfOk result (λ a. Left a v (ShutdownAckActs v) machine.new) }
     ensures refused { (v : EndView) → MachineStands machine.old v → OnErr result (MachineStands machine.new v) }
@@ -69,7 +68,7 @@ pub(crate) fn on_shutdown_ack(machine: &mut Machine) -> Result<After, NoMemory>
     Ok(After::Replies(machine.complete(opened.tags.peer)?))
 }
 
-/// A SHUTDOWN COMPLETE completes the association where one is awaited (RFC 9260, 9.2).
+/// A SHUTDOWN COMPLETE that is awaited completes the association (RFC 9260, 9.2).
 pub(crate) fn on_complete(machine: &mut Machine) -> After
     ensures { (v : EndView) → MachineStands machine.old v → Left result v (CompleteActs v) machine.new }
 {

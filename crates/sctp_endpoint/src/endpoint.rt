@@ -1,4 +1,4 @@
-//! One end of an association, and how it is made.
+//! An endpoint, and how it is made.
 
 ghost use Rattle.std.specs.Prelude.{IfOk};
 ghost use Rattle.sctp_model.specs.end.Sealing.{Sealing};
@@ -14,22 +14,22 @@ use sctp_terms::{Config, Draw};
 use sctp_values::NoMemory;
 use std::alloc::Global;
 
-/// One end of an association: a state machine that sends and receives nothing itself, and has no clock and no chance of its own.
+/// One endpoint of an association (RFC 9260): a state machine without sockets, clock or random numbers of its own.
 ///
 /// Its calls are of five kinds:
 ///
-/// - What came: [`handle_packet`](Endpoint::handle_packet) takes a packet, [`on_moment`](Endpoint::on_moment) the time, no later than
+/// - Input: [`handle_packet`](Endpoint::handle_packet) for a received packet, [`on_moment`](Endpoint::on_moment) for the time, no later than
 ///   [`next_moment`](Endpoint::next_moment) says.
-/// - What the user asks: [`connect`](Endpoint::connect), [`send`](Endpoint::send), [`take`](Endpoint::take),
+/// - Requests of the user: [`connect`](Endpoint::connect), [`send`](Endpoint::send), [`take`](Endpoint::take),
 ///   [`abandon`](Endpoint::abandon), [`shutdown`](Endpoint::shutdown) and [`abort`](Endpoint::abort).
-/// - What goes out: after each of these calls [`poll_transmit`](Endpoint::poll_transmit), until it has nothing more. An answer to a packet
-///   and the packet of `abort` are sent as they are.
-/// - What its user is done with and may hand back: [`recycle`](Endpoint::recycle) a packet that was sent, and
-///   [`give_back`](Endpoint::give_back) a message that was taken. It shows in no answer.
-/// - What it tells of itself, which changes nothing.
+/// - Output: after each of these calls [`poll_transmit`](Endpoint::poll_transmit), until it returns no further packet. An answer to a packet and the
+///   packet of `abort` are returned by these calls themselves.
+/// - Buffers that may be reused: [`recycle`](Endpoint::recycle) for a packet that was sent, [`give_back`](Endpoint::give_back) for a message that was
+///   taken. No result of another call depends on them.
+/// - Readers, which change nothing.
 ///
-/// A moment is a number of milliseconds since any beginning that its user chose; it never goes back: one before the latest that the end was
-/// told counts as that one. Where memory runs out a call says so, and the end stands as its own call says.
+/// Times are milliseconds since any start that the user chooses. They never go back: a time before the latest one passed in counts as that one. Any
+/// allocation may fail: the call then says so, and its documentation says what it left.
 #[derive(Drop)]
 pub struct Endpoint {
     pub(crate) machine: Machine,
@@ -37,8 +37,8 @@ pub struct Endpoint {
 
 #[tactic(auto, unfolding(crate::specs::EndpointStands::EndpointStands))]
 impl Endpoint {
-    /// An end that waits for a peer, and keeps nothing until its cookie came back: it seals cookies with this key, which nobody else may
-    /// know (RFC 9260, 5.1.3). What it needs later it takes from `alloc`; now it takes no memory.
+    /// A listener: it waits for a peer, and keeps no state until a valid cookie returns. Cookies are authenticated with this key, which nobody else may
+    /// know (RFC 9260, 5.1.3). Memory is allocated from `alloc` later; this call allocates none.
     pub fn listener(alloc: Global, config: Config, key: Key) -> Endpoint
         ensures { (s : Sealing) → IsUnder key s → EndpointStands result (fresh_end config (model.Listener s) model.Listening) }
     {
@@ -47,7 +47,7 @@ impl Endpoint {
         }
     }
 
-    /// An end that calls its peer with `connect`. What it needs later it takes from `alloc`; now it takes no memory.
+    /// A caller: it begins the association with `connect`. Memory is allocated from `alloc` later; this call allocates none.
     pub fn caller(alloc: Global, config: Config) -> Endpoint
         ensures { EndpointStands result (fresh_end config model.Caller model.Idle) }
     {
@@ -56,11 +56,11 @@ impl Endpoint {
         }
     }
 
-    /// An end that is established at once, without packets: its peer is opened likewise, with the two draws the other way round and with
-    /// the same sizes, streams and extensions.
+    /// An endpoint that is established at once, without packets. Its peer is made by the same call, with `own` and `peer`, the verification tags and
+    /// initial TSNs, exchanged, and with the same sizes, streams and extensions.
     ///
     /// # Errors
-    /// `NoMemory` where a growth was refused.
+    /// `NoMemory` if an allocation failed.
     pub fn opened(
         alloc: Global,
         config: Config,

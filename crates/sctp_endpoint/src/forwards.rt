@@ -1,4 +1,4 @@
-//! What a FORWARD-TSN or an I-FORWARD-TSN does to an end (RFC 3758, 3.6; RFC 8260, 2.3.1).
+//! What a FORWARD-TSN or an I-FORWARD-TSN chunk does (RFC 3758, 3.6; RFC 8260, 2.3.1).
 
 ghost use Rattle.std.specs.Prelude.{◌≡◌, true, false, IfOk, OnErr};
 ghost use Rattle.sctp_model.specs.end.EndView.{EndView, format_for};
@@ -15,10 +15,10 @@ use sctp_values::NoMemory;
 use sctp_wire::Forward;
 use sctp_wire::codes::PROTOCOL_VIOLATION;
 
-/// A FORWARD-TSN comes, or an I-FORWARD-TSN. One that may not be sent, or is bad, closes the association.
+/// A FORWARD-TSN or I-FORWARD-TSN is received. One that isn't supported here, or is invalid, aborts the association.
 ///
 /// # Errors
-/// `NoMemory` where a growth was refused; nothing changed then.
+/// `NoMemory` if an allocation failed; nothing changed then.
 pub(crate) fn on_forward(
     machine: &mut Machine,
     interleaved: bool,
@@ -46,7 +46,7 @@ pub(crate) fn on_forward(
     }
 }
 
-/// A FORWARD acted: it brings no user data, and is acknowledged at once (RFC 3758, 3.6).
+/// A FORWARD-TSN was handled: it has no user data, and is acknowledged at once (RFC 3758, 3.6).
 fn acted() -> After
     ensures { result ≡ Acknowledges false true }
 {
@@ -56,7 +56,7 @@ fn acted() -> After
     }
 }
 
-/// A FORWARD of this format may be sent: the association has this format, and partial reliability is on.
+/// Whether the peer may send a FORWARD-TSN of this format: the association uses the format, and partial reliability.
 fn may_forward(machine: &Machine, interleaved: bool) -> bool
     ensures { (v : EndView) → MachineStands machine.now v → result ≡ may_forward (format_for interleaved) v }
 {

@@ -1,4 +1,4 @@
-//! Laws of the bytes that ends send and are given, for whoever carries them. Their functions do nothing: each carries a theorem as its contract.
+//! Laws of the bytes that endpoints send and receive, for whoever carries packets between them.
 
 ghost use Rattle.std.specs.Prelude.{◌≡◌, ℕ, List};
 ghost use Rattle.sctp_model.specs.wire.Packet.{Packet};
@@ -12,6 +12,7 @@ use sctp_wire::codes::{
 };
 
 /// The types of chunks are the registered numbers (RFC 9260, 3.2; RFC 3758, 3.2; RFC 8260, 2.1 and 2.3.1).
+// law
 pub fn chunk_types()
     ensures data { DATA ≡ 0 }
     ensures init { INIT ≡ 1 }
@@ -31,14 +32,16 @@ pub fn chunk_types()
     ensures i_forward { I_FORWARD_TSN ≡ 194 }
 {}
 
-/// Bytes that come are at most one packet, or have at most one fault, never both.
+/// Bytes that arrive are at most one packet, or have at most one fault, never both; and they are one of the two.
+// law
 pub fn one_packet()
     ensures { (bytes : List ℕ) → ReadInOneWay bytes }
 {
     sctp_packet::one_packet();
 }
 
-/// What an end writes for a packet whose chunks stand where they may reads at its peer as this packet: its header and its chunks.
+/// The bytes that an endpoint writes for a packet whose chunks may be bundled so are read by its peer as this packet: its header and its chunks.
+// law
 pub fn written_packet_reads()
     ensures { (bytes : List ℕ) (p : Packet) → WritesPacket bytes p → ArePlaced p.chunks → ReadsPacket bytes p }
 {

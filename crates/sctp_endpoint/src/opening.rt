@@ -1,4 +1,4 @@
-//! The chunks that open an association, at an end that has begun to: INIT ACK, COOKIE ECHO, COOKIE ACK (RFC 9260, 5.1 and 5.2).
+//! The chunks that set up an association, at an endpoint that has begun one: INIT ACK, COOKIE ECHO, COOKIE ACK (RFC 9260, 5.1 and 5.2).
 
 ghost use Rattle.std.specs.Prelude.{◌<◌, IfOk, OnErr};
 ghost use Rattle.sctp_model.specs.end.EndView.{EndView};
@@ -13,14 +13,14 @@ use sctp_terms::Reason;
 use sctp_values::NoMemory;
 use sctp_wire::Init;
 
-/// What an INIT ACK does: a caller takes the first that it may, and passes over all that come later (RFC 9260, 5.1, C and 5.2.3).
+/// An INIT ACK is received: a caller takes the first one, and ignores all later ones (RFC 9260, 5.1, C and 5.2.3).
 ///
 /// # Errors
-/// `NoMemory` where a growth was refused; nothing changed then.
+/// `NoMemory` if an allocation failed; nothing changed then.
 pub(crate) fn on_init_ack(machine: &mut Machine, offer: &Init<'_>) -> Result<After, NoMemory>
     ensures step { (v : EndView) → MachineStands machine.old v → IfOk result (λ a. Left a v (InitAckActs v (init_meaning offer.now)) machine.new) }
     ensures refused { (v : EndView) → MachineStands machine.old v → OnErr result (MachineStands machine.new v) }
-    // One that is dropped for its tag takes no memory.
+    // One that is dropped for its tag needs no memory.
     ensures tagged { OnErr result (0 < offer.now.tag) }
 {
     let Some(draw) = machine.calling() else {
@@ -38,8 +38,8 @@ pub(crate) fn on_init_ack(machine: &mut Machine, offer: &Init<'_>) -> Result<Aft
     }
 }
 
-/// What a COOKIE ECHO does that comes again, under this verification tag: its COOKIE ACK may have been lost, so it is told once more
-/// (RFC 9260, 5.2.4). It takes no memory.
+/// A COOKIE ECHO is received again, with this verification tag: its COOKIE ACK may have been lost, so it is sent again (RFC 9260, 5.2.4). It allocates
+/// no memory.
 pub(crate) fn on_cookie_echo(machine: &mut Machine, tag: u32, cookie: &[u8]) -> After
     ensures { (v : EndView) → MachineStands machine.old v → Left result v (EchoActs v tag cookie.now) machine.new }
 {
@@ -59,7 +59,7 @@ pub(crate) fn on_cookie_echo(machine: &mut Machine, tag: u32, cookie: &[u8]) -> 
     After::GoesOn
 }
 
-/// What a COOKIE ACK does: the association of a caller is established (RFC 9260, 5.1, E). It takes no memory.
+/// A COOKIE ACK is received: the association of a caller is established (RFC 9260, 5.1, E). It allocates no memory.
 pub(crate) fn on_cookie_ack(machine: &mut Machine) -> After
     ensures { (v : EndView) → MachineStands machine.old v → Left result v (CookieAckActs v) machine.new }
 {

@@ -1,6 +1,6 @@
-//! What a DATA or an I-DATA does to an end (RFC 9260, 6.2; RFC 8260, 2.1).
+//! What a DATA or an I-DATA chunk does (RFC 9260, 6.2; RFC 8260, 2.1).
 
-ghost use Rattle.std.specs.Prelude.{◌≡◌, true, IfOk, OnErr};
+ghost use Rattle.std.specs.Prelude.{◌≡◌, IfOk, OnErr};
 ghost use Rattle.sctp_model.specs.numbers.Numbers.{u32_bytes};
 ghost use Rattle.sctp_model.specs.end.EndView.{EndView, format_for};
 ghost use Rattle.sctp_model.specs.wire.Chunk.{PieceMeaning};
@@ -9,7 +9,6 @@ ghost use Rattle.sctp_wire.specs.ChunkTree.{piece_meaning};
 ghost use Rattle.sctp_recv.specs.AnswerOf.{answer_of};
 ghost use Rattle.sctp_association.specs.MachineStands.{MachineStands};
 ghost use Rattle.sctp_endpoint.specs.Left.{Left};
-ghost use Rattle.sctp_endpoint.specs.inner.Heard.{IsHeard};
 
 use crate::after::After;
 use sctp_association::Machine;
@@ -18,27 +17,11 @@ use sctp_values::NoMemory;
 use sctp_wire::Piece;
 use sctp_wire::codes::{NO_USER_DATA, PROTOCOL_VIOLATION};
 
-/// A DATA or an I-DATA that the receiver is asked about: the end hears it, it has data, and it is of the association's format.
-#[inline(always)]
-pub(crate) fn is_heard(machine: &Machine, interleaved: bool, piece: &Piece<'_>) -> bool
-    ensures { (v : EndView) → MachineStands machine.now v → result ≡ true → IsHeard (format_for interleaved) v (piece_meaning piece.now) }
-{
-    let Some(open) = machine.opened() else {
-        return false;
-    };
-    if !open.stage.takes_data() {
-        return false;
-    }
-    if piece.bytes.is_empty() {
-        return false;
-    }
-    machine.is_interleaved() == interleaved
-}
-
-/// A DATA comes, or an I-DATA. One without data, or of the other format, closes the association.
+/// A DATA or I-DATA chunk is received. One without user data, or of the format that isn't used, aborts the association.
 ///
 /// # Errors
-/// `NoMemory` where a growth was refused; nothing changed then.
+/// `NoMemory` if an allocation failed; nothing changed then.
+#[inline(always)]
 pub(crate) fn on_piece(
     machine: &mut Machine,
     interleaved: bool,
@@ -68,7 +51,7 @@ pub(crate) fn on_piece(
     })
 }
 
-/// A chunk with data that wasn't kept, or says so itself, is to be acknowledged at once (RFC 9260, 6.2).
+/// A chunk is to be acknowledged at once if it wasn't kept, or has the I bit (RFC 9260, 6.2).
 pub(crate) fn asks_at_once(immediate: bool, answer: Answer) -> bool
     ensures { (p : PieceMeaning) → p.immediate ≡ immediate → result ≡ asks_at_once p (answer_of answer) }
 {
@@ -78,15 +61,10 @@ pub(crate) fn asks_at_once(immediate: bool, answer: Answer) -> bool
     }
 }
 
-/// The value of the cause for a chunk without data: its TSN (RFC 9260, 3.3.10.9).
+/// The value of the cause No User Data: the chunk's TSN (RFC 9260, 3.3.10.9).
 #[tactic(auto, unfolding(sctp_model::specs::numbers::Numbers::u32_bytes))]
 fn tsn_value(tsn: u32) -> [u8; 4]
     ensures { result ≡ u32_bytes tsn }
 {
-    [
-        (tsn / 16_777_216 % 256) as u8,
-        (tsn / 65_536 % 256) as u8,
-        (tsn / 256 % 256) as u8,
-        (tsn % 256) as u8,
-    ]
+    tsn.to_be_bytes()
 }

@@ -1,4 +1,4 @@
-//! Rooms that come back: what the user of an end is done with, and need not hand back.
+//! Buffers that the user returns for reuse, or not.
 
 ghost use Rattle.sctp_model.specs.end.EndView.{EndView};
 ghost use Rattle.sctp_endpoint.specs.EndpointStands.{EndpointStands};
@@ -8,17 +8,18 @@ use sctp_recv::Message;
 
 #[tactic(auto, unfolding(crate::specs::EndpointStands::EndpointStands))]
 impl Endpoint {
-    /// Hands back a packet that was sent: its bytes are forgotten, and the next packet is made in their room in place of new memory. One room is
-    /// kept, that of one packet at most: the larger one, where another was handed back before. It need not be called, and shows in no answer.
-    /// It takes no memory.
+    /// Returns the buffer of a packet that was sent: its bytes are dropped, and the next packet is made in it in place of a new allocation. One buffer
+    /// is kept, the larger one of two, and none larger than the packet limit. Calling it is optional, and no other result depends on it. It allocates no
+    /// memory.
     pub fn recycle(&mut self, packet: Vec<u8>)
         ensures { (v : EndView) → EndpointStands self.old v → EndpointStands self.new v }
     {
         self.machine.recycle(packet);
     }
 
-    /// Hands back a message that was taken: it is forgotten, and what comes next may be kept in its blocks in place of new memory. Of these no
-    /// more are kept than the receiver says (`sctp_recv::Receiver::give_back`). It need not be called, and shows in no answer. It takes no memory.
+    /// Returns the memory of a message that was taken: its bytes are dropped, and user data received later may be kept in its blocks in place of new
+    /// allocations. `sctp_recv::Receiver::give_back` says how many blocks are kept. Calling it is optional, and no other result depends on it. It
+    /// allocates no memory.
     pub fn give_back(&mut self, message: Message)
         ensures { (v : EndView) → EndpointStands self.old v → EndpointStands self.new v }
     {

@@ -1,8 +1,7 @@
-//! What a SACK does to an end (RFC 9260, 6.2.1).
+//! What a SACK does (RFC 9260, 6.2.1).
 
-ghost use Rattle.std.specs.Prelude.{◌≡◌, true, false, IfOk, OnErr};
+ghost use Rattle.std.specs.Prelude.{IfOk, OnErr};
 ghost use Rattle.sctp_model.specs.end.EndView.{EndView};
-ghost use Rattle.sctp_model.specs.end.PeerFaults.{Unnoted, GoesOn};
 ghost use Rattle.sctp_model.specs.end.Acting.{SackActs};
 ghost use Rattle.sctp_wire.specs.ChunkTree.{sack_meaning};
 ghost use Rattle.sctp_association.specs.MachineStands.{MachineStands};
@@ -15,32 +14,11 @@ use sctp_values::NoMemory;
 use sctp_wire::Sack;
 use sctp_wire::codes::PROTOCOL_VIOLATION;
 
-/// A SACK comes: true where it counts, or is older than another and does nothing. Else nothing changed.
-#[inline(always)]
-pub(crate) fn counts(machine: &mut Machine, sack: &Sack<'_>) -> bool
-    ensures heard { (v : EndView) → MachineStands machine.old v → result ≡ true
-        → (w : EndView) × SackActs v (sack_meaning sack.now) (GoesOn Unnoted w) × MachineStands machine.new w }
-    ensures left { (v : EndView) → MachineStands machine.old v → result ≡ false → MachineStands machine.new v }
-{
-    let Some(open) = machine.opened() else {
-        return false;
-    };
-    if !open.stage.takes_acknowledgements() {
-        return false;
-    }
-    match machine.hear_sack(sack) {
-        Ok(()) => true,
-        Err(SackFault::Stale) => true,
-        Err(SackFault::Beyond) => false,
-        Err(SackFault::BadBlock) => false,
-    }
-}
-
-/// A SACK comes. One that is older than another does nothing; one that acknowledges what was not sent, or has bad blocks, closes the
-/// association.
+/// A SACK is received. One that is older than an earlier one does nothing; one that acknowledges a TSN that wasn't sent, or has invalid gap blocks,
+/// aborts the association.
 ///
 /// # Errors
-/// `NoMemory` where a growth was refused; nothing changed then.
+/// `NoMemory` if an allocation failed; nothing changed then.
 pub(crate) fn on_sack(machine: &mut Machine, sack: &Sack<'_>) -> Result<After, NoMemory>
     ensures step { (v : EndView) → MachineStands machine.old v → IfOk result (λ a. Left a v (SackActs v (sack_meaning sack.now)) machine.new) }
     ensures refused { (v : EndView) → MachineStands machine.old v → OnErr result (MachineStands machine.new v) }

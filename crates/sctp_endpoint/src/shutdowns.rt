@@ -1,4 +1,4 @@
-//! What a SHUTDOWN does to an end (RFC 9260, 3.3.8 and 9.2).
+//! What a SHUTDOWN chunk does (RFC 9260, 3.3.8 and 9.2).
 
 ghost use Rattle.std.specs.Prelude.{◌≡◌, true, IfOk, OnErr};
 ghost use Rattle.sctp_model.specs.end.EndView.{EndView};
@@ -15,10 +15,10 @@ use sctp_send::SackFault;
 use sctp_values::NoMemory;
 use sctp_wire::codes::PROTOCOL_VIOLATION;
 
-/// A SHUTDOWN comes: the peer has no more to send. Where this end has closed its direction, too, it is answered at once.
+/// A SHUTDOWN is received: the peer sends no further messages. It is answered at once if this endpoint sends none either.
 ///
 /// # Errors
-/// `NoMemory` where a growth was refused; nothing changed then.
+/// `NoMemory` if an allocation failed; nothing changed then.
 pub(crate) fn on_shutdown(machine: &mut Machine, tsn: u32) -> Result<After, NoMemory>
     ensures step { (v : EndView) → MachineStands machine.old v → IfOk result (λ a. Left a v (ShutdownActs v tsn) machine.new) }
     ensures refused { (v : EndView) → MachineStands machine.old v → OnErr result (MachineStands machine.new v) }
@@ -37,11 +37,11 @@ pub(crate) fn on_shutdown(machine: &mut Machine, tsn: u32) -> Result<After, NoMe
     Ok(After::GoesOn)
 }
 
-/// A SHUTDOWN comes where acknowledgements are heard: its cumulative TSN counts, unless it is older than another; one that acknowledges what
-/// was not sent closes the association.
+/// A SHUTDOWN is received in a state that takes acknowledgements: its cumulative TSN counts as that of a SACK unless it is older than an earlier one;
+/// one that acknowledges a TSN that wasn't sent aborts the association.
 ///
 /// # Errors
-/// `NoMemory` where a growth was refused; nothing changed then.
+/// `NoMemory` if an allocation failed; nothing changed then.
 fn on_counting(machine: &mut Machine, opened: Opened, tsn: u32) -> Result<After, NoMemory>
     ensures step { (v : EndView) → MachineStands machine.old v → v.phase ≡ model.Open (tags_meaning opened.tags) (stage_meaning opened.stage)
         → takes_acknowledgements (stage_meaning opened.stage) ≡ true → IfOk result (λ a. Left a v (ShutdownActs v tsn) machine.new) }

@@ -1,4 +1,4 @@
-//! HEARTBEAT, and chunks of an unknown type (RFC 9260, 3.2 and 8.3).
+//! HEARTBEAT chunks, and chunks of an unrecognized type (RFC 9260, 3.2 and 8.3).
 
 ghost use Rattle.std.specs.Prelude.{◌≡◌, ℕ, Bool, ◌&&◌, if◌then◌else◌, IfOk, OnOk, OnErr};
 ghost use Rattle.sctp_model.specs.wire.Chunk.{Unknown};
@@ -13,10 +13,10 @@ use sctp_association::Machine;
 use sctp_values::NoMemory;
 use sctp_wire::unknown_chunk;
 
-/// A HEARTBEAT asks for its value again, where the association is open (RFC 9260, 8.3).
+/// A HEARTBEAT is received: if an association is open, a HEARTBEAT ACK with its value is due (RFC 9260, 8.3).
 ///
 /// # Errors
-/// Memory ran out for the value, and nothing changed.
+/// `NoMemory` if the allocation for the value failed; nothing changed then.
 pub(crate) fn on_heartbeat(machine: &mut Machine, info: &[u8]) -> Result<After, NoMemory>
     ensures step { (v : EndView) → MachineStands machine.old v → IfOk result (λ a. Left a v (HeartbeatActs v info.now) machine.new) }
     ensures refused { (v : EndView) → MachineStands machine.old v → OnErr result (MachineStands machine.new v) }
@@ -28,11 +28,11 @@ pub(crate) fn on_heartbeat(machine: &mut Machine, info: &[u8]) -> Result<After, 
     Ok(After::GoesOn)
 }
 
-/// A chunk of an unknown type: the two highest bits of its type say whether the peer is told of it, and whether the packet goes on behind it
+/// A chunk of an unrecognized type: the two highest bits of its type say whether it is reported to the peer, and whether the chunks after it are handled
 /// (RFC 9260, 3.2).
 ///
 /// # Errors
-/// Memory ran out for the report, and nothing changed.
+/// `NoMemory` if the allocation for the report failed; nothing changed then.
 pub(crate) fn on_unknown(
     machine: &mut Machine,
     kind: u8,
@@ -51,10 +51,10 @@ pub(crate) fn on_unknown(
     }
 }
 
-/// The peer is told of a chunk, where its type asks for that and there is a peer to tell (RFC 9260, 3.3.10.6).
+/// Reports a chunk to the peer if its type asks for that and there is a peer (RFC 9260, 3.3.10.6).
 ///
 /// # Errors
-/// Memory ran out, and nothing changed.
+/// `NoMemory` if an allocation failed; nothing changed then.
 fn report(
     machine: &mut Machine,
     asked: bool,

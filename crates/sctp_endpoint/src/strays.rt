@@ -1,4 +1,4 @@
-//! A packet at an end without an association: the cookie that begins one, and everything else, of which nothing is kept (RFC 9260, 5.1 and 8.4).
+//! A packet at an endpoint without an association: a valid cookie begins one; of everything else no state is kept (RFC 9260, 5.1 and 8.4).
 
 ghost use Rattle.std.specs.Prelude.{IfOk, OnErr};
 ghost use Rattle.sctp_model.specs.end.EndView.{EndView};
@@ -12,10 +12,10 @@ use sctp_terms::Draw;
 use sctp_values::NoMemory;
 use sctp_wire::Chunks;
 
-/// What becomes of a packet of these chunks, under this verification tag, at an end without an association. An INIT is answered with this draw.
+/// Handles a packet of these chunks, with this verification tag, at an endpoint without an association. An INIT is answered with the random values `draw`.
 ///
 /// # Errors
-/// `NoMemory` where a growth was refused; nothing changed then. Only an answer takes memory, and an association that begins.
+/// `NoMemory` if an allocation failed; nothing changed then. Only an answer needs memory, and an association that begins.
 pub(crate) fn on_stray(
     machine: &mut Machine,
     draw: Draw,

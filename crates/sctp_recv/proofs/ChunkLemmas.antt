@@ -1,4 +1,4 @@
--- A chunk that comes, as one of a lane.
+-- A chunk that is received, as one of its lane (a stream and a kind).
 use Rattle.std.proofs.Common.{◌≡◌, ℕ, suc, ◌<◌, Bool, true, false, List, Option, None, Some, inl, inr, refl, sym, ◌∙◌, ap, subst, arith}
 use Rattle.std.specs.Prelude.{◌&&◌, is_some}
 use Rattle.sctp_model.specs.numbers.Serial.{COUNTS}

@@ -1,4 +1,4 @@
--- The numbers that a FORWARD skips: what a view's lanes come to is what was found out for a stream.
+-- The numbers that a FORWARD skips: those of a view's lanes are those found for a stream.
 use Rattle.std.proofs.Common.{◌≡◌, ℕ, suc, ◌<◌, ◌≤◌, ◌⊎◌, max, nat_lt, Bool, true, false, List, [], ◌∷◌, Option, None, Some, inl, inr, refl, sym, ◌∙◌, ap, arith}
 use Rattle.std.specs.Prelude.{if◌then◌else◌}
 use Rattle.std.proofs.lemmas.Bool.{cases_Bool}

@@ -1,4 +1,4 @@
--- An index above the cumulative one came exactly where there is a run.
+-- An index above the cumulative one was received if and only if there is a run.
 use Rattle.std.proofs.Common.{◌≡◌, ◌≤◌, List, [], ◌∷◌, length, true, false, inl, refl, ◌∙◌, ap, arith}
 use Rattle.std.specs.Prelude.{nat_lt}
 use Rattle.std.proofs.lemmas.Bool.Decides.{nat_tests}

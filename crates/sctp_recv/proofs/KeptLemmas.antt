@@ -1,4 +1,4 @@
--- What a receiver keeps once a chunk was kept, with some of the chunks gone and one stream changed; and the bytes held.
+-- What a receiver keeps after a chunk was kept, with some of the chunks dropped and one stream changed; and the bytes held.
 use Rattle.std.proofs.Common.{◌≡◌, ℕ, suc, ◌+◌, ◌-◌, ◌^◌, ◌<◌, ◌≤◌, max, Bool, true, false, ◌==◌, List, ◌∷◌, ◌++◌, length, set, filter, Some, inl, inr, sym, ◌∙◌, ap, arith}
 use Rattle.std.proofs.lemmas.Bool.{cases_eq}
 use Rattle.std.proofs.lemmas.Bool.Decides.{nat_tests}

@@ -1,4 +1,4 @@
--- Lists in which each element stands in a relation to those behind it.
+-- Lists in which each element is in a relation to all later ones.
 use Rattle.std.proofs.Common.{◌≡◌, ◌⊎◌, List, [], ◌∷◌, ◌++◌, inl, inr, refl, sym, ◌∙◌, subst}
 use Rattle.sctp_model.specs.numbers.Lists.{Has, AreInOrder}
 

@@ -1,4 +1,4 @@
--- A FORWARD on one stream after the other: what is due on each is handed over in a view, and the bytes held are counted.
+-- A FORWARD on one stream after the other: what is due on each is delivered in a view, and the bytes held are counted.
 use Rattle.std.proofs.Common.{◌≡◌, ℕ, suc, ◌+◌, ◌-◌, ◌^◌, ◌<◌, ◌≤◌, max, true, false, List, [], ◌∷◌, ◌++◌, length, set, Some, inl, inr, refl, sym, ◌∙◌, ap, subst, arith}
 use Rattle.std.specs.Prelude.{not, slice_get}
 use Rattle.std.proofs.lemmas.Bool.{cases_eq}

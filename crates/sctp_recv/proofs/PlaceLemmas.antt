@@ -1,4 +1,4 @@
--- Numbers that stand as a tree: one is put, and those up to a limit are found.
+-- Numbers in a tree of minima: one is set, and those up to a limit are found.
 use Rattle.std.proofs.Common.{◌≡◌, ℕ, zero, suc, ◌+◌, ◌<◌, ◌≤◌, ◌⊎◌, Bool, true, false, List, [], ◌∷◌, ◌++◌, length, set, replicate, inl, inr, refl, sym, ap, subst, arith}
 use Rattle.std.specs.Prelude.{min}
 use Rattle.std.proofs.lemmas.Bool.{cases_lt}

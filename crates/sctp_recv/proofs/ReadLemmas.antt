@@ -1,4 +1,4 @@
--- A chunk with a new index, on a stream that is there: what the stream says of it is what the view says.
+-- A chunk with a new index, on a stream that exists: what the stream says of it is what the view says.
 use Rattle.std.proofs.Common.{◌≡◌, ℕ, ◌+◌, ◌<◌, ◌≤◌, Bool, true, false, List, Option, length, get_or, refl, sym, ◌∙◌, ap, subst, arith}
 use Rattle.std.specs.Prelude.{◌||◌, ◌&&◌}
 use Rattle.std.proofs.lemmas.List.{length-map}

@@ -1,4 +1,4 @@
--- What a receiver keeps once an index was recorded, or a TSN noted; and what makes a chunk one that can be kept.
+-- What a receiver keeps after an index was recorded, or a duplicate noted; and what makes a chunk one that can be kept.
 use Rattle.std.proofs.Common.{◌≡◌, ℕ, suc, ◌+◌, ◌<◌, ◌≤◌, ◌⊎◌, Bool, true, false, ◌==◌, take, List, [], ◌∷◌, ◌++◌, length, Some, inl, inr, refl, sym, ◌∙◌, ap, subst, arith}
 use Rattle.std.proofs.lemmas.Bool.{cases_Bool}
 use Rattle.std.proofs.lemmas.Bool.Decides.{nat_tests}

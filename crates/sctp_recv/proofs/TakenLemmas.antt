@@ -1,4 +1,4 @@
--- What a receiver keeps once a chunk was kept, and what was due with it handed over.
+-- What a receiver keeps after a chunk was kept, and what was then due delivered.
 use Rattle.std.proofs.Common.{◌≡◌, ℕ, ◌+◌, ◌-◌, ◌<◌, ◌≤◌, ◌⊎◌, max, Bool, true, false, ◌==◌, List, [], ◌∷◌, ◌++◌, length, set, map, Option, None, Some, inl, inr, refl, sym, ◌∙◌, ap, subst, arith}
 use Rattle.std.specs.Prelude.{not, slice_get}
 use Rattle.std.specs.declared.alloc.Global.{Global}

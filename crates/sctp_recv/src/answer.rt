@@ -1,4 +1,4 @@
-//! What a chunk is answered, and where its TSN lies (RFC 9260, 6.2 and 6.6; RFC 3758, 3.6; RFC 8260, 2.2).
+//! The answers to a data chunk, and how far its TSN is ahead (RFC 9260, 6.2 and 6.6; RFC 3758, 3.6; RFC 8260, 2.2).
 
 ghost use Rattle.std.specs.Prelude.{◌≡◌};
 ghost use Rattle.sctp_recv.specs.inner.Rows.{IsTsnPlace};
@@ -6,20 +6,20 @@ ghost use Rattle.sctp_recv.specs.inner.Rows.{IsTsnPlace};
 use sctp_serial::{S32, Serial, index_ahead, tsn_of};
 use sctp_values::WINDOW;
 
-/// What was done with a chunk.
+/// What was done with a DATA or I-DATA chunk.
 #[derive(Clone, Copy, Debug, PartialEq, Eq)]
 pub enum Answer {
-    /// Its TSN came before: it is noted for the next SACK (RFC 9260, 6.2).
+    /// Its TSN was received before: it is noted as a duplicate for the next SACK (RFC 9260, 6.2).
     Duplicate,
-    /// Its TSN is too far ahead: nothing was done.
+    /// Its TSN is too far ahead of the cumulative TSN: nothing was done.
     Ahead,
-    /// There is no such stream: its TSN was recorded, and its data dropped.
+    /// Its stream doesn't exist: its TSN was recorded, and its data dropped.
     NoSuchStream,
-    /// Its message isn't waited for any longer, or has this fragment: its TSN was recorded, and its data dropped.
+    /// Its message was delivered or skipped already or has this fragment, or its number is near no count: its TSN was recorded, and its data dropped.
     Passed,
-    /// Its data doesn't fit the buffer: nothing was done.
+    /// Its data doesn't fit the receive buffer: nothing was done.
     NoRoom,
-    /// It was recorded and kept, and what was then due was handed over.
+    /// It was recorded and kept, and the messages that were then due were delivered.
     Taken,
 }
 
@@ -34,18 +34,18 @@ pub(crate) enum Row {
     Taken { index: u64, number: Option<u64> },
 }
 
-/// Where a TSN lies, seen from the cumulative index.
+/// Where a TSN is relative to the cumulative TSN.
 #[derive(Clone, Copy)]
 pub(crate) enum TsnPlace {
-    /// It is that of the cumulative index, or lies behind it.
+    /// It is the cumulative TSN, or before it.
     Behind,
-    /// It lies past the window, or its index is no count below the largest.
+    /// It is past the window, or its index isn't a count below the largest.
     Ahead,
-    /// Above the cumulative index, it stands for this one.
+    /// It is ahead of the cumulative TSN, and has this index.
     At(u64),
 }
 
-/// Where a TSN lies, where the first one is of index 1.
+/// Where a TSN is relative to the cumulative TSN; `initial` is the TSN of index 1.
 pub(crate) fn place_of_tsn(initial: u32, cumulative: u64, tsn: u32) -> TsnPlace
     ensures { IsTsnPlace initial cumulative tsn result }
 {

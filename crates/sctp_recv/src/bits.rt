@@ -1,10 +1,10 @@
-//! Bits in words of 64, of which the next one that is set is found word by word.
+//! A set of numbers as bits in words of 64, of which the next is found word by word.
 
 ghost use Rattle.std.specs.Prelude.{◌≡◌, ◌/◌, ◌<◌, ◌≤◌, ℕ, length, if◌then◌else◌};
 ghost use Rattle.std.specs.Int.{bit_at};
 ghost use Rattle.sctp_recv.specs.inner.Bits.{word_at, bit_in, BitFrom, NextBit};
 
-/// The first bit of a word that is set, from a place on.
+/// The first bit of a word that is set, from a position on.
 pub(crate) fn bit_from(word: u64, from: u32) -> Option<u32>
     requires { from < 64 }
     ensures { BitFrom word from result }
@@ -16,7 +16,7 @@ pub(crate) fn bit_from(word: u64, from: u32) -> Option<u32>
     Some(left.trailing_zeros())
 }
 
-/// A word in which a bit is set, or isn't.
+/// A word with a bit set or cleared.
 fn with_bit(word: u64, place: u32, set: bool) -> u64
     requires { place < 64 }
     ensures here { bit_at result place ≡ (if set then 1 else 0) }
@@ -29,7 +29,7 @@ fn with_bit(word: u64, place: u32, set: bool) -> u64
     }
 }
 
-/// Sets the bit of a number, or takes it away.
+/// Sets or clears the bit of a number.
 pub(crate) fn put_bit(words: &mut Vec<u64>, number: usize, set: bool)
     requires { number / 64 < length words.old.items }
     ensures size { length words.new.items ≡ length words.old.items }
@@ -42,7 +42,7 @@ pub(crate) fn put_bit(words: &mut Vec<u64>, number: usize, set: bool)
     words[at] = with_bit(words[at], place, set);
 }
 
-/// The first number from one on whose bit is set.
+/// The first number from `from` on whose bit is set.
 pub(crate) fn next_bit(words: &Vec<u64>, from: usize) -> Option<usize>
     requires { length words.now.items ≤ 1024 }
     ensures { NextBit words.now.items from result }

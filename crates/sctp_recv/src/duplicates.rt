@@ -1,4 +1,4 @@
-//! The TSNs that came again, until a SACK tells them (RFC 9260, 3.3.4 and 6.2).
+//! Duplicate TSNs, until a SACK reports them (RFC 9260, 3.3.4 and 6.2).
 
 ghost use Rattle.std.specs.Prelude.{◌≡◌, ◌≤◌, ◌<◌, ◌%◌, [], ◌∷◌, ◌++◌, length, take, OnOk, OnErr};
 ghost use Rattle.std.specs.List.{AllByRecursion};
@@ -9,7 +9,7 @@ use sctp_values::{DUPLICATE_LIMIT, NoMemory};
 use sctp_wire::put_word;
 use std::alloc::Global;
 
-/// The first TSNs that came again since a SACK was sent, as many as a SACK tells.
+/// The first duplicate TSNs since a SACK was sent, as many as a SACK reports.
 #[derive(Drop)]
 pub(crate) struct Duplicates {
     pub(crate) tsns: Vec<u32>,
@@ -17,7 +17,7 @@ pub(crate) struct Duplicates {
 }
 
 impl Duplicates {
-    /// No TSN came again.
+    /// No duplicates.
     pub(crate) fn new(alloc: Global) -> Duplicates
         ensures { result.tsns.items ≡ [] }
     {
@@ -26,10 +26,10 @@ impl Duplicates {
         }
     }
 
-    /// Notes a TSN that came again, if it is among the first of them.
+    /// Notes a duplicate TSN, if it is among the first of them.
     ///
     /// # Errors
-    /// Memory ran out, and nothing changed.
+    /// Allocation failed, and nothing changed.
     pub(crate) fn note(&mut self, tsn: u32) -> Result<(), NoMemory>
         ensures noted { OnOk result (self.new.tsns.items ≡ take DUPLICATE_LIMIT (self.old.tsns.items ++ tsn ∷ [])) }
         ensures refused { OnErr result (self.new.tsns.items ≡ self.old.tsns.items) }
@@ -41,17 +41,17 @@ impl Duplicates {
         Ok(())
     }
 
-    /// Keeps the first of them, so many.
+    /// Keeps the first ones, and drops the rest.
     pub(crate) fn truncate(&mut self, count: usize)
         ensures { self.new.tsns.items ≡ take count self.old.tsns.items }
     {
         self.tsns.truncate(count);
     }
 
-    /// Puts them into an empty list of a SACK.
+    /// Appends them to an empty list of a SACK.
     ///
     /// # Errors
-    /// Memory ran out.
+    /// Allocation failed.
     pub(crate) fn put(&self, list: &mut Vec<u8>) -> Result<(), NoMemory>
         requires { list.old.items ≡ [] }
         ensures words { OnOk result (words_in list.new.items ≡ self.now.tsns.items) }

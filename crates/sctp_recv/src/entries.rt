@@ -1,4 +1,6 @@
-//! The entries of a FORWARD, each stream's together: which numbers they skip there (RFC 3758, 3.2; RFC 8260, 2.3.1).
+//! The entries of a FORWARD-TSN or I-FORWARD-TSN, sorted by stream: which numbers they skip (RFC 3758, 3.2; RFC 8260, 2.3.1).
+//! An entry has effect if its number is at or past the lowest one of its stream and kind that isn't skipped yet: the lowest after all entries is one
+//! past the largest of these. The largest ordered number skipped isn't kept, since it is below the next number.
 
 ghost use Rattle.std.specs.Prelude.{◌≡◌, nat_lt, nat_le, map, IfOk};
 ghost use Rattle.std.specs.List.Sorted.{IsPermutation};
@@ -14,7 +16,7 @@ use sctp_values::{Kind, NoMemory};
 use sctp_wire::{Skip, Skips};
 use std::alloc::Global;
 
-/// Whether an entry is for a stream that isn't there.
+/// Whether an entry is for a stream that doesn't exist.
 pub(crate) fn names_other_stream(streams: usize, skips: &Skips<'_>) -> bool
     ensures { result ≡ names_other_stream streams skips.now.skips }
 {
@@ -29,7 +31,7 @@ pub(crate) fn names_other_stream(streams: usize, skips: &Skips<'_>) -> bool
 /// The entries in rising order of their streams.
 ///
 /// # Errors
-/// Memory ran out.
+/// Allocation failed.
 pub(crate) fn by_stream(alloc: Global, skips: &Skips<'_>) -> Result<Vec<Skip>, NoMemory>
     ensures rising { IfOk result (λ entries. AreByStream entries.items) }
     ensures same { IfOk result (λ entries. IsPermutation skips.now.skips (map skip_meaning entries.items)) }
@@ -46,7 +48,7 @@ pub(crate) fn by_stream(alloc: Global, skips: &Skips<'_>) -> Result<Vec<Skip>, N
     Ok(entries)
 }
 
-/// Those of one stream.
+/// The entries of one stream.
 pub(crate) fn of_stream(entries: &[Skip], stream: u16) -> &[Skip]
     ensures { AreByStream entries.now → AreEntriesOf stream (map skip_meaning entries.now) (map skip_meaning result.now) }
 {
@@ -71,7 +73,7 @@ fn is_for(skip: Skip, stream: u16, kind: Kind) -> bool
     stream == skip.stream && kind.flag() == skip.unordered
 }
 
-/// One past the number that an entry skips of this stream and kind, or 0 where it skips none there.
+/// One past the number that an entry skips of this stream and kind; 0 if it skips none there.
 fn skipped_by<F: Framing>(skip: Skip, stream: u16, kind: Kind, near: u64) -> u64
     ensures { result ≡ skipped_by F.format (lane_at stream kind) near (skip_meaning skip) }
 {
@@ -84,7 +86,7 @@ fn skipped_by<F: Framing>(skip: Skip, stream: u16, kind: Kind, near: u64) -> u64
     }
 }
 
-/// The lowest number of this stream and kind that still counts, of which `lowest` was the lowest before. Each entry is read near one count.
+/// The lowest number of this stream and kind that isn't skipped; `lowest` is the lowest one before. Each entry is read near one count.
 pub(crate) fn lowest_after<F: Framing>(
     entries: &[Skip],
     stream: u16,

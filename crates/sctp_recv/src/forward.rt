@@ -1,5 +1,7 @@
-//! A FORWARD: its sender gave up all that is missing up to an index, and names the messages that are waited for in vain
-//! (RFC 3758, 3.6; RFC 8260, 2.3).
+//! Handling a FORWARD-TSN or I-FORWARD-TSN (a FORWARD): its sender skips all that is missing up to a TSN, and names the messages skipped
+//! (RFC 3758, 3.6; RFC 8260, 2.3). Its entries are sorted by stream; the streams that it may change are found (`touched_by`); memory is reserved
+//! there. These three may fail. Then, stream by stream, numbers are passed, unordered chunks discarded, and due messages delivered. It costs
+//! each such stream times its entries, under DATA also twice the height of the tree of `lows.rt`; other streams aren't looked at.
 
 ghost use Rattle.std.specs.Prelude.{◌≡◌, ℕ, true, false, List, map, length, Some, IfOk, OnOk, OnErr};
 ghost use Rattle.std.specs.List.{Contains};
@@ -34,21 +36,21 @@ use sctp_values::{Kind, NoMemory};
 use sctp_wire::{Forward, Skip, Skips};
 use std::alloc::Global;
 
-/// What was done with a FORWARD.
+/// What was done with a FORWARD-TSN or I-FORWARD-TSN.
 #[derive(Clone, Copy, Debug, PartialEq, Eq)]
 pub enum ForwardAnswer {
-    /// Its TSN is that of the cumulative index, or lies behind it: nothing was done.
+    /// Its TSN is the cumulative TSN, or before it: nothing was done.
     OutOfDate,
-    /// Its TSN is too far ahead, or it names a stream that isn't there: nothing was done.
+    /// Its TSN is too far ahead, or it names a stream that doesn't exist: nothing was done.
     Bad,
-    /// The cumulative index moved, and what was then due was handed over.
+    /// The cumulative TSN moved, and the messages that were then due were delivered.
     Moved,
 }
 
-/// The streams that a FORWARD up to an index may change, in rising order: those that it names, and those from which the index lets something go.
+/// The streams that a FORWARD up to an index may change, in rising order: those that it names, and those of which it discards something by the index.
 ///
 /// # Errors
-/// Memory ran out.
+/// Allocation failed.
 fn touched_by(
     alloc: Global,
     lows: &Lows,
@@ -66,10 +68,10 @@ fn touched_by(
     Ok(streams)
 }
 
-/// Makes room on a stream for the messages that may be handed over.
+/// Reserves memory on a stream for the messages that may be delivered.
 ///
 /// # Errors
-/// Memory ran out.
+/// Allocation failed.
 fn make_room_on<F: Framing>(alloc: Global, stream: &mut Stream<F>) -> Result<(), NoMemory>
     ensures same { stream_of stream.new ≡ stream_of stream.old }
     ensures chunks { SameLanes F.format stream.old stream.new }
@@ -82,10 +84,10 @@ fn make_room_on<F: Framing>(alloc: Global, stream: &mut Stream<F>) -> Result<(),
     }
 }
 
-/// The same on each of these streams.
+/// Reserves memory on each of these streams for the messages that may be delivered.
 ///
 /// # Errors
-/// Memory ran out.
+/// Allocation failed.
 fn make_rooms<F: Framing>(
     alloc: Global,
     streams: &mut Vec<Stream<F>>,
@@ -104,8 +106,8 @@ fn make_rooms<F: Framing>(
     Ok(())
 }
 
-/// Passes what a FORWARD skips on a stream by its entries for it, lets go of the unordered chunks left behind, and hands over what is
-/// then due. It answers how many bytes are held then, of so many before.
+/// Passes the numbers that a FORWARD skips on a stream by its entries for it, discards the unordered chunks that belong to them, and delivers
+/// what is then due. It returns how many bytes are held then, of `held` before.
 fn pass_in<F: Framing>(
     inbound: &mut Inbound<F>,
     stream: u16,
@@ -128,7 +130,7 @@ fn pass_in<F: Framing>(
         .saturating_add(given)
 }
 
-/// The same on a stream for which room was made.
+/// Handles a FORWARD on a stream, as `pass_in` does, if it has state.
 fn pass_on<F: Framing>(
     known: &mut Stream<F>,
     stream: u16,
@@ -145,7 +147,7 @@ fn pass_on<F: Framing>(
     }
 }
 
-/// The same on each of these streams, which rise, each by its own entries; and shows where a message waits then.
+/// Handles a FORWARD on each of these streams, in rising order, each by its own entries; and notes where messages wait then.
 fn pass_on_all<F: Framing>(
     streams: &mut Vec<Stream<F>>,
     ready: &mut Ready,
@@ -176,7 +178,7 @@ fn pass_on_all<F: Framing>(
     left
 }
 
-/// Notes of each of these streams the lowest index of the unordered chunks that stay there, where their messages have no number.
+/// Notes for each of these streams the lowest index of the unordered chunks that stay there, if their messages have no number.
 fn note_lowest<F: Framing>(lows: &mut Lows, streams: &Vec<Stream<F>>, touched: &[u16])
     ensures { (v : ReceiverView) → AreFiled F.format v.kept streams.now.items → AreFindable F.format v lows.old → AreFindable F.format v lows.new }
 {
@@ -195,10 +197,10 @@ fn note_lowest<F: Framing>(lows: &mut Lows, streams: &Vec<Stream<F>>, touched: &
 
 #[tactic(auto, unfolding(crate::specs::StandsFor::StandsFor))]
 impl<F: Framing> Receiver<F> {
-    /// Takes a FORWARD: its index and its numbers are passed, and what is then due is handed over.
+    /// Handles a FORWARD-TSN or I-FORWARD-TSN: its TSN and its numbers are passed, and the messages that are then due are delivered.
     ///
     /// # Errors
-    /// Memory ran out, and nothing changed.
+    /// Allocation failed, and nothing changed.
     pub fn on_forward(&mut self, forward: &Forward<'_>) -> Result<ForwardAnswer, NoMemory>
         ensures step { (v : ReceiverView) → StandsFor F.format self.old v
             → IfOk result (λ a. (t : ReceiverView) × ForwardTaken F.format v (forward_meaning forward.now) (forward_answer_of a) t × StandsFor F.format self.new t) }
@@ -218,10 +220,10 @@ impl<F: Framing> Receiver<F> {
         Ok(ForwardAnswer::Moved)
     }
 
-    /// Passes all up to an index, and of each stream and kind the numbers that are skipped; then hands over what is due.
+    /// Passes all up to an index, and of each stream and kind the numbers that are skipped; then delivers what is due.
     ///
     /// # Errors
-    /// Memory ran out, and nothing changed.
+    /// Allocation failed, and nothing changed.
     fn pass_to(&mut self, index: u64, skips: &Skips<'_>) -> Result<(), NoMemory>
         ensures passed { (v : ReceiverView) → StandsFor F.format self.old v → (x : ForwardMeaning) → x.skips ≡ skips.now.skips
             → IsAbove self.old.initial self.old.seen.kept.cumulative x.cumulative index → names_other_stream (length self.old.streams.items) x.skips ≡ false

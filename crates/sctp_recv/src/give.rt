@@ -1,4 +1,4 @@
-//! Handing over: a chunk is kept, and what is due with it goes to what waits for the user (RFC 9260, 6.6; RFC 3758, 3.6).
+//! Delivering: a chunk is kept, and messages that are then due wait for the user (RFC 9260, 6.6; RFC 3758, 3.6).
 
 ghost use Rattle.std.specs.Prelude.{◌≡◌, ◌-◌, ◌^◌, ◌<◌, ◌++◌, [], ◌∷◌, ◌≤◌, ℕ, suc, true, Some, map, length, OnOk, OnErr, IfOk};
 ghost use Rattle.std.specs.VecDeque.{deque_len, deque_capacity};
@@ -23,8 +23,8 @@ use sctp_values::{Kind, NoMemory, small_len};
 use sctp_wire::Piece;
 use std::collections::VecDeque;
 
-/// Lets a message wait, where there is room. It answers its bytes, at most 2^32 - 1. Its callers have it in line, since one of them runs for
-/// each message.
+/// Appends a message to those that wait, if there is capacity. It returns its bytes, at most 2^32 - 1. It is inlined, since one of its callers
+/// runs for each message.
 #[inline(always)]
 fn wait(waiting: &mut VecDeque<Message>, message: Message) -> u32
     ensures bytes { result ≡ sized (length (message_bytes message)) }
@@ -38,7 +38,7 @@ fn wait(waiting: &mut VecDeque<Message>, message: Message) -> u32
     small_len(message.len())
 }
 
-/// The same, where there is room.
+/// Appends a message to those that wait, for which there is capacity, and returns its bytes.
 #[inline(always)]
 fn wait_reserved(waiting: &mut VecDeque<Message>, message: Message) -> u32
     requires room { deque_len waiting.old < deque_capacity waiting.old }
@@ -52,7 +52,7 @@ fn wait_reserved(waiting: &mut VecDeque<Message>, message: Message) -> u32
     bytes
 }
 
-/// A number of bytes held, less those of a message that goes: 0 where it has more.
+/// A number of bytes held, less those of a message that is taken: 0 if it has more.
 pub(crate) fn less(held: u32, message: &Message) -> u32
     ensures { result ≡ held - length (message_bytes message.now) }
 {
@@ -69,10 +69,10 @@ fn number_after(number: Option<u64>) -> u64
     }
 }
 
-/// Makes room for all messages that can be taken out of the ordered chunks, and for so many more.
+/// Reserves memory for all messages that can be taken out of the ordered chunks, and for a number more.
 ///
 /// # Errors
-/// Memory ran out.
+/// Allocation failed.
 pub(crate) fn make_room<F: Framing>(inbound: &mut Inbound<F>, more: usize) -> Result<(), NoMemory>
     ensures same { inbound_of inbound.new ≡ inbound_of inbound.old }
     ensures chunks { SameChunks F.format inbound.old inbound.new }
@@ -82,10 +82,10 @@ pub(crate) fn make_room<F: Framing>(inbound: &mut Inbound<F>, more: usize) -> Re
     inbound.waiting.reserve(most).map_err(|_| NoMemory)
 }
 
-/// Makes room for one message.
+/// Reserves memory for one message.
 ///
 /// # Errors
-/// Memory ran out.
+/// Allocation failed.
 fn make_one(waiting: &mut VecDeque<Message>) -> Result<(), NoMemory>
     ensures same { map handed_of waiting.new.items ≡ map handed_of waiting.old.items }
     ensures room { OnOk result (deque_len waiting.new < deque_capacity waiting.new) }
@@ -93,8 +93,8 @@ fn make_one(waiting: &mut VecDeque<Message>) -> Result<(), NoMemory>
     waiting.reserve(1).map_err(|_| NoMemory)
 }
 
-/// Hands over the whole messages from the next number on, where all ordered numbers below `floor` are skipped; what lies below the
-/// next number then is kept no longer. It answers the bytes handed over.
+/// Delivers the complete messages from the next number on, all ordered numbers below `floor` being skipped; what is below the
+/// next number then is dropped. It returns the bytes delivered.
 pub(crate) fn give_ordered<F: Framing>(inbound: &mut Inbound<F>, stream: u16, floor: u64) -> u32
     ensures { (kept : Kept) → lane.StandsFor F.format inbound.old.ordered (ordered_lane stream) kept → AreCounted kept → HasRoom inbound.old 0
         → GivesDue F.format stream floor kept inbound.old inbound.new result }
@@ -102,8 +102,8 @@ pub(crate) fn give_ordered<F: Framing>(inbound: &mut Inbound<F>, stream: u16, fl
     give_on(inbound, stream, floor, 0)
 }
 
-/// The same, where so many bytes were handed over before: it answers these, too. Where nothing is due of what is kept, nothing is looked for. Its callers have it in line,
-/// since one of them runs for each message.
+/// Delivers as `give` does, and returns the bytes delivered and `before`. If nothing that is kept can be due, nothing is looked for. It is inlined,
+/// since one of its callers runs for each message.
 #[inline(always)]
 fn give_on<F: Framing>(inbound: &mut Inbound<F>, stream: u16, floor: u64, before: u32) -> u32
     ensures { (start : _) (kept : Kept) → AreCounted kept → IsGivenSoFar F.format stream floor kept start inbound.old before
@@ -117,7 +117,7 @@ fn give_on<F: Framing>(inbound: &mut Inbound<F>, stream: u16, floor: u64, before
     give_kept(inbound, stream, floor, before)
 }
 
-/// The same of the ordered chunks that are kept.
+/// Delivers as `give` does what is due of the ordered chunks kept, and returns the bytes delivered and `before`.
 fn give_kept<F: Framing>(inbound: &mut Inbound<F>, stream: u16, floor: u64, before: u32) -> u32
     ensures { (start : _) (kept : Kept) → AreCounted kept → IsGivenSoFar F.format stream floor kept start inbound.old before
         → GivesDue F.format stream floor kept start inbound.new result }
@@ -139,7 +139,7 @@ fn give_kept<F: Framing>(inbound: &mut Inbound<F>, stream: u16, floor: u64, befo
     given
 }
 
-/// The larger of a number and another, where there is one.
+/// The larger of two numbers, or the first if there is no second.
 fn larger(largest: u64, number: Option<u64>) -> u64
     ensures { result ≡ or_larger largest number }
 {
@@ -159,10 +159,10 @@ fn is_next(number: Option<u64>, next: u64) -> bool
     }
 }
 
-/// Keeps an ordered chunk, and hands over what is then due: one that is the next message alone goes first, and isn't filed. It answers the bytes handed over.
+/// Keeps an ordered chunk, and delivers what is then due: one that is the next message by itself is delivered first, and isn't filed. It returns the bytes delivered.
 ///
 /// # Errors
-/// Memory ran out, and nothing changed.
+/// Allocation failed, and nothing changed.
 fn keep_ordered<F: Framing>(
     inbound: &mut Inbound<F>,
     spare: &mut Spare,
@@ -192,10 +192,10 @@ fn keep_ordered<F: Framing>(
     Ok(give_ordered(inbound, piece.stream, next))
 }
 
-/// Keeps an unordered chunk, and hands its message over, if it is whole. It answers the bytes handed over.
+/// Keeps an unordered chunk, and delivers its message, if it is complete. It returns the bytes delivered.
 ///
 /// # Errors
-/// Memory ran out, and nothing changed.
+/// Allocation failed, and nothing changed.
 fn keep_unordered<F: Framing>(
     inbound: &mut Inbound<F>,
     spare: &mut Spare,
@@ -221,10 +221,10 @@ fn keep_unordered<F: Framing>(
     }
 }
 
-/// Keeps a chunk, and hands over what is due with it. It answers the bytes handed over.
+/// Keeps a chunk, and delivers what is then due. It returns the bytes delivered.
 ///
 /// # Errors
-/// Memory ran out, and nothing changed.
+/// Allocation failed, and nothing changed.
 pub(crate) fn keep_in<F: Framing>(
     inbound: &mut Inbound<F>,
     spare: &mut Spare,

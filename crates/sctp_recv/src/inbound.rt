@@ -1,4 +1,4 @@
-//! What a receiver knows of a stream, once it knows something.
+//! The state of a stream on which something was received.
 
 ghost use Rattle.std.specs.Prelude.{◌≡◌, ℕ, ◌+◌, [], min, length, if◌then◌else◌};
 ghost use Rattle.sctp_model.specs.messages.Format.{Lane};
@@ -21,16 +21,16 @@ use sctp_wire::Piece;
 use std::alloc::Global;
 use std::collections::VecDeque;
 
-/// What is known of a stream to which something came.
+/// The state of a stream on which something was received.
 #[derive(Drop)]
 pub(crate) struct Inbound<F: Framing> {
-    /// The lowest ordered number neither handed over nor skipped.
+    /// The lowest ordered number neither delivered nor skipped.
     pub(crate) next: u64,
     /// The lowest unordered number not skipped.
     pub(crate) skip: u64,
-    /// The largest number of an unordered chunk that was kept, 0 where there was none.
+    /// The largest number of an unordered chunk that was kept, 0 if there was none.
     pub(crate) largest: u64,
-    /// What was handed over and waits for the user, first to last.
+    /// The messages that were delivered and wait for the user, first to last.
     pub(crate) waiting: VecDeque<Message>,
     /// The ordered chunks kept.
     pub(crate) ordered: Chains<F>,
@@ -39,7 +39,7 @@ pub(crate) struct Inbound<F: Framing> {
 }
 
 impl<F: Framing> Inbound<F> {
-    /// Nothing came, and nothing waits. It takes no memory.
+    /// A stream on which nothing was received. Nothing is allocated.
     pub(crate) fn fresh(alloc: Global) -> Inbound<F>
         ensures known { inbound_of result ≡ FRESH }
         ensures ordered { (l : Lane) → lane.StandsFor F.format result.ordered l [] }
@@ -55,7 +55,7 @@ impl<F: Framing> Inbound<F> {
         }
     }
 
-    /// The count near which a number is read: the next ordered one, or the largest unordered one that was recorded or skipped.
+    /// The count near which a wire value is read: the next ordered number, or the largest unordered one that was recorded or skipped.
     pub(crate) fn near(&self, kind: Kind) -> u64
         ensures { result ≡ near_of (inbound_of self.now) (kind_meaning kind) }
     {
@@ -65,7 +65,7 @@ impl<F: Framing> Inbound<F> {
         }
     }
 
-    /// The count below which a number comes too late.
+    /// The count below which a number is too late.
     pub(crate) fn lowest(&self, kind: Kind) -> u64
         ensures { result ≡ lowest_of (inbound_of self.now) (kind_meaning kind) }
     {
@@ -75,7 +75,7 @@ impl<F: Framing> Inbound<F> {
         }
     }
 
-    /// Whether this fragment of this message is kept already, where that can be.
+    /// Whether this fragment of this message is kept already; false under DATA, whose fragments are known by their TSNs.
     pub(crate) fn is_held(&self, piece: &Piece<'_>, number: Option<u64>) -> bool
         ensures { (i : ℕ) (l : Lane) (kept : Kept) → lane.StandsFor F.format (lane_in self.now piece.now.unordered) l kept
             → IsOf F.format l (counted i (piece_meaning piece.now) number) → result ≡ is_repeated F.format kept (counted i (piece_meaning piece.now) number) }
@@ -94,7 +94,7 @@ impl<F: Framing> Inbound<F> {
         self.waiting.len() > 0
     }
 
-    /// The bytes of the chunks kept.
+    /// The data bytes of the chunks kept.
     pub(crate) fn kept_bytes(&self) -> u32
         ensures { (l k : Lane) (xs ys : Kept) → lane.StandsFor F.format self.now.ordered l xs → lane.StandsFor F.format self.now.unordered k ys
             → result ≡ sized (size_of_pieces xs + size_of_pieces ys) }

@@ -1,5 +1,10 @@
-//! Below which index no unordered chunk lies, stream by stream: a FORWARD up to an index finds by it the streams from which something goes.
-//! Only where unordered messages have no number: else a FORWARD names each stream from which one goes.
+//! For each stream a lower bound of the indexes of its unordered chunks: by it a FORWARD-TSN finds the streams from which it discards something.
+//! Under DATA only: an I-FORWARD-TSN names each stream of which it discards unordered messages, whose numbers it skips.
+//!
+//! A bound is lowered before a part of an unordered message is kept; after a FORWARD-TSN it is set, on the streams to which that went, to the
+//! lowest index that stays. To note a part compares two numbers, unless it is below all that were noted on its stream: then it costs the height of the tree
+//! (`places.rt`), and it never allocates. If messages were completed since their parts were noted, the first FORWARD-TSN past the bound
+//! visits the stream in vain.
 
 ghost use Rattle.std.specs.Prelude.{◌≡◌, ◌<◌, ◌≤◌, ℕ, IfOk};
 ghost use Rattle.std.specs.List.{Contains};
@@ -10,10 +15,10 @@ use sctp_values::NoMemory;
 use std::alloc::Global;
 
 impl Lows {
-    /// Of so many streams on which nothing came.
+    /// The bounds of `count` streams on which nothing was received.
     ///
     /// # Errors
-    /// Memory ran out.
+    /// Allocation failed.
     pub(crate) fn new(alloc: Global, count: u16) -> Result<Lows, NoMemory>
         ensures { IfOk result (λ lows. lows.count ≡ count) }
     {
@@ -25,7 +30,7 @@ impl Lows {
         Ok(Lows { count, places })
     }
 
-    /// A chunk with this index comes to a stream.
+    /// Lowers the bound of a stream for a chunk with this index.
     pub(crate) fn lower(&mut self, stream: u16, index: u64)
         ensures count { self.new.count ≡ self.old.count }
         ensures others { (s i : ℕ) → IsMarked self.old s i → IsMarked self.new s i }
@@ -37,7 +42,7 @@ impl Lows {
         }
     }
 
-    /// None of the chunks of a stream has an index below this one.
+    /// Sets the bound of a stream: none of its chunks has an index below this one.
     pub(crate) fn set(&mut self, stream: u16, low: u64)
         ensures count { self.new.count ≡ self.old.count }
         ensures marked { (s i : ℕ) → IsMarked self.old s i → (s ≡ stream → low ≤ i) → IsMarked self.new s i }
@@ -46,10 +51,10 @@ impl Lows {
         put(&mut self.places, place, low);
     }
 
-    /// The streams on which a chunk may lie with an index up to this one.
+    /// The streams on which a chunk may be kept with an index up to this one.
     ///
     /// # Errors
-    /// Memory ran out.
+    /// Allocation failed.
     pub(crate) fn upto(&self, alloc: Global, index: u64) -> Result<Vec<u16>, NoMemory>
         ensures { IfOk result (λ streams. (s : ℕ) → IsMarked self.now s index → Contains streams.items s) }
     {

@@ -1,4 +1,4 @@
-//! A message as its user takes it.
+//! A message as the user takes it.
 
 ghost use Rattle.std.specs.Prelude.{◌≡◌, ◌-◌, ◌^◌, ◌++◌, ◌+◌, ◌≤◌, ◌<◌, min, List, length, map, take, drop, vec_len, vec_capacity, IsOk, OnOk, OnErr, IfOk, IfErr};
 ghost use Rattle.sctp_model.specs.numbers.Lists.{joined};
@@ -13,23 +13,23 @@ ghost use Rattle.sctp_chains.specs.WholeOf.{IsMadeOf};
 use sctp_chains::{Fragments, Whole};
 use sctp_values::{Kind, NoMemory};
 
-/// A message that was handed over, whole, with its fragments as they came.
+/// A complete message that was received, with its fragments as they were received.
 #[derive(Debug, PartialEq, Drop)]
 pub struct Message {
     pub(crate) first: u64,
-    /// The stream that it came on, from 0.
+    /// The stream that it was received on, from 0.
     pub stream: u16,
-    /// Whether it is handed over in the order of the numbers.
+    /// Whether it was sent as ordered or as unordered.
     pub ordered: bool,
     /// The payload protocol identifier.
     pub payload_id: u32,
-    /// Its number in its stream and kind, from 0; None for an unordered message under DATA.
+    /// Its number among the messages of its stream and kind, from 0; None for an unordered message under DATA.
     pub number: Option<u64>,
     pub(crate) parts: Fragments,
 }
 
 impl Message {
-    /// How many bytes it has, 2^64 - 1 where there are more.
+    /// The number of its bytes, 2^64 - 1 if there are more.
     pub fn len(&self) -> usize
         ensures { result ≡ min (length (message_bytes self.now)) (2 ^ 64 - 1) }
     {
@@ -39,17 +39,17 @@ impl Message {
         }
     }
 
-    /// Its fragments' data, first to last, as they were recorded.
+    /// The data of its fragments, first to last, as they were received.
     pub fn parts(&self) -> &[Vec<u8>]
         ensures { joined (map bytes_of result.now) ≡ message_bytes self.now }
     {
         self.parts.all()
     }
 
-    /// Appends its bytes.
+    /// Appends its bytes to `out`.
     ///
     /// # Errors
-    /// Memory ran out, and nothing was appended.
+    /// Allocation failed, and nothing was appended.
     #[tactic(auto, using(crate::proofs::PartLemmas::texts))]
     pub fn copy_to(&self, out: &mut Vec<u8>) -> Result<(), NoMemory>
         ensures copied { OnOk result (out.new.items ≡ out.old.items ++ message_bytes self.now) }
@@ -67,10 +67,10 @@ impl Message {
         Ok(())
     }
 
-    /// Copies its bytes to the beginning of a room, and answers how many they are. What stands in the room behind them stays.
+    /// Copies its bytes to the beginning of a buffer, and returns how many they are. The rest of the buffer stays as it is.
     ///
     /// # Errors
-    /// The room is too small: nothing is written, and the error is how many bytes it must have.
+    /// The buffer is too small: nothing is written, and the error is how many bytes it must have.
     #[tactic(auto, using(crate::proofs::PartLemmas::texts))]
     pub fn copy_into(&self, room: &mut [u8]) -> Result<usize, usize>
         ensures copied { IfOk result (λ many. (many ≡ length (message_bytes self.now)) × (room.new ≡ message_bytes self.now ++ drop many room.old)) }
@@ -91,7 +91,7 @@ impl Message {
     }
 }
 
-/// How many bytes these have, 2^64 - 1 where there are more.
+/// The number of bytes of these parts, 2^64 - 1 if there are more.
 #[tactic(auto, using(crate::proofs::PartLemmas::texts))]
 fn len_of(parts: &[Vec<u8>]) -> usize
     ensures { result ≡ min (length (text_of_parts parts.now)) (2 ^ 64 - 1) }
@@ -103,7 +103,7 @@ fn len_of(parts: &[Vec<u8>]) -> usize
     sum
 }
 
-/// Copies the data of a part to a place of a room that has it.
+/// Copies the data of a part to an offset of a buffer in which it fits.
 fn put_part(room: &mut [u8], at: usize, part: &[u8])
     requires { at + length part.now ≤ length room.old }
     ensures size { length room.new ≡ length room.old }
@@ -113,7 +113,7 @@ fn put_part(room: &mut [u8], at: usize, part: &[u8])
     room[at..at + part.len()].copy_from_slice(part);
 }
 
-/// A whole message as its user takes it.
+/// A complete message as the user takes it.
 pub(crate) fn message_of(whole: Whole, stream: u16, kind: Kind) -> Message
     ensures { (f : Format) (x : Piece) (xs : List Piece) → IsMadeOf f whole x xs → x.lane ≡ lane_at stream kind → handed_of result ≡ message_of f x xs }
 {

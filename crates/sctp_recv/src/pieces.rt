@@ -1,4 +1,16 @@
-//! A data chunk comes: the first row that fits it is its answer, and that is done (RFC 9260, 6.2 and 6.6; RFC 8260, 2.2).
+//! Handling a DATA or I-DATA chunk: the first row of the table that applies is its answer, and is carried out (RFC 9260, 6.2 and 6.6;
+//! RFC 8260, 2.2).
+//!
+//! The chunks kept are filed: each stream has two `Chains` of `sctp_chains`, for its ordered and its unordered chunks, and a chunk costs a binary
+//! search among those. A message's data isn't copied when it is delivered. What allocates is done first, and if it fails only capacity
+//! (and a bound of `lows.rt`) has changed: for an index that isn't the next one; for the messages that may be delivered, for an ordered chunk
+//! one more than there are complete ones; for the chunk itself; and on a stream's first chunk for its state (`stream.rt`). Capacity that
+//! isn't used stays with the stream.
+//!
+//! From an ordered chunk's stream the message of the next number is taken, and so on until one isn't complete (`give.rt`). A chunk that is the next message
+//! by itself isn't kept first: it is delivered, and what follows it is looked for only if something kept may be due. Of an unordered chunk the
+//! message is taken that it belongs to. Under I-DATA a stream knows near which count its unordered MIDs are read by two numbers, the
+//! lowest not skipped and the largest kept.
 
 ghost use Rattle.std.specs.Prelude.{◌≡◌, ◌<◌, ℕ, true, false, ◌&&◌, IfOk, OnOk, OnErr};
 ghost use Rattle.sctp_model.specs.messages.Format.{Unordered, is_numbered};
@@ -25,8 +37,8 @@ use sctp_framing::Framing;
 use sctp_values::{Kind, NoMemory};
 use sctp_wire::Piece;
 
-/// Notes that a part of an unordered message comes to a stream with this index. Where unordered messages have numbers, an entry of a FORWARD
-/// names each stream from which one goes, and nothing is noted.
+/// Lowers the bound of a stream for a part of an unordered message with this index. Under I-DATA nothing is noted: an entry of an I-FORWARD-TSN
+/// names each stream of which unordered messages are discarded.
 fn note<F: Framing>(lows: &mut Lows, piece: &Piece<'_>, index: u64)
     ensures count { lows.new.count ≡ lows.old.count }
     ensures more { (s i : ℕ) → IsMarked lows.old s i → IsMarked lows.new s i }
@@ -41,10 +53,10 @@ fn note<F: Framing>(lows: &mut Lows, piece: &Piece<'_>, index: u64)
 
 #[tactic(auto, unfolding(crate::specs::StandsFor::StandsFor))]
 impl<F: Framing> Receiver<F> {
-    /// Takes a data chunk: the first row that fits it is its answer, and that is done.
+    /// Handles a DATA or I-DATA chunk: the first row of the table that applies is its answer, and is carried out.
     ///
     /// # Errors
-    /// Memory ran out, and nothing changed.
+    /// Allocation failed, and nothing changed.
     pub fn on_data(&mut self, piece: &Piece<'_>) -> Result<Answer, NoMemory>
         ensures step { (v : ReceiverView) → StandsFor F.format self.old v
             → IfOk result (λ a. (t : ReceiverView) × PieceTaken F.format v (piece_meaning piece.now) (answer_of a) t × StandsFor F.format self.new t) }
@@ -75,7 +87,7 @@ impl<F: Framing> Receiver<F> {
         }
     }
 
-    /// The first row that fits a chunk.
+    /// The first row of the table that applies to a chunk.
     fn row_of(&self, piece: &Piece<'_>) -> Row
         ensures { (v : ReceiverView) → StandsFor F.format self.now v → IsRowOf F.format (kept_of self.now) v (piece_meaning piece.now) result }
     {
@@ -104,10 +116,10 @@ impl<F: Framing> Receiver<F> {
         Row::Taken { index, number }
     }
 
-    /// Keeps a chunk that is wanted, and hands over what is due with it.
+    /// Keeps a chunk whose answer is Taken, and delivers the messages that are then due.
     ///
     /// # Errors
-    /// Memory ran out, and nothing changed.
+    /// Allocation failed, and nothing changed.
     fn keep(&mut self, piece: &Piece<'_>, index: u64, number: Option<u64>) -> Result<(), NoMemory>
         ensures kept { (v : ReceiverView) → StandsFor F.format self.old v → IsWanted F.format (kept_of self.old) v (piece_meaning piece.now) index number
             → OnOk result ((t : ReceiverView) × TakesPiece F.format v (piece_at F.format v self.old.seen.kept.cumulative (piece_meaning piece.now)) t × Stands F.format self.new t × IsShown self.new.ready.words.items t.waiting t.streams) }

@@ -1,4 +1,4 @@
-//! A number for each stream, as a tree: so those that are at most some number are found without a look at the others.
+//! A number for each stream, in a tree of minima: the streams whose numbers are at most a limit are found without looking at the others.
 
 ghost use Rattle.std.specs.Prelude.{◌≡◌, ◌+◌, ◌<◌, ◌≤◌, ℕ, Bool, List, length, OnOk};
 ghost use Rattle.std.specs.List.{Contains};
@@ -6,8 +6,8 @@ ghost use Rattle.sctp_recv.specs.inner.Places.{low_at, IsTree, place_under};
 
 use sctp_values::NoMemory;
 
-/// Of each stream a number, at most the index of each unordered chunk that is kept there. They stand from place `count` on, and at each place
-/// before it, but for the first, stands the lesser of those at twice the place and right behind that.
+/// For each stream a number, at most the index of each unordered chunk that is kept there. They are at the positions from `count` on, and at each
+/// position p before it, but for 0, is the lesser of those at 2p and 2p + 1. The list has its final length from the beginning.
 #[derive(Drop)]
 pub(crate) struct Lows {
     pub(crate) count: u16,
@@ -16,7 +16,7 @@ pub(crate) struct Lows {
     ghost tree: { IsTree places.items },
 }
 
-/// Puts a number at a place of the later half, and at each above it the lesser of the two below.
+/// Sets a number at a position of the later half, and at each position above it the lesser of the two below.
 pub(crate) fn put(places: &mut Vec<u64>, at: usize, low: u64)
     ensures size { length places.new.items ≡ length places.old.items }
     ensures tree { length places.old.items ≤ at + at → IsTree places.old.items → IsTree places.new.items }
@@ -37,10 +37,10 @@ pub(crate) fn put(places: &mut Vec<u64>, at: usize, low: u64)
     }
 }
 
-/// Puts those streams behind others whose numbers stand below a place and are at most this one.
+/// Appends the streams whose numbers are below the position `at` of the tree and are at most `most`.
 ///
 /// # Errors
-/// Memory ran out.
+/// Allocation failed.
 pub(crate) fn gather(
     places: &[u64],
     count: u16,

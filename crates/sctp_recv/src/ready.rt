@@ -1,4 +1,6 @@
-//! On which streams a message waits: a bit for each, and one for each 64 of them, so that the next one is found without a look at the others.
+//! On which streams a message waits: a bit for each, and one for each 64 of them, so that the next one is found without looking at the others.
+//! A chunk or a `take` after which a message waits and none did before, or the other way, sets the stream's bit; a FORWARD sets those of the
+//! streams that it may change. A search looks at the word of its stream, at those above (one for 4,096 streams) and at one word more.
 
 ghost use Rattle.std.specs.Prelude.{◌≡◌, ◌*◌, ◌<◌, ◌≤◌, ℕ, min, List, length, map, replicate, if◌then◌else◌, IfOk};
 ghost use Rattle.sctp_recv.specs.Fields.{stream_of};
@@ -11,21 +13,21 @@ use sctp_framing::Framing;
 use sctp_values::NoMemory;
 use std::alloc::Global;
 
-/// The streams that are marked.
+/// The streams on which a message waits.
 #[derive(Drop)]
 pub(crate) struct Ready {
     /// A bit for each stream.
     words: Vec<u64>,
-    /// A bit for each of these words: whether one of its bits is set.
+    /// A bit for each of these words: whether one of the word's bits is set.
     tops: Vec<u64>,
     ghost upper: { AreTops words.items tops.items },
 }
 
 impl Ready {
-    /// None of so many streams is marked.
+    /// A number of streams, on none of which a message waits.
     ///
     /// # Errors
-    /// Memory ran out.
+    /// Allocation failed.
     pub(crate) fn new(alloc: Global, count: u16) -> Result<Ready, NoMemory>
         ensures fits { IfOk result (λ ready. count ≤ length ready.words.items * 64) }
         ensures none { IfOk result (λ ready. (s : ℕ) → bit_in ready.words.items s ≡ 0) }
@@ -37,7 +39,7 @@ impl Ready {
         Ok(Ready { words, tops })
     }
 
-    /// Marks a stream, or takes its mark away. A stream without a bit is left as it is.
+    /// Sets or clears the bit of a stream. A stream that doesn't exist has none.
     pub(crate) fn mark(&mut self, stream: u16, on: bool)
         ensures size { length self.new.words.items ≡ length self.old.words.items }
         ensures here { stream < length self.old.words.items * 64 → bit_in self.new.words.items stream ≡ (if on then 1 else 0) }
@@ -53,7 +55,7 @@ impl Ready {
         put_bit(&mut self.tops, at, some);
     }
 
-    /// The first stream from one on that is marked.
+    /// The first stream from `from` on whose bit is set.
     pub(crate) fn next(&self, from: u16) -> Option<u16>
         ensures { NextBit self.now.words.items from result }
     {
@@ -68,7 +70,7 @@ impl Ready {
         }
     }
 
-    /// The first stream that is marked, from a word on.
+    /// The first stream whose bit is set, from a word on.
     fn next_from(&self, at: usize) -> Option<u16>
         ensures { NextBit self.now.words.items (at * 64) result }
     {
@@ -78,7 +80,7 @@ impl Ready {
     }
 }
 
-/// So many words without a bit.
+/// Words without a bit set.
 fn zeros(alloc: Global, many: usize) -> Result<Vec<u64>, NoMemory>
     ensures { IfOk result (λ words. words.items ≡ replicate many 0) }
 {
@@ -89,7 +91,7 @@ fn zeros(alloc: Global, many: usize) -> Result<Vec<u64>, NoMemory>
     Ok(words)
 }
 
-/// Marks a stream where a message waits on it, and else takes its mark away.
+/// Sets the bit of a stream if a message waits on it, and else clears it.
 pub(crate) fn show<F: Framing>(ready: &mut Ready, streams: &Vec<Stream<F>>, stream: u16)
     ensures { (old : List StreamKept) → AreShown ready.old.words.items old → length old ≡ length streams.now.items → IsSameBut stream old (map stream_of streams.now.items)
         → AreShown ready.new.words.items (map stream_of streams.now.items) }
@@ -102,7 +104,8 @@ pub(crate) fn show<F: Framing>(ready: &mut Ready, streams: &Vec<Stream<F>>, stre
     ready.mark(stream, waits);
 }
 
-/// The same, where it is known whether one waited before and whether one waits now: at most chunks and messages taken there is nothing to mark.
+/// Sets or clears the bit of a stream if that changed: it is known whether a message waited before and whether one waits now. At most chunks and
+/// messages taken nothing changes.
 #[inline(always)]
 pub(crate) fn show_change<F: Framing>(
     ready: &mut Ready,

@@ -1,4 +1,4 @@
-//! The receiving end of an association (RFC 9260, 6.2 and 6.6; RFC 3758, 3.6; RFC 8260, 2.2 and 2.3).
+//! The receiver of an association (RFC 9260, 6.2 and 6.6; RFC 3758, 3.6; RFC 8260, 2.2 and 2.3).
 
 ghost use Rattle.std.specs.Prelude.{◌≡◌, ℕ, ◌≤◌, ◌-◌, false, IfOk, MatchOption, option_map, slice_get, List, Option, None, Some, length};
 ghost use Rattle.sctp_model.specs.wire.Chunk.{BlockMeaning, Sack};
@@ -28,7 +28,7 @@ use sctp_serial::tsn_of;
 use sctp_values::{Kind, NoMemory};
 use std::alloc::Global;
 
-/// The receiving end, in one format of user data.
+/// The receiver of an association, in one format of user data.
 #[derive(Drop)]
 pub struct Receiver<F: Framing> {
     pub(crate) alloc: Global,
@@ -38,15 +38,15 @@ pub struct Receiver<F: Framing> {
     pub(crate) seen: Seen,
     pub(crate) streams: Vec<Stream<F>>,
     pub(crate) duplicates: Duplicates,
-    /// Of each stream a bound of the indexes of the unordered chunks kept, where their messages have no number.
+    /// For each stream a bound of the indexes of the unordered chunks kept, if their messages have no number.
     pub(crate) lows: Lows,
     /// On which streams a message waits.
     pub(crate) ready: Ready,
-    /// Blocks of messages that came back.
+    /// Memory of messages that were returned.
     pub(crate) spare: Spare,
 }
 
-/// On how many of so many streams a bound is noted: on none where unordered messages have numbers.
+/// Of how many of these streams a bound is noted: of none if unordered messages have numbers.
 fn noted_streams<F: Framing>(streams: u16) -> u16
     ensures { is_numbered F.format Unordered ≡ false → result ≡ streams }
 {
@@ -58,10 +58,10 @@ fn noted_streams<F: Framing>(streams: u16) -> u16
 
 #[tactic(auto, unfolding(crate::specs::StandsFor::StandsFor))]
 impl<F: Framing> Receiver<F> {
-    /// A receiver to which nothing came: the peer's first TSN, how many streams there are, and the room in bytes.
+    /// A receiver that has received nothing, with the peer's initial TSN, the number of streams, and the receive buffer in bytes.
     ///
     /// # Errors
-    /// Memory ran out.
+    /// Allocation failed.
     pub fn new(
         alloc: Global,
         initial_tsn: u32,
@@ -87,7 +87,7 @@ impl<F: Framing> Receiver<F> {
         })
     }
 
-    /// The bytes of all data that was recorded and not taken yet.
+    /// The data bytes of all chunks kept and all messages not taken yet, at most the receive buffer.
     pub fn held_bytes(&self) -> u32
         ensures held { (v : ReceiverView) → StandsFor F.format self.now v → result ≡ held_bytes v }
         ensures bound { (v : ReceiverView) → StandsFor F.format self.now v → result ≤ v.buffer }
@@ -95,7 +95,7 @@ impl<F: Framing> Receiver<F> {
         self.held
     }
 
-    /// The TSN up to which all came, or was passed by a FORWARD.
+    /// The cumulative TSN: all up to it were received, or skipped by a FORWARD-TSN or I-FORWARD-TSN.
     pub fn cumulative(&self) -> u32
         ensures { (v : ReceiverView) → StandsFor F.format self.now v
             → (c : ℕ) × IsCumulative v c × (result ≡ tsn v.initial c) }
@@ -103,7 +103,7 @@ impl<F: Framing> Receiver<F> {
         tsn_of(self.initial, self.seen.cumulative())
     }
 
-    /// How many runs of indexes that came there are above the cumulative one.
+    /// The number of runs of consecutive TSNs received above the cumulative TSN.
     pub fn run_count(&self) -> u32
         ensures runs { (v : ReceiverView) → StandsFor F.format self.now v
             → (c : ℕ) × (bs : List BlockMeaning) × IsCumulative v c × AreAllRuns v c bs × (result ≡ length bs) }
@@ -112,21 +112,21 @@ impl<F: Framing> Receiver<F> {
         self.seen.run_count()
     }
 
-    /// Whether an index above the cumulative one came, so that one below it is missing (RFC 9260, 6.2).
+    /// Whether a TSN above the cumulative TSN was received, so that one before it is missing (RFC 9260, 6.2).
     pub fn has_gap(&self) -> bool
         ensures { (v : ReceiverView) → StandsFor F.format self.now v → TellsGap result v }
     {
         self.seen.has_runs()
     }
 
-    /// How many streams there are.
+    /// The number of streams.
     pub fn stream_count(&self) -> u16
         ensures { (v : ReceiverView) → StandsFor F.format self.now v → result ≡ v.streams }
     {
         u16::try_from(self.streams.len()).unwrap_or(u16::MAX)
     }
 
-    /// The message that waits on a stream at a place, from 0, and isn't taken: None exactly past the last, as on a stream that isn't there.
+    /// The message that waits at a position on a stream, from 0, without taking it: None if and only if there is none, as on a stream that doesn't exist.
     pub fn waiting(&self, stream: u16, place: usize) -> Option<&Message>
         ensures { (v : ReceiverView) → StandsFor F.format self.now v → MatchOption result (slice_get (v.waiting stream) place ≡ None)
             (λ m. slice_get (v.waiting stream) place ≡ Some (handed_of m.now)) }
@@ -134,18 +134,18 @@ impl<F: Framing> Receiver<F> {
         self.streams.get(usize::from(stream))?.message(place)
     }
 
-    /// The first stream from one on, on which a message waits to be taken: None exactly where none waits from there on. A caller who goes on
-    /// behind it, and begins at 0 again after None, goes round all of them. It looks at no more than some words of 64 streams or of 4,096.
+    /// The first stream from `from` on, on which a message waits to be taken: None if and only if none waits from there on. A caller who goes on
+    /// after it, and begins at 0 again after None, goes round all of them. It looks only at some words of 64 streams or of 4,096.
     pub fn readable(&self, from: u16) -> Option<u16>
         ensures { (v : ReceiverView) → StandsFor F.format self.now v → ReadableAnswer v.waiting from result }
     {
         self.ready.next(from)
     }
 
-    /// What a SACK says now. Nothing changes.
+    /// The SACK to be sent now. Nothing changes.
     ///
     /// # Errors
-    /// Memory ran out.
+    /// Allocation failed.
     pub fn sack(&self) -> Result<SackLists, NoMemory>
         ensures sack { (v : ReceiverView) → StandsFor F.format self.now v → IfOk result (λ s. IsSack v (lists_meaning s)) }
         ensures fits { IfOk result (λ s. Fits (Sack (lists_meaning s))) }
@@ -162,14 +162,14 @@ impl<F: Framing> Receiver<F> {
         })
     }
 
-    /// A SACK was sent: the duplicates that it told are forgotten.
+    /// Notes that the SACK was sent: the duplicates that it reported are forgotten.
     pub fn sack_sent(&mut self)
         ensures { (v : ReceiverView) → StandsFor F.format self.old v → StandsFor F.format self.new (sack_sent v) }
     {
         self.duplicates.truncate(0);
     }
 
-    /// Takes the first message that waits on a stream: None exactly where none waits, as on a stream that isn't there.
+    /// Takes the first message that waits on a stream: None if and only if none waits, as on a stream that doesn't exist.
     pub fn take(&mut self, stream: u16) -> Option<Message>
         ensures { (v : ReceiverView) → StandsFor F.format self.old v
             → (t : ReceiverView) × TakeLeaves v stream (option_map handed_of result) t × StandsFor F.format self.new t }
@@ -190,9 +190,9 @@ impl<F: Framing> Receiver<F> {
         }
     }
 
-    /// A message that was taken comes back, and its memory holds the data of chunks that come. The receiver keeps that of so many messages at most as
-    /// waited at once, since the first one came back, in blocks of no more bytes than its buffer; what is more it lets go of, and likewise a block that a
-    /// chunk doesn't fit or would fill by less than half. It takes no memory, and shows in no answer.
+    /// Returns a message that was taken, for its memory to be reused for the data of chunks that are received. The receiver keeps the memory of at most
+    /// as many messages as waited at once since the first one was returned (those delivered by a FORWARD aren't counted), in blocks of no more bytes
+    /// than its buffer, and frees the rest, and a block that the next chunk doesn't fit or would fill by less than half. Nothing is allocated.
     pub fn give_back(&mut self, message: Message)
         ensures { (v : ReceiverView) → StandsFor F.format self.old v → StandsFor F.format self.new v }
     {

@@ -1,4 +1,4 @@
-//! Runs of indexes in rising order, with an index missing between any two. Nothing here knows of a cumulative index.
+//! Runs of indexes in rising order, with an index missing between any two; the cumulative one is kept in `seen.rt`.
 
 ghost use Rattle.std.specs.Prelude.{◌≡◌, ◌<◌, ◌≤◌, ◌-◌, true, nat_le, length, MatchOption, OnSome, OnOk, OnErr, IsOk};
 ghost use Rattle.sctp_recv.specs.Runs.{AreSpaced, in_run, in_runs, begins_by, IsPlace, AllBelow, IsReaching, Gain};
@@ -6,7 +6,7 @@ ghost use Rattle.sctp_recv.specs.Runs.{AreSpaced, in_run, in_runs, begins_by, Is
 use sctp_sequence::Sequence;
 use sctp_values::NoMemory;
 
-/// Indexes that came, from the first to the last.
+/// Consecutive indexes that were received, from the first to the last.
 #[derive(Clone, Copy)]
 pub(crate) struct SeenRun {
     pub(crate) first: u64,
@@ -22,7 +22,7 @@ impl SeenRun {
     }
 }
 
-/// How many runs lie below an index, have it, or touch it.
+/// How many runs are below an index, contain it, or touch it.
 pub(crate) fn upto(runs: &Sequence<SeenRun>, index: u64) -> usize
     ensures bound { result ≤ length runs.now.items }
     ensures place { AreSpaced runs.now.items → IsPlace (begins_by index) runs.now.items result }
@@ -34,7 +34,7 @@ pub(crate) fn upto(runs: &Sequence<SeenRun>, index: u64) -> usize
     )
 }
 
-/// The run before a place, where it doesn't lie below an index without touching it.
+/// The run before a position, unless it is below the index without touching it.
 fn reaching(runs: &Sequence<SeenRun>, at: usize, index: u64) -> Option<SeenRun>
     requires { at ≤ length runs.now.items }
     ensures some { OnSome result (0 < at) }
@@ -47,7 +47,7 @@ fn reaching(runs: &Sequence<SeenRun>, at: usize, index: u64) -> Option<SeenRun>
     Some(run)
 }
 
-/// The run of these ends.
+/// The run from `first` to `last`.
 fn run_of(first: u64, last: u64) -> SeenRun
     ensures first { result.first ≡ first }
     ensures last { result.last ≡ last }
@@ -55,10 +55,10 @@ fn run_of(first: u64, last: u64) -> SeenRun
     SeenRun { first, last }
 }
 
-/// Puts an index into the runs: one of its own, a run that grows by it, or two that become one. One that is there changes nothing.
+/// Adds an index to the runs: it is a run of its own, extends a run, or joins two. One that is there already changes nothing.
 ///
 /// # Errors
-/// Memory ran out, and nothing changed.
+/// Allocation failed, and nothing changed.
 pub(crate) fn insert(runs: &mut Sequence<SeenRun>, index: u64) -> Result<(), NoMemory>
     ensures inserted { OnOk result (Gain index runs.old.items runs.new.items) }
     ensures there { OnOk result (AreSpaced runs.old.items → in_runs runs.old.items index ≡ true → runs.new.items ≡ runs.old.items) }

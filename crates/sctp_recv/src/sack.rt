@@ -1,10 +1,10 @@
-//! A SACK's lists, owned.
+//! A SACK that owns its lists.
 
 ghost use Rattle.std.specs.Prelude.{◌≡◌, ◌%◌, length};
 
 use sctp_wire::{Blocks, Sack, Tsns};
 
-/// What a SACK says, with lists of its own (RFC 9260, 3.3.4).
+/// The contents of a SACK, with lists of its own (RFC 9260, 3.3.4).
 #[derive(Drop)]
 pub struct SackLists {
     pub(crate) cumulative: u32,
@@ -20,7 +20,7 @@ impl SackLists {
     ghost use Rattle.sctp_wire.specs.ChunkTree.{sack_meaning};
     ghost use Rattle.sctp_recv.specs.SackOf.{lists_meaning};
 
-    /// The SACK, with its lists lent.
+    /// The SACK chunk, which borrows these lists.
     pub fn view(&self) -> Sack<'_>
         ensures { sack_meaning result ≡ lists_meaning self.now }
     {

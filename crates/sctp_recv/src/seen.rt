@@ -1,4 +1,8 @@
-//! Which indexes came: none is missing up to the cumulative one, and above it there are runs. Nothing here knows of data.
+//! Which indexes were received: none is missing up to the cumulative one, and above it there are runs.
+//!
+//! A new index's position is found by one binary search (how many runs begin by the index after it, `runs.rt`): the last of these runs, and the
+//! one before it, say whether the index is there already, is a run of its own, extends a run or joins two. What a move of the cumulative index passes
+//! is found by one such search, and dropped.
 
 ghost use Rattle.std.specs.Prelude.{◌≡◌, suc, ◌+◌, ◌≤◌, ◌<◌, ◌%◌, [], true, false, nat_lt, OnOk, OnErr, IsOk, take, map, length};
 ghost use Rattle.std.specs.List.{AllByRecursion};
@@ -37,7 +41,7 @@ impl Model for Seen {
 }
 
 impl Seen {
-    /// No index came.
+    /// No index was received.
     pub(crate) fn new(alloc: Global) -> Seen
         ensures { SeenStands result.kept (λ _. false) 0 }
     {
@@ -47,7 +51,7 @@ impl Seen {
         }
     }
 
-    /// The index up to which all came.
+    /// The cumulative index: all up to it were received or skipped.
     pub(crate) fn cumulative(&self) -> u64
         ensures value { result ≡ self.now.kept.cumulative }
         ensures within { AreWithin (self.now.kept.cumulative + WINDOW) self.now.kept.runs }
@@ -55,7 +59,7 @@ impl Seen {
         self.cumulative
     }
 
-    /// How many runs there are above it.
+    /// The number of runs above the cumulative index.
     pub(crate) fn run_count(&self) -> u32
         ensures count { result ≡ length self.now.kept.runs }
         ensures bound { result ≤ RUN_LIMIT }
@@ -63,17 +67,17 @@ impl Seen {
         self.runs.len() as u32
     }
 
-    /// Whether there is a run above it.
+    /// Whether there is a run above the cumulative index.
     pub(crate) fn has_runs(&self) -> bool
         ensures { result ≡ nat_lt 0 (length self.now.kept.runs) }
     {
         !self.runs.is_empty()
     }
 
-    /// Appends the lowest 64 runs, as gap blocks.
+    /// Appends the lowest 64 runs, as gap ack blocks.
     ///
     /// # Errors
-    /// Memory ran out.
+    /// Allocation failed.
     #[inline(always)]
     pub(crate) fn put_blocks(&self, list: &mut Vec<u8>) -> Result<(), NoMemory>
         requires { list.old.items ≡ [] }
@@ -88,10 +92,10 @@ impl Seen {
         self.put_runs(list)
     }
 
-    /// The same, where there are some.
+    /// Appends the lowest 64 runs, as gap ack blocks; called only if there are any.
     ///
     /// # Errors
-    /// Memory ran out.
+    /// Allocation failed.
     fn put_runs(&self, list: &mut Vec<u8>) -> Result<(), NoMemory>
         requires { list.old.items ≡ [] }
         ensures blocks { OnOk result (blocks_in list.new.items ≡ map (block_of_run self.now.kept.cumulative) (take BLOCK_LIMIT self.now.kept.runs)) }
@@ -106,7 +110,7 @@ impl Seen {
         Ok(())
     }
 
-    /// Whether the index came, or lies at or below the cumulative one.
+    /// Whether the index was received, or is at or below the cumulative one.
     pub(crate) fn is_reached(&self, index: u64) -> bool
         ensures { result ≡ is_reached self.now.kept index }
     {
@@ -122,10 +126,10 @@ impl Seen {
         }
     }
 
-    /// Makes room for one run more, where an index makes one: the next one makes none.
+    /// Allocates memory for one more run, unless the index is the one after the cumulative index.
     ///
     /// # Errors
-    /// Memory ran out.
+    /// Allocation failed.
     #[inline(always)]
     pub(crate) fn reserve(&mut self, index: u64) -> Result<(), NoMemory>
         ensures same { self.new.kept ≡ self.old.kept }
@@ -137,10 +141,10 @@ impl Seen {
         self.runs.reserve()
     }
 
-    /// Records an index that was not reached, at most 32,767 above the cumulative one. Another changes nothing.
+    /// Records an index that wasn't received, at most 32,767 above the cumulative one. Any other changes nothing.
     ///
     /// # Errors
-    /// Memory ran out, and nothing changed.
+    /// Allocation failed, and nothing changed.
     #[inline(always)]
     pub(crate) fn add(&mut self, index: u64) -> Result<(), NoMemory>
         ensures recorded { OnOk result (is_reached self.old.kept index ≡ false → index ≤ self.old.kept.cumulative + WINDOW
@@ -160,7 +164,7 @@ impl Seen {
         insert(&mut self.runs, index)
     }
 
-    /// All up to an index counts as reached from now on.
+    /// Counts all indexes up to this one as received.
     pub(crate) fn jump(&mut self, index: u64)
         ensures { self.old.kept.cumulative ≤ index → Jumps self.old.kept self.new.kept index }
     {
@@ -170,7 +174,7 @@ impl Seen {
     }
 }
 
-/// A run as the offsets of its ends above an index.
+/// A run as a gap ack block: the offsets of its first and its last index above the cumulative one.
 fn block_above(index: u64, run: SeenRun) -> GapBlock
     requires below { index ≤ run.first }
     requires order { run.first ≤ run.last }
@@ -183,7 +187,7 @@ fn block_above(index: u64, run: SeenRun) -> GapBlock
     }
 }
 
-/// Moves the cumulative index up to an index, and on to the end of the run that it then touches or lies in. What it passes is dropped.
+/// Moves the cumulative index up to an index, and on to the last of the run that it then touches or is in. What it passes is dropped.
 #[inline(always)]
 fn advance(cumulative: &mut u64, runs: &mut Sequence<SeenRun>, index: u64)
     requires { AreSpaced runs.old.items }
@@ -196,7 +200,7 @@ fn advance(cumulative: &mut u64, runs: &mut Sequence<SeenRun>, index: u64)
     pass(cumulative, runs, index);
 }
 
-/// The same where there are runs.
+/// Moves the cumulative index as `advance` does; called only if there are runs.
 #[inline(never)]
 fn pass(cumulative: &mut u64, runs: &mut Sequence<SeenRun>, index: u64)
     requires { AreSpaced runs.old.items }

@@ -1,4 +1,4 @@
-//! A stream, of which something is known or nothing.
+//! A stream, with or without state.
 
 ghost use Rattle.std.specs.Prelude.{◌≡◌, ℕ, true, false, [], ◌∷◌, ◌&&◌, min, length, if◌then◌else◌, map, replicate, slice_get, None, Some, IfOk, OnOk, IsSome, MatchOption};
 ghost use Rattle.sctp_model.specs.messages.Format.{Lane, is_numbered};
@@ -20,14 +20,14 @@ use sctp_values::{Kind, NoMemory};
 use sctp_wire::Piece;
 use std::alloc::Global;
 
-/// A stream. Until a chunk of it is kept or a FORWARD goes to it nothing is known of it: its numbers count from 0, and it is an empty pointer.
+/// A stream. Until a chunk of it is kept or a FORWARD goes to it, it has no state, and is a null pointer: its numbers count from 0.
 #[derive(Drop)]
 pub(crate) struct Stream<F: Framing> {
     pub(crate) inbound: Option<Box<Inbound<F>>>,
 }
 
 impl<F: Framing> Stream<F> {
-    /// The count near which a number is read.
+    /// The count near which a wire value is read.
     fn near(&self, kind: Kind) -> u64
         ensures { result ≡ near_of (stream_of self.now) (kind_meaning kind) }
     {
@@ -37,7 +37,7 @@ impl<F: Framing> Stream<F> {
         }
     }
 
-    /// The count below which a number comes too late.
+    /// The count below which a number is too late.
     fn lowest(&self, kind: Kind) -> u64
         ensures { result ≡ lowest_of (stream_of self.now) (kind_meaning kind) }
     {
@@ -47,14 +47,14 @@ impl<F: Framing> Stream<F> {
         }
     }
 
-    /// The number that a wire value stands for.
+    /// The number that a wire value is read as.
     pub(crate) fn number_near(&self, kind: Kind, wire: u32) -> Option<u64>
         ensures { result ≡ number_near F.format (kind_meaning kind) wire (near_of (stream_of self.now) (kind_meaning kind)) }
     {
         F::number_near(kind, wire, self.near(kind))
     }
 
-    /// Whether a chunk comes too late: its number is below those that count, or there is none where there should be one.
+    /// Whether a chunk is too late: its number is below those that count, or it has none although its kind is numbered.
     pub(crate) fn is_late(&self, kind: Kind, number: Option<u64>) -> bool
         ensures { result ≡ (is_numbered F.format (kind_meaning kind) && is_below_or_none (lowest_of (stream_of self.now) (kind_meaning kind)) number) }
     {
@@ -65,7 +65,7 @@ impl<F: Framing> Stream<F> {
             }
     }
 
-    /// Whether this fragment of this message is kept already, where that can be.
+    /// Whether this fragment of this message is kept already; false under DATA, whose fragments are known by their TSNs.
     pub(crate) fn is_held(&self, piece: &Piece<'_>, number: Option<u64>) -> bool
         ensures { (i : ℕ) (l : Lane) (kept : Kept) → Keeps F.format (inside self.now) piece.now.unordered l kept
             → IsOf F.format l (counted i (piece_meaning piece.now) number) → result ≡ is_repeated F.format kept (counted i (piece_meaning piece.now) number) }
@@ -76,7 +76,7 @@ impl<F: Framing> Stream<F> {
         }
     }
 
-    /// The lowest index of the unordered chunks kept, where their messages have no number: None exactly where none is kept.
+    /// The lowest index of the unordered chunks kept, if their messages have no number: None if and only if none is kept.
     pub(crate) fn lowest_unordered(&self) -> Option<u64>
         ensures { (l : Lane) (kept : Kept) → Keeps F.format (inside self.now) true l kept → is_numbered F.format l.kind ≡ false → IsLowestIndex kept result }
     {
@@ -86,7 +86,7 @@ impl<F: Framing> Stream<F> {
         }
     }
 
-    /// The message that waits at a place, from 0.
+    /// The message that waits at a position, from 0.
     pub(crate) fn message(&self, place: usize) -> Option<&Message>
         ensures { MatchOption result (slice_get (stream_of self.now).waiting place ≡ None)
             (λ m. slice_get (stream_of self.now).waiting place ≡ Some (handed_of m.now)) }
@@ -108,10 +108,10 @@ impl<F: Framing> Stream<F> {
     }
 }
 
-/// So many streams on which nothing came.
+/// A number of streams on which nothing was received.
 ///
 /// # Errors
-/// Memory ran out.
+/// Allocation failed.
 pub(crate) fn fresh_streams<F: Framing>(
     alloc: Global,
     count: u16,
@@ -128,10 +128,10 @@ pub(crate) fn fresh_streams<F: Framing>(
     Ok(streams)
 }
 
-/// Makes a place for what is to be known of a stream, where there is none.
+/// Allocates the state of a stream, if it has none.
 ///
 /// # Errors
-/// Memory ran out.
+/// Allocation failed.
 #[inline(always)]
 pub(crate) fn make<F: Framing>(alloc: Global, stream: &mut Stream<F>) -> Result<(), NoMemory>
     ensures same { stream_of stream.new ≡ stream_of stream.old }
@@ -144,10 +144,10 @@ pub(crate) fn make<F: Framing>(alloc: Global, stream: &mut Stream<F>) -> Result<
     Ok(())
 }
 
-/// What is known of a stream to which nothing came. It runs once for a stream, and `make` for each chunk.
+/// The state of a stream on which nothing was received. It runs once for each stream, and `make` for each chunk.
 ///
 /// # Errors
-/// Memory ran out.
+/// Allocation failed.
 #[inline(never)]
 fn begin<F: Framing>(alloc: Global) -> Result<Box<Inbound<F>>, NoMemory>
     ensures known { IfOk result (λ made. inbound_of made.value ≡ FRESH) }
@@ -157,7 +157,7 @@ fn begin<F: Framing>(alloc: Global) -> Result<Box<Inbound<F>>, NoMemory>
     Box::new(alloc, Inbound::fresh(alloc)).map_err(|_| NoMemory)
 }
 
-/// Takes the first message that waits, where one waits.
+/// Takes the first message that waits, if one does.
 pub(crate) fn take_first<F: Framing>(stream: &mut Stream<F>) -> Option<Message>
     ensures first { MatchOption result
         (((stream_of stream.old).waiting ≡ []) × (stream_of stream.new ≡ stream_of stream.old))

@@ -22,7 +22,7 @@ pub enum ShutdownFault {
 #[derive(Clone, Copy, Debug, PartialEq, Eq, Error)]
 pub enum AbortFault {
     /// 1: there is no peer to send an ABORT to: the state is Closed, Listen or CookieWait.
-    #[error("there is no peer to tell")]
+    #[error("there is no peer to send an ABORT to")]
     State,
     /// 2: the reason doesn't fit one packet.
     #[error("the reason is too long for one packet")]

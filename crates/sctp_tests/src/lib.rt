@@ -7,6 +7,8 @@ mod fakes;
 #[cfg(test)]
 mod lines;
 #[cfg(test)]
+mod packets;
+#[cfg(test)]
 mod sequences;
 #[cfg(test)]
 mod statuses;
