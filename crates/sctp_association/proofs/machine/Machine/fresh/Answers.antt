@@ -14,5 +14,5 @@ returns c = λ r stands. record {
   delayed = refl;
   phase = refl;
   life = record { terms = refl; sender = refl; receiver = refl };
-  room = none_kept _ _ c.new.ensures.capacity;
+  room = none_kept c.new.result _ c.new.ensures.capacity;
 }

@@ -10,4 +10,4 @@ use Rattle.sctp_association.proofs.machine.Machine.take_room.Goals as goal
 pub returns-clause-stands : goal.returns-clause-stands
 unfolding MachineStands
 returns-clause-stands c = λ v stands.
-    with_room _ v _ stands (none_kept _ v.configuration.limit (ap (λ (x : Vec ℕ Global). vec_capacity x) c.replace.ensures.after ∙ c.new.ensures.capacity))
+    with_room _ v _ stands (none_kept c.replace.new.dest v.configuration.limit (ap (λ (x : Vec ℕ Global). vec_capacity x) c.replace.ensures.after ∙ c.new.ensures.capacity))
