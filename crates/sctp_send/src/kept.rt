@@ -10,6 +10,7 @@ pub mod due_table;
 pub mod dues;
 pub mod entry;
 pub mod fates;
+pub mod last_forward;
 pub mod looking;
 pub mod message;
 pub mod ordered;

@@ -56,6 +56,7 @@ impl<F: Framing> Model for Sender<F> {
       passed = s.told.dues.passed;
       moments = s.told.dues.moments;
       asleep = s.told.dues.asleep;
+      forward = s.told.forward;
     } };
 
     ghost invariant = { λ s. IsSized s.told.fragment s.parts };
@@ -98,6 +99,7 @@ impl<F: Framing> Sender<F> {
                 covered: Vec::new(alloc),
                 is_known: true,
                 spare: Vec::new(alloc),
+                forward: None,
                 shells,
             },
             parts: Stock {

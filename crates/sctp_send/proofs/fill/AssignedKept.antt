@@ -25,6 +25,7 @@ use Rattle.sctp_send.specs.inner.Dues.{is_late, some_late}
 use Rattle.sctp_send.specs.declared.kept.message.Fate.TheVariants.{Numbered}
 pub use Rattle.sctp_send.specs.inner.Newcomers.{begun_items}
 use Rattle.sctp_send.proofs.KeepLemmas.{kept_length}
+use Rattle.sctp_send.proofs.forward.StillForward.{still_forward}
 use Rattle.sctp_send.proofs.QueueLemmas.{kept_in_part}
 use Rattle.sctp_send.proofs.TableLemmas.{length-table}
 use Rattle.sctp_send.proofs.OverLemmas.{no_item_more, no_item_one, no_begun, no_rest_set, no_rest_at, no_rest_begun, no_rest_after, not_waiting_taken, another_taken}
@@ -196,6 +197,7 @@ begun_kept f s v q rest d turn capacity room x k taken idle low first space =
               tracks = λ on. late_rest_set now t q.lane.stream s.tracks (begun_track q (suc d) (get_or s.tracks q.lane.stream x)) (i.tracks on) (late_rest_begun now t q (suc d) (get_or s.tracks q.lane.stream x) left.one);
             };
       };
+      forward = still_forward f v.streams v.plan.entries (parts_from q.lane (length (v.plan.messages q.lane)) 0 (suc d)) u.plan.entries s.forward refl k.forward;
       reached = Goes v room (newcomer v u) k.reached parts.0 parts.1;
     }
 
@@ -259,6 +261,7 @@ continued_kept f s v j turn capacity room e x k low on first space =
               tracks = λ may. late_rest_set now t j s.tracks (record (get_or s.tracks j x) { rest = rest_after r.entry r.message }) (i.tracks may) (late_rest_after now t (get_or s.tracks j x) r.entry r.message (other may));
             };
       };
+      forward = still_forward f v.streams v.plan.entries (e ∷ []) u.plan.entries s.forward refl k.forward;
       reached = Goes v room (newcomer v u) k.reached parts.0 parts.1;
     }
 

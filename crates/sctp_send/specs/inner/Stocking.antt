@@ -70,6 +70,7 @@ bare h = record {
   passed = h.dues.passed;
   moments = h.dues.moments;
   asleep = h.dues.asleep;
+  forward = h.forward;
 }
 
 -- what a sender keeps, with a stock's parts instead of its own
