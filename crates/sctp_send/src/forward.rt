@@ -60,8 +60,9 @@ impl<F: Framing> Sender<F> {
     {
         let run = abandoned_run(&self.parts.outstanding);
         if let Some(last) = kept_for::<F>(&self.told, run, limit) {
-            let end = last.cum.wrapping_add(u64::from(last.passed));
-            return put_list::<F>(tsn_of(self.told.initial, end), &last.list, packet);
+            let point = last.cum.wrapping_add(u64::from(last.passed));
+            let upto = tsn_of(self.told.initial, point);
+            return put_list::<F>(upto, &last.list, packet);
         }
         let mut lanes = ArrayVec::new();
         let passed = note_within::<F>(
