@@ -1,4 +1,9 @@
-//! How far the point went is told to the peer: FORWARD-TSN and I-FORWARD-TSN (RFC 3758, 3.5; RFC 8260, 2.3.1).
+//! FORWARD-TSN and I-FORWARD-TSN chunks: how far the peer may move its cumulative TSN over abandoned messages (RFC 3758, 3.5; RFC 8260,
+//! 2.3.1).
+//!
+//! `put_forward` walks once over the entries that the chunk skips. Each is noted at the rank of its lane, which a binary search finds among at most 370
+//! in an array, and the walk ends at the entry whose lane would no longer fit a packet. So it costs what it lists and what it skips, whatever the
+//! number of streams, and allocates only once it is known that the chunk fits. `keep_forward` does the walk ahead and keeps the list.
 
 pub mod keeping;
 pub mod lanes;
@@ -39,12 +44,13 @@ pub(crate) const PACKET_ALONE: u16 = 20;
 
 #[tactic(auto, unfolding(crate::specs::SenderStands::StandsFor))]
 impl<F: Framing> Sender<F> {
-    /// Puts the FORWARD chunk into a packet. It goes to the last index, up to the point, for which the chunk alone fits a packet of `limit`
-    /// bytes, which are 1,500 at most, and names of each stream and numbered kind the largest number up to there. False exactly where there is
-    /// no such index past CUM, or where the chunk doesn't fit what is left of this packet. The sender stays as it is.
+    /// Puts the FORWARD-TSN or I-FORWARD-TSN chunk into a packet. Its new cumulative TSN is the last one up to the point for which the chunk
+    /// alone fits a packet of `limit` bytes, 1,500 at most; it lists the largest SSN or MID skipped, for each stream and kind of message that is
+    /// numbered. False exactly if there is no such TSN past CUM, or if the chunk doesn't fit what is left of this packet. If `keep_forward` has
+    /// kept the chunk for this state, it is taken from there.
     ///
     /// # Errors
-    /// `NoMemory`, and only where the chunk would have gone in; the packet is then as before.
+    /// `NoMemory`, only if the chunk would have gone in; the packet is then as before.
     pub fn put_forward(&self, packet: &mut PacketWriter, limit: u16) -> Result<bool, NoMemory>
         requires { limit ≤ GREATEST_PACKET }
         ensures answer { (v : SenderView) → StandsFor F.format self.now v
