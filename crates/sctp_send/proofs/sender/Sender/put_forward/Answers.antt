@@ -66,7 +66,7 @@ returns-in-Some-clause-answer g c = λ v stands.
     let end = kept_end g.F.Framing.format _ v c.args.limit c.abandoned_run-run.result l keeps this in
     let some = goes_on g.F.Framing.format c.args.limit l.passed v end (kept_some g.F.Framing.format _ v c.args.limit c.abandoned_run-run.result l keeps this) in
     let chunk = kept_chunk g.F.Framing.format _ v c.args.limit c.abandoned_run-run.result l keeps this c.tsn_of-upto.result (rw c.from.ensures at c.tsn_of-upto.ensures) in
-    rw some (rw chunk at c.put_list.ensures.answer)
+    rw some (rw (c.deref.ensures.value, chunk) at c.put_list.ensures.answer)
 
 pub returns-in-Some-clause-after : goal.returns-in-Some-clause-after
 unfolding StandsFor
@@ -76,7 +76,7 @@ returns-in-Some-clause-after g c = λ v stands.
     let keeps = subst (λ (k : Kept). Keeps g.F.Framing.format k v) (sym c.self.view_is) stands in
     let this : IsThis g.F.Framing.format _ v c.args.limit c.abandoned_run-run.result l = record { kept = c.in-Some.ensures.kept; at = c.in-Some.ensures.cum; long = c.in-Some.ensures.run; packet = c.in-Some.ensures.limit; here = c.abandoned_run-run.ensures s.told.fragment } in
     let chunk = kept_chunk g.F.Framing.format _ v c.args.limit c.abandoned_run-run.result l keeps this c.tsn_of-upto.result (rw c.from.ensures at c.tsn_of-upto.ensures) in
-    rw chunk at c.put_list.ensures.after
+    rw (c.deref.ensures.value, chunk) at c.put_list.ensures.after
 
 pub returns-in-Some-clause-memory : goal.returns-in-Some-clause-memory
 unfolding StandsFor
@@ -88,4 +88,4 @@ returns-in-Some-clause-memory g c = λ v stands.
     let end = kept_end g.F.Framing.format _ v c.args.limit c.abandoned_run-run.result l keeps this in
     let some = goes_on g.F.Framing.format c.args.limit l.passed v end (kept_some g.F.Framing.format _ v c.args.limit c.abandoned_run-run.result l keeps this) in
     let chunk = kept_chunk g.F.Framing.format _ v c.args.limit c.abandoned_run-run.result l keeps this c.tsn_of-upto.result (rw c.from.ensures at c.tsn_of-upto.ensures) in
-    rw some (rw chunk at c.put_list.ensures.memory)
+    rw some (rw (c.deref.ensures.value, chunk) at c.put_list.ensures.memory)
