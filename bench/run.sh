@@ -246,6 +246,8 @@ sender_growth() {
         grows "$format: a SACK of 64 blocks over so many, 128 change" 8000 20 call "$built" "$format" blocks
         grows "$format: a SACK of 365 blocks over so many, 730 change" 8000 20 call "$built" "$format" more-blocks
         grows "$format: SACKs that cover nothing and all but the first of so many by turns, by entry" 4000 2 kept "$built" "$format" turns
+        grows "$format: the same if each 64th message was abandoned, by entry" 4000 2 kept "$built" "$format" turns-some
+        grows "$format: the same if each message was abandoned, by entry" 4000 2 kept "$built" "$format" turns-none
     done
     # under DATA no message is ever in part
     grows 'i-data: fill, one message in part on one of so many streams' 256 20 call "$built" i-data fill-part
@@ -258,8 +260,8 @@ sender_growth() {
 packets() {
     # shellcheck disable=SC2086
     build packets $end
-    for case in data-order data-gaps data-odd data-backwards data-again data-nowhere i-data-order i-data-gaps i-data-odd i-data-backwards i-data-again \
-        forward forwards i-forward i-forwards blocks cover turns all shutdowns abort heartbeat heartbeats error stop stop-tell pass pass-tell shutdown-acks \
+    for case in data-order data-gaps data-odd data-backwards data-again data-nowhere data-first i-data-order i-data-gaps i-data-odd i-data-backwards \
+        i-data-again i-data-first forward forwards jump i-forward i-forwards i-jump blocks cover turns turns-some turns-none all shutdowns abort heartbeat heartbeats error stop stop-tell pass pass-tell shutdown-acks \
         completes cookie-acks init-late wrong init init-ack cookie bad-cookie; do
         none=$(count "$built" "$case" none)
         heard=$(count "$built" "$case" heard)

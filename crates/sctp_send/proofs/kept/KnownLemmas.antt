@@ -1,4 +1,4 @@
--- What is known of stretches, as entries come, go, change or are told.
+-- What is known of stretches stays true as entries are added, removed, changed or set.
 use Rattle.std.proofs.Common.{◌≡◌, ℕ, suc, ◌+◌, ◌%◌, ◌^◌, ◌<◌, ◌≤◌, List, [], ◌∷◌, ◌++◌, length, Bool, true, false, Some, inl, inr, sym, ap, ◌∙◌, subst, arith, length-append}
 use Rattle.std.specs.Prelude.{slice_get}
 use Rattle.std.proofs.lemmas.Bool.{cases_lt, cases_eq}
@@ -41,7 +41,7 @@ known_pushed size first ss now es e same none h n s within begins read known =
           let here : slot_at (index_at first n) ≡ slot_at (index_at first (length es)) = omega (arith, short, begins, within, long) in
           absurd (not_there (index_at first (length es)) (index_at first n) now s none here read known)
       | inr le ↦
-          alike_pushed size s.covered s.bytes n 64 es (e ∷ [])
+          alike_pushed size s.covered s.bytes s.plain n 64 es (e ∷ [])
           (h n s (omega (arith, le)) begins (sym (same (slot_at (index_at first n)) (λ is. not_there (index_at first (length es)) (index_at first n) now s none is read known)) ∙ read) known)
     ]
 
@@ -55,7 +55,7 @@ known_behind size first next ss e es is h n s within begins read known =
 pub known_cut : (size first : ℕ) (ss : List Stretch) (es : List EntryFields) (e : EntryFields) → AreKnown size first ss (es ++ e ∷ []) → AreKnown size first ss es
 known_cut size first ss es e h n s within begins read known =
     let long = length-append es (e ∷ []) in
-    alike_cut size s.covered s.bytes n 64 es (e ∷ []) within (h n s (omega (arith, within, long)) begins read known)
+    alike_cut size s.covered s.bytes s.plain n 64 es (e ∷ []) within (h n s (omega (arith, within, long)) begins read known)
 
 -- an entry changes, of whose stretch nothing is said
 pub known_changed : (size first at : ℕ) (g : EntryFields → EntryFields) (ss now : List Stretch) (es : List EntryFields) → SayTheSame (index_at first at) now ss → SayNothing (index_at first at) now → AreKnown size first ss es → AreKnown size first now (changed_at g at es)
@@ -64,10 +64,10 @@ known_changed size first at g ss now es same none h n s within begins read known
     let other = λ (is : slot_at (index_at first n) ≡ slot_at (index_at first at)). not_there (index_at first at) (index_at first n) now s none is read known in
     let before = h n s (omega (arith, within, long)) begins (sym (same (slot_at (index_at first n)) other) ∙ read) known in
     elim (cases_lt at n) [
-      | inl lt ↦ alike_before size s.covered s.bytes n 64 at g es lt before
+      | inl lt ↦ alike_before size s.covered s.bytes s.plain n 64 at g es lt before
       | inr ge ↦ elim (cases_lt at (n + 64)) [
         | inl lt ↦ absurd (other (omega (arith, ge, lt, begins)))
-        | inr past ↦ alike_behind size s.covered s.bytes n 64 at g es past before
+        | inr past ↦ alike_behind size s.covered s.bytes s.plain n 64 at g es past before
       ]
     ]
 
@@ -82,22 +82,22 @@ lie_apart first n m lt one two = omega (arith, lt, one, two)
 -- of one stretch this is known now
 pub known_more : (size first at : ℕ) (ss now : List Stretch) (new : Stretch) (es : List EntryFields) → length es ≤ 32768 → at + 64 ≤ length es → index_at first at % 64 ≡ 0
     → SayTheSame (index_at first at) now ss → ((s : Stretch) → slice_get now (slot_at (index_at first at)) ≡ Some s → s ≡ new)
-    → (new.is_known ≡ true → AreAlike size new.covered new.bytes at 64 es) → AreKnown size first ss es → AreKnown size first now es
+    → (new.is_known ≡ true → AreAlike size new.covered new.bytes new.plain at 64 es) → AreKnown size first ss es → AreKnown size first now es
 known_more size first at ss now new es few there starts same here alike h n s within begins read known =
     elim (cases_eq (slot_at (index_at first n)) (slot_at (index_at first at))) [
       | inl is ↦
           let one = one_there first n at (length es) few within there begins starts is in
           let said : s ≡ new = here s (ap (slice_get now) (sym is) ∙ read) in
           let so = alike (ap (λ (r : Stretch). r.is_known) (sym said) ∙ known) in
-          subst (λ (m : ℕ). AreAlike size s.covered s.bytes m 64 es) (sym one) (subst (λ (r : Stretch). AreAlike size r.covered r.bytes at 64 es) (sym said) so)
+          subst (λ (m : ℕ). AreAlike size s.covered s.bytes s.plain m 64 es) (sym one) (subst (λ (r : Stretch). AreAlike size r.covered r.bytes r.plain at 64 es) (sym said) so)
       | inr ne ↦ h n s within begins (sym (same (slot_at (index_at first n)) ne) ∙ read) known
     ]
 
 -- a stretch that is known is told
-pub known_turned : (size first at : ℕ) (b c : Bool) (bytes : ℕ) (ss now : List Stretch) (new : Stretch) (es : List EntryFields) → length es ≤ 32768 → at + 64 ≤ length es → index_at first at % 64 ≡ 0
+pub known_turned : (size first at : ℕ) (b c : Bool) (bytes plain : ℕ) (ss now : List Stretch) (new : Stretch) (es : List EntryFields) → length es ≤ 32768 → at + 64 ≤ length es → index_at first at % 64 ≡ 0
     → SayTheSame (index_at first at) now ss → ((s : Stretch) → slice_get now (slot_at (index_at first at)) ≡ Some s → s ≡ new)
-    → new.covered ≡ c → new.bytes ≡ bytes → AreAlike size b bytes at 64 es → AreKnown size first ss es → AreKnown size first now (told_run c at 64 es)
-known_turned size first at b c bytes ss now new es few there starts same here covered many alike h n s within begins read known =
+    → new.covered ≡ c → new.bytes ≡ bytes → new.plain ≡ plain → AreAlike size b bytes plain at 64 es → AreKnown size first ss es → AreKnown size first now (told_run c at 64 es)
+known_turned size first at b c bytes plain ss now new es few there starts same here covered many kept alike h n s within begins read known =
     let long = length-told_run c at 64 es in
     elim (cases_eq (slot_at (index_at first n)) (slot_at (index_at first at))) [
       | inl is ↦
@@ -105,13 +105,14 @@ known_turned size first at b c bytes ss now new es few there starts same here co
           let said : s ≡ new = here s (ap (slice_get now) (sym is) ∙ read) in
           let c_is : s.covered ≡ c = ap (λ (r : Stretch). r.covered) said ∙ covered in
           let n_is : s.bytes ≡ bytes = ap (λ (r : Stretch). r.bytes) said ∙ many in
-          rw (one, c_is, n_is) (alike_turned size b c bytes at 64 es alike)
+          let p_is : s.plain ≡ plain = ap (λ (r : Stretch). r.plain) said ∙ kept in
+          rw (one, c_is, n_is, p_is) (alike_turned size b c bytes plain at 64 es alike)
       | inr ne ↦
           let before = h n s (omega (arith, within, long)) begins (sym (same (slot_at (index_at first n)) ne) ∙ read) known in
           elim (cases_lt n at) [
-            | inl lt ↦ alike_back size s.covered c s.bytes n 64 at 64 es (lie_apart first n at lt begins starts) before
+            | inl lt ↦ alike_back size s.covered c s.bytes s.plain n 64 at 64 es (lie_apart first n at lt begins starts) before
             | inr ge ↦ elim (cases_lt at n) [
-              | inl lt ↦ alike_front size s.covered c s.bytes n 64 at 64 es (lie_apart first at n lt starts begins) before
+              | inl lt ↦ alike_front size s.covered c s.bytes s.plain n 64 at 64 es (lie_apart first at n lt starts begins) before
               | inr le ↦ let one : n ≡ at = omega (arith, ge, le) in absurd (ne (ap (λ (m : ℕ). slot_at (index_at first m)) one))
             ]
           ]

@@ -1,10 +1,10 @@
--- Entries in a row that stand alike: what is told of others, what comes and goes beside them, and what they are told themselves.
+-- Stretches whose entries are alike: they stay so as other entries are added, removed or changed, and once they are set as a whole.
 use Rattle.std.proofs.Common.{◌≡◌, ℕ, zero, suc, ◌+◌, ◌-◌, ◌<◌, ◌≤◌, List, [], ◌∷◌, ◌++◌, length, Bool, true, false, Some, refl, sym, ap, ◌∙◌, subst, arith}
 use Rattle.std.specs.Prelude.{not, slice_get}
 use mathlib.Core.Bool.{beq}
 use Rattle.sctp_send.specs.PartsKept.{changed_at}
 use Rattle.sctp_send.specs.inner.Changes.{unmarked, told, told_where, is_between}
-use Rattle.sctp_send.specs.inner.Stretching.{IsPlain, entry_bytes, AreAlike, told_run, covered_run}
+use Rattle.sctp_send.specs.inner.Stretching.{IsQuiet, plain_bytes, plain_one, AreAlike, told_run, covered_run}
 use Rattle.sctp_send.specs.declared.kept.entry.Standing.{Standing}
 use Rattle.sctp_send.specs.declared.kept.entry.Entry.{Entry as EntryFields}
 use Rattle.sctp_send.proofs.sack.TellLemmas.{run_starts, run_step}
@@ -33,72 +33,86 @@ pub flag_on : (b : Bool) → not b ≡ false → b ≡ true
 flag_on true is = refl
 flag_on false is = absurd (cc)
 
+-- ---- a quiet entry
+
+-- acknowledged, or not, it is quiet
+pub quiet_told : (b c : Bool) (e : EntryFields) → IsQuiet b e → IsQuiet c (told c e)
+quiet_told b true e h = record { out = λ kept. h.mark ∙ h.out kept; mark = ap unmarked h.mark; covers = refl }
+quiet_told b false e h = record { out = h.out; mark = h.mark; covers = refl }
+
 -- ---- entries that stand alike
 
 -- there are so many
-pub alike_long : (size : ℕ) (c : Bool) (n at k : ℕ) (es : List EntryFields) → AreAlike size c n at k es → at + k ≤ length es
-alike_long size c n (suc at) k [] h = absurd h
-alike_long size c n (suc at) k (e ∷ es) h = let le = alike_long size c n at k es h in omega (arith, le)
-alike_long size c n zero zero es h = omega arith
-alike_long size c n zero (suc k) [] h = absurd h
-alike_long size c n zero (suc k) (e ∷ es) h = let le = alike_long size c (n - entry_bytes size e) zero k es h.2 in omega (arith, le)
+pub alike_long : (size : ℕ) (c : Bool) (n p at k : ℕ) (es : List EntryFields) → AreAlike size c n p at k es → at + k ≤ length es
+alike_long size c n p (suc at) k [] h = absurd h
+alike_long size c n p (suc at) k (e ∷ es) h = let le = alike_long size c n p at k es h in omega (arith, le)
+alike_long size c n p zero zero es h = omega arith
+alike_long size c n p zero (suc k) [] h = absurd h
+alike_long size c n p zero (suc k) (e ∷ es) h = let le = alike_long size c (n - plain_bytes size e) (p - plain_one e) zero k es h.3 in omega (arith, le)
 
 -- none do
-pub alike_none : (size : ℕ) (c : Bool) (at : ℕ) (es : List EntryFields) → at ≤ length es → AreAlike size c 0 at 0 es
-alike_none size c zero es le = refl
+pub alike_none : (size : ℕ) (c : Bool) (at : ℕ) (es : List EntryFields) → at ≤ length es → AreAlike size c 0 0 at 0 es
+alike_none size c zero es le = (refl, refl)
 alike_none size c (suc at) [] le = absurd (omega (arith, le))
 alike_none size c (suc at) (e ∷ es) le = alike_none size c at es (omega (arith, le))
 
 -- others come behind them
-pub alike_pushed : (size : ℕ) (c : Bool) (n at k : ℕ) (es ds : List EntryFields) → AreAlike size c n at k es → AreAlike size c n at k (es ++ ds)
-alike_pushed size c n (suc at) k [] ds h = absurd h
-alike_pushed size c n (suc at) k (e ∷ es) ds h = alike_pushed size c n at k es ds h
-alike_pushed size c n zero zero es ds h = h
-alike_pushed size c n zero (suc k) [] ds h = absurd h
-alike_pushed size c n zero (suc k) (e ∷ es) ds h = (h.0, h.1, alike_pushed size c (n - entry_bytes size e) zero k es ds h.2)
+pub alike_pushed : (size : ℕ) (c : Bool) (n p at k : ℕ) (es ds : List EntryFields) → AreAlike size c n p at k es → AreAlike size c n p at k (es ++ ds)
+alike_pushed size c n p (suc at) k [] ds h = absurd h
+alike_pushed size c n p (suc at) k (e ∷ es) ds h = alike_pushed size c n p at k es ds h
+alike_pushed size c n p zero zero es ds h = h
+alike_pushed size c n p zero (suc k) [] ds h = absurd h
+alike_pushed size c n p zero (suc k) (e ∷ es) ds h = (h.0, h.1, h.2, alike_pushed size c (n - plain_bytes size e) (p - plain_one e) zero k es ds h.3)
 
 -- others go from behind them
-pub alike_cut : (size : ℕ) (c : Bool) (n at k : ℕ) (es ds : List EntryFields) → at + k ≤ length es → AreAlike size c n at k (es ++ ds) → AreAlike size c n at k es
-alike_cut size c n (suc at) k [] ds le h = absurd (omega (arith, le))
-alike_cut size c n (suc at) k (e ∷ es) ds le h = alike_cut size c n at k es ds (omega (arith, le)) h
-alike_cut size c n zero zero es ds le h = h
-alike_cut size c n zero (suc k) [] ds le h = absurd (omega (arith, le))
-alike_cut size c n zero (suc k) (e ∷ es) ds le h = (h.0, h.1, alike_cut size c (n - entry_bytes size e) zero k es ds (omega (arith, le)) h.2)
+pub alike_cut : (size : ℕ) (c : Bool) (n p at k : ℕ) (es ds : List EntryFields) → at + k ≤ length es → AreAlike size c n p at k (es ++ ds) → AreAlike size c n p at k es
+alike_cut size c n p (suc at) k [] ds le h = absurd (omega (arith, le))
+alike_cut size c n p (suc at) k (e ∷ es) ds le h = alike_cut size c n p at k es ds (omega (arith, le)) h
+alike_cut size c n p zero zero es ds le h = h
+alike_cut size c n p zero (suc k) [] ds le h = absurd (omega (arith, le))
+alike_cut size c n p zero (suc k) (e ∷ es) ds le h = (h.0, h.1, h.2, alike_cut size c (n - plain_bytes size e) (p - plain_one e) zero k es ds (omega (arith, le)) h.3)
 
 -- an entry before them changes
-pub alike_before : (size : ℕ) (c : Bool) (n at k i : ℕ) (g : EntryFields → EntryFields) (es : List EntryFields) → i < at → AreAlike size c n at k es → AreAlike size c n at k (changed_at g i es)
-alike_before size c n zero k i g es lt h = absurd (omega (arith, lt))
-alike_before size c n (suc at) k i g [] lt h = absurd h
-alike_before size c n (suc at) k zero g (e ∷ es) lt h = h
-alike_before size c n (suc at) k (suc i) g (e ∷ es) lt h = alike_before size c n at k i g es (omega (arith, lt)) h
+pub alike_before : (size : ℕ) (c : Bool) (n p at k i : ℕ) (g : EntryFields → EntryFields) (es : List EntryFields) → i < at → AreAlike size c n p at k es → AreAlike size c n p at k (changed_at g i es)
+alike_before size c n p zero k i g es lt h = absurd (omega (arith, lt))
+alike_before size c n p (suc at) k i g [] lt h = absurd h
+alike_before size c n p (suc at) k zero g (e ∷ es) lt h = h
+alike_before size c n p (suc at) k (suc i) g (e ∷ es) lt h = alike_before size c n p at k i g es (omega (arith, lt)) h
 
 -- an entry behind them does
-pub alike_behind : (size : ℕ) (c : Bool) (n at k i : ℕ) (g : EntryFields → EntryFields) (es : List EntryFields) → at + k ≤ i → AreAlike size c n at k es → AreAlike size c n at k (changed_at g i es)
-alike_behind size c n (suc at) k i g [] le h = absurd h
-alike_behind size c n (suc at) k zero g (e ∷ es) le h = absurd (omega (arith, le))
-alike_behind size c n (suc at) k (suc i) g (e ∷ es) le h = alike_behind size c n at k i g es (omega (arith, le)) h
-alike_behind size c n zero zero i g es le h = h
-alike_behind size c n zero (suc k) i g [] le h = absurd h
-alike_behind size c n zero (suc k) zero g (e ∷ es) le h = absurd (omega (arith, le))
-alike_behind size c n zero (suc k) (suc i) g (e ∷ es) le h = (h.0, h.1, alike_behind size c (n - entry_bytes size e) zero k i g es (omega (arith, le)) h.2)
+pub alike_behind : (size : ℕ) (c : Bool) (n p at k i : ℕ) (g : EntryFields → EntryFields) (es : List EntryFields) → at + k ≤ i → AreAlike size c n p at k es → AreAlike size c n p at k (changed_at g i es)
+alike_behind size c n p (suc at) k i g [] le h = absurd h
+alike_behind size c n p (suc at) k zero g (e ∷ es) le h = absurd (omega (arith, le))
+alike_behind size c n p (suc at) k (suc i) g (e ∷ es) le h = alike_behind size c n p at k i g es (omega (arith, le)) h
+alike_behind size c n p zero zero i g es le h = h
+alike_behind size c n p zero (suc k) i g [] le h = absurd h
+alike_behind size c n p zero (suc k) zero g (e ∷ es) le h = absurd (omega (arith, le))
+alike_behind size c n p zero (suc k) (suc i) g (e ∷ es) le h = (h.0, h.1, h.2, alike_behind size c (n - plain_bytes size e) (p - plain_one e) zero k i g es (omega (arith, le)) h.3)
 
 -- one more stands so
-pub alike_more : (size : ℕ) (c : Bool) (n at k : ℕ) (es : List EntryFields) (e : EntryFields) → AreAlike size c n at k es → slice_get es (at + k) ≡ Some e → IsPlain c e → AreAlike size c (n + entry_bytes size e) at (suc k) es
-alike_more size c n (suc at) k [] e h read plain = absurd h
-alike_more size c n (suc at) k (d ∷ es) e h read plain =
+pub alike_more : (size : ℕ) (c : Bool) (n p at k : ℕ) (es : List EntryFields) (e : EntryFields) → AreAlike size c n p at k es → slice_get es (at + k) ≡ Some e → IsQuiet c e → AreAlike size c (n + plain_bytes size e) (p + plain_one e) at (suc k) es
+alike_more size c n p (suc at) k [] e h read plain = absurd h
+alike_more size c n p (suc at) k (d ∷ es) e h read plain =
     let next : suc at + k ≡ suc (at + k) = omega arith in
-    alike_more size c n at k es e h (ap (slice_get (d ∷ es)) (sym next) ∙ read) plain
-alike_more size c n zero zero [] e h read plain = absurd (cc)
-alike_more size c n zero zero (d ∷ es) e h read plain =
+    alike_more size c n p at k es e h (ap (slice_get (d ∷ es)) (sym next) ∙ read) plain
+alike_more size c n p zero zero [] e h read plain = absurd (cc)
+alike_more size c n p zero zero (d ∷ es) e h read plain =
     let same : d ≡ e = cc in
-    let bytes : entry_bytes size d ≡ entry_bytes size e = ap (entry_bytes size) same in
-    (subst (IsPlain c) (sym same) plain, omega (arith, bytes), omega (arith, bytes, h))
-alike_more size c n zero (suc k) [] e h read plain = absurd h
-alike_more size c n zero (suc k) (d ∷ es) e h read plain =
+    let bytes : plain_bytes size d ≡ plain_bytes size e = ap (plain_bytes size) same in
+    let one : plain_one d ≡ plain_one e = ap plain_one same in
+    (subst (IsQuiet c) (sym same) plain, omega (arith, bytes), omega (arith, one), (omega (arith, bytes, h.0), omega (arith, one, h.1)))
+alike_more size c n p zero (suc k) [] e h read plain = absurd h
+alike_more size c n p zero (suc k) (d ∷ es) e h read plain =
     let next : zero + suc k ≡ suc (zero + k) = omega arith in
-    let rest = alike_more size c (n - entry_bytes size d) zero k es e h.2 (ap (slice_get (d ∷ es)) (sym next) ∙ read) plain in
-    let less : n - entry_bytes size d + entry_bytes size e ≡ n + entry_bytes size e - entry_bytes size d = omega (arith, h.1) in
-    (h.0, omega (arith, h.1), subst (λ (m : ℕ). AreAlike size c m zero (suc k) es) less rest)
+    let rest = alike_more size c (n - plain_bytes size d) (p - plain_one d) zero k es e h.3 (ap (slice_get (d ∷ es)) (sym next) ∙ read) plain in
+    let less : n - plain_bytes size d + plain_bytes size e ≡ n + plain_bytes size e - plain_bytes size d = omega (arith, h.1) in
+    let fewer : p - plain_one d + plain_one e ≡ p + plain_one e - plain_one d = omega (arith, h.2) in (
+      h.0,
+      omega (arith, h.1),
+      omega (arith, h.2),
+      subst (λ (m : ℕ). AreAlike size c m (p + plain_one e - plain_one d) zero (suc k) es) less
+          (subst (λ (q : ℕ). AreAlike size c (n - plain_bytes size d + plain_bytes size e) q zero (suc k) es) fewer rest),
+    )
 
 -- ---- entries in a row that are told
 
@@ -156,60 +170,62 @@ noted_more c zero (suc k) [] = refl
 noted_more c zero (suc k) (e ∷ es) = let next : zero + suc k ≡ suc (zero + k) = omega arith in rw next (ap (λ (xs : List EntryFields). noted c e ∷ xs) (noted_more c zero k es))
 
 -- where they stand alike, it is noted that they are covered, or not, and no more
-pub run_noted : (size : ℕ) (b c : Bool) (n at k : ℕ) (es : List EntryFields) → AreAlike size b n at k es → covered_run c at k es ≡ told_run c at k es
-run_noted size b c n (suc at) k [] h = refl
-run_noted size b c n (suc at) k (e ∷ es) h = ap (λ (xs : List EntryFields). e ∷ xs) (run_noted size b c n at k es h)
-run_noted size b c n zero zero es h = refl
-run_noted size b c n zero (suc k) [] h = refl
-run_noted size b c n zero (suc k) (e ∷ es) h =
-    ap (λ (x : EntryFields). x ∷ covered_run c zero k es) (by_told c) ∙ ap (λ (xs : List EntryFields). told c e ∷ xs) (run_noted size b c (n - entry_bytes size e) zero k es h.2)
+pub run_noted : (size : ℕ) (b c : Bool) (n p at k : ℕ) (es : List EntryFields) → AreAlike size b n p at k es → covered_run c at k es ≡ told_run c at k es
+run_noted size b c n p (suc at) k [] h = refl
+run_noted size b c n p (suc at) k (e ∷ es) h = ap (λ (xs : List EntryFields). e ∷ xs) (run_noted size b c n p at k es h)
+run_noted size b c n p zero zero es h = refl
+run_noted size b c n p zero (suc k) [] h = refl
+run_noted size b c n p zero (suc k) (e ∷ es) h =
+    ap (λ (x : EntryFields). x ∷ covered_run c zero k es) (by_told c) ∙ ap (λ (xs : List EntryFields). told c e ∷ xs) (run_noted size b c (n - plain_bytes size e) (p - plain_one e) zero k es h.3)
   where
     by_told : (d : Bool) → record e { covered = d } ≡ told d e
-    by_told true = let same : unmarked e.standing ≡ e.standing = rw h.0.out refl in ap (λ (s : Standing). record e { covered = true; standing = s }) (sym same)
+    by_told true = ap (λ (s : Standing). record e { covered = true; standing = s }) (sym h.0.mark)
     by_told false = refl
 
 -- where they are told already, nothing changes
-pub run_same : (size : ℕ) (c : Bool) (n at k : ℕ) (es : List EntryFields) → AreAlike size c n at k es → told_run c at k es ≡ es
-run_same size c n (suc at) k [] h = refl
-run_same size c n (suc at) k (e ∷ es) h = ap (λ (xs : List EntryFields). e ∷ xs) (run_same size c n at k es h)
-run_same size c n zero zero es h = refl
-run_same size c n zero (suc k) [] h = refl
-run_same size c n zero (suc k) (e ∷ es) h = ap (λ (x : EntryFields). x ∷ told_run c zero k es) (by_told c h.0.covers) ∙ ap (λ (xs : List EntryFields). e ∷ xs) (run_same size c (n - entry_bytes size e) zero k es h.2)
+pub run_same : (size : ℕ) (c : Bool) (n p at k : ℕ) (es : List EntryFields) → AreAlike size c n p at k es → told_run c at k es ≡ es
+run_same size c n p (suc at) k [] h = refl
+run_same size c n p (suc at) k (e ∷ es) h = ap (λ (xs : List EntryFields). e ∷ xs) (run_same size c n p at k es h)
+run_same size c n p zero zero es h = refl
+run_same size c n p zero (suc k) [] h = refl
+run_same size c n p zero (suc k) (e ∷ es) h = ap (λ (x : EntryFields). x ∷ told_run c zero k es) (by_told c h.0.covers) ∙ ap (λ (xs : List EntryFields). e ∷ xs) (run_same size c (n - plain_bytes size e) (p - plain_one e) zero k es h.3)
   where
     by_told : (d : Bool) → e.covered ≡ d → told d e ≡ e
-    by_told true on = let same : unmarked e.standing ≡ e.standing = rw h.0.out refl in ap (λ (s : Standing). record e { covered = true; standing = s }) same ∙ ap (λ (b : Bool). record e { covered = b }) (sym on)
+    by_told true on = ap (λ (s : Standing). record e { covered = true; standing = s }) h.0.mark ∙ ap (λ (b : Bool). record e { covered = b }) (sym on)
     by_told false off = ap (λ (b : Bool). record e { covered = b }) (sym off)
 
 -- they stand alike then too
-pub alike_turned : (size : ℕ) (b c : Bool) (n at k : ℕ) (es : List EntryFields) → AreAlike size b n at k es → AreAlike size c n at k (told_run c at k es)
-alike_turned size b c n (suc at) k [] h = absurd h
-alike_turned size b c n (suc at) k (e ∷ es) h = alike_turned size b c n at k es h
-alike_turned size b c n zero zero es h = h
-alike_turned size b c n zero (suc k) [] h = absurd h
-alike_turned size b c n zero (suc k) (e ∷ es) h =
-    let rest = alike_turned size b c (n - entry_bytes size e) zero k es h.2 in
-    by_told c (h.1, rest)
+pub alike_turned : (size : ℕ) (b c : Bool) (n p at k : ℕ) (es : List EntryFields) → AreAlike size b n p at k es → AreAlike size c n p at k (told_run c at k es)
+alike_turned size b c n p (suc at) k [] h = absurd h
+alike_turned size b c n p (suc at) k (e ∷ es) h = alike_turned size b c n p at k es h
+alike_turned size b c n p zero zero es h = h
+alike_turned size b c n p zero (suc k) [] h = absurd h
+alike_turned size b c n p zero (suc k) (e ∷ es) h =
+    let rest = alike_turned size b c (n - plain_bytes size e) (p - plain_one e) zero k es h.3 in
+    let quiet = quiet_told b c e h.0 in
+    by_told c quiet (h.1, h.2, rest)
   where
-    by_told : (d : Bool) → (entry_bytes size e ≤ n) × AreAlike size c (n - entry_bytes size e) zero k (told_run c zero k es) → IsPlain d (told d e) × (entry_bytes size (told d e) ≤ n) × AreAlike size c (n - entry_bytes size (told d e)) zero k (told_run c zero k es)
-    by_told true more = (record { out = rw h.0.out refl; covers = refl; kept = h.0.kept }, more.0, more.1)
-    by_told false more = (record { out = h.0.out; covers = refl; kept = h.0.kept }, more.0, more.1)
+    by_told : (d : Bool) → IsQuiet d (told d e) → (plain_bytes size e ≤ n) × (plain_one e ≤ p) × AreAlike size c (n - plain_bytes size e) (p - plain_one e) zero k (told_run c zero k es)
+        → IsQuiet d (told d e) × (plain_bytes size (told d e) ≤ n) × (plain_one (told d e) ≤ p) × AreAlike size c (n - plain_bytes size (told d e)) (p - plain_one (told d e)) zero k (told_run c zero k es)
+    by_told true quiet more = (quiet, more.0, more.1, more.2)
+    by_told false quiet more = (quiet, more.0, more.1, more.2)
 
 -- others that lie behind those told
-pub alike_front : (size : ℕ) (b c : Bool) (n m j at k : ℕ) (es : List EntryFields) → at + k ≤ m → AreAlike size b n m j es → AreAlike size b n m j (told_run c at k es)
-alike_front size b c n zero j (suc at) k es le h = absurd (omega (arith, le))
-alike_front size b c n (suc m) j (suc at) k [] le h = absurd h
-alike_front size b c n (suc m) j (suc at) k (e ∷ es) le h = alike_front size b c n m j at k es (omega (arith, le)) h
-alike_front size b c n m j zero zero es le h = h
-alike_front size b c n zero j zero (suc k) es le h = absurd (omega (arith, le))
-alike_front size b c n (suc m) j zero (suc k) [] le h = absurd h
-alike_front size b c n (suc m) j zero (suc k) (e ∷ es) le h = alike_front size b c n m j zero k es (omega (arith, le)) h
+pub alike_front : (size : ℕ) (b c : Bool) (n p m j at k : ℕ) (es : List EntryFields) → at + k ≤ m → AreAlike size b n p m j es → AreAlike size b n p m j (told_run c at k es)
+alike_front size b c n p zero j (suc at) k es le h = absurd (omega (arith, le))
+alike_front size b c n p (suc m) j (suc at) k [] le h = absurd h
+alike_front size b c n p (suc m) j (suc at) k (e ∷ es) le h = alike_front size b c n p m j at k es (omega (arith, le)) h
+alike_front size b c n p m j zero zero es le h = h
+alike_front size b c n p zero j zero (suc k) es le h = absurd (omega (arith, le))
+alike_front size b c n p (suc m) j zero (suc k) [] le h = absurd h
+alike_front size b c n p (suc m) j zero (suc k) (e ∷ es) le h = alike_front size b c n p m j zero k es (omega (arith, le)) h
 
 -- others that lie before them
-pub alike_back : (size : ℕ) (b c : Bool) (n m j at k : ℕ) (es : List EntryFields) → m + j ≤ at → AreAlike size b n m j es → AreAlike size b n m j (told_run c at k es)
-alike_back size b c n (suc m) j zero k es le h = absurd (omega (arith, le))
-alike_back size b c n (suc m) j (suc at) k [] le h = absurd h
-alike_back size b c n (suc m) j (suc at) k (e ∷ es) le h = alike_back size b c n m j at k es (omega (arith, le)) h
-alike_back size b c n zero zero at k es le h = h
-alike_back size b c n zero (suc j) zero k es le h = absurd (omega (arith, le))
-alike_back size b c n zero (suc j) (suc at) k [] le h = absurd h
-alike_back size b c n zero (suc j) (suc at) k (e ∷ es) le h = (h.0, h.1, alike_back size b c (n - entry_bytes size e) zero j at k es (omega (arith, le)) h.2)
+pub alike_back : (size : ℕ) (b c : Bool) (n p m j at k : ℕ) (es : List EntryFields) → m + j ≤ at → AreAlike size b n p m j es → AreAlike size b n p m j (told_run c at k es)
+alike_back size b c n p (suc m) j zero k es le h = absurd (omega (arith, le))
+alike_back size b c n p (suc m) j (suc at) k [] le h = absurd h
+alike_back size b c n p (suc m) j (suc at) k (e ∷ es) le h = alike_back size b c n p m j at k es (omega (arith, le)) h
+alike_back size b c n p zero zero at k es le h = h
+alike_back size b c n p zero (suc j) zero k es le h = absurd (omega (arith, le))
+alike_back size b c n p zero (suc j) (suc at) k [] le h = absurd h
+alike_back size b c n p zero (suc j) (suc at) k (e ∷ es) le h = (h.0, h.1, h.2, alike_back size b c (n - plain_bytes size e) (p - plain_one e) zero j at k es (omega (arith, le)) h.3)

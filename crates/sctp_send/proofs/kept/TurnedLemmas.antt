@@ -1,26 +1,24 @@
--- What is counted of entries once those of a stretch are told covered, or not.
+-- The counts of all entries once a stretch is set acknowledged, or not, as a whole.
 use Rattle.std.proofs.Common.{◌≡◌, ℕ, zero, suc, ◌+◌, ◌-◌, ◌%◌, ◌^◌, ◌<◌, List, [], ◌∷◌, map, take, Bool, true, false, Option, Some, refl, sym, ap, ◌∙◌, arith}
-use Rattle.std.specs.Prelude.{not, if◌then◌else◌, option_map}
+use Rattle.std.specs.Prelude.{not, ◌&&◌, if◌then◌else◌, option_map}
 use Rattle.sctp_send.specs.SenderKept.{Item}
-use Rattle.sctp_send.specs.OutstandingFields.{item_meaning}
+use Rattle.sctp_send.specs.OutstandingFields.{was_sent, is_marked, item_meaning}
 use Rattle.sctp_send.specs.inner.Changes.{told}
 use Rattle.sctp_send.specs.inner.Counting.{count_unsettled, lowered, IsCounted}
 use Rattle.sctp_send.specs.inner.Newcomers.{one_if}
-use Rattle.sctp_send.specs.inner.Stretching.{IsPlain, entry_bytes, AreAlike, told_run, turned_counts}
+use Rattle.sctp_send.specs.inner.Stretching.{IsPlain, IsQuiet, entry_bytes, plain_bytes, plain_one, AreAlike, told_run, turned_counts}
 use Rattle.sctp_send.specs.inner.TicketOrder.{tickets_of}
 use Rattle.sctp_send.specs.inner.Walks.{abandoned_items, is_item_unsettled}
 use Rattle.sctp_send.specs.inner.Wishing.{first_offset, is_item_marked, is_item_unsent, item_weight, item_flight}
 use Rattle.sctp_send.specs.declared.kept.counts.Counts.{Counts}
 use Rattle.sctp_send.specs.declared.kept.entry.Entry.{Entry as EntryFields}
-use Rattle.sctp_send.proofs.kept.StretchLemmas.{length-told_run}
+use Rattle.sctp_send.specs.declared.kept.entry.Standing.{Standing}
+use Rattle.sctp_send.specs.declared.kept.entry.Standing.TheVariants.{Unsent, Sent, Marked}
+use Rattle.sctp_send.proofs.kept.StretchLemmas.{length-told_run, quiet_told}
 
 -- ---- a plain entry
 
--- one that is covered has no weight, and is not unsettled
-plain_covered : (size : ℕ) (e : EntryFields) → IsPlain true e → (item_weight (item_meaning size e) ≡ 0) × (one_if (is_item_unsettled (item_meaning size e)) ≡ 0)
-plain_covered size e h = (rw (h.out, h.covers) refl, rw (h.out, h.covers) refl)
-
--- one that isn't has the weight of its bytes, and counts
+-- one that isn't acknowledged has the weight of its bytes, and counts
 pub plain_uncovered : (size : ℕ) (e : EntryFields) → IsPlain false e → (item_weight (item_meaning size e) ≡ entry_bytes size e) × (one_if (is_item_unsettled (item_meaning size e)) ≡ 1)
 plain_uncovered size e h = (rw (h.out, h.covers, h.kept) refl, rw (h.out, h.covers, h.kept) refl)
 
@@ -28,60 +26,92 @@ plain_uncovered size e h = (rw (h.out, h.covers, h.kept) refl, rw (h.out, h.cove
 pub plain_lowered : (size at : ℕ) (e : EntryFields) (c : Counts) → IsPlain false e → lowered at (item_meaning size e) c ≡ c
 plain_lowered size at e c h = rw h.out refl
 
--- told covered, or not, it is plain
-plain_told : (b c : Bool) (e : EntryFields) → IsPlain b e → IsPlain c (told c e)
-plain_told b true e h = record { out = rw h.out refl; covers = refl; kept = h.kept }
-plain_told b false e h = record { out = h.out; covers = refl; kept = h.kept }
+-- ---- a quiet entry
+
+no_weight : (s : Standing) (n : ℕ) → (if not (is_marked s) && (was_sent s && false) then n else 0) ≡ 0
+no_weight Unsent n = refl
+no_weight Sent n = refl
+no_weight Marked n = refl
+
+no_count : (s : Standing) → one_if (was_sent s && false) ≡ 0
+no_count Unsent = refl
+no_count Sent = refl
+no_count Marked = refl
+
+never_first : (s : Standing) (c : Bool) → (not (was_sent s) && (not c && false)) ≡ false
+never_first Unsent true = refl
+never_first Unsent false = refl
+never_first Sent c = refl
+never_first Marked c = refl
+
+-- one that is acknowledged has no weight, and is not unsettled
+quiet_covered : (size : ℕ) (e : EntryFields) → IsQuiet true e → (item_weight (item_meaning size e) ≡ 0) × (one_if (is_item_unsettled (item_meaning size e)) ≡ 0)
+quiet_covered size e h = (rw h.covers (no_weight e.standing (entry_bytes size e)), rw h.covers (no_count e.standing))
+
+-- one that isn't has the weight of its bytes, and counts, unless it is abandoned
+quiet_uncovered : (size : ℕ) (e : EntryFields) → IsQuiet false e → (item_weight (item_meaning size e) ≡ plain_bytes size e) × (one_if (is_item_unsettled (item_meaning size e)) ≡ plain_one e)
+quiet_uncovered size e h = by_flag e.abandoned refl
+  where
+    by_flag : (g : Bool) → e.abandoned ≡ g → (item_weight (item_meaning size e) ≡ plain_bytes size e) × (one_if (is_item_unsettled (item_meaning size e)) ≡ plain_one e)
+    by_flag true is = (rw (is, h.covers) (no_weight e.standing (entry_bytes size e)), rw (is, h.covers) (no_count e.standing))
+    by_flag false is = (rw (h.out is, h.covers, is) refl, rw (h.out is, h.covers, is) refl)
+
+-- it is not to go out for the first time
+not_first : (size : ℕ) (e : EntryFields) → (e.abandoned ≡ false → e.standing ≡ Sent) → is_item_unsent (item_meaning size e) ≡ false
+not_first size e out = by_flag e.abandoned refl
+  where
+    by_flag : (g : Bool) → e.abandoned ≡ g → is_item_unsent (item_meaning size e) ≡ false
+    by_flag true is = rw is (never_first e.standing e.covered)
+    by_flag false is = rw (out is) refl
 
 -- ---- sums
 
--- of entries that are covered
-covered_sums : (size n at k : ℕ) (es : List EntryFields) → AreAlike size false n at k es
-    → (item_flight (map (item_meaning size) (told_run true at k es)) + n ≡ item_flight (map (item_meaning size) es)) × (count_unsettled (map (item_meaning size) (told_run true at k es)) + k ≡ count_unsettled (map (item_meaning size) es))
-covered_sums size n (suc at) k [] h = absurd h
-covered_sums size n (suc at) k (e ∷ es) h = let rest = covered_sums size n at k es h in (omega (arith, rest.0), omega (arith, rest.1))
-covered_sums size n zero zero es h = (omega (arith, h), omega arith)
-covered_sums size n zero (suc k) [] h = absurd h
-covered_sums size n zero (suc k) (e ∷ es) h =
-    let rest = covered_sums size (n - entry_bytes size e) zero k es h.2 in
-    let was = plain_uncovered size e h.0 in
-    let is = plain_covered size (told true e) (plain_told false true e h.0) in
-    (omega (arith, rest.0, was.0, is.0, h.1), omega (arith, rest.1, was.1, is.1))
+-- of entries that are acknowledged
+covered_sums : (size n p at k : ℕ) (es : List EntryFields) → AreAlike size false n p at k es
+    → (item_flight (map (item_meaning size) (told_run true at k es)) + n ≡ item_flight (map (item_meaning size) es)) × (count_unsettled (map (item_meaning size) (told_run true at k es)) + p ≡ count_unsettled (map (item_meaning size) es))
+covered_sums size n p (suc at) k [] h = absurd h
+covered_sums size n p (suc at) k (e ∷ es) h = let rest = covered_sums size n p at k es h in (omega (arith, rest.0), omega (arith, rest.1))
+covered_sums size n p zero zero es h = (omega (arith, h.0), omega (arith, h.1))
+covered_sums size n p zero (suc k) [] h = absurd h
+covered_sums size n p zero (suc k) (e ∷ es) h =
+    let rest = covered_sums size (n - plain_bytes size e) (p - plain_one e) zero k es h.3 in
+    let was = quiet_uncovered size e h.0 in
+    let is = quiet_covered size (told true e) (quiet_told false true e h.0) in
+    (omega (arith, rest.0, was.0, is.0, h.1), omega (arith, rest.1, was.1, is.1, h.2))
 
 -- of entries that no longer are
-uncovered_sums : (size n at k : ℕ) (es : List EntryFields) → AreAlike size true n at k es
-    → (item_flight (map (item_meaning size) (told_run false at k es)) ≡ item_flight (map (item_meaning size) es) + n) × (count_unsettled (map (item_meaning size) (told_run false at k es)) ≡ count_unsettled (map (item_meaning size) es) + k)
-uncovered_sums size n (suc at) k [] h = absurd h
-uncovered_sums size n (suc at) k (e ∷ es) h = let rest = uncovered_sums size n at k es h in (omega (arith, rest.0), omega (arith, rest.1))
-uncovered_sums size n zero zero es h = (omega (arith, h), omega arith)
-uncovered_sums size n zero (suc k) [] h = absurd h
-uncovered_sums size n zero (suc k) (e ∷ es) h =
-    let rest = uncovered_sums size (n - entry_bytes size e) zero k es h.2 in
-    let was = plain_covered size e h.0 in
-    let is = plain_uncovered size (told false e) (plain_told true false e h.0) in
-    (omega (arith, rest.0, was.0, is.0, h.1), omega (arith, rest.1, was.1, is.1))
+uncovered_sums : (size n p at k : ℕ) (es : List EntryFields) → AreAlike size true n p at k es
+    → (item_flight (map (item_meaning size) (told_run false at k es)) ≡ item_flight (map (item_meaning size) es) + n) × (count_unsettled (map (item_meaning size) (told_run false at k es)) ≡ count_unsettled (map (item_meaning size) es) + p)
+uncovered_sums size n p (suc at) k [] h = absurd h
+uncovered_sums size n p (suc at) k (e ∷ es) h = let rest = uncovered_sums size n p at k es h in (omega (arith, rest.0), omega (arith, rest.1))
+uncovered_sums size n p zero zero es h = (omega (arith, h.0), omega (arith, h.1))
+uncovered_sums size n p zero (suc k) [] h = absurd h
+uncovered_sums size n p zero (suc k) (e ∷ es) h =
+    let rest = uncovered_sums size (n - plain_bytes size e) (p - plain_one e) zero k es h.3 in
+    let was = quiet_covered size e h.0 in
+    let is = quiet_uncovered size (told false e) (quiet_told true false e h.0) in
+    (omega (arith, rest.0, was.0, is.0, h.1), omega (arith, rest.1, was.1, is.1, h.2))
 
 -- ---- searches
 
 -- where a test says the same of each entry that is told, the first that passes is the same
-same_first : (test : Item → Bool) (size : ℕ) (b c : Bool) (n at k most : ℕ) (es : List EntryFields) → ((e : EntryFields) → IsPlain b e → test (item_meaning size (told c e)) ≡ test (item_meaning size e)) → AreAlike size b n at k es
+same_first : (test : Item → Bool) (size : ℕ) (b c : Bool) (n p at k most : ℕ) (es : List EntryFields) → ((e : EntryFields) → IsQuiet b e → test (item_meaning size (told c e)) ≡ test (item_meaning size e)) → AreAlike size b n p at k es
     → first_offset test (take most (map (item_meaning size) (told_run c at k es))) ≡ first_offset test (take most (map (item_meaning size) es))
-same_first test size b c n at k zero es same h = refl
-same_first test size b c n (suc at) k (suc most) [] same h = absurd h
-same_first test size b c n (suc at) k (suc most) (e ∷ es) same h = ap (λ (o : Option ℕ). if test (item_meaning size e) then Some 0 else option_map suc o) (same_first test size b c n at k most es same h)
-same_first test size b c n zero zero (suc most) es same h = refl
-same_first test size b c n zero (suc k) (suc most) [] same h = absurd h
-same_first test size b c n zero (suc k) (suc most) (e ∷ es) same h =
+same_first test size b c n p at k zero es same h = refl
+same_first test size b c n p (suc at) k (suc most) [] same h = absurd h
+same_first test size b c n p (suc at) k (suc most) (e ∷ es) same h = ap (λ (o : Option ℕ). if test (item_meaning size e) then Some 0 else option_map suc o) (same_first test size b c n p at k most es same h)
+same_first test size b c n p zero zero (suc most) es same h = refl
+same_first test size b c n p zero (suc k) (suc most) [] same h = absurd h
+same_first test size b c n p zero (suc k) (suc most) (e ∷ es) same h =
     ap (λ (x : Bool). if x then Some 0 else option_map suc (first_offset test (take most (map (item_meaning size) (told_run c zero k es))))) (same e h.0)
-    ∙ ap (λ (o : Option ℕ). if test (item_meaning size e) then Some 0 else option_map suc o) (same_first test size b c (n - entry_bytes size e) zero k most es same h.2)
+    ∙ ap (λ (o : Option ℕ). if test (item_meaning size e) then Some 0 else option_map suc o) (same_first test size b c (n - plain_bytes size e) (p - plain_one e) zero k most es same h.3)
 
-plain_marked : (size : ℕ) (b c : Bool) (e : EntryFields) → IsPlain b e → is_item_marked (item_meaning size (told c e)) ≡ is_item_marked (item_meaning size e)
-plain_marked size b true e h = rw h.out refl
-plain_marked size b false e h = refl
+quiet_marked : (size : ℕ) (b c : Bool) (e : EntryFields) → IsQuiet b e → is_item_marked (item_meaning size (told c e)) ≡ is_item_marked (item_meaning size e)
+quiet_marked size b true e h = ap is_marked h.mark
+quiet_marked size b false e h = refl
 
-plain_unsent : (size : ℕ) (b c : Bool) (e : EntryFields) → IsPlain b e → is_item_unsent (item_meaning size (told c e)) ≡ is_item_unsent (item_meaning size e)
-plain_unsent size b true e h = rw h.out refl
-plain_unsent size b false e h = rw h.out refl
+quiet_unsent : (size : ℕ) (b c : Bool) (e : EntryFields) → IsQuiet b e → is_item_unsent (item_meaning size (told c e)) ≡ is_item_unsent (item_meaning size e)
+quiet_unsent size b c e h = not_first size (told c e) (quiet_told b c e h).out ∙ sym (not_first size e h.out)
 
 same_front : (size : ℕ) (c : Bool) (at k : ℕ) (es : List EntryFields) → abandoned_items (map (item_meaning size) (told_run c at k es)) ≡ abandoned_items (map (item_meaning size) es)
 same_front size c (suc at) k [] = refl
@@ -108,32 +138,32 @@ same_tickets c zero (suc k) (e ∷ es) = by_told c (same_tickets c zero k es)
 
 -- ---- all that is counted
 
-counts_turned_by : (size : ℕ) (b c : Bool) (n at : ℕ) (es : List EntryFields) (d : Counts) (flight unsettled : ℕ) → AreAlike size b n at 64 es → IsCounted size es d
+counts_turned_by : (size : ℕ) (b c : Bool) (n p at : ℕ) (es : List EntryFields) (d : Counts) (flight unsettled : ℕ) → AreAlike size b n p at 64 es → IsCounted size es d
     → flight ≡ item_flight (map (item_meaning size) (told_run c at 64 es)) % 2 ^ 64 → unsettled ≡ count_unsettled (map (item_meaning size) (told_run c at 64 es)) % 2 ^ 64
     → IsCounted size (told_run c at 64 es) (record d { flight = flight; unsettled = unsettled })
-counts_turned_by size b c n at es d flight unsettled h counted one two =
+counts_turned_by size b c n p at es d flight unsettled h counted one two =
     let long = length-told_run c at 64 es in
     record {
       some = counted.some;
       small = counted.small;
-      marked = same_first is_item_marked size b c n at 64 d.marked es (plain_marked size b c) h ∙ counted.marked;
+      marked = same_first is_item_marked size b c n p at 64 d.marked es (quiet_marked size b c) h ∙ counted.marked;
       marked_within = let le = counted.marked_within in omega (arith, le, long);
-      unsent = same_first is_item_unsent size b c n at 64 d.unsent es (plain_unsent size b c) h ∙ counted.unsent;
+      unsent = same_first is_item_unsent size b c n p at 64 d.unsent es (quiet_unsent size b c) h ∙ counted.unsent;
       unsent_within = let le = counted.unsent_within in omega (arith, le, long);
       flight = one;
       unsettled = two;
       front = counted.front ∙ sym (same_front size c at 64 es);
     }
 
-pub counts_turned : (size : ℕ) (c : Bool) (n at : ℕ) (es : List EntryFields) (d : Counts) → n < 2 ^ 32 → AreAlike size (not c) n at 64 es → IsCounted size es d
-    → IsCounted size (told_run c at 64 es) (turned_counts n c d)
-counts_turned size true n at es d small h counted =
-    let sums = covered_sums size n at 64 es h in
+pub counts_turned : (size : ℕ) (c : Bool) (n p at : ℕ) (es : List EntryFields) (d : Counts) → n < 2 ^ 32 → p < 2 ^ 8 → AreAlike size (not c) n p at 64 es → IsCounted size es d
+    → IsCounted size (told_run c at 64 es) (turned_counts n p c d)
+counts_turned size true n p at es d small few h counted =
+    let sums = covered_sums size n p at 64 es h in
     let flight = counted.flight in
     let unsettled = counted.unsettled in
-    counts_turned_by size false true n at es d _ _ h counted (omega (arith, small, sums.0, flight)) (omega (arith, sums.1, unsettled))
-counts_turned size false n at es d small h counted =
-    let sums = uncovered_sums size n at 64 es h in
+    counts_turned_by size false true n p at es d _ _ h counted (omega (arith, small, sums.0, flight)) (omega (arith, few, sums.1, unsettled))
+counts_turned size false n p at es d small few h counted =
+    let sums = uncovered_sums size n p at 64 es h in
     let flight = counted.flight in
     let unsettled = counted.unsettled in
-    counts_turned_by size true false n at es d _ _ h counted (omega (arith, sums.0, flight)) (omega (arith, sums.1, unsettled))
+    counts_turned_by size true false n p at es d _ _ h counted (omega (arith, sums.0, flight)) (omega (arith, sums.1, unsettled))

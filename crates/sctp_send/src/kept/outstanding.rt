@@ -1,4 +1,4 @@
-//! The entries above CUM, and what is counted of them, so that no call goes over all of them for it.
+//! The outstanding entries, those above the cumulative TSN acknowledged (CUM), with counts of them, so that no call has to look at all.
 
 ghost use Rattle.std.specs.Prelude.{◌≡◌, ℕ, ◌+◌, ◌*◌, ◌-◌, ◌<◌, ◌≤◌, ◌%◌, ◌^◌, ◌++◌, ◌∷◌, [], take, drop, map, length, slice_index_or, OnOk, OnErr, IfSome, IfNone};
 ghost use Rattle.sctp_send.specs.OutstandingFields.{item_meaning};
@@ -18,7 +18,7 @@ use std::collections::VecDeque;
 use std::marker::Model;
 use std::sync::Arc;
 
-/// An entry for each index above CUM, that of CUM + 1 in front, with counts of them, and their order by ticket.
+/// An entry for each index above CUM, that of CUM + 1 in front, with counts of them and their order by ticket.
 #[derive(Drop)]
 pub(crate) struct Outstanding {
     // the most bytes of a fragment
@@ -26,11 +26,11 @@ pub(crate) struct Outstanding {
     pub(crate) entries: VecDeque<Entry>,
     pub(crate) counts: Counts,
     pub(crate) by_ticket: ByTicket,
-    // how many entries there is room for
+    // how many entries fit without an allocation
     pub(crate) room: usize,
-    // what is known of 64 entries in a row; nothing until there are many
+    // the slots of what is known of stretches; none until there are many entries
     pub(crate) stretches: Vec<Stretch>,
-    // empty: the room of a SACK's runs and of the next one's, from the first entry on until a SACK is taken
+    // empty: the memory for a SACK's runs and for the next one's, from the first entry on until a SACK is accepted
     pub(crate) covered: Vec<CoveredRun>,
     pub(crate) spare: Vec<CoveredRun>,
 }
@@ -49,7 +49,7 @@ impl Model for Outstanding {
 }
 
 impl Outstanding {
-    /// No entry, of fragments with at most so many bytes.
+    /// No entries, of fragments with at most `size` bytes.
     pub(crate) fn new(alloc: Global, size: u16) -> Outstanding
         requires { 0 < size }
         ensures size { result.size ≡ size }
@@ -90,7 +90,7 @@ impl Outstanding {
         self.counts.flight
     }
 
-    /// Some entry went out, and is neither covered nor abandoned.
+    /// Some entry was sent, and is neither acknowledged nor abandoned.
     pub(crate) fn is_unsettled(&self) -> bool
         ensures { result ≡ any_unsettled (map (item_meaning self.now.size) self.now.items) }
     {
@@ -104,10 +104,10 @@ impl Outstanding {
         self.counts.front
     }
 
-    /// Room for so many entries more.
+    /// Reserves space for this many further entries.
     ///
     /// # Errors
-    /// `NoMemory`. It comes only where there is no such room.
+    /// `NoMemory`, only if there is no such space yet.
     #[inline(always)]
     pub(crate) fn reserve(&mut self, more: usize) -> Result<(), NoMemory>
         ensures size { self.new.size ≡ self.old.size }
@@ -123,7 +123,7 @@ impl Outstanding {
         self.reserve_anew(more)
     }
 
-    /// The same, where there is no such room yet. It stands apart, so that what is asked each time stays small.
+    /// `reserve` if there is no such space yet. It is not inlined, so that the test before it is small.
     #[inline(never)]
     fn reserve_anew(&mut self, more: usize) -> Result<(), NoMemory>
         requires { self.old.capacity < length self.old.items + more }
@@ -148,17 +148,17 @@ impl Outstanding {
         }
     }
 
-    /// It is kept from now on what is known of stretches, where many entries are outstanding and there is memory for it.
+    /// Allocates the slots of stretches, if many entries are outstanding.
     fn keep_stretches(&mut self)
         ensures { self.new ≡ self.old }
     {
         keep_stretches(&mut self.stretches, self.entries.len());
     }
 
-    /// One entry more, behind the others.
+    /// Adds an entry after the others.
     ///
     /// # Errors
-    /// `NoMemory`: there is no entry more. It comes only where there is no room.
+    /// `NoMemory`: the entry isn't added. Only if there is no space for it.
     pub(crate) fn push(&mut self, entry: Entry) -> Result<(), NoMemory>
         ensures size { self.new.size ≡ self.old.size }
         ensures items { OnOk result (self.new.items ≡ self.old.items ++ entry ∷ []) }
@@ -171,7 +171,7 @@ impl Outstanding {
         Ok(())
     }
 
-    /// One entry more, behind the others, for which there is room.
+    /// Adds an entry, for which there is space, after the others.
     #[inline(always)]
     pub(crate) fn put(&mut self, entry: Entry)
         requires { length self.old.items < self.old.capacity }
@@ -185,7 +185,7 @@ impl Outstanding {
         self.entries.push_back_reserved(entry);
     }
 
-    /// The first entry goes, where there is one. It answers the message of that.
+    /// Removes the first entry, if there is one, and returns its message.
     pub(crate) fn pop_front(&mut self) -> Option<Arc<Message>>
         ensures { self.new ≡ record self.old { items = drop 1 self.old.items } }
     {
@@ -201,7 +201,7 @@ impl Outstanding {
         None
     }
 
-    /// The last entry goes, where there is one.
+    /// Removes the last entry, if there is one, and returns it.
     pub(crate) fn pop_back(&mut self) -> Option<Entry>
         ensures entries { self.new ≡ record self.old { items = take (length self.old.items - 1) self.old.items } }
         ensures last { IfSome result (λ entry. self.old.items ≡ self.new.items ++ entry ∷ []) }
@@ -218,7 +218,7 @@ impl Outstanding {
         None
     }
 
-    /// The entries behind the first so many go.
+    /// Removes the entries after the first `many`.
     pub(crate) fn truncate(&mut self, many: usize)
         ensures { self.new ≡ record self.old { items = take many self.old.items } }
     {
@@ -227,7 +227,7 @@ impl Outstanding {
         }
     }
 
-    /// What became of the entry at an offset.
+    /// Sets what became of the entry at an offset.
     pub(crate) fn stand(&mut self, at: usize, standing: Standing, covered: bool, abandoned: bool)
         requires { at < length self.old.items }
         ensures { self.new ≡ changed (stood standing covered abandoned) at self.old }

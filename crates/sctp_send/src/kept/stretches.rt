@@ -1,54 +1,59 @@
-//! What is known of 64 entries in a row: where they stand alike, a SACK that tells them covered, or not, asks none of them.
+//! Stretches: 64 entries in a row. If all of a stretch's entries are quiet (a SACK changes nothing of them but whether they are
+//! acknowledged), and all or none are acknowledged, the stretch is acknowledged, or not any more, as a whole: its flags are set and two
+//! sums are changed by what is known of it, without a look at its entries (RFC 9260, 6.2.1).
 
 ghost use Rattle.std.specs.Prelude.{◌≡◌, ℕ, ◌+◌, ◌*◌, ◌/◌, ◌%◌, ◌<◌, ◌≤◌, true, false, not, length, slice_get, Some};
 ghost use Rattle.std.specs.VecDeque.{deque_capacity};
 ghost use Rattle.sctp_send.specs.declared.kept.stretches.Stretch.{Stretch};
 ghost use Rattle.sctp_send.specs.inner.Counting.{IsCounted};
-ghost use Rattle.sctp_send.specs.inner.Stretching.{IsPlain, entry_bytes, AreAlike, told_run, covered_run, turned_counts};
+ghost use Rattle.sctp_send.specs.inner.Stretching.{IsPlain, IsQuiet, entry_bytes, plain_bytes, plain_one, AreAlike, told_run, covered_run, turned_counts};
 
 use crate::kept::counts::Counts;
 use crate::kept::entry::{Entry, Standing};
 use crate::kept::pieces::bytes_of;
 use std::collections::VecDeque;
 
-/// How many entries in a row are a stretch. The index of the first is a multiple.
+/// The number of entries of a stretch. The index of its first one is a multiple of this number.
 pub(crate) const STRETCH: usize = 64;
 
-/// So many stretches in a row have a slot each; one that lies so many further on shares it.
+/// The number of slots. A stretch shares its slot with the one this many stretches further on.
 const SLOTS: usize = 512;
 
-/// Among so many entries no two whole stretches share a slot.
+/// If there are at most this many entries, no two whole stretches share a slot.
 pub(crate) const MOST_KNOWN: usize = 32_768;
 
-/// It is kept what is known of stretches once room for entries is taken while so many are outstanding.
+/// The slots are allocated when space for entries is, if at least this many are outstanding.
 const FEW: usize = 256;
 
-/// What is known of a stretch, which is 64 entries in a row.
+/// What is known of a stretch. Its abandoned entries belong to it, and count neither as bytes in flight nor as unsettled.
 #[derive(Clone, Copy)]
 pub(crate) struct Stretch {
-    /// All its entries went out, and none waits to be repeated or is abandoned.
+    /// Each of its entries is quiet (`is_quiet`), and the fields below are valid.
     pub(crate) is_known: bool,
-    /// Then all of them are covered, or none is.
+    /// All entries are acknowledged by the last SACK; otherwise none is.
     pub(crate) covered: bool,
-    /// And they have so many bytes.
+    /// The number of entries that aren't abandoned.
+    pub(crate) plain: u8,
+    /// The bytes of user data of these.
     pub(crate) bytes: u32,
 }
 
-/// Nothing is known.
+/// A stretch of which nothing is known.
 pub(crate) const UNKNOWN: Stretch = Stretch {
     is_known: false,
     covered: false,
+    plain: 0,
     bytes: 0,
 };
 
-/// The slot of the stretch with an index.
+/// The slot of the stretch that has this index.
 fn slot_of(index: u32) -> usize
     ensures { result ≡ index / 64 % 512 }
 {
     index as usize / STRETCH % SLOTS
 }
 
-/// What is known of the stretch with an index.
+/// What is known of the stretch that has this index.
 pub(crate) fn stretch_of(stretches: &[Stretch], index: u32) -> Stretch
     ensures { result.is_known ≡ true → slice_get stretches.now (index / 64 % 512) ≡ Some result }
 {
@@ -60,7 +65,7 @@ pub(crate) fn stretch_of(stretches: &[Stretch], index: u32) -> Stretch
     }
 }
 
-/// This is known from now on of the stretch with an index.
+/// Stores what is known of the stretch that has this index; if there are no slots, nothing.
 pub(crate) fn put_stretch(stretches: &mut Vec<Stretch>, index: u32, stretch: Stretch)
     ensures here { (s : Stretch) → slice_get stretches.new.items (index / 64 % 512) ≡ Some s → s ≡ stretch }
     ensures others { (k : ℕ) → (k ≡ index / 64 % 512 → ⊥) → slice_get stretches.new.items k ≡ slice_get stretches.old.items k }
@@ -71,7 +76,7 @@ pub(crate) fn put_stretch(stretches: &mut Vec<Stretch>, index: u32, stretch: Str
     }
 }
 
-/// Nothing is known any more of the stretch with an index: an entry comes there, or stands otherwise.
+/// Forgets the stretch that has this index, since an entry of it is added or changes.
 pub(crate) fn forget_stretch(stretches: &mut Vec<Stretch>, index: u32)
     ensures here { (s : Stretch) → slice_get stretches.new.items (index / 64 % 512) ≡ Some s → s.is_known ≡ false }
     ensures others { (k : ℕ) → (k ≡ index / 64 % 512 → ⊥) → slice_get stretches.new.items k ≡ slice_get stretches.old.items k }
@@ -82,7 +87,7 @@ pub(crate) fn forget_stretch(stretches: &mut Vec<Stretch>, index: u32)
     put_stretch(stretches, index, UNKNOWN);
 }
 
-/// It is kept from now on what is known, where many entries are outstanding and there is memory for it.
+/// Allocates the slots if many entries are outstanding. If the allocation fails there are none, and each SACK looks at each entry.
 pub(crate) fn keep_stretches(stretches: &mut Vec<Stretch>, entries: usize)
     ensures { (k : ℕ) (s : Stretch) → slice_get stretches.new.items k ≡ Some s → s.is_known ≡ true → slice_get stretches.old.items k ≡ Some s }
 {
@@ -91,32 +96,56 @@ pub(crate) fn keep_stretches(stretches: &mut Vec<Stretch>, entries: usize)
     }
 }
 
-/// What is to be known of the stretch that begins at an offset.
+/// Looks at the entries of the stretch that begins at an offset. It is known if all of them are quiet, and all or none acknowledged.
+#[inline(never)]
 pub(crate) fn look_at_stretch(entries: &VecDeque<Entry>, size: u16, at: usize) -> Stretch
     requires some { 0 < size }
     requires within { at + 64 ≤ length entries.now.items }
-    ensures { result.is_known ≡ true → AreAlike size result.covered result.bytes at 64 entries.now.items }
+    ensures { result.is_known ≡ true → AreAlike size result.covered result.bytes result.plain at 64 entries.now.items }
 {
     let covered = entries[at].covered;
     let mut bytes: u32 = 0;
+    let mut plain: u8 = 0;
     for offset in at..at + STRETCH {
         let entry = &entries[offset];
         if entry.covered != covered {
             return UNKNOWN;
         }
-        if !is_plain(entry) {
+        if !is_quiet(entry) {
             return UNKNOWN;
         }
-        bytes += bytes_in(entry, size);
+        bytes += bytes_if_plain(entry, size);
+        plain += one_if_plain(entry);
     }
     Stretch {
         is_known: true,
         covered,
+        plain,
         bytes,
     }
 }
 
-/// How many bytes of data an entry has.
+/// The bytes of user data of an entry, 0 if it is abandoned.
+fn bytes_if_plain(entry: &Entry, size: u16) -> u32
+    requires { 0 < size }
+    ensures bytes { result ≡ plain_bytes size entry.now }
+    ensures short { result ≤ 65535 }
+{
+    if entry.abandoned {
+        return 0;
+    }
+    bytes_in(entry, size)
+}
+
+/// 1 for an entry that isn't abandoned, 0 for one that is.
+fn one_if_plain(entry: &Entry) -> u8
+    ensures one { result ≡ plain_one entry.now }
+    ensures few { result ≤ 1 }
+{
+    if entry.abandoned { 0 } else { 1 }
+}
+
+/// The bytes of user data of an entry.
 pub(crate) fn bytes_in(entry: &Entry, size: u16) -> u32
     requires { 0 < size }
     ensures bytes { result ≡ entry_bytes size entry.now }
@@ -125,33 +154,47 @@ pub(crate) fn bytes_in(entry: &Entry, size: u16) -> u32
     bytes_of(&entry.message, entry.content, size).len() as u32
 }
 
-/// An entry went out, doesn't wait to be repeated, and isn't abandoned.
+/// A SACK changes nothing of the entry but whether it is acknowledged: it isn't marked for retransmission, and it was sent or is
+/// abandoned (as an end mark is, which is never sent).
+fn is_quiet(entry: &Entry) -> bool
+    ensures { result ≡ true → IsQuiet entry.now.covered entry.now }
+{
+    match entry.standing {
+        Standing::Sent => true,
+        Standing::Unsent => entry.abandoned,
+        Standing::Marked => false,
+    }
+}
+
+/// The entry was sent, isn't marked for retransmission, and isn't abandoned.
 pub(crate) fn is_plain(entry: &Entry) -> bool
     ensures { result ≡ true → IsPlain entry.now.covered entry.now }
 {
     entry.standing == Standing::Sent && !entry.abandoned
 }
 
-/// The entries of a stretch are told covered, or not: they stand alike, and are told otherwise now.
+/// All entries of a stretch are acknowledged, or none is any more: the other way round than before. `plain` of them aren't abandoned, and
+/// have `bytes` bytes of user data.
 pub(crate) fn turn_stretch(
     entries: &mut VecDeque<Entry>,
     counts: &mut Counts,
     size: u16,
     at: usize,
     bytes: u32,
+    plain: u8,
     covered: bool,
 )
-    requires alike { AreAlike size (not covered) bytes at 64 entries.old.items }
+    requires alike { AreAlike size (not covered) bytes plain at 64 entries.old.items }
     requires counted { IsCounted size entries.old.items counts.old }
     ensures items { entries.new.items ≡ told_run covered at 64 entries.old.items }
     ensures counted { IsCounted size entries.new.items counts.new }
     ensures capacity { deque_capacity entries.new ≡ deque_capacity entries.old }
 {
     set_covered(entries.make_contiguous(), at, covered);
-    counts.turn(bytes, covered);
+    counts.turn(bytes, plain, covered);
 }
 
-/// Entries of a stretch are noted as covered, or not.
+/// Sets the flag of each entry of a stretch.
 fn set_covered(entries: &mut [Entry], at: usize, covered: bool)
     requires { at + 64 ≤ length entries.old }
     ensures { entries.new ≡ covered_run covered at 64 entries.old }
@@ -162,16 +205,16 @@ fn set_covered(entries: &mut [Entry], at: usize, covered: bool)
 }
 
 impl Counts {
-    /// The entries of a stretch, of so many bytes, count no more, since they are covered; or again.
-    fn turn(&mut self, bytes: u32, covered: bool)
-        ensures { self.new ≡ turned_counts bytes covered self.old }
+    /// The entries of a stretch that aren't abandoned count no more, since they are acknowledged; or they count again.
+    fn turn(&mut self, bytes: u32, plain: u8, covered: bool)
+        ensures { self.new ≡ turned_counts bytes plain covered self.old }
     {
         if covered {
             self.flight = self.flight.wrapping_sub(u64::from(bytes));
-            self.unsettled = self.unsettled.wrapping_sub(STRETCH as u64);
+            self.unsettled = self.unsettled.wrapping_sub(u64::from(plain));
         } else {
             self.flight = self.flight.wrapping_add(u64::from(bytes));
-            self.unsettled = self.unsettled.wrapping_add(STRETCH as u64);
+            self.unsettled = self.unsettled.wrapping_add(u64::from(plain));
         }
     }
 }

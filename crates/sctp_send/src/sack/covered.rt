@@ -1,4 +1,5 @@
-//! What a SACK changes of what is covered: it is told by whole runs, so that what stays covered or uncovered costs nothing (RFC 9260, 6.2.1).
+//! What a SACK changes of what is acknowledged by gap blocks: the runs of the last SACK are compared with its own, so that an entry that
+//! stays as it was costs nothing (RFC 9260, 6.2.1).
 
 ghost use Rattle.std.specs.Prelude.{◌≡◌, ℕ, ◌≤◌, true, max, length, None};
 ghost use Rattle.sctp_send.specs.PartsKept.{IsSameRoom};
@@ -13,9 +14,9 @@ use crate::sack::entries::{cover, remember};
 use sctp_wire::Blocks;
 use std::mem;
 
-/// What lies in a block is covered, and nothing else; the runs are those of the blocks then. False where there are too many to keep.
+/// The entries in the blocks are acknowledged, and no others; the runs are those of the blocks. False if the blocks are too many to keep.
 ///
-/// It costs the blocks, the runs, each once, and the entries that change; where the runs weren't known, all entries.
+/// It costs the blocks and the runs, each once, and the entries that change; if the runs weren't known, all entries.
 #[inline(always)]
 pub(crate) fn cover_blocks(
     outstanding: &mut Outstanding,
@@ -35,7 +36,7 @@ pub(crate) fn cover_blocks(
     cover_some(outstanding, covered, spare, is_known, blocks)
 }
 
-/// The same, where something was covered or is. It stands apart, so that it costs little where nothing is.
+/// `cover_blocks` if there are runs or blocks. It is not inlined, so that a SACK without either costs little.
 #[inline(never)]
 fn cover_some(
     outstanding: &mut Outstanding,
@@ -55,7 +56,7 @@ fn cover_some(
     fits
 }
 
-/// What lies in a block is covered, and nothing else: by what changes, where both the old runs and the new ones are known.
+/// The entries in the blocks are acknowledged, and no others: by what changes, if the old runs and the new ones are known.
 fn retell(
     outstanding: &mut Outstanding,
     old: &[CoveredRun],
@@ -75,7 +76,7 @@ fn retell(
     cover(outstanding, blocks);
 }
 
-/// What lay in the old runs lies in the new ones: entries in one alone are told so.
+/// Acknowledges the entries in the new runs that are not in the old ones, and takes back those in the old ones alone.
 fn cover_anew(outstanding: &mut Outstanding, old: &[CoveredRun], new: &[CoveredRun])
     ensures covered { IsExact true old.now outstanding.old.items → AreInOrder 0 new.now → outstanding.new.items ≡ all_told (in_runs new.now) 1 outstanding.old.items }
     ensures kept { IsSameRoom outstanding.old outstanding.new }
@@ -84,7 +85,7 @@ fn cover_anew(outstanding: &mut Outstanding, old: &[CoveredRun], new: &[CoveredR
     tell_alone(outstanding, old, new, false);
 }
 
-/// Entries in some run, and in none of the others, are told covered, or not: both lists are gone through once, side by side.
+/// Sets the entries that are in some run, and in none of the others, acknowledged or not: one pass over both lists, side by side.
 fn tell_alone(
     outstanding: &mut Outstanding,
     runs: &[CoveredRun],
@@ -95,7 +96,7 @@ fn tell_alone(
     ensures kept { IsSameRoom outstanding.old outstanding.new }
 {
     let last = outstanding.len();
-    // Others before this one end before what comes.
+    // The others before this one end before the next run begins.
     let mut first = 0;
     for run in runs {
         first = tell_gaps(
@@ -109,8 +110,8 @@ fn tell_alone(
     }
 }
 
-/// Entries behind `from`, up to `to`, that lie in none of the runs are told covered, or not. The first so many runs end before, and are
-/// passed over; it answers how many end up to there.
+/// Sets the entries after `from`, up to `to`, that are in none of the runs acknowledged or not. The runs before `first` end before `from`,
+/// and aren't looked at. It returns how many end at `to` or before.
 fn tell_gaps(
     outstanding: &mut Outstanding,
     runs: &[CoveredRun],

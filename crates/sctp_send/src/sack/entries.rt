@@ -1,4 +1,5 @@
-//! What was assigned and isn't acknowledged cumulatively: an entry for each index, the one of CUM + 1 in front.
+//! The entries above the cumulative TSN acknowledged (CUM), the one of CUM + 1 in front: which of them a SACK acknowledges by gap blocks or
+//! cumulatively, and which the retransmission timer marks (RFC 9260, 6.2.1 and 6.3.3).
 
 ghost use Rattle.std.specs.Prelude.{◌≡◌, ℕ, Bool, true, false, ◌<◌, ◌≤◌, ◌-◌, List, [], length, drop, None};
 ghost use Rattle.std.specs.VecDeque.{deque_capacity};
@@ -19,7 +20,7 @@ use std::alloc::Global;
 use std::collections::VecDeque;
 use std::sync::Arc;
 
-/// A run of entries is covered: those from the offset `from` up to before the offset `to`.
+/// Acknowledges the entries from the offset `from` up to, but without, the offset `to`.
 fn cover_run(outstanding: &mut Outstanding, from: usize, to: usize)
     requires order { from ≤ to }
     requires within { to ≤ length outstanding.old.items }
@@ -33,7 +34,7 @@ fn cover_run(outstanding: &mut Outstanding, from: usize, to: usize)
     }
 }
 
-/// No entry is covered.
+/// No entry is acknowledged by a gap block.
 fn uncover(outstanding: &mut Outstanding)
     ensures items { outstanding.new.items ≡ all_told (λ i. false) 1 outstanding.old.items }
     ensures kept { IsSameRoom outstanding.old outstanding.new }
@@ -43,7 +44,7 @@ fn uncover(outstanding: &mut Outstanding)
     }
 }
 
-/// What lies in a block is covered, and nothing else: what an earlier SACK covered counts no more.
+/// The entries in the blocks are acknowledged, and no others, whatever an earlier SACK said.
 pub(crate) fn cover(outstanding: &mut Outstanding, blocks: &Blocks<'_>)
     requires { block_fault (length outstanding.old.items) blocks.now ≡ None }
     ensures covered { outstanding.new.items ≡ all_told (in_blocks 0 blocks.now) 1 outstanding.old.items }
@@ -59,7 +60,7 @@ pub(crate) fn cover(outstanding: &mut Outstanding, blocks: &Blocks<'_>)
     }
 }
 
-/// The first entries go: so many are acknowledged cumulatively. Their shells are kept for messages to come.
+/// Removes the first `passed` entries, which are acknowledged cumulatively. The memory of their messages is kept for further messages.
 pub(crate) fn forget(
     outstanding: &mut Outstanding,
     shells: &mut Vec<Arc<Message>>,
@@ -82,7 +83,7 @@ pub(crate) fn forget(
 }
 
 impl Outstanding {
-    /// All entries go, and with them what is counted: none is looked at for that.
+    /// Removes all entries and resets the counts, without subtracting each entry.
     fn clear(&mut self, shells: &mut Vec<Arc<Message>>, alloc: Global)
         ensures { self.new ≡ record self.old { items = [] } }
     {
@@ -92,7 +93,7 @@ impl Outstanding {
     }
 }
 
-/// All entries go. Their shells are kept for messages to come.
+/// Removes all entries. The memory of their messages is kept for further messages.
 fn keep_shells(entries: &mut VecDeque<Entry>, shells: &mut Vec<Arc<Message>>, alloc: Global)
     ensures items { entries.new.items ≡ [] }
     ensures capacity { deque_capacity entries.new ≡ deque_capacity entries.old }
@@ -105,7 +106,7 @@ fn keep_shells(entries: &mut VecDeque<Entry>, shells: &mut Vec<Arc<Message>>, al
     }
 }
 
-/// The runs as seen from so many entries further on.
+/// The runs once `passed` entries in front were removed.
 pub(crate) fn move_on(runs: &mut Vec<CoveredRun>, passed: usize)
     ensures { runs.new.items ≡ runs_behind passed runs.old.items }
 {
@@ -114,7 +115,7 @@ pub(crate) fn move_on(runs: &mut Vec<CoveredRun>, passed: usize)
     }
 }
 
-/// A run as seen from so many entries further on.
+/// A run once `passed` entries in front were removed.
 pub(crate) fn run_behind(run: CoveredRun, passed: usize) -> CoveredRun
     ensures { result ≡ run_behind passed run }
 {
@@ -124,7 +125,7 @@ pub(crate) fn run_behind(run: CoveredRun, passed: usize) -> CoveredRun
     }
 }
 
-/// An offset less so many entries; 0 where it is no more than they are.
+/// An offset less the number of entries that were removed; 0 if they are more.
 fn less(offset: u16, passed: usize) -> u16
     ensures { result ≡ offset - passed }
 {
@@ -135,7 +136,7 @@ fn less(offset: u16, passed: usize) -> u16
     }
 }
 
-/// Keeps what blocks cover, instead of what was kept; false where they are too many.
+/// Keeps the runs of the blocks, instead of those that were kept; false if there are too many.
 pub(crate) fn remember(runs: &mut Vec<CoveredRun>, blocks: &Blocks<'_>) -> bool
     requires { some_is_bad 0 blocks.now ≡ false }
     ensures { result ≡ true → HoldsBlocks runs.new.items blocks.now }
@@ -153,7 +154,7 @@ pub(crate) fn remember(runs: &mut Vec<CoveredRun>, blocks: &Blocks<'_>) -> bool
     true
 }
 
-/// An entry that the peer may still need is marked.
+/// Marks an entry for retransmission, if it was sent and is neither acknowledged nor abandoned.
 fn time_one(outstanding: &mut Outstanding, at: usize)
     requires { at < length outstanding.old.items }
     ensures { outstanding.new ≡ changed timed at outstanding.old }
@@ -165,7 +166,7 @@ fn time_one(outstanding: &mut Outstanding, at: usize)
     }
 }
 
-/// Each entry that the peer may still need is marked.
+/// Marks each entry for retransmission that was sent and is neither acknowledged nor abandoned.
 pub(crate) fn mark_unsettled(outstanding: &mut Outstanding)
     ensures items { outstanding.new.items ≡ all_timed outstanding.old.items }
     ensures kept { IsSameRoom outstanding.old outstanding.new }

@@ -1,4 +1,5 @@
-//! Entries are told covered, or not, one by one or stretch by stretch (RFC 9260, 6.2.1).
+//! A SACK's change of single entries: each is set acknowledged by a gap block (`covered`), or not any more, one by one or stretch by
+//! stretch (RFC 9260, 6.2.1).
 
 ghost use Rattle.std.specs.Prelude.{◌≡◌, ℕ, ◌+◌, ◌<◌, ◌≤◌, true, false, length};
 ghost use Rattle.std.specs.VecDeque.{deque_capacity};
@@ -18,8 +19,8 @@ use crate::kept::stretches::{
 use std::collections::VecDeque;
 
 impl Outstanding {
-    /// Entries behind `from`, up to `to`, are told covered, where there is nothing to repeat, or not. It costs the stretches of which it is
-    /// known that they stand alike, and the entries of the others.
+    /// Sets the entries after `from`, up to `to`, acknowledged, so that they aren't retransmitted, or not acknowledged. A known stretch costs
+    /// its flags alone, any other entry the update of all counts.
     #[inline(always)]
     pub(crate) fn tell_run(&mut self, covered: bool, from: usize, to: usize)
         requires order { from ≤ to }
@@ -36,7 +37,7 @@ impl Outstanding {
         self.tell_long(covered, from, to);
     }
 
-    /// The same of a run in which a stretch may be whole. It stands apart, so that what most runs of a SACK cost stays small.
+    /// `tell_run` for a run in which a whole stretch may lie. It is not inlined, so that the code for the short runs of most SACKs is small.
     #[inline(never)]
     fn tell_long(&mut self, covered: bool, from: usize, to: usize)
         requires order { from ≤ to }
@@ -49,7 +50,7 @@ impl Outstanding {
         }
     }
 
-    /// The same, one by one: in a short run no stretch is whole.
+    /// `tell_run` for a run that is too short for a stretch: one entry after the other.
     #[inline(always)]
     fn tell_each(&mut self, covered: bool, from: usize, to: usize)
         requires order { from ≤ to }
@@ -61,7 +62,8 @@ impl Outstanding {
         }
     }
 
-    /// The next entries of a run that begins at `from` are told covered, or not: a stretch, or else one. It answers how far that goes.
+    /// Sets the next entries of a run that begins at `from`: those of a known stretch as a whole, otherwise each one up to the next stretch.
+    /// It returns the offset after them.
     fn tell_on(&mut self, covered: bool, from: usize, at: usize, to: usize) -> usize
         requires order { at < to }
         requires within { to ≤ length self.old.items }
@@ -72,12 +74,24 @@ impl Outstanding {
         if self.tell_known(covered, at, to) {
             return at + STRETCH;
         }
-        self.tell(at, covered);
-        self.learn(from, at + 1);
-        at + 1
+        let end = self.stretch_end(at, to);
+        self.tell_each(covered, at, end);
+        self.learn(from, end);
+        end
     }
 
-    /// The stretch that begins at an offset is told covered, or not, where it is known that its entries stand alike, and it ends in time.
+    /// The offset after the stretch of the entry at an offset; or `to`, if that is less.
+    fn stretch_end(&self, at: usize, to: usize) -> usize
+        requires order { at < to }
+        requires within { to ≤ length self.now.items }
+        ensures further { at < result }
+        ensures upto { result ≤ to }
+    {
+        let more = STRETCH - self.by_ticket.index(at) as usize % STRETCH;
+        at + more.min(to - at)
+    }
+
+    /// Sets the stretch that begins at an offset, if one begins there, ends in the run and is known; returns whether it did.
     fn tell_known(&mut self, covered: bool, at: usize, to: usize) -> bool
         requires order { at < to }
         requires within { to ≤ length self.old.items }
@@ -105,18 +119,15 @@ impl Outstanding {
             self.size,
             at,
             known.bytes,
+            known.plain,
             covered,
         );
-        let turned = Stretch {
-            is_known: true,
-            covered,
-            bytes: known.bytes,
-        };
+        let turned = Stretch { covered, ..known };
         put_stretch(&mut self.stretches, index, turned);
         true
     }
 
-    /// Where entries were told from one offset up to another, it is looked whether those of the last stretch stand alike.
+    /// After the entries from one offset up to another were set one by one: looks at the last stretch among them, if it is whole.
     fn learn(&mut self, from: usize, to: usize)
         ensures { self.new ≡ self.old }
     {
@@ -135,7 +146,7 @@ impl Outstanding {
         put_stretch(&mut self.stretches, index, known);
     }
 
-    /// The entry at an offset is told covered, where there is nothing to repeat, or not.
+    /// Sets the entry at an offset acknowledged, so that it isn't retransmitted, or not acknowledged. Its stretch is forgotten.
     #[inline(never)]
     pub(crate) fn tell(&mut self, at: usize, covered: bool)
         requires { at < length self.old.items }
@@ -151,7 +162,7 @@ impl Outstanding {
 }
 
 impl Counts {
-    /// An entry that went out, and is neither covered nor abandoned nor to be repeated, counts no more.
+    /// Subtracts an entry that was sent, and is neither acknowledged nor abandoned nor marked for retransmission.
     fn leave_plain(&mut self, entry: &Entry, size: u16)
         requires some { 0 < size }
         requires plain { IsPlain false entry.now }
@@ -161,7 +172,7 @@ impl Counts {
         self.unsettled = self.unsettled.wrapping_sub(1);
     }
 
-    /// Such an entry counts.
+    /// Adds an entry that was sent, and is neither acknowledged nor abandoned nor marked for retransmission.
     fn enter_plain(&mut self, entry: &Entry, size: u16)
         requires some { 0 < size }
         requires plain { IsPlain false entry.now }
@@ -172,7 +183,7 @@ impl Counts {
     }
 }
 
-/// The entry at an offset is told covered, where there is nothing to repeat: it counts no more.
+/// Sets the entry at an offset acknowledged, without its mark for retransmission, and subtracts it from the counts.
 fn cover_one(entries: &mut VecDeque<Entry>, counts: &mut Counts, size: u16, at: usize)
     requires within { at < length entries.old.items }
     requires counted { IsCounted size entries.old.items counts.old }
@@ -191,7 +202,7 @@ fn cover_one(entries: &mut VecDeque<Entry>, counts: &mut Counts, size: u16, at: 
     entry.covered = true;
 }
 
-/// The entry at an offset is told uncovered: where it was covered, it counts again.
+/// Sets the entry at an offset not acknowledged, and adds it to the counts if it was acknowledged.
 fn uncover_one(entries: &mut VecDeque<Entry>, counts: &mut Counts, size: u16, at: usize)
     requires within { at < length entries.old.items }
     requires counted { IsCounted size entries.old.items counts.old }

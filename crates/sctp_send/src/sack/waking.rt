@@ -1,4 +1,5 @@
-//! Messages that were found covered, when some of their entries may be uncovered again (RFC 9260, 6.2.1).
+//! Deadlines of messages that were passed over because they were acknowledged: they are looked at again once a SACK may take back a gap
+//! block (RFC 9260, 6.2.1).
 
 ghost use Rattle.std.specs.Prelude.{◌≡◌, ℕ, ◌<◌, ◌≤◌, true, false, length, slice_index_or};
 ghost use Rattle.sctp_wire.specs.ChunkTree.{block_meaning};
@@ -13,8 +14,8 @@ use crate::kept::outstanding::Outstanding;
 use crate::sack::entries::run_behind;
 use sctp_wire::{Blocks, GapBlock};
 
-/// Where blocks may uncover an entry, so many entries further on than the runs that are covered, each outstanding message is looked at from
-/// its own moment on.
+/// If the blocks may take back an entry of the runs, whose offsets are from before `passed` entries were removed, each outstanding message is
+/// looked at again from its own deadline on.
 #[inline(always)]
 pub(crate) fn wake_for(
     dues: &mut Dues,
@@ -37,7 +38,7 @@ pub(crate) fn wake_for(
     wake_where(dues, outstanding, covered, is_known, passed, blocks);
 }
 
-/// The same, where some moment doesn't count what is covered. It stands apart, so that it costs little where none is so.
+/// `wake_for` if a deadline was passed over for an acknowledged message. It is not inlined, so that other SACKs cost little.
 #[inline(never)]
 fn wake_where(
     dues: &mut Dues,
@@ -60,7 +61,7 @@ fn wake_where(
     wake(dues, outstanding);
 }
 
-/// Each outstanding message is looked at from its own moment on, whatever of it is covered.
+/// Each outstanding message is looked at from its own deadline on, whether it is acknowledged or not.
 fn wake(dues: &mut Dues, outstanding: &Outstanding)
     ensures passed { dues.new.passed ≡ dues.old.passed }
     ensures long { length dues.new.moments ≡ length dues.old.moments }
@@ -75,7 +76,7 @@ fn wake(dues: &mut Dues, outstanding: &Outstanding)
     dues.awake();
 }
 
-/// Each of the runs lies in a block, seen from so many entries further on. The runs and the blocks stand in order.
+/// Each of the runs lies in a block, once `passed` entries in front were removed. The runs and the blocks are in order.
 fn lie_in(runs: &[CoveredRun], passed: usize, blocks: &Blocks<'_>) -> bool
     ensures { result ≡ true → LieIn passed runs.now blocks.now }
 {

@@ -1,6 +1,6 @@
 use Rattle.std.proofs.Common.{◌≡◌, ◌+◌, ◌-◌, ◌<◌, ℕ, suc, length, Bool, Some, sym, ap, subst, arith}
 use Rattle.std.specs.Prelude.{slice_get}
-use Rattle.sctp_send.specs.inner.Stretching.{IsPlain, entry_bytes, AreAlike}
+use Rattle.sctp_send.specs.inner.Stretching.{IsQuiet, plain_bytes, plain_one, AreAlike}
 use Rattle.sctp_send.proofs.kept.TicketWalks.{get_read}
 use Rattle.sctp_send.proofs.kept.StretchLemmas.{flags_not_differ, alike_none, alike_more}
 use Rattle.sctp_send.proofs.kept.stretches.look_at_stretch.Goals as goal
@@ -11,8 +11,9 @@ loop-offset-init c =
     let none : 0 ≡ c.args.at - c.args.at = omega arith in
     record {
       low = omega arith;
-      alike = subst (λ (k : ℕ). AreAlike c.args.size c.index.result.now.covered 0 c.args.at k es) none (alike_none c.args.size c.index.result.now.covered c.args.at es (omega (arith, c.requires.within)));
+      alike = subst (λ (k : ℕ). AreAlike c.args.size c.index.result.now.covered 0 0 c.args.at k es) none (alike_none c.args.size c.index.result.now.covered c.args.at es (omega (arith, c.requires.within)));
       few = omega arith;
+      less = omega arith;
     }
 
 pub loop-offset-preserved : goal.loop-offset-preserved
@@ -22,6 +23,7 @@ loop-offset-preserved c =
     let e = c.index-entry.result.now in
     let b = c.index.result.now.covered in
     let n = c.loop-offset.bytes in
+    let q = c.loop-offset.plain in
     let at = c.args.at in
     let p = c.loop-offset.offset in
     let k = p - at in
@@ -29,11 +31,13 @@ loop-offset-preserved c =
     let next : suc k ≡ p + 1 - at = omega (arith, h.low) in
     let lt : p < length es = omega (arith, c.requires.within, c.loop-offset-test.true) in
     let read = subst (λ (m : ℕ). slice_get es m ≡ Some e) here (get_read es p e lt c.index-entry.ensures) in
-    let plain = subst (λ (d : Bool). IsPlain d e) (flags_not_differ e.covered b c.if-entry-covered.false) (c.is_plain.ensures c.if-not-is_plain.false) in
-    let more = alike_more c.args.size b n at k es e h.alike read plain in
+    let quiet = subst (λ (d : Bool). IsQuiet d e) (flags_not_differ e.covered b c.if-entry-covered.false) (c.is_quiet.ensures c.if-not-is_quiet.false) in
+    let more = alike_more c.args.size b n q at k es e h.alike read quiet in
     record {
       low = omega (arith, h.low);
-      alike = subst (λ (m : ℕ). AreAlike c.args.size b m at (p + 1 - at) es) (ap (λ (m : ℕ). n + m) (sym c.bytes_in-bytes.ensures.bytes))
-          (subst (λ (j : ℕ). AreAlike c.args.size b (n + entry_bytes c.args.size e) at j es) next more);
-      few = let short = c.bytes_in-bytes.ensures.short in let few = h.few in omega (arith, short, few, h.low);
+      alike = subst (λ (m : ℕ). AreAlike c.args.size b m (q + c.one_if_plain-plain.result) at (p + 1 - at) es) (ap (λ (m : ℕ). n + m) (sym c.bytes_if_plain-bytes.ensures.bytes))
+          (subst (λ (m : ℕ). AreAlike c.args.size b (n + plain_bytes c.args.size e) m at (p + 1 - at) es) (ap (λ (m : ℕ). q + m) (sym c.one_if_plain-plain.ensures.one))
+          (subst (λ (j : ℕ). AreAlike c.args.size b (n + plain_bytes c.args.size e) (q + plain_one e) at j es) next more));
+      few = let short = c.bytes_if_plain-bytes.ensures.short in let few = h.few in omega (arith, short, few, h.low);
+      less = let one = c.one_if_plain-plain.ensures.few in let less = h.less in omega (arith, one, less, h.low);
     }
