@@ -235,6 +235,7 @@ sender_growth() {
         grows "$format: acknowledged, of one of so many outstanding" 1024 20 call "$built" "$format" acknowledged
         grows "$format: point, behind so many abandoned" 1024 100 call "$built" "$format" point
         grows "$format: put_forward, of so many abandoned on 32 streams, by message" 1024 20 kept "$built" "$format" forward
+        grows "$format: a SACK that changes nothing and the FORWARD again, of so many abandoned on 32 streams" 8000 20 call "$built" "$format" forward-again
         grows "$format: put_forward, of 1,000 abandoned in front of so many on 32 streams" 2048 20 call "$built" "$format" forward-front
         grows "$format: put_forward, of 1,000 abandoned on one of so many streams" 256 20 call "$built" "$format" forward-few
         # what is freed at the program's end jumps

@@ -1,11 +1,11 @@
 #!/usr/bin/env python3
 """Compares `sctp-trace run` with the model on random scripts, or on given ones.
 
-compare.py [--program P] [--keep FOLDER] [--shrink] [--odd | --edges] N [SEED]
+compare.py [--program P] [--keep FOLDER] [--shrink] [--odd | --edges | --forwards] N [SEED]
 compare.py [--program P] [--shrink] FILE ..
 
---odd takes scripts of odd bytes (odd.py), --edges those with every limit at an edge (edges.py). What
-differs is kept in FOLDER (found/ beside this file); --shrink also writes the smallest script found
+--odd takes scripts of odd bytes (odd.py), --edges those with every limit at an edge (edges.py), --forwards
+those with abandoned windows (forwards.py). What differs is kept in FOLDER (found/ beside this file); --shrink also writes the smallest script found
 that still differs, by leaving out lines.
 """
 
@@ -15,6 +15,7 @@ import subprocess
 import sys
 
 import edges
+import forwards
 import model
 import odd
 import scripts
@@ -66,7 +67,7 @@ def smaller(program, data):
 
 def cases(words, kind):
     """(name, script) for each number or file."""
-    made = {'seed': lambda n: scripts.script(n).encode(), 'odd': odd.script, 'edges': edges.script}[kind]
+    made = {'seed': lambda n: scripts.script(n).encode(), 'odd': odd.script, 'edges': edges.script, 'forwards': forwards.script}[kind]
     if words[0].isdigit():
         count, seed = int(words[0]), int(words[1]) if len(words) > 1 else 1
         for n in range(seed, seed + count):
@@ -84,6 +85,7 @@ def main():
     parser.add_argument('--shrink', action='store_true')
     parser.add_argument('--odd', dest='kind', action='store_const', const='odd', default='seed')
     parser.add_argument('--edges', dest='kind', action='store_const', const='edges')
+    parser.add_argument('--forwards', dest='kind', action='store_const', const='forwards')
     parser.add_argument('words', nargs='+')
     asked = parser.parse_args()
     count = lines = differing = 0

@@ -60,6 +60,7 @@ keeps_told f s v t r ms k told long here others = record {
           subst (λ (x : ℕ). IsIdle (record s { moments = ms; asleep = true }) now x) (sym same) (by_moment now (here now lower))
     ];
   };
+  forward = k.forward;
   reached = k.reached;
 }
   where
@@ -99,6 +100,7 @@ keeps_awake f s v size es ms b k are long each woken = record {
         let i = k.due.each t now (each t now lt) in
         record { queue = i.queue; items = λ on. by_sleep t now lt s.asleep b refl refl (i.items on); tracks = i.tracks };
   };
+  forward = k.forward;
   reached = k.reached;
 }
   where
@@ -145,6 +147,7 @@ keeps_passed f s v n last k end most queue rests items = record {
       | inr within ↦ over_idle (record s { passed = s.passed + n; moments = drop n s.moments }) now t (record { queue = queue t within; tracks = rests t within; items = items t within })
     ];
   };
+  forward = k.forward;
   reached = k.reached;
 }
 

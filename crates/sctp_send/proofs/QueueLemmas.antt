@@ -143,6 +143,7 @@ keeps_queued f s v lane payload ticket bytes until k free given small =
               tracks = i.tracks;
             };
       };
+      forward = k.forward;
       reached = Queues v lane payload bytes until k.reached free;
     }
   where

@@ -50,12 +50,13 @@ keeps_timed f s v k =
       };
       over = record { within = k.over.within; each = λ t le. let o = k.over.each t le in record { queue = o.queue; tracks = o.tracks; items = same_items t timed_item s.items (λ y. refl) ∙ o.items } };
       due = record { many = k.due.many; each = λ t now lt. let i = k.due.each t now lt in record { queue = i.queue; items = λ on. late_same now t s.asleep timed_item s.items (λ y. refl) ∙ i.items on; tracks = i.tracks } };
+      forward = k.forward;
       reached = Repeats v k.reached;
     }
 
 -- a sender that was given nothing
 pub keeps_fresh : (f : Format) (initial streams fragment rwnd capacity : ℕ) (partial : Bool) → 0 < fragment
-    → Keeps f (record { initial = initial; streams = streams; fragment = fragment; partial = partial; cum = 0; rwnd = rwnd; turn = 0; items = []; queue = []; tracks = replicate streams (record { ordered = 0; unordered = 0; rest = None }); fates = []; ended = 0; runs = Some []; capacity = capacity; passed = 0; moments = []; asleep = false })
+    → Keeps f (record { initial = initial; streams = streams; fragment = fragment; partial = partial; cum = 0; rwnd = rwnd; turn = 0; items = []; queue = []; tracks = replicate streams (record { ordered = 0; unordered = 0; rest = None }); fates = []; ended = 0; runs = Some []; capacity = capacity; passed = 0; moments = []; asleep = false; forward = None })
     (fresh_sender initial streams fragment rwnd partial)
 keeps_fresh f initial streams fragment rwnd capacity partial large = record {
   holds = record {
@@ -75,5 +76,6 @@ keeps_fresh f initial streams fragment rwnd capacity partial large = record {
   };
   over = record { within = omega arith; each = λ t le. record { queue = refl; tracks = no_rests t streams; items = refl } };
   due = record { many = refl; each = λ t now lt. record { queue = refl; items = λ on. refl; tracks = λ on. late_no_rests now t streams } };
+  forward = tt;
   reached = Begins initial streams fragment rwnd partial large;
 }

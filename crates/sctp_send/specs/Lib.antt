@@ -1,6 +1,7 @@
 pub mod CoveredRuns
 pub mod PartsKept
 pub mod SenderKept
+pub mod ForwardKept
 pub mod SenderStands
 pub mod OutstandingFields
 pub mod SenderFields

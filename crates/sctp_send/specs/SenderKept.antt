@@ -4,6 +4,7 @@ use Rattle.sctp_model.specs.messages.Plan.{Message, Entry}
 use Rattle.sctp_model.specs.sender.SenderView.{Queued}
 use Rattle.sctp_send.specs.declared.kept.message.Fate.{Fate}
 use Rattle.sctp_send.specs.declared.kept.entry.CoveredRun.{CoveredRun}
+use Rattle.sctp_send.specs.declared.kept.last_forward.LastForward.{LastForward}
 
 -- what is kept of one index above CUM
 pub record Item : Type 0 where
@@ -50,3 +51,5 @@ pub record Kept : Type 0 where
   pub moments : List ℕ
   -- that is said of messages whose entries are covered, too, unless this is so
   pub asleep : Bool
+  -- the FORWARD that was built last
+  pub forward : Option LastForward

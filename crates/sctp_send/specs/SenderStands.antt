@@ -8,6 +8,7 @@ use Rattle.sctp_model.specs.sender.Abandoning.{Name, name_of, waits, is_abandone
 use Rattle.sctp_model.specs.sender.Reached.{IsReached}
 use Rattle.sctp_send.specs.SenderKept.{Item, Rest, Track, Kept}
 use Rattle.sctp_send.specs.CoveredRuns.{AreCovered}
+use Rattle.sctp_send.specs.ForwardKept.{IsForwardKept}
 use Rattle.sctp_send.specs.inner.Walks.{any_item, any_rest}
 use Rattle.sctp_send.specs.inner.Dues.{AreDue}
 use Rattle.sctp_send.specs.declared.kept.message.Fate.{Fate}
@@ -77,11 +78,13 @@ pub record AreOver (s : Kept) (given : ℕ) : Type 0 where
   pub within : s.ended ≤ given
   pub each : (t : ℕ) → t ≤ max s.ended s.passed → IsOver s t
 
--- It is a view that calls reach, tickets that count as ended are over, and no ticket is late before its moment.
+-- It is a view that calls reach, tickets that count as ended are over, no ticket is late before its moment, and the FORWARD that was built last is
+-- still true of the entries that it was built from.
 pub record Keeps (f : Format) (s : Kept) (v : SenderView) : Type 0 where
   pub holds : Holds s v
   pub over : AreOver s v.tickets
   pub due : AreDue s v.tickets
+  pub forward : IsForwardKept f v.streams v.plan.entries s.forward
   pub reached : IsReached f v
 
 -- Stands for: hidden from the crates above, which know it by the clauses alone.

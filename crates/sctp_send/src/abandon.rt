@@ -1,4 +1,4 @@
-//! Messages that are abandoned (RFC 3758, 3.5; RFC 8260, 2.3.1).
+//! Abandoning a message on request (RFC 3758, 3.5; RFC 8260, 2.3.1).
 
 pub mod expire;
 pub mod moments;
@@ -24,23 +24,23 @@ use crate::sender::Sender;
 use sctp_framing::Framing;
 use sctp_values::Ticket;
 
-/// What abandoning a ticket's message is answered.
+/// The answer to `abandon`.
 #[derive(Clone, Copy, Debug, PartialEq, Eq)]
 pub enum Abandoned {
-    /// 1: it has no number, and is withdrawn, now or already before.
+    /// 1: no TSN was assigned to it; it was removed from the queue, by this call or an earlier one.
     Withdrawn,
-    /// 2: it is abandoned, now or already before.
+    /// 2: it is abandoned, by this call or an earlier one.
     Abandoned,
-    /// 3: it was acknowledged whole.
+    /// 3: the peer has acknowledged all of it.
     Acknowledged,
-    /// 4: there is no message with this ticket.
+    /// 4: no message has this ticket.
     Unknown,
-    /// 5: it has a number, and messages with one may not be abandoned.
+    /// 5: it has TSNs, and partial reliability was not negotiated (RFC 3758, 3.3).
     Reliable,
 }
 
 impl Abandoned {
-    /// The code, 1 to 5.
+    /// The number by which a user reads the answer, 1 to 5.
     pub fn code(self) -> u8
         ensures { result ≡ answer_code self }
     {
@@ -56,8 +56,8 @@ impl Abandoned {
 
 #[tactic(auto, unfolding(crate::specs::SenderStands::StandsFor))]
 impl<F: Framing> Sender<F> {
-    /// Abandons the message with this ticket: one without a number is withdrawn; one with a number is not sent or repeated
-    /// again, and where it was assigned in part, an end mark takes one index more. It takes no memory.
+    /// Abandons the message with this ticket (RFC 3758, 3.5). If it has no TSN yet, it leaves the queue; otherwise it is neither sent nor
+    /// retransmitted again. If only some of its fragments have TSNs, an end mark takes one more (RFC 8260, 2.3.1). It doesn't allocate.
     pub fn abandon(&mut self, ticket: Ticket) -> Abandoned
         ensures answer { (v : SenderView) → StandsFor F.format self.old v → answer_meaning result ≡ abandon_answer v ticket.0 }
         ensures step { (v : SenderView) → StandsFor F.format self.old v → StandsFor F.format self.new (abandon_after v ticket.0) }
@@ -97,7 +97,7 @@ impl<F: Framing> Sender<F> {
         Abandoned::Abandoned
     }
 
-    /// Abandons the message with this ticket where it may be abandoned, which is not asked again.
+    /// Abandons the message with this ticket, once it is known that it may be abandoned.
     pub(crate) fn abandon_open(&mut self, ticket: u64)
         ensures { (v : SenderView) → StandsFor F.format self.old v → may_abandon v ticket ≡ true → StandsFor F.format self.new (abandon_after v ticket) }
     {
@@ -140,7 +140,7 @@ impl<F: Framing> Sender<F> {
     }
 }
 
-/// The place of the message with this ticket among those that wait, or how many there are.
+/// The place in the queue of the message with this ticket, or the length of the queue if it isn't there.
 fn place_of(queue: &Queue, ticket: u64) -> usize
     ensures { (size : ℕ) → without ticket (map (queued_by size) queue.now.items)
         ≡ take result (map (queued_by size) queue.now.items) ++ drop (result + 1) (map (queued_by size) queue.now.items) }
@@ -180,7 +180,7 @@ fn end(streams: &mut Streams, ticket: u64) -> Option<Ending>
     ending_of(streams.replace(at, next))
 }
 
-/// The end mark of a message stands behind the other entries. There is room for it since the message took its number.
+/// Appends the end mark of a message. Its space was reserved when the message took its number.
 fn push_end(outstanding: &mut Outstanding, ending: Ending)
     ensures items { (size : ℕ) → length outstanding.old.items < outstanding.old.capacity
         → map (item_meaning size) outstanding.new.items ≡ map (item_meaning size) outstanding.old.items ++ end_item (ending_meaning size ending) ∷ [] }

@@ -1,4 +1,10 @@
-//! What goes into a packet (RFC 9260, 6.1 and 6.3.3; RFC 8260, 2.2).
+//! Which DATA or I-DATA chunks go into a packet (RFC 9260, 6.1 and 6.3.3; RFC 8260, 2.2).
+//!
+//! A sender is a `Told`, which a fill only reads but for the fates that it sets at its end, and a `Stock`, which it changes. Clauses of `Told`'s methods
+//! speak of what the sender keeps with that stock (`stocked` of `bare`). Each change is noted (`Change`); if an allocation fails, the noted changes are
+//! taken back, the last one first (`undo_all`; `origin` is what the parts were before all that is noted, which each put function keeps: `IsBehind`).
+//! A message that begins reserves its memory first, but for what its fragments after the first one may allocate. A chunk costs its search from the
+//! two counted offsets on, its bytes, and its note; if nothing is to be sent, a fill costs three tests (`is_at_rest`).
 
 pub mod assigning;
 pub mod entering;
@@ -24,7 +30,7 @@ use sctp_packet::PacketWriter;
 use sctp_values::{NoMemory, Ticket};
 use std::mem;
 
-/// The tickets of messages that took their numbers, by their first TSN.
+/// The tickets of messages whose first fragment got its TSN, in the order of these TSNs.
 #[derive(Debug, Drop)]
 pub struct Filled {
     pub tickets: Vec<Ticket>,
@@ -32,11 +38,12 @@ pub struct Filled {
 
 #[tactic(auto, unfolding(crate::specs::SenderStands::StandsFor))]
 impl<F: Framing> Sender<F> {
-    /// Fills a packet: what is marked, then what has an index and did not go out, then what is assigned next, for as long as it fits and the
-    /// flow rule and the window let it. It answers the tickets newly numbered.
+    /// Fills a packet with DATA or I-DATA chunks: first those marked for retransmission, then those that have a TSN and were never sent, then
+    /// new ones, as long as they fit and the peer's window (RFC 9260, 6.1, rule A) and the limit of 32,767 outstanding TSNs allow it. Returns
+    /// the tickets of the messages that began.
     ///
     /// # Errors
-    /// `NoMemory`: nothing of the sender changes, and the packet may hold some whole chunks more. It comes only where a further one may go.
+    /// `NoMemory`, only if one more chunk could go. The sender's view is then as before; the packet may have some of the chunks, each whole.
     #[inline(always)]
     pub fn fill(&mut self, packet: &mut PacketWriter) -> Result<Filled, NoMemory>
         ensures step { (v : SenderView) → StandsFor F.format self.old v → IfOk result (λ filled. FillAnswer F.format v packet.old packet.new self.new filled) }
@@ -50,7 +57,7 @@ impl<F: Framing> Sender<F> {
         self.fill_on(packet)
     }
 
-    /// Nothing is to go out: all is out that has its index, no message waits, and none is in part.
+    /// Nothing is to be sent: no chunk is marked or unsent, the queue is empty, and no message is in part.
     #[inline(always)]
     fn is_at_rest(&self) -> bool
         ensures { (v : SenderView) → StandsFor F.format self.now v → result ≡ true → next_wish F.format v ≡ None }
@@ -68,7 +75,7 @@ impl<F: Framing> Sender<F> {
         true
     }
 
-    /// The same, where something may go. It stands apart, so that it costs little where nothing does.
+    /// `fill`, when something may be to be sent. A function of its own, so that a call with nothing to send stays cheap.
     #[inline(never)]
     fn fill_on(&mut self, packet: &mut PacketWriter) -> Result<Filled, NoMemory>
         ensures step { (v : SenderView) → StandsFor F.format self.old v → IfOk result (λ filled. FillAnswer F.format v packet.old packet.new self.new filled) }
@@ -92,7 +99,7 @@ impl<F: Framing> Sender<F> {
 }
 
 impl Told {
-    /// Puts one wish after the other, until none may go.
+    /// Puts the next chunk to be sent, until none may go.
     fn put_all<F: Framing>(
         &self,
         stock: &mut Stock,

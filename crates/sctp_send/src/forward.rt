@@ -1,8 +1,14 @@
-//! How far the point went is told to the peer: FORWARD-TSN and I-FORWARD-TSN (RFC 3758, 3.5; RFC 8260, 2.3.1).
+//! FORWARD-TSN and I-FORWARD-TSN chunks: how far the peer may move its cumulative TSN over abandoned messages (RFC 3758, 3.5; RFC 8260,
+//! 2.3.1).
+//!
+//! `put_forward` walks once over the entries that the chunk skips. Each is noted at the rank of its lane, which a binary search finds among at most 370
+//! in an array, and the walk ends at the entry whose lane would no longer fit a packet. So it costs what it lists and what it skips, whatever the
+//! number of streams, and allocates only once it is known that the chunk fits. `keep_forward` does the walk ahead and keeps the list.
 
+pub mod keeping;
 pub mod lanes;
 
-ghost use Rattle.std.specs.Prelude.{◌≡◌, ℕ, ◌+◌, ◌*◌, ◌≤◌, ◌&&◌, true, [], length, map, take, nat_lt, IfOk, OnErr};
+ghost use Rattle.std.specs.Prelude.{◌≡◌, ℕ, ◌+◌, ◌*◌, ◌%◌, ◌≤◌, ◌&&◌, true, [], length, map, take, nat_lt, IfOk, OnErr};
 ghost use Rattle.std.specs.List.{AllByRecursion};
 ghost use Rattle.sctp_model.specs.numbers.Limits.{LEAST_PACKET, GREATEST_PACKET};
 ghost use Rattle.sctp_model.specs.sender.SenderView.{SenderView};
@@ -15,8 +21,9 @@ ghost use Rattle.sctp_packet.specs.Draft.{has_room, after_try};
 ghost use Rattle.sctp_send.specs.OutstandingFields.{item_meaning, entries_of};
 ghost use Rattle.sctp_send.specs.SenderKept.{Kept};
 ghost use Rattle.sctp_send.specs.SenderStands.{StandsFor, Keeps};
-ghost use Rattle.sctp_send.specs.inner.Lanes.{passed_meaning, forward_of_lanes};
+ghost use Rattle.sctp_send.specs.inner.Lanes.{passed_meaning, forward_of_lanes, forward_of_list};
 
+use crate::forward::keeping::kept_for;
 use crate::forward::lanes::{Lanes, Passed, list_of, note_first};
 use crate::kept::outstanding::Outstanding;
 use crate::readers::abandoned_run;
@@ -33,16 +40,17 @@ use std::alloc::Global;
 const CHUNK_ALONE: usize = 8;
 
 /// What a packet with a FORWARD takes beside the entries: the common header too.
-const PACKET_ALONE: u16 = 20;
+pub(crate) const PACKET_ALONE: u16 = 20;
 
 #[tactic(auto, unfolding(crate::specs::SenderStands::StandsFor))]
 impl<F: Framing> Sender<F> {
-    /// Puts the FORWARD chunk into a packet. It goes to the last index, up to the point, for which the chunk alone fits a packet of `limit`
-    /// bytes, which are 1,500 at most, and names of each stream and numbered kind the largest number up to there. False exactly where there is
-    /// no such index past CUM, or where the chunk doesn't fit what is left of this packet. The sender stays as it is.
+    /// Puts the FORWARD-TSN or I-FORWARD-TSN chunk into a packet. Its new cumulative TSN is the last one up to the point for which the chunk
+    /// alone fits a packet of `limit` bytes, 1,500 at most; it lists the largest SSN or MID skipped, for each stream and kind of message that is
+    /// numbered. False exactly if there is no such TSN past CUM, or if the chunk doesn't fit what is left of this packet. If `keep_forward` has
+    /// kept the chunk for this state, it is taken from there.
     ///
     /// # Errors
-    /// `NoMemory`, and only where the chunk would have gone in; the packet is then as before.
+    /// `NoMemory`, only if the chunk would have gone in; the packet is then as before.
     pub fn put_forward(&self, packet: &mut PacketWriter, limit: u16) -> Result<bool, NoMemory>
         requires { limit ≤ GREATEST_PACKET }
         ensures answer { (v : SenderView) → StandsFor F.format self.now v
@@ -56,6 +64,12 @@ impl<F: Framing> Sender<F> {
         ensures memory { (v : SenderView) → StandsFor F.format self.now v
             → OnErr result ((nat_lt v.cum (forward_end F.format limit v) && has_room packet.old (forward_chunk_of F.format limit v)) ≡ true) }
     {
+        let run = abandoned_run(&self.parts.outstanding);
+        if let Some(last) = kept_for::<F>(&self.told, run, limit) {
+            let point = last.cum.wrapping_add(u64::from(last.passed));
+            let upto = tsn_of(self.told.initial, point);
+            return put_list::<F>(upto, &last.list, packet);
+        }
         let mut lanes = ArrayVec::new();
         let passed = note_within::<F>(
             &mut lanes,
@@ -117,9 +131,28 @@ fn put_lanes<F: Framing>(
         return Ok(false);
     }
     let list = list_of::<F>(alloc, lanes)?;
+    put_list::<F>(cumulative, &list, packet)
+}
+
+/// Puts the FORWARD to this TSN with this list of streams and numbers. False exactly if it doesn't fit.
+///
+/// # Errors
+/// `NoMemory`, and only if it fits.
+fn put_list<F: Framing>(
+    cumulative: u32,
+    list: &[u8],
+    packet: &mut PacketWriter,
+) -> Result<bool, NoMemory>
+    requires whole { length list.now % skip_size (skip_form F.format) ≡ 0 }
+    requires few { length list.now ≤ GREATEST_PACKET }
+    ensures answer { IfOk result (λ put. put ≡ has_room packet.old (forward_of_list F.format cumulative list.now)) }
+    ensures after { IfOk result (λ put. packet.new ≡ after_try packet.old (forward_of_list F.format cumulative list.now) put) }
+    ensures unchanged { OnErr result (packet.new ≡ packet.old) }
+    ensures memory { OnErr result (has_room packet.old (forward_of_list F.format cumulative list.now) ≡ true) }
+{
     let chunk = F::forward_chunk(Forward {
         cumulative,
-        skips: Skips::new(form, &list),
+        skips: Skips::new(F::skip_form(), list),
     });
     packet.try_chunk(&chunk)
 }

@@ -1,5 +1,16 @@
-//! What a sender keeps: the entries above CUM, the messages that wait, the streams, the fates of tickets; and what is counted of them, so that no
-//! call goes over all of them.
+//! What a sender keeps: the entries above CUM, the queue, the streams, the fates of tickets; and what is counted of them, so that no call goes over
+//! all of them. No clause of the crate names a count: a part gives its items, and its counts are functions of them, which its invariant holds.
+//!
+//! | part | what it keeps | what it counts |
+//! |---|---|---|
+//! | `Outstanding` (`IsInOrder`, `IsCounted`) | an entry for each index above CUM, by its offset from CUM + 1; a spot (ticket, index) for each entry, by rising ticket (`ByTicket`), so that a binary search finds a message's entries, which are neighbours there | the offsets before which nothing waits for retransmission, and before which nothing is unsent; the bytes in flight (exact, since at most 32,767 entries of 65,535 bytes are); the entries that were sent and are still wanted; the abandoned entries in front, so that the point is a sum |
+//! | `Fates` (`AreFates`) | of the first tickets, which are over, a block for each 4,096: one fate if all ended alike, else one each; of the tickets after them one fate each | how many tickets are over |
+//! | `Queue` (`IsQueueOf`, `IsOwedOf`) | the messages without a TSN; under I-DATA a seat (stream, ticket) for each (`Ordered`); both in deques, where removing one shifts the shorter side | the TSNs that they may take, and their bytes |
+//! | `Streams` (`IsStreamsOf`, `IsCountedOf`) | the numbers of each stream, and its message in part (a track); under I-DATA the seats of the messages in part, by stream and by ticket (`PartLists`). Under DATA no message is ever in part, and nothing is listed | how many messages are in part; the TSNs that they may take |
+//! | `Dues`, over `DueTable` (`AreDues`) | of each ticket a time before which its message is not late; 8 bytes a ticket from the first message with a lifetime on, and before it only how many tickets there are | the least time of 64 tickets in a row, and the least of all |
+//!
+//! A message's bytes are freed when CUM passes its last index. Its shell, the memory without the bytes, is kept, 64 of them at most, for messages to
+//! come; no view knows of them. An order by tickets needs no search as long as tickets rise with indexes, as they do unless streams take turns.
 
 pub mod blocks;
 pub mod by_message;
@@ -10,6 +21,7 @@ pub mod due_table;
 pub mod dues;
 pub mod entry;
 pub mod fates;
+pub mod last_forward;
 pub mod looking;
 pub mod message;
 pub mod ordered;

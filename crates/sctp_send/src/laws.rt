@@ -1,4 +1,4 @@
-//! What is known of every view that a sender stands for.
+//! What holds of every view that a sender stands for.
 
 ghost use Rattle.sctp_model.specs.sender.SenderView.{SenderView};
 ghost use Rattle.sctp_model.specs.sender.Reached.{IsReached};
@@ -9,7 +9,8 @@ use sctp_framing::Framing;
 
 #[tactic(auto, unfolding(crate::specs::SenderStands::StandsFor))]
 impl<F: Framing> Sender<F> {
-    /// A sender stands only for views that calls reach. It does nothing, and has this as its contract.
+    // law
+    /// A sender stands only for views that its calls can reach.
     pub fn reached(&self)
         ensures { (v : SenderView) → StandsFor F.format self.now v → IsReached F.format v }
     {}

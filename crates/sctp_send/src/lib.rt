@@ -1,5 +1,49 @@
-//! The sending end of an association: what was given to it, what has a TSN, what is acknowledged and what was abandoned (RFC 9260, 6; RFC
-//! 3758, 3.5; RFC 8260, 2).
+//! The sending half of an endpoint, over DATA or I-DATA: the queue of messages, TSNs, retransmission, what the peer acknowledged, and abandoned
+//! messages (RFC 9260, 6; RFC 3758, 3.5; RFC 8260, 2).
+//!
+//! A [`Sender`] stands for views (`SenderView` of `sctp_model`, where all calls are defined, with their laws). Each call promises of every view
+//! that the sender stands for what the definition of that call says. Crates above know the relation `StandsFor` by these clauses alone.
+//!
+//! | call | promise (clause) |
+//! |---|---|
+//! | [`Sender::new`] | the sender stands for the fresh view of its arguments, also with 0 streams |
+//! | [`Sender::queue`] | `answer`: the first of NoSuchStream, Empty, TooLong, QueueFull, Spent that applies, each if and only if it is the first; NoMemory only if none applies; an accepted message has the next ticket. `step`: the view with the message at the end of its queue, cut into fragments, or the same view |
+//! | [`Sender::fill`] | `step`: the packet gets the longest list of chunks of which each is the next to be sent and may go (it fits, the flow rule and the window allow it), after its own chunks; the sender stands for the view after them; the tickets returned are those of the messages that began, in the order of their first TSNs. `memory`: after NoMemory it stands for the same view. `some`: the packet then has a beginning of that list, each chunk whole, and one more would go |
+//! | [`Sender::on_sack`] | `answer`: the first of Stale, Beyond, BadBlock that applies, in this order, each if and only if it is the first. `step`: the view with the SACK's CUM, gap blocks (in place of those of the last SACK) and window, or the same view |
+//! | [`Sender::on_shutdown`] | as `on_sack` for the cumulative TSN of a SHUTDOWN; what gap blocks acknowledged beyond it stays acknowledged |
+//! | [`Sender::on_timeout`] | every chunk that was sent and is neither acknowledged nor abandoned is marked for retransmission |
+//! | [`Sender::abandon`] | `answer`: the first of the five answers that applies. `step`: a message without a TSN leaves the queue; one with TSNs is abandoned, with its marks; one in part gets an end mark |
+//! | [`Sender::expire`] | each message whose lifetime is over is abandoned, by rising ticket, as `abandon` would |
+//! | [`Sender::put_forward`] | `answer`: true if and only if the FORWARD goes past CUM and fits what is left of the packet. `after`: the packet has it after its other chunks, or is as before. `reaches`: with the least packet limit or more it goes past CUM whenever the point does. `memory`: NoMemory only if the chunk would have gone in |
+//! | [`Sender::keep_forward`] | the sender stands for the same views: it builds the FORWARD ahead, for `put_forward` to take |
+//! | [`Sender::has_late`], [`Sender::next_late`] | whether a message that may be abandoned is late, and the lowest such ticket above one; if none is, `expire` changes nothing (`idle`) |
+//! | [`Sender::cum`], [`Sender::point`], [`Sender::unsettled`], [`Sender::outstanding`], [`Sender::drained`], [`Sender::acknowledged`], [`Sender::abandoned`], [`Sender::tickets`], [`Sender::peer_window`] | exactly the functions of `sender/Readers` of the model; at most 32,767 are outstanding (`bound`) |
+//! | [`Sender::queued`], [`Sender::queued_bytes`] | the length and the bytes of the queue; at most 1,024 messages of 65,536 bytes (`bound`) |
+//! | [`Sender::reached`] | a law: each view that a sender stands for is one that its calls reach |
+//!
+//! Only `new`, `queue`, `fill` and `put_forward` return NoMemory; `keep_forward` may allocate, and the others don't. So that `abandon`, `expire` and SACKs
+//! needn't, a message that begins reserves one entry for its end mark, besides those of the messages in part (`room` of `Holds`), and the first entry
+//! reserves the space for the runs of SACKs.
+//!
+//! Laws of every view that calls reach, by induction over the calls (`sctp_model/proofs/sender`): CUM is no more than the TSNs assigned, all up to it
+//! is acknowledged, nothing beyond the last TSN is said (`Bounds`); TSNs after CUM and messages in part are at most 32,767, TSNs assigned and owed at
+//! most 2^63 - 1 (`OwedLaws`); a ticket is of one message at most (`TicketLaws`), by which its entries are found (`NameLaws`); only `abandon` and
+//! `expire` abandon a message (`AbandonedLaws`); the point is the largest index up to which all after CUM is abandoned (`point_is_point`); a FORWARD
+//! lists the largest number of each numbered (stream, kind) that it skips, by rising stream (`forward_is_forward`), and goes as far as a packet lets it
+//! (`ForwardEnd`); what a packet is filled with is one list (`FillLaws`).
+//!
+//! Words of the code, by the RFCs' words: an *index* counts TSNs from 1, the initial TSN; *CUM* is the Cumulative TSN Ack Point, the *point* the
+//! Advanced.Peer.Ack.Point; an entry is *covered* if a gap block of the last SACK acknowledges it, *marked* if it waits for retransmission; a *lane* is a
+//! (stream, ordered or unordered) of messages; a message *in part* has TSNs for some of its fragments only; an *end mark* is the TSN that a message
+//! abandoned in part takes at its end and that is never sent; a FORWARD is a FORWARD-TSN or I-FORWARD-TSN chunk.
+//!
+//! Costs: a chunk costs its bytes and a constant, a SACK its blocks, the runs of the last one, what CUM passes, and what is newly acknowledged or no
+//! longer so (64 entries at a time, if they are alike); a FORWARD a walk over what it passes the first time, and its list when it is sent again;
+//! `on_timeout` all that is outstanding; `expire` and `next_late` the tickets whose deadlines have passed; readers are constant, `abandon` and
+//! `acknowledged` a binary search and the message's own entries. What is kept for that is in `kept`, and each part's counts are its invariant.
+//!
+//! What a body may still get away with: nothing that a caller can see but costs, how much memory is kept, and the texts of `Debug` and of faults. Only
+//! tested: `crates/sctp_call_rows` compares each answer and each packet's bytes at the limits (docs/CALLS.md).
 #![tactic(auto)]
 
 mod abandon;

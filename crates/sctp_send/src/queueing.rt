@@ -1,4 +1,4 @@
-//! Messages handed in: refused for the first reason that holds, or queued (RFC 9260, 6.9).
+//! Messages from the user: queued, or refused for the first reason that applies (RFC 9260, 6.1 and 6.9).
 
 ghost use Rattle.std.specs.Prelude.{◌≡◌, ℕ, ◌<◌, ◌≤◌, ◌++◌, ◌∷◌, [], true, false, map, length, None, OnOk, OnErr, IfErr, IfSome, IfNone};
 ghost use Rattle.sctp_model.specs.numbers.Limits.{TICKET_LIMIT};
@@ -24,36 +24,37 @@ use std::alloc::Global;
 use std::sync::Arc;
 use thiserror::Error;
 
-/// Why a message is not accepted: the first reason that holds, in this order.
+/// Why a message is refused: the first reason that applies, in this order.
 #[derive(Clone, Copy, Debug, PartialEq, Eq, Error)]
 pub enum SendFault {
-    /// The stream's number isn't below the number of streams.
+    /// The stream number isn't below the number of outgoing streams.
     #[error("there is no such stream")]
     NoSuchStream,
-    /// The message has no byte.
+    /// The message is empty (RFC 9260, 3.3.1: a DATA chunk has at least one byte).
     #[error("the message is empty")]
     Empty,
     /// The message has more than 65,536 bytes.
     #[error("the message is too long")]
     TooLong,
-    /// As many messages wait for a number as may.
+    /// 1,024 messages wait in the queue already.
     #[error("too many messages wait")]
     QueueFull,
-    /// There is no ticket left, or the TSNs assigned and owed would be too many.
+    /// No ticket is left, or the TSNs assigned and still to be assigned would be more than 2^63 - 1.
     #[error("no more messages can be numbered")]
     Spent,
-    /// Memory ran out.
+    /// An allocation failed.
     #[error("out of memory")]
     NoMemory,
 }
 
 #[tactic(auto, unfolding(crate::specs::SenderStands::StandsFor))]
 impl<F: Framing> Sender<F> {
-    /// Accepts a message for a stream: `until` is the moment from which it is worthless, in milliseconds. It is cut into fragments of the
-    /// configured size, and waits for its number. A refusal drops the bytes.
+    /// Queues a message of 1 to 65,536 bytes for a stream. `until` is the time at which its lifetime ends, in milliseconds, if it has one
+    /// (RFC 3758, 4.1). It is fragmented as it is sent (RFC 9260, 6.9). If it is refused, the bytes are dropped. The ticket names the message in
+    /// later calls; tickets are numbered from 1.
     ///
     /// # Errors
-    /// The first reason of `SendFault` that holds; nothing changes then.
+    /// The first reason of `SendFault` that applies; nothing changes then.
     pub fn queue(
         &mut self,
         stream: u16,
@@ -76,7 +77,7 @@ impl<F: Framing> Sender<F> {
         }
     }
 
-    /// The same, without a look at the tickets that are over. The room for a ticket is taken before anything changes.
+    /// Queues a message, or refuses it. The space for its ticket is reserved before anything changes.
     fn accept(
         &mut self,
         stream: u16,

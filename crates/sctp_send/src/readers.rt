@@ -1,4 +1,4 @@
-//! What a sender tells of itself.
+//! What can be read from a sender.
 
 ghost use Rattle.std.specs.Prelude.{◌≡◌, ℕ, Bool, ◌<◌, ◌≤◌, ◌^◌, ◌%◌, ◌*◌, ◌&&◌, not, map, length};
 ghost use Rattle.sctp_model.specs.numbers.Limits.{WINDOW, QUEUE_LIMIT, LONGEST_MESSAGE};
@@ -19,14 +19,16 @@ use sctp_values::Ticket;
 
 #[tactic(auto, unfolding(crate::specs::SenderStands::StandsFor))]
 impl<F: Framing> Sender<F> {
-    /// CUM: the index up to which all is acknowledged; 0 before the first SACK.
+    /// CUM, the Cumulative TSN Ack Point (RFC 9260, 6.2.1), as an index: the number of TSNs from the first one on that are acknowledged. 0 before
+    /// the first SACK.
     pub fn cum(&self) -> u64
         ensures { (v : SenderView) → StandsFor F.format self.now v → result ≡ v.cum }
     {
         self.told.cum
     }
 
-    /// The point: the largest index from CUM on, up to which all beyond CUM is of abandoned messages (RFC 3758, 3.5).
+    /// The Advanced.Peer.Ack.Point as an index: the largest one from CUM on, up to which all TSNs after CUM are of abandoned messages (RFC 3758,
+    /// 3.5, C1).
     pub fn point(&self) -> u64
         ensures { (v : SenderView) → StandsFor F.format self.now v → result ≡ point v }
     {
@@ -35,8 +37,8 @@ impl<F: Framing> Sender<F> {
             .wrapping_add(u64::from(abandoned_run(&self.parts.outstanding)))
     }
 
-    /// Whether the data timer is wanted (RFC 9260, 6.3.2): something that went out is neither covered nor abandoned, or the point is past CUM,
-    /// so that a FORWARD is due (RFC 3758, 3.5).
+    /// Whether the T3-rtx timer should run (RFC 9260, 6.3.2): a chunk that was sent is neither acknowledged by a SACK nor abandoned, or the point
+    /// is past CUM, so that a FORWARD-TSN is due (RFC 3758, 3.5).
     pub fn unsettled(&self) -> bool
         ensures { (v : SenderView) → StandsFor F.format self.now v → result ≡ unsettled v }
     {
@@ -46,7 +48,7 @@ impl<F: Framing> Sender<F> {
         self.parts.outstanding.front() > 0
     }
 
-    /// The indexes above CUM, and the messages in part: at most 32,767.
+    /// The number of TSNs assigned after CUM, plus the messages of which some fragments have no TSN yet. At most 32,767.
     pub fn outstanding(&self) -> u32
         ensures count { (v : SenderView) → StandsFor F.format self.now v → result ≡ outstanding v }
         ensures bound { (v : SenderView) → StandsFor F.format self.now v → result ≤ WINDOW }
@@ -54,7 +56,7 @@ impl<F: Framing> Sender<F> {
         count_of(&self.parts.outstanding).wrapping_add(self.parts.streams.in_part())
     }
 
-    /// Whether nothing waits, nothing is in part, and all that has an index is acknowledged (RFC 9260, 9.2).
+    /// Whether all data was sent and acknowledged: the queue is empty, no message is in part, and CUM is the last TSN assigned (RFC 9260, 9.2).
     pub fn drained(&self) -> bool
         ensures { (v : SenderView) → StandsFor F.format self.now v → result ≡ drained v }
     {
@@ -67,7 +69,7 @@ impl<F: Framing> Sender<F> {
         self.parts.outstanding.len() == 0
     }
 
-    /// How many messages wait for their numbers: accepted, and nothing of them has a TSN (RFC 9260, 6.1). At most 1,024.
+    /// The number of messages in the queue: accepted, and no fragment has a TSN yet. At most 1,024.
     pub fn queued(&self) -> usize
         ensures count { (v : SenderView) → StandsFor F.format self.now v → result ≡ length v.queue }
         ensures bound { (v : SenderView) → StandsFor F.format self.now v → result ≤ QUEUE_LIMIT }
@@ -75,7 +77,7 @@ impl<F: Framing> Sender<F> {
         self.parts.queue.len()
     }
 
-    /// The bytes of the messages that wait for their numbers. At most 1,024 times 65,536.
+    /// The bytes of the messages in the queue. At most 1,024 times 65,536.
     pub fn queued_bytes(&self) -> u64
         ensures bytes { (v : SenderView) → StandsFor F.format self.now v → result ≡ queued_bytes v }
         ensures bound { (v : SenderView) → StandsFor F.format self.now v → result ≤ QUEUE_LIMIT * LONGEST_MESSAGE }
@@ -83,22 +85,22 @@ impl<F: Framing> Sender<F> {
         self.parts.queue.bytes()
     }
 
-    /// The peer's receiver window in bytes, as it last advertised it (RFC 9260, 3.3.2 and 3.3.4): what is in flight is not taken off.
+    /// The peer's receiver window in bytes, as last advertised (a_rwnd; RFC 9260, 3.3.2 and 3.3.4). Bytes in flight are not subtracted.
     pub fn peer_window(&self) -> u32
         ensures { (v : SenderView) → StandsFor F.format self.now v → result ≡ v.rwnd }
     {
         self.told.rwnd
     }
 
-    /// How many tickets were given: the calls of `queue` that were accepted. They are 1 to this number.
+    /// The number of tickets issued, one for each message accepted by `queue`. They are 1 to this number.
     pub fn tickets(&self) -> u64
         ensures { (v : SenderView) → StandsFor F.format self.now v → result ≡ v.tickets }
     {
         self.told.fates.len() as u64
     }
 
-    /// Whether the message with this ticket is acknowledged whole: its last fragment is assigned, all its indexes are covered, and it was
-    /// not abandoned. False for a ticket that was never given.
+    /// Whether the peer has acknowledged all of the message with this ticket: all its fragments have TSNs, each is acknowledged by a SACK, and it
+    /// was not abandoned. False for a ticket that was never issued.
     pub fn acknowledged(&self, ticket: Ticket) -> bool
         ensures { (v : SenderView) → StandsFor F.format self.now v → result ≡ acknowledged v ticket.0 }
     {
@@ -116,7 +118,7 @@ impl<F: Framing> Sender<F> {
         is_all_covered(&self.parts.streams, &self.parts.outstanding, ticket.0)
     }
 
-    /// Whether the message with this ticket has a number and was abandoned. False for a ticket that was never given.
+    /// Whether the message with this ticket was abandoned after it got a TSN. False for a ticket that was never issued.
     pub fn abandoned(&self, ticket: Ticket) -> bool
         ensures { (v : SenderView) → StandsFor F.format self.now v → result ≡ abandoned v ticket.0 }
     {

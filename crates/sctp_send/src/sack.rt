@@ -1,4 +1,12 @@
-//! SACKs and SHUTDOWNs that come (RFC 9260, 6.2.1 and 9.2).
+//! SACKs and SHUTDOWNs from the peer, and the expiry of the T3-rtx timer (RFC 9260, 6.2.1, 6.3.3 and 9.2).
+//!
+//! `on_sack` keeps the runs of entries that the last SACK acknowledged by gap blocks, at most 368, as many blocks as a packet of 1,500 bytes has. Their
+//! memory is reserved with the first entry, so that no SACK allocates, and a sender that had no entry has none (`run_room`). It sets only the
+//! entries that change: it costs its blocks, the old runs, what CUM passes, and what is newly acknowledged or no longer so, whole stretches of 64 entries
+//! at once if they are alike (`stretches`), else each entry once. If CUM passes all entries, nothing is counted of any as they go (`clear`); if
+//! nothing was acknowledged by blocks and no block is in the SACK, no entry is looked at for that. Both lists of runs are in order (`AreInOrder`), so
+//! one pass goes over both, and a run that ends before the next block isn't looked at again (`HasPassed`). A SACK with more blocks, which no packet of
+//! 1,500 bytes holds, goes over all that is outstanding (`cover`), and so does the next one.
 
 pub mod covered;
 pub mod entries;
@@ -23,27 +31,27 @@ use sctp_serial::{S32, Serial, tsn_of};
 use sctp_wire::{Blocks, Sack};
 use thiserror::Error;
 
-/// Why a SACK or a SHUTDOWN is not taken: the first reason that holds, in this order.
+/// Why a SACK or a SHUTDOWN is refused: the first reason that applies, in this order.
 #[derive(Clone, Copy, Debug, PartialEq, Eq, Error)]
 pub enum SackFault {
-    /// It is older than what was acknowledged: its cumulative TSN comes before that of CUM.
+    /// It is out of date: its cumulative TSN is before CUM (RFC 9260, 6.2.1, D i).
     #[error("it is older than one taken")]
     Stale,
-    /// Its cumulative TSN, or the end of a block, is past the last TSN assigned.
+    /// It acknowledges a TSN past the last one assigned, by its cumulative TSN or a gap block.
     #[error("it acknowledges what was not sent")]
     Beyond,
-    /// Its blocks aren't in order: one begins at 0, ends before it begins, or begins at or before the end of the one before it.
+    /// Its gap blocks aren't in order: one begins at 0, ends before it begins, or begins at or before the end of the previous one.
     #[error("its blocks are out of order")]
     BadBlock,
 }
 
 #[tactic(auto, unfolding(crate::specs::SenderStands::StandsFor))]
 impl<F: Framing> Sender<F> {
-    /// Takes a SACK: the entries up to its cumulative TSN go, and of the others its blocks, and nothing else, count as covered (RFC 9260,
-    /// 6.2.1). It takes no memory.
+    /// Processes a SACK (RFC 9260, 6.2.1): the chunks up to its cumulative TSN are released, and of the others exactly those in its gap blocks are
+    /// acknowledged from now on; a chunk that only the last SACK acknowledged is outstanding again. It doesn't allocate.
     ///
     /// # Errors
-    /// A `SackFault`, the first that it has; the sender is then as before.
+    /// The first `SackFault` that applies; nothing changes then.
     pub fn on_sack(&mut self, sack: &Sack<'_>) -> Result<(), SackFault>
         ensures answer { (v : SenderView) → StandsFor F.format self.old v → reason_meaning result ≡ sack_fault v (sack_meaning sack.now) }
         ensures step { (v : SenderView) → StandsFor F.format self.old v → StandsFor F.format self.new (sack_after v (sack_meaning sack.now)) }
@@ -87,11 +95,11 @@ impl<F: Framing> Sender<F> {
         Ok(())
     }
 
-    /// Takes the cumulative TSN of a SHUTDOWN: the entries up to it go, and what lay covered beyond stays so (RFC 9260, 9.2). It takes no
-    /// memory.
+    /// Processes the cumulative TSN of a SHUTDOWN (RFC 9260, 9.2): the chunks up to it are released, and what gap blocks acknowledged beyond it stays
+    /// acknowledged. It doesn't allocate.
     ///
     /// # Errors
-    /// A `SackFault`, the first that it has; the sender is then as before.
+    /// The first `SackFault` that applies; nothing changes then.
     pub fn on_shutdown(&mut self, tsn: u32) -> Result<(), SackFault>
         ensures answer { (v : SenderView) → StandsFor F.format self.old v → reason_meaning result ≡ shutdown_fault v tsn }
         ensures step { (v : SenderView) → StandsFor F.format self.old v → StandsFor F.format self.new (shutdown_after v tsn) }
@@ -109,8 +117,8 @@ impl<F: Framing> Sender<F> {
         Ok(())
     }
 
-    /// The data timer expired: all that went out and is neither covered nor abandoned is marked for repeating (RFC
-    /// 9260, 6.3.3). It takes no memory.
+    /// The T3-rtx timer expired: every chunk that was sent and is neither acknowledged nor abandoned is marked for retransmission (RFC 9260, 6.3.3). It
+    /// doesn't allocate.
     pub fn on_timeout(&mut self)
         ensures { (v : SenderView) → StandsFor F.format self.old v → StandsFor F.format self.new (timed_out v) }
     {

@@ -1,4 +1,4 @@
-//! The sender of one end: its parts, and what it tells of itself.
+//! The sender: its parts, its view, and how it begins.
 
 ghost use Rattle.std.specs.Prelude.{◌≡◌, ℕ, ◌<◌, ◌≤◌};
 ghost use Rattle.std.specs.Prelude.{IfOk};
@@ -19,7 +19,7 @@ use sctp_values::NoMemory;
 use std::alloc::Global;
 use std::marker::{Model, PhantomData};
 
-/// One end's sending half: what it was given, what has a TSN, and what its peer told.
+/// The sending half of an endpoint, over DATA or I-DATA: the queue, the chunks that have a TSN, and what the peer acknowledged.
 #[derive(Drop)]
 pub struct Sender<F: Framing> {
     pub(crate) told: Told,
@@ -56,6 +56,7 @@ impl<F: Framing> Model for Sender<F> {
       passed = s.told.dues.passed;
       moments = s.told.dues.moments;
       asleep = s.told.dues.asleep;
+      forward = s.told.forward;
     } };
 
     ghost invariant = { λ s. IsSized s.told.fragment s.parts };
@@ -63,12 +64,12 @@ impl<F: Framing> Model for Sender<F> {
 
 #[tactic(auto, unfolding(crate::specs::SenderStands::StandsFor))]
 impl<F: Framing> Sender<F> {
-    /// A sender that was given nothing yet: its first TSN; how many streams it has; the most bytes of a fragment, 1 to 1,400 (RFC
-    /// 9260, 6.9); the window that the peer advertised, in bytes (RFC 9260, 3.3.2); and whether messages with a number may be abandoned,
-    /// which both ends must support (RFC 3758, 3.3).
+    /// A sender with an empty queue. `initial_tsn` is its first TSN, `streams` its number of outgoing streams, `fragment` the most bytes of a
+    /// fragment, 1 to 1,400 (RFC 9260, 6.9), `peer_rwnd` the window that the peer advertised, in bytes (RFC 9260, 3.3.2), and `partial` whether
+    /// both endpoints support partial reliability (RFC 3758, 3.3), so that messages with a TSN may be abandoned.
     ///
     /// # Errors
-    /// `NoMemory`.
+    /// `NoMemory` if an allocation fails.
     pub fn new(
         alloc: Global,
         initial_tsn: u32,
@@ -98,6 +99,7 @@ impl<F: Framing> Sender<F> {
                 covered: Vec::new(alloc),
                 is_known: true,
                 spare: Vec::new(alloc),
+                forward: None,
                 shells,
             },
             parts: Stock {

@@ -79,7 +79,7 @@ pub(crate) fn forget_changes(log: &mut Vec<Change>)
     }
 }
 
-/// The same, where something is noted. It stands apart, so that what is asked each time stays small.
+/// Empties a list of changes that isn't empty. A function of its own, so that the test before it stays cheap.
 #[inline(never)]
 fn clear_changes(log: &mut Vec<Change>)
     ensures { log.new.items ≡ [] }

@@ -3,6 +3,7 @@
 use crate::kept::dues::Dues;
 use crate::kept::entry::CoveredRun;
 use crate::kept::fates::Fates;
+use crate::kept::last_forward::LastForward;
 use crate::kept::message::Message;
 use std::alloc::Global;
 use std::sync::Arc;
@@ -28,6 +29,8 @@ pub(crate) struct Told {
     pub(crate) is_known: bool,
     // the room of the next SACK's runs
     pub(crate) spare: Vec<CoveredRun>,
+    // the FORWARD that was built last, if one was
+    pub(crate) forward: Option<LastForward>,
     // memory of messages that are gone, without their bytes, for messages to come
     pub(crate) shells: Vec<Arc<Message>>,
 }

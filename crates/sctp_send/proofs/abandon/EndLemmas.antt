@@ -1,5 +1,5 @@
 -- A message with a number that is abandoned: what is kept after it, where it was in part and where it wasn't.
-use Rattle.std.proofs.Common.{◌≡◌, ℕ, zero, suc, ◌+◌, ◌-◌, ◌<◌, List, [], ◌∷◌, ◌++◌, length, map, drop, set, Bool, true, false, Option, Some, None, refl, sym, ap, ◌∙◌, arith, length-append, length-drop}
+use Rattle.std.proofs.Common.{◌≡◌, ℕ, zero, suc, ◌+◌, ◌-◌, ◌<◌, List, [], ◌∷◌, ◌++◌, length, map, drop, set, Bool, true, false, Option, Some, None, refl, sym, ap, ◌∙◌, arith, append-nil, length-append, length-drop}
 use Rattle.std.specs.Prelude.{not, ◌&&◌, ◌||◌, if◌then◌else◌, slice_get}
 use Rattle.std.proofs.lemmas.List.{length-map, drop-append-le}
 use Rattle.sctp_model.specs.messages.Format.{Format, Lane, ordered_lane, unordered_lane}
@@ -23,6 +23,7 @@ use Rattle.sctp_send.specs.inner.Walks.{any_rest, rest_has, end_item, EndsAt}
 use Rattle.sctp_send.specs.inner.Expiring.{rest_messages}
 use Rattle.sctp_send.specs.inner.Dues.{some_late}
 use Rattle.sctp_send.specs.declared.kept.message.Fate.TheVariants.{Abandoned as WasAbandoned}
+use Rattle.sctp_send.proofs.forward.StillForward.{still_forward}
 use Rattle.sctp_send.proofs.TableLemmas.{table-set, table-same}
 use Rattle.sctp_send.proofs.TicketLemmas.{kept_goes_on}
 use Rattle.sctp_send.proofs.OverLemmas.{same_items, no_item_one, no_rest_set, no_rest_there}
@@ -124,6 +125,7 @@ keeps_abandoned f s v t n k m off partial none =
       };
       over = record { within = k.over.within; each = λ x le. let o = k.over.each x le in record { queue = o.queue; tracks = o.tracks; items = same_items x (abandoned_item t) s.items (abandoned_message t) ∙ o.items } };
       due = record { many = k.due.many; each = λ x now lt. let i = k.due.each x now lt in record { queue = i.queue; items = λ on. late_abandoned now x t s.asleep s.items (i.items on); tracks = i.tracks } };
+      forward = still_forward f v.streams v.plan.entries [] u.plan.entries s.forward (entries ∙ sym (append-nil v.plan.entries)) k.forward;
       reached = rw after at reached;
     })
 
@@ -218,6 +220,7 @@ keeps_ended f s v t n r tracks k m off partial ends =
                 tracks = λ on. ap (λ (ts : List Track). some_late now x (rest_messages ts)) ends.now ∙ late_rest_set now x ends.at s.tracks (record ends.track { rest = None }) (i.tracks on) refl;
               };
         };
+        forward = still_forward f v.streams v.plan.entries (End n.lane n.number ∷ []) u.plan.entries s.forward (ap (λ (p : Plan). p.entries) plan) k.forward;
         reached = rw after at reached;
       }),
     )

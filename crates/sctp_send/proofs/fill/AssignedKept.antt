@@ -25,6 +25,7 @@ use Rattle.sctp_send.specs.inner.Dues.{is_late, some_late}
 use Rattle.sctp_send.specs.declared.kept.message.Fate.TheVariants.{Numbered}
 pub use Rattle.sctp_send.specs.inner.Newcomers.{begun_items}
 use Rattle.sctp_send.proofs.KeepLemmas.{kept_length}
+use Rattle.sctp_send.proofs.forward.StillForward.{still_forward}
 use Rattle.sctp_send.proofs.QueueLemmas.{kept_in_part}
 use Rattle.sctp_send.proofs.TableLemmas.{length-table}
 use Rattle.sctp_send.proofs.OverLemmas.{no_item_more, no_item_one, no_begun, no_rest_set, no_rest_at, no_rest_begun, no_rest_after, not_waiting_taken, another_taken}
@@ -51,17 +52,95 @@ holds_first s u i xs ys y h is =
 
 -- ---- room for end marks
 
-one_at_most : (p : ℕ → Option Entry) (n : ℕ) → sum_below (λ j. one_if_some (p j)) n ≤ n
-one_at_most p zero = omega arith
-one_at_most p (suc n) = by_next (p n) (one_at_most p n)
-  where
-    by_next : (o : Option Entry) → sum_below (λ j. one_if_some (p j)) n ≤ n → sum_below (λ j. one_if_some (p j)) n + one_if_some o ≤ suc n
-    by_next None rest = omega arith
-    by_next (Some e) rest = omega arith
+one_at_most : (o : Option Rest) → one_if_rest o ≤ 1
+one_at_most None = omega arith
+one_at_most (Some r) = omega arith
 
--- a stream has one message in part at most
-pub in_part_streams : (v : SenderView) → in_part v ≤ v.streams
-in_part_streams v = one_at_most (continued v.plan) v.streams
+-- how many entries a view has above CUM
+above : (f : Format) (s : Kept) (v : SenderView) (more : List Entry) (n : ℕ) → Keeps f s v → length more ≡ n → length (v.plan.entries ++ more) - v.cum ≡ length s.items + n
+above f s v more n k is =
+    let long = length-append v.plan.entries more in
+    let count = kept_length f s v k in
+    omega (arith, long, count, is)
+
+-- a sum over streams of which one has changed
+changed_part : (f : Format) (s : Kept) (v u : SenderView) (j : ℕ) (x : Track) → Keeps f s v → j < v.streams → u.streams ≡ v.streams → ((i : ℕ) → (i ≡ j → ⊥) → continued v.plan i ≡ continued u.plan i)
+    → in_part u + one_if_rest (get_or s.tracks j x).rest ≡ total (λ t. one_if_rest t.rest) s.tracks + one_if_some (continued u.plan j)
+changed_part f s v u j x k low streams others =
+    let change = sum-changed (λ i. one_if_some (continued v.plan i)) (λ i. one_if_some (continued u.plan i)) v.streams j low (λ i apart. ap one_if_some (others i apart)) in
+    let all = kept_in_part f s v k in
+    let same : in_part u ≡ sum_below (λ i. one_if_some (continued u.plan i)) v.streams = ap (sum_below (λ i. one_if_some (continued u.plan i))) streams in
+    let own : one_if_rest (get_or s.tracks j x).rest ≡ one_if_some (continued v.plan j) = ap (λ (t : Track). one_if_rest t.rest) (track_at f s v j x k low) ∙ rest_counts (continued v.plan j) in
+    omega (arith, change, all, same, own)
+  where
+    rest_counts : (o : Option Entry) → one_if_rest (rest_here v.plan o) ≡ one_if_some o
+    rest_counts None = refl
+    rest_counts (Some e) = refl
+
+-- how many messages are in part when one has begun
+parts_begun : (f : Format) (s : Kept) (v : SenderView) (q : Queued) (rest : List Queued) (d turn : ℕ) (x : Track) → Keeps f s v → q.lane.stream < v.streams
+    → in_part (numbered v q (suc d) rest turn) + one_if_rest (get_or s.tracks q.lane.stream x).rest
+    ≡ total (λ t. one_if_rest t.rest) s.tracks + one_if_rest (begun_track q (suc d) (get_or s.tracks q.lane.stream x)).rest
+parts_begun f s v q rest d turn x k low =
+    let u = numbered v q (suc d) rest turn in
+    let j = q.lane.stream in
+    let named = is_named f v k.reached in
+    let n = length (v.plan.messages q.lane) in
+    let self : (j == j) ≡ true = grind (arith, nat_tests) in
+    let parts = changed_part f s v u j x k low refl (λ i apart. sym (continued_new v.streams v.plan q d i named ∙ rw (off i (j == i) refl apart) refl)) in
+    let own : one_if_some (continued u.plan j) ≡ one_if_rest (begun_track q (suc d) (get_or s.tracks j x)).rest =
+    ap one_if_some (continued_new v.streams v.plan q d j named ∙ rw self refl) ∙ when_counts (Part q.lane n (suc d)) (record { entry = Part q.lane (number_in q.lane.kind (get_or s.tracks j x)) (suc d); message = Some q.message }) (nat_lt (suc d) (length q.message.fragments)) in
+    omega (arith, parts, own)
+  where
+    off : (i : ℕ) (b : Bool) → (q.lane.stream == i) ≡ b → (i ≡ q.lane.stream → ⊥) → b ≡ false
+    off i false is apart = refl
+    off i true is apart = absurd (apart (grind (arith, nat_tests)))
+
+    when_counts : (e : Entry) (r : Rest) (b : Bool) → one_if_some (when b e) ≡ one_if_rest (when b r)
+    when_counts e r true = refl
+    when_counts e r false = refl
+
+-- one more at most
+few_begun : (f : Format) (s : Kept) (v : SenderView) (q : Queued) (rest : List Queued) (d turn : ℕ) (x : Track) → Keeps f s v → q.lane.stream < v.streams
+    → in_part (numbered v q (suc d) rest turn) ≤ suc (in_part v)
+few_begun f s v q rest d turn x k low =
+    let parts = parts_begun f s v q rest d turn x k low in
+    let all = kept_in_part f s v k in
+    let most = one_at_most (begun_track q (suc d) (get_or s.tracks q.lane.stream x)).rest in
+    omega (arith, parts, all, most)
+
+-- how many messages are in part when one has gone on
+parts_continued : (f : Format) (s : Kept) (v : SenderView) (j turn : ℕ) (e : Entry) (x : Track) → Keeps f s v → j < v.streams → continued v.plan j ≡ Some e
+    → in_part (gone_on v e turn) + one_if_rest (get_or s.tracks j x).rest ≡ total (λ t. one_if_rest t.rest) s.tracks + one_if_rest (rest_after e (entry_message v.plan e))
+parts_continued f s v j turn e x k low on =
+    let u = gone_on v e turn in
+    let next = continued_is v.streams v.plan j e (is_named f v k.reached) on in
+    let stream : (entry_lane e).stream ≡ j = ap (λ (y : Entry). (entry_lane y).stream) next.is ∙ next.on in
+    let self : (j == j) ≡ true = grind (arith, nat_tests) in
+    let parts = changed_part f s v u j x k low refl (λ i apart. sym (continued_more v.plan e i ∙ rw (stream, off i (j == i) refl apart) refl)) in
+    let own : one_if_some (continued u.plan j) ≡ one_if_rest (rest_after e (entry_message v.plan e)) = ap one_if_some (continued_more v.plan e j ∙ rw (stream, self) refl) ∙ next_counts e in
+    omega (arith, parts, own)
+  where
+    off : (i : ℕ) (b : Bool) → (j == i) ≡ b → (i ≡ j → ⊥) → b ≡ false
+    off i false is apart = refl
+    off i true is apart = absurd (apart (grind (arith, nat_tests)))
+
+    next_counts : (y : Entry) → one_if_some (next_part v.plan y) ≡ one_if_rest (rest_after y (entry_message v.plan y))
+    next_counts (End l n) = refl
+    next_counts (Part l n m) = by_more (nat_lt (suc m) (length (fragments_in (entry_message v.plan (Part l n m)))))
+      where
+        by_more : (b : Bool) → one_if_some (when b (Part l n (suc m))) ≡ one_if_rest (when b (record { entry = Part l n (suc m); message = entry_message v.plan (Part l n m) }))
+        by_more true = refl
+        by_more false = refl
+
+-- none more: it was one of them
+few_continued : (f : Format) (s : Kept) (v : SenderView) (j turn : ℕ) (e : Entry) (x : Track) → Keeps f s v → j < v.streams → continued v.plan j ≡ Some e → in_part (gone_on v e turn) ≤ in_part v
+few_continued f s v j turn e x k low on =
+    let parts = parts_continued f s v j turn e x k low on in
+    let all = kept_in_part f s v k in
+    let most = one_at_most (rest_after e (entry_message v.plan e)) in
+    let own : one_if_rest (get_or s.tracks j x).rest ≡ 1 = ap (λ (t : Track). one_if_rest t.rest) (track_at f s v j x k low) ∙ ap (λ (o : Option Entry). one_if_rest (rest_here v.plan o)) on in
+    omega (arith, parts, all, most, own)
 
 pub length-new_items : (l : Lane) (n : ℕ) (m : Message) (k d : ℕ) → length (new_items l n m k d) ≡ d
 length-new_items l n m k zero = refl
@@ -81,7 +160,7 @@ after_begun s q rest d turn capacity t = record s {
 }
 
 pub begun_kept : (f : Format) (s : Kept) (v : SenderView) (q : Queued) (rest : List Queued) (d turn capacity room : ℕ) (x : Track) → Keeps f s v → IsTaken q rest v.queue → ((now t : ℕ) → some_late now t (queue_messages v.queue) ≡ false → IsLeftIdle now t q rest) → q.lane.stream < v.streams
-    → goes f room v ≡ Some (newcomer v (numbered v q (suc d) rest turn)) → v.streams + (length s.items + suc d) ≤ capacity
+    → goes f room v ≡ Some (newcomer v (numbered v q (suc d) rest turn)) → suc (in_part v) + (length s.items + suc d) ≤ capacity
     → Keeps f (after_begun s q rest d turn capacity (get_or s.tracks q.lane.stream x)) (gone (newcomer v (numbered v q (suc d) rest turn)))
 begun_kept f s v q rest d turn capacity room x k taken idle low first space =
     let u = numbered v q (suc d) rest turn in
@@ -90,7 +169,7 @@ begun_kept f s v q rest d turn capacity room x k taken idle low first space =
     let parts = goes_parts f room v (newcomer v u) first in
     let before = length-append s.items (new_item (Part q.lane n 0) q.message ∷ behind) in
     let many = length-new_items q.lane n q.message 1 d in
-    let ends = in_part_streams u in
+    let ends = few_begun f s v q rest d turn x k low in
     let h = holds_begun f s v q rest d turn capacity x k taken low (omega (arith, before, many, ends, space)) in
     let count = kept_length f s v k in
     record {
@@ -118,53 +197,19 @@ begun_kept f s v q rest d turn capacity room x k taken idle low first space =
               tracks = λ on. late_rest_set now t q.lane.stream s.tracks (begun_track q (suc d) (get_or s.tracks q.lane.stream x)) (i.tracks on) (late_rest_begun now t q (suc d) (get_or s.tracks q.lane.stream x) left.one);
             };
       };
+      forward = still_forward f v.streams v.plan.entries (parts_from q.lane (length (v.plan.messages q.lane)) 0 (suc d)) u.plan.entries s.forward refl k.forward;
       reached = Goes v room (newcomer v u) k.reached parts.0 parts.1;
     }
-
--- how many entries a view has above CUM
-above : (f : Format) (s : Kept) (v : SenderView) (more : List Entry) (n : ℕ) → Keeps f s v → length more ≡ n → length (v.plan.entries ++ more) - v.cum ≡ length s.items + n
-above f s v more n k is =
-    let long = length-append v.plan.entries more in
-    let count = kept_length f s v k in
-    omega (arith, long, count, is)
-
--- a sum over streams of which one has changed
-changed_part : (f : Format) (s : Kept) (v u : SenderView) (j : ℕ) (x : Track) → Keeps f s v → j < v.streams → u.streams ≡ v.streams → ((i : ℕ) → (i ≡ j → ⊥) → continued v.plan i ≡ continued u.plan i)
-    → in_part u + one_if_rest (get_or s.tracks j x).rest ≡ total (λ t. one_if_rest t.rest) s.tracks + one_if_some (continued u.plan j)
-changed_part f s v u j x k low streams others =
-    let change = sum-changed (λ i. one_if_some (continued v.plan i)) (λ i. one_if_some (continued u.plan i)) v.streams j low (λ i apart. ap one_if_some (others i apart)) in
-    let all = kept_in_part f s v k in
-    let same : in_part u ≡ sum_below (λ i. one_if_some (continued u.plan i)) v.streams = ap (sum_below (λ i. one_if_some (continued u.plan i))) streams in
-    let own : one_if_rest (get_or s.tracks j x).rest ≡ one_if_some (continued v.plan j) = ap (λ (t : Track). one_if_rest t.rest) (track_at f s v j x k low) ∙ rest_counts (continued v.plan j) in
-    omega (arith, change, all, same, own)
-  where
-    rest_counts : (o : Option Entry) → one_if_rest (rest_here v.plan o) ≡ one_if_some o
-    rest_counts None = refl
-    rest_counts (Some e) = refl
 
 -- how much is outstanding when a message has begun
 pub outstanding_begun : (f : Format) (s : Kept) (v : SenderView) (q : Queued) (rest : List Queued) (d turn : ℕ) (x : Track) → Keeps f s v → q.lane.stream < v.streams
     → outstanding (numbered v q (suc d) rest turn) + one_if_rest (get_or s.tracks q.lane.stream x).rest
     ≡ (length s.items + suc d) + (total (λ t. one_if_rest t.rest) s.tracks + one_if_rest (begun_track q (suc d) (get_or s.tracks q.lane.stream x)).rest)
 outstanding_begun f s v q rest d turn x k low =
-    let u = numbered v q (suc d) rest turn in
-    let j = q.lane.stream in
-    let named = is_named f v k.reached in
     let n = length (v.plan.messages q.lane) in
     let entries = above f s v (parts_from q.lane n 0 (suc d)) (suc d) k (length-parts q.lane n 0 (suc d)) in
-    let self : (j == j) ≡ true = grind (arith, nat_tests) in
-    let parts = changed_part f s v u j x k low refl (λ i apart. sym (continued_new v.streams v.plan q d i named ∙ rw (off i (j == i) refl apart) refl)) in
-    let own : one_if_some (continued u.plan j) ≡ one_if_rest (begun_track q (suc d) (get_or s.tracks j x)).rest =
-    ap one_if_some (continued_new v.streams v.plan q d j named ∙ rw self refl) ∙ when_counts (Part q.lane n (suc d)) (record { entry = Part q.lane (number_in q.lane.kind (get_or s.tracks j x)) (suc d); message = Some q.message }) (nat_lt (suc d) (length q.message.fragments)) in
-    omega (arith, entries, parts, own)
-  where
-    off : (i : ℕ) (b : Bool) → (q.lane.stream == i) ≡ b → (i ≡ q.lane.stream → ⊥) → b ≡ false
-    off i false is apart = refl
-    off i true is apart = absurd (apart (grind (arith, nat_tests)))
-
-    when_counts : (e : Entry) (r : Rest) (b : Bool) → one_if_some (when b e) ≡ one_if_rest (when b r)
-    when_counts e r true = refl
-    when_counts e r false = refl
+    let parts = parts_begun f s v q rest d turn x k low in
+    omega (arith, entries, parts)
 
 -- ---- a message goes on
 
@@ -178,14 +223,14 @@ after_continued s j r turn capacity t = record s {
 }
 
 pub continued_kept : (f : Format) (s : Kept) (v : SenderView) (j turn capacity room : ℕ) (e : Entry) (x : Track) → Keeps f s v → j < v.streams → continued v.plan j ≡ Some e
-    → goes f room v ≡ Some (newcomer v (gone_on v e turn)) → v.streams + (length s.items + 1) ≤ capacity
+    → goes f room v ≡ Some (newcomer v (gone_on v e turn)) → in_part v + (length s.items + 1) ≤ capacity
     → Keeps f (after_continued s j (record { entry = e; message = entry_message v.plan e }) turn capacity (get_or s.tracks j x)) (gone (newcomer v (gone_on v e turn)))
 continued_kept f s v j turn capacity room e x k low on first space =
     let u = gone_on v e turn in
     let r : Rest = record { entry = e; message = entry_message v.plan e } in
     let parts = goes_parts f room v (newcomer v u) first in
     let before = length-append s.items (rest_item r ∷ []) in
-    let ends = in_part_streams u in
+    let ends = few_continued f s v j turn e x k low on in
     let h = holds_continued f s v j turn capacity e x k low on (omega (arith, before, ends, space)) in
     let count = kept_length f s v k in
     record {
@@ -216,6 +261,7 @@ continued_kept f s v j turn capacity room e x k low on first space =
               tracks = λ may. late_rest_set now t j s.tracks (record (get_or s.tracks j x) { rest = rest_after r.entry r.message }) (i.tracks may) (late_rest_after now t (get_or s.tracks j x) r.entry r.message (other may));
             };
       };
+      forward = still_forward f v.streams v.plan.entries (e ∷ []) u.plan.entries s.forward refl k.forward;
       reached = Goes v room (newcomer v u) k.reached parts.0 parts.1;
     }
 
@@ -224,23 +270,6 @@ pub outstanding_continued : (f : Format) (s : Kept) (v : SenderView) (j turn : �
     → outstanding (gone_on v e turn) + one_if_rest (get_or s.tracks j x).rest
     ≡ (length s.items + 1) + (total (λ t. one_if_rest t.rest) s.tracks + one_if_rest (rest_after e (entry_message v.plan e)))
 outstanding_continued f s v j turn e x k low on =
-    let u = gone_on v e turn in
-    let next = continued_is v.streams v.plan j e (is_named f v k.reached) on in
-    let stream : (entry_lane e).stream ≡ j = ap (λ (y : Entry). (entry_lane y).stream) next.is ∙ next.on in
     let entries = above f s v (e ∷ []) 1 k refl in
-    let self : (j == j) ≡ true = grind (arith, nat_tests) in
-    let parts = changed_part f s v u j x k low refl (λ i apart. sym (continued_more v.plan e i ∙ rw (stream, off i (j == i) refl apart) refl)) in
-    let own : one_if_some (continued u.plan j) ≡ one_if_rest (rest_after e (entry_message v.plan e)) = ap one_if_some (continued_more v.plan e j ∙ rw (stream, self) refl) ∙ next_counts e in
-    omega (arith, entries, parts, own)
-  where
-    off : (i : ℕ) (b : Bool) → (j == i) ≡ b → (i ≡ j → ⊥) → b ≡ false
-    off i false is apart = refl
-    off i true is apart = absurd (apart (grind (arith, nat_tests)))
-
-    next_counts : (y : Entry) → one_if_some (next_part v.plan y) ≡ one_if_rest (rest_after y (entry_message v.plan y))
-    next_counts (End l n) = refl
-    next_counts (Part l n m) = by_more (nat_lt (suc m) (length (fragments_in (entry_message v.plan (Part l n m)))))
-      where
-        by_more : (b : Bool) → one_if_some (when b (Part l n (suc m))) ≡ one_if_rest (when b (record { entry = Part l n (suc m); message = entry_message v.plan (Part l n m) }))
-        by_more true = refl
-        by_more false = refl
+    let parts = parts_continued f s v j turn e x k low on in
+    omega (arith, entries, parts)

@@ -30,7 +30,7 @@ use Rattle.sctp_send.specs.SenderFields.{queued_by, track_meaning}
 use Rattle.sctp_send.specs.inner.Walks.{total, one_if_rest}
 use Rattle.sctp_send.specs.inner.Newcomers.{gone_item, new_item, new_items, begun_items, number_in, begun_track, rest_at, has_rest, one_if, without_place, fresh_track, number_on, begun, IsBegun}
 use Rattle.sctp_send.specs.inner.Wishing.{item_flight}
-use Rattle.sctp_send.specs.inner.Stocking.{numbers_of, stocked, fragment_chunk, item_chunk, let_in, IsStopped, IsRefused, IsTried, PutAnswer, NothingStands}
+use Rattle.sctp_send.specs.inner.Stocking.{numbers_of, stocked, ends_of, fragment_chunk, item_chunk, let_in, IsStopped, IsRefused, IsTried, PutAnswer, NothingStands}
 use Rattle.sctp_values.specs.Meanings.{kind_meaning}
 use Rattle.std.proofs.lemmas.Option.{slice_get-get_or}
 use Rattle.sctp_send.specs.declared.kept.track.Track.{Track as TrackFields}
@@ -48,7 +48,7 @@ use Rattle.sctp_send.proofs.fill.AssignedKept.{begun_kept, outstanding_begun, le
 use Rattle.sctp_send.proofs.fill.ChunkLemmas.{chunk_begun, bytes_begun}
 use Rattle.sctp_send.proofs.fill.FewLemmas.{few_messages}
 use Rattle.sctp_send.proofs.fill.NewlyLemmas.{newly_begun}
-use Rattle.sctp_send.proofs.fill.NewMayLemmas.{flows, in_window, new_may, next_is, few_parts, rest_read, when_rest, window_test, and_off, map_read, tried_put, item_behind}
+use Rattle.sctp_send.proofs.fill.NewMayLemmas.{flows, in_window, new_may, next_is, few_parts, ends_are, rest_read, when_rest, window_test, and_off, map_read, tried_put, item_behind}
 
 -- ---- a message begins
 
@@ -221,10 +221,10 @@ module _ (f : Format) (s : Kept) (v : SenderView) (old : Stock) (m : MessageFiel
   pub begun_put : (p r : PacketDraft) (new : Stock) (more : Bool) (at capacity : ℕ) (none : Item) (put : Bool) → more ≡ nat_lt count (length (cut s.fragment m.bytes.items))
       → in_window s old count m.stream more ≡ true
       → let_in f (item_flight (map (item_meaning s.fragment) old.outstanding.items)) s (suc (s.cum + length old.outstanding.items)) p (Part (lane_meaning m) number 0) (Some (message_meaning s.fragment m)) ≡ true → at ≡ length old.outstanding.items
-      → stocked s new ≡ begun (stocked s old) (queued_meaning s.fragment m) place count turn capacity → s.streams + length new.outstanding.items ≤ capacity
+      → stocked s new ≡ begun (stocked s old) (queued_meaning s.fragment m) place count turn capacity → old.streams.size ≡ s.fragment → ends_of old.streams + 1 + length new.outstanding.items ≤ capacity
       → numbers_of new.tickets.items ≡ numbers_of old.tickets.items ++ m.ticket ∷ []
       → IsTried p r (item_chunk f s.initial (suc (s.cum + at)) (get_or (stocked s new).items at none)) put → PutAnswer f s v p r old new put
-  begun_put p r new more at capacity none put is window on here kept room tickets tried =
+  begun_put p r new more at capacity none put is window on here kept sized room tickets tried =
       let q = queued_meaning s.fragment m in
       let goes_now = begun_goes p more is window on in
       let many = ap (λ (y : Kept). length y.items) kept in
@@ -232,8 +232,8 @@ module _ (f : Format) (s : Kept) (v : SenderView) (old : Stock) (m : MessageFiel
       let all = ap (λ (n : ℕ). length (begun (stocked s old) q place n turn capacity).items) by.some in
       let more_items = length-append (stocked s old).items (begun_items q.lane (number_on (stocked s old).tracks q.lane) q.message (suc by.less)) in
       let new_ones = length-new_items q.lane (number_on (stocked s old).tracks q.lane) q.message 1 by.less in
-      let streams = k.holds.streams in
-      let h = begun_kept f (stocked s old) v q (without_place place v.queue) by.less turn capacity (room_in p) fresh_track k by.taken by.idle by.low goes_now (omega (arith, many, long, all, more_items, new_ones, streams, room)) in
+      let ends = ends_are f s v old k sized in
+      let h = begun_kept f (stocked s old) v q (without_place place v.queue) by.less turn capacity (room_in p) fresh_track k by.taken by.idle by.low goes_now (omega (arith, many, long, all, more_items, new_ones, ends, room)) in
       let queue = subst (λ (qs : List Queued). Keeps f (record (begun (stocked s old) q place (suc by.less) turn capacity) { queue = without_place place qs }) (gone (newcomer v led))) (sym k.holds.queue) h in
       let counted = subst (λ (n : ℕ). Keeps f (begun (stocked s old) q place n turn capacity) (gone (newcomer v led))) (sym by.some) queue in
       let in_packet = tried_put p r _ put (and_parts _ _ on).1 (begun_tried p r new at capacity none put here kept tried) in

@@ -26,7 +26,7 @@ use Rattle.sctp_send.specs.inner.Walks.{total, one_if_rest}
 use Rattle.sctp_send.specs.inner.Newcomers as kept
 use Rattle.sctp_send.specs.inner.Newcomers.{gone_item, rest_item, rest_after, rest_at, has_rest, one_if, fresh_track, IsContinued}
 use Rattle.sctp_send.specs.inner.Wishing.{item_flight}
-use Rattle.sctp_send.specs.inner.Stocking.{numbers_of, stocked, fragment_chunk, item_chunk, let_in, IsStopped, IsRefused, IsTried, PutAnswer, NothingStands}
+use Rattle.sctp_send.specs.inner.Stocking.{numbers_of, stocked, ends_of, fragment_chunk, item_chunk, let_in, IsStopped, IsRefused, IsTried, PutAnswer, NothingStands}
 use Rattle.sctp_send.specs.declared.stock.Stock.{Stock}
 use Rattle.sctp_send.specs.declared.kept.entry.Content.TheVariants.{Fragment}
 use Rattle.sctp_send.specs.declared.kept.track.Rest.{Rest as RestFields}
@@ -37,7 +37,7 @@ use Rattle.sctp_send.proofs.fill.AssignedKept.{continued_kept, outstanding_conti
 use Rattle.sctp_send.proofs.fill.ChunkLemmas.{chunk_continued, bytes_continued}
 use Rattle.sctp_send.proofs.fill.FewLemmas.{few_fragments}
 use Rattle.sctp_send.proofs.fill.NewlyLemmas.{newly_continued}
-use Rattle.sctp_send.proofs.fill.NewMayLemmas.{flows, in_window, new_may, next_is, few_parts, rest_read, when_rest, window_test, and_off, tried_put, item_behind}
+use Rattle.sctp_send.proofs.fill.NewMayLemmas.{flows, in_window, new_may, next_is, few_parts, ends_are, rest_read, when_rest, window_test, and_off, tried_put, item_behind}
 
 -- ---- a message goes on
 
@@ -168,15 +168,16 @@ module _ (f : Format) (s : Kept) (v : SenderView) (old : Stock) (t : Track) (r :
       → in_window s old 1 stream more ≡ true
       → let_in f (item_flight (map (item_meaning s.fragment) old.outstanding.items)) s (suc (s.cum + length old.outstanding.items)) p e (Some (message_meaning s.fragment r.message.value)) ≡ true → at ≡ length old.outstanding.items
       → stocked s new ≡ kept.gone_on (stocked s old) (rest_meaning s.fragment t r) stream (suc stream % s.streams) capacity
-      → s.streams + length new.outstanding.items ≤ capacity → new.tickets ≡ old.tickets
+      → old.streams.size ≡ s.fragment → ends_of old.streams + length new.outstanding.items ≤ capacity → new.tickets ≡ old.tickets
       → IsTried p q (item_chunk f s.initial (suc (s.cum + at)) (get_or (stocked s new).items at none)) put → PutAnswer f s v p q old new put
-  continued_put p q new more at capacity none put is window on here same room tickets tried =
+  continued_put p q new more at capacity none put is window on here same sized room tickets tried =
       let goes_now = continued_goes p more is window on in
       let many = ap (λ (y : Kept). length y.items) same in
       let long = length-map new.outstanding.items (item_meaning s.fragment) in
       let one = length-append (stocked s old).items (gone_item (rest_item (rest_meaning s.fragment t r)) ∷ []) in
       let streams = k.holds.streams in
-      let h = continued_kept f (stocked s old) v stream (stream_after v stream) capacity (room_in p) e fresh_track k c.low left.on goes_now (omega (arith, many, long, one, streams, room)) in
+      let ends = ends_are f s v old k sized in
+      let h = continued_kept f (stocked s old) v stream (stream_after v stream) capacity (room_in p) e fresh_track k c.low left.on goes_now (omega (arith, many, long, one, ends, room)) in
       let mine = subst (λ (x : Option Message). Keeps f (kept.gone_on (stocked s old) (record { entry = e; message = x }) stream (stream_after v stream) capacity) (gone (newcomer v led))) (sym left.message) h in
       let turned = subst (λ (n : ℕ). Keeps f (kept.gone_on (stocked s old) (rest_meaning s.fragment t r) stream (suc stream % n) capacity) (gone (newcomer v led))) (sym streams) mine in
       let in_packet = tried_put p q _ put (and_parts _ _ on).1 (continued_tried p q new at (suc stream % s.streams) capacity none put here same tried) in

@@ -8,7 +8,7 @@ use Rattle.sctp_model.specs.messages.Format.{Format, Lane, ordered_lane}
 use Rattle.sctp_model.specs.wire.Chunk.{ChunkMeaning}
 use Rattle.sctp_model.specs.messages.Plan.{Entry, End}
 use Rattle.sctp_model.specs.sender.SenderView.{SenderView}
-use Rattle.sctp_model.specs.sender.Entries.{bytes_in}
+use Rattle.sctp_model.specs.sender.Entries.{bytes_in, in_part}
 use Rattle.sctp_model.specs.sender.Words.{when}
 use Rattle.sctp_model.specs.sender.Queueing.{cut}
 use Rattle.sctp_model.specs.sender.Assigning.{assigned}
@@ -24,7 +24,7 @@ use Rattle.sctp_send.specs.SenderFields.{track_meaning}
 use Rattle.sctp_send.specs.inner.Walks.{total, one_if_rest}
 use Rattle.sctp_send.specs.inner.Wishing.{item_flight, lets_flow}
 use Rattle.sctp_send.specs.inner.Newcomers.{rest_at, has_rest, one_if}
-use Rattle.sctp_send.specs.inner.Stocking.{stocked, IsTried, IsFlying, NothingStands}
+use Rattle.sctp_send.specs.inner.Stocking.{stocked, ends_of, IsTried, IsFlying, NothingStands}
 use Rattle.sctp_send.specs.PartsKept.{OutstandingKept}
 use Rattle.sctp_send.proofs.KeepLemmas.{kept_length}
 use Rattle.std.proofs.lemmas.List.{length-map}
@@ -80,6 +80,13 @@ few_parts f s v k =
     let most = is_windowed f v k.reached in
     let low = (is_bounded f v k.reached).within in
     omega (arith, all, most, low)
+
+-- the end marks for which memory is taken are those of the messages in part
+pub ends_are : (f : Format) (s : Kept) (v : SenderView) (old : Stock) → Keeps f (stocked s old) v → old.streams.size ≡ s.fragment → ends_of old.streams ≡ in_part v
+ends_are f s v old k sized =
+    let all = kept_in_part f (stocked s old) v k in
+    let small = few_parts f (stocked s old) v k in
+    ap (λ (n : ℕ). total (λ t. one_if_rest t.rest) (map (track_meaning n) old.streams.items) % 2 ^ 32) sized ∙ omega (arith, all, small)
 
 -- a stream's rest that was read, and whether there is one
 pub rest_read : (ts : List Track) (j : ℕ) (x : Track) → j < length ts → one_if_rest (get_or ts j x).rest ≡ one_if (has_rest (rest_at ts j))

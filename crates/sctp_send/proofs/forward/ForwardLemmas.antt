@@ -18,7 +18,10 @@ use Rattle.sctp_model.specs.sender.Readers.{point}
 use Rattle.sctp_model.specs.sender.Forwarding.{largest_in, entries_to, skip_in, skip_of, skips_on, skips_below}
 use Rattle.sctp_model.specs.sender.SentChunks.{is_unordered, skip_said}
 use Rattle.sctp_model.proofs.sender.OwedLaws.{is_promised, is_windowed}
+use Rattle.sctp_model.specs.numbers.Numbers.{AreBytes}
+use Rattle.sctp_wire.specs.Layouts.{Fits}
 use Rattle.sctp_wire.specs.Skips.{skip_size, skips_in, IsSkip}
+use Rattle.sctp_wire.proofs.SkipLemmas.{length-skips_in, all-skips_in}
 use Rattle.sctp_packet.specs.Draft.{Draft, room_in, has_room}
 use Rattle.sctp_packet.proofs.DraftLemmas.{size_of_more}
 use Rattle.sctp_framing.specs.SkipForms.{skip_form}
@@ -61,6 +64,15 @@ none_counted f xs is = rw is (count f, none_in f)
 forward_length : (f : Format) (x : ForwardMeaning) → chunk_length (forward_chunk f x) ≡ 8 + skip_size (skip_form f) * length x.skips
 forward_length Plain x = refl
 forward_length Interleaved x = refl
+
+-- what fits: the entries within their bits, and not too many of them
+pub forward_fits : (f : Format) (cumulative : ℕ) (bytes : List ℕ) → cumulative < 2 ^ 32 → AreBytes bytes → length bytes ≤ 1500 → Fits (forward_chunk f (record { cumulative = cumulative; skips = skips_in (skip_form f) bytes }))
+forward_fits Plain cumulative bytes low are few =
+    let many = length-skips_in (skip_form Plain) bytes in
+    record { fields = record { cumulative = low; skips = all-skips_in (skip_form Plain) bytes are }; length = omega (arith, many, few); plain = tt }
+forward_fits Interleaved cumulative bytes low are few =
+    let many = length-skips_in (skip_form Interleaved) bytes in
+    record { fields = record { cumulative = low; skips = all-skips_in (skip_form Interleaved) bytes are }; length = omega (arith, many, few); plain = tt }
 
 all_joined : {A : Type 0} (P : A → Type 0) (xs ys : List A) → AllByRecursion P xs → AllByRecursion P ys → AllByRecursion P (xs ++ ys)
 all_joined P [] ys h k = k
@@ -122,7 +134,7 @@ entries_back : (v : SenderView) (i : ℕ) (es : List Entry) → entries_of (item
 entries_back v i [] = refl
 entries_back v i (e ∷ es) = ap (λ (xs : List Entry). e ∷ xs) (entries_back v (suc i) es)
 
-first_entries : (size run : ℕ) (es : List EntryFields) → entries_of (map (item_meaning size) (take run es)) ≡ take run (entries_of (map (item_meaning size) es))
+pub first_entries : (size run : ℕ) (es : List EntryFields) → entries_of (map (item_meaning size) (take run es)) ≡ take run (entries_of (map (item_meaning size) es))
 first_entries size zero es = refl
 first_entries size (suc run) [] = refl
 first_entries size (suc run) (e ∷ es) = ap (λ (xs : List Entry). (item_meaning size e).entry ∷ xs) (first_entries size run es)
@@ -142,9 +154,13 @@ is_passed f s v k =
     record { point = omega (arith, run, within, long, window); within = omega (arith, run, within, long, most) }
 
 -- the first entries that are kept are the first ones after CUM
+pub first_kept : (f : Format) (s : Kept) (v : SenderView) (size n : ℕ) (es : List EntryFields) → Keeps f s v → s.items ≡ map (item_meaning size) es
+    → entries_of (map (item_meaning size) (take n es)) ≡ take n (drop v.cum v.plan.entries)
+first_kept f s v size n es k is =
+    first_entries size n es ∙ ap (λ (xs : List Item). take n (entries_of xs)) (sym is ∙ k.holds.items) ∙ ap (take n) (entries_back v (suc v.cum) (drop v.cum v.plan.entries))
+
 pub first_to : (f : Format) (s : Kept) (v : SenderView) (size n : ℕ) (es : List EntryFields) → Keeps f s v → s.items ≡ map (item_meaning size) es
     → entries_of (map (item_meaning size) (take n es)) ≡ entries_to v (v.cum + n)
 first_to f s v size n es k is =
     let count : v.cum + n - v.cum ≡ n = omega arith in
-    first_entries size n es ∙ ap (λ (xs : List Item). take n (entries_of xs)) (sym is ∙ k.holds.items) ∙ ap (take n) (entries_back v (suc v.cum) (drop v.cum v.plan.entries))
-    ∙ rw count refl
+    first_kept f s v size n es k is ∙ rw count refl

@@ -1,4 +1,4 @@
--- Entries in a row that stand alike: what is told of others, what comes and goes beside them, and what they are told themselves.
+-- Stretches whose entries are alike: they stay so as other entries are added, removed or changed, and once they are set as a whole.
 use Rattle.std.proofs.Common.{◌≡◌, ℕ, zero, suc, ◌+◌, ◌-◌, ◌<◌, ◌≤◌, List, [], ◌∷◌, ◌++◌, length, Bool, true, false, Some, refl, sym, ap, ◌∙◌, subst, arith}
 use Rattle.std.specs.Prelude.{not, slice_get}
 use mathlib.Core.Bool.{beq}

@@ -1,4 +1,4 @@
--- What is counted of entries once those of a stretch are told covered, or not.
+-- The counts of all entries once a stretch is set acknowledged, or not, as a whole.
 use Rattle.std.proofs.Common.{◌≡◌, ℕ, zero, suc, ◌+◌, ◌-◌, ◌%◌, ◌^◌, ◌<◌, List, [], ◌∷◌, map, take, Bool, true, false, Option, Some, refl, sym, ap, ◌∙◌, arith}
 use Rattle.std.specs.Prelude.{not, ◌&&◌, if◌then◌else◌, option_map}
 use Rattle.sctp_send.specs.SenderKept.{Item}

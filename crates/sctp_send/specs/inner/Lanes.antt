@@ -7,6 +7,8 @@ use Rattle.sctp_model.specs.messages.Forward.{Skip}
 use Rattle.sctp_model.specs.sender.Entries.{entry_lane, entry_number}
 use Rattle.sctp_model.specs.sender.SentChunks.{skip_said}
 use Rattle.sctp_model.specs.wire.Chunk.{ChunkMeaning}
+use Rattle.sctp_wire.specs.Skips.{skips_in}
+use Rattle.sctp_framing.specs.SkipForms.{skip_form}
 use Rattle.sctp_send.specs.OutstandingFields.{lane_of}
 use Rattle.sctp_send.specs.declared.forward.lanes.Passed.{Passed}
 
@@ -52,6 +54,10 @@ noted l n (x ∷ xs) = if nat_lt (lane_key x.lane) (lane_key l) then x ∷ noted
 abbrev pub noted_entry : Format → (streams : ℕ) → Entry → List Skip → List Skip
 noted_entry f s e xs = if nat_lt (entry_lane e).stream s && is_numbered f (entry_lane e).kind then noted (entry_lane e) (entry_number e) xs else xs
 
--- the FORWARD to a TSN that names these lanes (RFC 3758, 3.2; RFC 8260, 2.3.1)
+-- the FORWARD to a TSN with this list of streams and numbers, as on the wire (RFC 3758, 3.2; RFC 8260, 2.3.1)
+abbrev pub forward_of_list : Format → (cumulative : ℕ) → List ℕ → ChunkMeaning
+forward_of_list f c bytes = forward_chunk f (record { cumulative = c; skips = skips_in (skip_form f) bytes })
+
+-- the same, of lanes
 abbrev pub forward_of_lanes : Format → (cumulative : ℕ) → List Passed → ChunkMeaning
 forward_of_lanes f c xs = forward_chunk f (record { cumulative = c; skips = map (skip_said f) (map passed_meaning xs) })

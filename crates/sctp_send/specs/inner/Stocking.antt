@@ -1,5 +1,5 @@
 -- What a sender's stock keeps, and what each wish makes of it and of the packet.
-use Rattle.std.specs.Prelude.{◌≡◌, ℕ, suc, nat_lt, ◌-◌, ◌<◌, ◌≤◌, Bool, true, false, List, [], ◌∷◌, ◌++◌, ◌+◌, ◌&&◌, map, length, slice_set, Option, None, Some, option_map}
+use Rattle.std.specs.Prelude.{◌≡◌, ℕ, suc, nat_lt, ◌-◌, ◌<◌, ◌≤◌, Bool, true, false, List, [], ◌∷◌, ◌++◌, ◌+◌, ◌&&◌, ◌%◌, ◌^◌, map, length, slice_set, Option, None, Some, option_map}
 use Rattle.sctp_model.specs.messages.Format.{Format, Kind}
 use Rattle.sctp_model.specs.messages.Plan.{Message, Entry, Part}
 use Rattle.sctp_model.specs.sender.Words.{when}
@@ -16,6 +16,8 @@ use Rattle.sctp_model.specs.sender.SentChunks.{chunk_of}
 use Rattle.sctp_packet.specs.Draft.{Draft as PacketDraft, room_in, with_chunks, has_room, after_try}
 use Rattle.sctp_send.specs.SenderKept.{Item, Rest, Track, Kept}
 use Rattle.sctp_send.specs.SenderStands.{Keeps}
+use Rattle.sctp_send.specs.PartsKept.{StreamsKept}
+use Rattle.sctp_send.specs.inner.Walks.{total, one_if_rest}
 use Rattle.sctp_send.specs.OutstandingFields.{was_sent, is_marked, item_meaning, lane_meaning, message_meaning, entry_meaning}
 use Rattle.sctp_send.specs.SenderFields.{queued_by, track_meaning}
 use Rattle.sctp_send.specs.inner.Newcomers.{counted_in, IsBegun, IsContinued, IsTurnBegun, IsTurnContinued}
@@ -68,6 +70,7 @@ bare h = record {
   passed = h.dues.passed;
   moments = h.dues.moments;
   asleep = h.dues.asleep;
+  forward = h.forward;
 }
 
 -- what a sender keeps, with a stock's parts instead of its own
@@ -80,6 +83,10 @@ stocked s d = record s {
   fates = all_numbered s.fates (numbers_of d.tickets.items);
   capacity = d.outstanding.capacity;
 }
+
+-- how many messages are in part, modulo 2^32: each may take an end mark
+abbrev pub ends_of : StreamsKept → ℕ
+ends_of w = total (λ t. one_if_rest t.rest) (map (track_meaning w.size) w.items) % 2 ^ 32
 
 -- ---- one wish
 

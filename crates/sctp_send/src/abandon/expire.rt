@@ -1,4 +1,11 @@
-//! Messages that are past their time (RFC 3758, 3.5 and 4.1: timed reliability).
+//! Messages whose lifetime is over (timed reliability: RFC 3758, 3.5 and 4.1).
+//!
+//! Before the earliest of all deadlines nothing is done and no message is late, which one test of the table says (`Dues`). After it, the tickets whose
+//! deadlines have passed are found by rising number; a page of 64 tickets with a later least deadline is skipped by one test. Such a ticket's
+//! message is found by its fate (`Sender::moment`) and abandoned if it is late and may be, and its deadline is set anew: the latest possible one, if all
+//! of it is acknowledged or it was abandoned, so that it costs nothing more. If a SACK may take back acknowledgements and deadlines were set so
+//! (`asleep`), each outstanding message gets its own deadline again (`wake`), once. Only `queue` allocates for the table; at each 64th ticket it tests
+//! whether nothing is kept of the messages of the first page, and passes it.
 
 ghost use Rattle.std.specs.Prelude.{◌≡◌, ℕ, ◌+◌, ◌<◌, ◌≤◌, false, length, option_map, IfSome, IfNone};
 ghost use Rattle.sctp_model.specs.sender.SenderView.{SenderView};
@@ -13,8 +20,8 @@ use sctp_values::Ticket;
 
 #[tactic(auto, unfolding(crate::specs::SenderStands::StandsFor))]
 impl<F: Framing> Sender<F> {
-    /// Abandons every message that is past its time, by rising ticket, as far as it may be abandoned. `now` is in milliseconds, as `until` is
-    /// in `queue`: a message whose `until` is at or before it is past its time. It takes no memory.
+    /// Abandons every message whose lifetime is over and that may be abandoned, in the order of tickets (RFC 3758, 4.1). `now` is in
+    /// milliseconds, as `until` of `queue` is: the lifetime is over if `until` is `now` or earlier. It doesn't allocate.
     pub fn expire(&mut self, now: u64)
         ensures { (v : SenderView) → StandsFor F.format self.old v → StandsFor F.format self.new (expired v now) }
     {
@@ -22,7 +29,7 @@ impl<F: Framing> Sender<F> {
         self.told.dues.look_again(now);
     }
 
-    /// The same, one ticket after the other.
+    /// Goes through the tickets with a deadline at or before `now`, and abandons the messages of those that are late.
     fn expire_all(&mut self, now: u64)
         ensures { (v : SenderView) → StandsFor F.format self.old v → StandsFor F.format self.new (expired v now) }
     {
@@ -38,7 +45,7 @@ impl<F: Framing> Sender<F> {
         }
     }
 
-    /// The message with this ticket is abandoned, if it is past its time and may be; its moment is told anew.
+    /// The message with this ticket is abandoned, if it is past its time and may be; its deadline is set anew.
     fn expire_one(&mut self, ticket: u64, now: u64)
         ensures { (v : SenderView) → StandsFor F.format self.old v → StandsFor F.format self.new (expire_one now v ticket) }
     {
@@ -55,7 +62,7 @@ impl<F: Framing> Sender<F> {
         }
     }
 
-    /// The moment of a ticket is told anew.
+    /// Sets the deadline of a ticket anew.
     fn look_at(&mut self, ticket: u64)
         ensures { (v : SenderView) → StandsFor F.format self.old v → StandsFor F.format self.new v }
     {
@@ -63,7 +70,7 @@ impl<F: Framing> Sender<F> {
         self.told.dues.tell(ticket, until);
     }
 
-    /// The first ticket above the last one whose moment has come.
+    /// The first ticket above `last` whose deadline has passed.
     fn next_due(&self, last: u64, now: u64) -> Option<u64>
         ensures above { IfSome result (λ ticket. last < ticket) }
         ensures given { IfSome result (λ ticket. ticket ≤ self.now.passed + length self.now.moments) }
@@ -73,8 +80,7 @@ impl<F: Framing> Sender<F> {
         self.told.dues.next(last, now)
     }
 
-    /// Whether some message that may be abandoned is past its time: where none is, `expire` changes nothing at that moment, which is in
-    /// milliseconds.
+    /// Whether the lifetime of some message that may be abandoned is over at `now`, in milliseconds. If not, `expire` changes nothing.
     pub fn has_late(&self, now: u64) -> bool
         ensures exact { (v : SenderView) → StandsFor F.format self.now v → result ≡ has_late v now }
         ensures idle { (v : SenderView) → StandsFor F.format self.now v → result ≡ false → expired v now ≡ v }
@@ -85,9 +91,9 @@ impl<F: Framing> Sender<F> {
         }
     }
 
-    /// The lowest ticket above `last` of a message that may be abandoned and is past its time at this moment, which is in milliseconds;
-    /// `Ticket(0)` lies below all. Asked again with each answer, it names all that `expire` abandons at that moment. It finds its place by
-    /// halves, and from there on passes groups of tickets whose moments haven't come.
+    /// The lowest ticket above `last` whose message may be abandoned and whose lifetime is over at `now`, in milliseconds; `Ticket(0)` is below
+    /// all tickets. Called again with each result, it gives all tickets that `expire` would abandon. A binary search finds its start; groups of
+    /// tickets with later deadlines are skipped.
     pub fn next_late(&self, last: Ticket, now: u64) -> Option<Ticket>
         ensures { (v : SenderView) → StandsFor F.format self.now v → option_map (λ t. t.0) result ≡ next_late v last.0 now }
     {
@@ -97,7 +103,7 @@ impl<F: Framing> Sender<F> {
         }
     }
 
-    /// The same, by its number.
+    /// `next_late`, by the numbers of the tickets.
     fn lowest_late(&self, last: u64, now: u64) -> Option<u64>
         ensures { (v : SenderView) → StandsFor F.format self.now v → NextLateAnswer v last now result }
     {

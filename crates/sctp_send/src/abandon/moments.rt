@@ -1,4 +1,4 @@
-//! From which moment on the message of a ticket may be abandoned, as it stands (RFC 3758, 3.5).
+//! The time at which the lifetime of a ticket's message ends, in milliseconds, for messages that may be abandoned (RFC 3758, 3.5).
 
 ghost use Rattle.std.specs.Prelude.{◌≡◌, ℕ, true, nat_le, ◌==◌, map, find, option_and_then};
 ghost use Rattle.sctp_model.specs.sender.SenderView.{SenderView};
@@ -20,7 +20,7 @@ use sctp_framing::Framing;
 
 #[tactic(auto, unfolding(crate::specs::SenderStands::StandsFor))]
 impl<F: Framing> Sender<F> {
-    /// The moment from which the message with this ticket is past its time, if it has one and may be abandoned.
+    /// The time at which the lifetime of the message with this ticket ends, if it has one and the message may be abandoned.
     pub(crate) fn moment(&self, ticket: u64) -> Option<u64>
         ensures { (v : SenderView) → StandsFor F.format self.now v → (now : ℕ) → is_to_expire v now ticket ≡ some_passes (λ until. nat_le until now) result }
     {
@@ -39,7 +39,7 @@ impl<F: Framing> Sender<F> {
         }
     }
 
-    /// The same of a message that has a number and was not abandoned.
+    /// The end of the lifetime of a message that has TSNs and was not abandoned.
     fn moment_numbered(&self, ticket: u64) -> Option<u64>
         ensures { (v : SenderView) → StandsFor F.format self.now v → is_numbered_fate (fate_here v ticket) ≡ true → (now : ℕ) → is_to_expire v now ticket ≡ some_passes (λ until. nat_le until now) result }
     {

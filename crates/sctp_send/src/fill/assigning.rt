@@ -115,7 +115,7 @@ fn next_between(stock: &Stock, from: u16, below: u16, streams: u16) -> Option<Ne
     }))
 }
 
-/// The same where no message waits on any of these streams.
+/// `next_between`, when no message waits on any of these streams: only a message in part can go on.
 #[inline(never)]
 fn part_between(stock: &Stock, from: u16, below: u16, streams: u16) -> Option<Next>
     requires { below ≤ streams }

@@ -9,7 +9,7 @@ ghost use Rattle.sctp_send.specs.SenderKept.{Track as KeptTrack};
 ghost use Rattle.sctp_send.specs.PartsKept.{changed_at};
 ghost use Rattle.sctp_send.specs.SenderFields.{latest_in, track_meaning, rest_meaning, rests_meaning};
 ghost use Rattle.sctp_send.specs.inner.Newcomers.{number_in, number_on, track_of, begun, gone_on};
-ghost use Rattle.sctp_send.specs.inner.Stocking.{bare, numbers_of, stocked, rest_from, left_track};
+ghost use Rattle.sctp_send.specs.inner.Stocking.{bare, numbers_of, stocked, ends_of, rest_from, left_track};
 ghost use Rattle.sctp_send.specs.inner.Undoing.{Parts, before_all, counted_to, IsSized, IsBehind};
 
 use crate::fill::assigning::{Beginning, stream_after};
@@ -48,7 +48,7 @@ impl Told {
         ensures kept { (m : Arc Message Global) → m ≡ slice_index_or stock.old.queue.items next.place m → suc (number_on (stocked (bare self.now) stock.old).tracks (lane_meaning m.value)) < 2 ^ 64
             → OnOk result (stocked (bare self.now) stock.new
             ≡ begun (stocked (bare self.now) stock.old) (queued_meaning self.now.fragment m.value) next.place next.count next.turn stock.new.outstanding.capacity) }
-        ensures room { OnOk result (self.now.streams + length stock.new.outstanding.items ≤ stock.new.outstanding.capacity) }
+        ensures room { OnOk result (ends_of stock.old.streams + 1 + length stock.new.outstanding.items ≤ stock.new.outstanding.capacity) }
         ensures told { (m : Arc Message Global) → m ≡ slice_index_or stock.old.queue.items next.place m → OnOk result (numbers_of stock.new.tickets.items ≡ numbers_of stock.old.tickets.items ++ m.value.ticket ∷ []) }
         ensures more { OnOk result (length stock.old.outstanding.items < length stock.new.outstanding.items) }
         ensures behind { IsBehind stock.old stock.new }
@@ -74,7 +74,8 @@ impl Told {
         push_further(&mut stock.outstanding, from, number, next.count)
     }
 
-    /// Room for what a message that begins with so many fragments comes to.
+    /// Room for what a message that begins with so many fragments comes to: its entries, and the end marks of the messages in part, of which it
+    /// may be one.
     ///
     /// # Errors
     /// `NoMemory`.
@@ -85,7 +86,7 @@ impl Told {
         ensures size { stock.new.outstanding.size ≡ stock.old.outstanding.size }
         ensures items { stock.new.outstanding.items ≡ stock.old.outstanding.items }
         ensures capacity { stock.old.outstanding.capacity ≤ stock.new.outstanding.capacity }
-        ensures entries { OnOk result (self.now.streams + (length stock.new.outstanding.items + count) ≤ stock.new.outstanding.capacity) }
+        ensures entries { OnOk result (ends_of stock.old.streams + 1 + (length stock.new.outstanding.items + count) ≤ stock.new.outstanding.capacity) }
         ensures tickets { stock.new.tickets.items ≡ stock.old.tickets.items }
         ensures told { OnOk result (vec_len stock.new.tickets < vec_capacity stock.new.tickets) }
         ensures log { stock.new.log.items ≡ stock.old.log.items }
@@ -93,7 +94,8 @@ impl Told {
     {
         reserve_changes(&mut stock.log)?;
         reserve_tickets(&mut stock.tickets)?;
-        stock.outstanding.reserve(count + usize::from(self.streams))
+        let ends = stock.streams.in_part() as usize + 1;
+        stock.outstanding.reserve(count + ends)
     }
 
     /// The message in part of a stream takes its next index.
@@ -108,7 +110,7 @@ impl Told {
             → OnOk result (stocked (bare self.now) stock.new
             ≡ gone_on (stocked (bare self.now) stock.old) (rest_meaning self.now.fragment (track_of (stocked (bare self.now) stock.old).tracks stream) rest.now) stream (suc stream % self.now.streams) stock.new.outstanding.capacity) }
         ensures more { OnOk result (length stock.old.outstanding.items < length stock.new.outstanding.items) }
-        ensures room { OnOk result (self.now.streams + length stock.new.outstanding.items ≤ stock.new.outstanding.capacity) }
+        ensures room { OnOk result (ends_of stock.old.streams + length stock.new.outstanding.items ≤ stock.new.outstanding.capacity) }
         ensures told { OnOk result (stock.new.tickets ≡ stock.old.tickets) }
         ensures behind { IsBehind stock.old stock.new }
     {
@@ -118,9 +120,8 @@ impl Told {
             rest.message.kind,
         );
         stock.log.reserve(1).map_err(|_| NoMemory)?;
-        stock
-            .outstanding
-            .reserve(usize::from(self.streams).saturating_add(1))?;
+        let ends = stock.streams.in_part() as usize;
+        stock.outstanding.reserve(ends + 1)?;
         push_fragment(
             &mut stock.outstanding,
             &rest.message,

@@ -105,7 +105,7 @@ impl ByTicket {
         self.push_among(ticket);
     }
 
-    /// The same, of a ticket above which another may lie. It stands apart, so that what comes at the end stays small.
+    /// Adds an entry of a ticket that may not be the highest. A function of its own, so that adding one at the end stays cheap.
     #[inline(never)]
     fn push_among(&mut self, ticket: u64)
         requires room { length self.old.spots.items < deque_capacity self.old.spots }

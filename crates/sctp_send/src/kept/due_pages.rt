@@ -35,7 +35,7 @@ pub(crate) fn lower_at(moments: &mut VecDeque<u64>, at: usize, moment: u64)
     }
 }
 
-/// The same of a page.
+/// Makes the least deadline of a page no later than this one.
 pub(crate) fn lower_page(leasts: &mut Vec<u64>, at: usize, moment: u64)
     ensures long { length leasts.new.items ≡ length leasts.old.items }
     ensures each { (k d : ℕ) → slice_index_or leasts.new.items k d ≤ slice_index_or leasts.old.items k d }
@@ -120,7 +120,7 @@ fn least_in(moments: &[u64], from: usize, end: usize) -> u64
     least
 }
 
-/// The same of moments that lie in two slices.
+/// The least of the deadlines from one index on, before another, in a deque.
 #[inline(never)]
 fn least_of(moments: &VecDeque<u64>, from: usize, end: usize) -> u64
     requires within { end ≤ length moments.now.items }

@@ -17,7 +17,7 @@ pub(crate) enum Standing {
     Marked,
 }
 
-/// The same standing without its mark.
+/// This standing without the mark for retransmission.
 pub(crate) fn unmarked(standing: Standing) -> Standing
     ensures { result ≡ unmarked standing }
 {

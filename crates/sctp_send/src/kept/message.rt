@@ -107,7 +107,7 @@ pub(crate) enum Fate {
     Abandoned,
 }
 
-/// The same message, owned once more.
+/// One more owner of a message.
 pub(crate) fn shared(message: &Arc<Message>) -> Result<Arc<Message>, NoMemory>
     ensures { IfOk result (λ copy. copy.value ≡ message.now.value) }
 {

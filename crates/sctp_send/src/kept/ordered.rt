@@ -92,7 +92,7 @@ impl Ordered {
         self.rank_among(sought)
     }
 
-    /// The same by halves. It stands apart, so that one at an end is found at little cost.
+    /// The rank of a seat by a binary search. A function of its own, so that one at either end is found cheaply.
     #[inline(never)]
     fn rank_among(&self, sought: u128) -> usize
         ensures rank { result ≡ before key sought self.now.items }

@@ -65,7 +65,8 @@ pub(crate) fn first_from(messages: &VecDeque<Arc<Message>>, rises: bool, ticket:
     first_by_halves(messages, ticket)
 }
 
-/// The same, where tickets rise and the first one is lower. It stands apart, since the first one is asked for most often.
+/// How many of the first messages have lower tickets, by a binary search, when tickets rise and the first one is lower. A function of its own,
+/// since the first one is asked for most often.
 #[inline(never)]
 fn first_by_halves(messages: &VecDeque<Arc<Message>>, ticket: u64) -> usize
     requires rise { DoTicketsRise 0 messages.now.items }
@@ -147,7 +148,7 @@ pub(crate) fn remove_at(messages: &mut VecDeque<Arc<Message>>, place: usize) -> 
     messages.pop_front()
 }
 
-/// The same, where others may move. It stands apart, so that the first one goes at little cost.
+/// Removes the message at a place other than the front. A function of its own, so that the first one is removed cheaply.
 #[inline(never)]
 fn remove_among(messages: &mut VecDeque<Arc<Message>>, place: usize) -> Option<Arc<Message>>
     ensures value { IfSome result (λ message. message ≡ slice_index_or messages.old.items place message) }

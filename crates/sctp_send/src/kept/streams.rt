@@ -125,7 +125,7 @@ impl Streams {
         self.next_listed(from, below)
     }
 
-    /// The same, where some message is in part. It stands apart, so that it costs little where none is.
+    /// `next_part`, when some message is in part. A function of its own, so that it costs little if none is.
     #[inline(never)]
     fn next_listed(&self, from: u16, below: u16) -> u16
         ensures { (size : ℕ) → IsNextPart from below (map (track_meaning size) self.now.items) result }

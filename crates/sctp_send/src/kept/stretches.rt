@@ -97,6 +97,7 @@ pub(crate) fn keep_stretches(stretches: &mut Vec<Stretch>, entries: usize)
 }
 
 /// Looks at the entries of the stretch that begins at an offset. It is known if all of them are quiet, and all or none acknowledged.
+#[inline(never)]
 pub(crate) fn look_at_stretch(entries: &VecDeque<Entry>, size: u16, at: usize) -> Stretch
     requires some { 0 < size }
     requires within { at + 64 ≤ length entries.now.items }

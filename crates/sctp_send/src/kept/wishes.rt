@@ -1,6 +1,6 @@
 //! Wishes: what is to go out next, among what has an index; and whether it may flow (RFC 9260, 6.1 and 6.3.3).
 
-ghost use Rattle.std.specs.Prelude.{◌≡◌, ℕ, ◌<◌, ◌||◌};
+ghost use Rattle.std.specs.Prelude.{◌≡◌, ℕ, ◌<◌};
 ghost use Rattle.sctp_send.specs.OutstandingFields.{item_meaning};
 ghost use Rattle.sctp_send.specs.inner.Wishing.{is_item_marked, is_item_unsent, item_weight, lets_flow};
 ghost use Rattle.sctp_send.specs.inner.Walks.{is_item_unsettled};
@@ -39,13 +39,6 @@ pub(crate) fn is_unsettled(entry: &Entry) -> bool
     ensures { (size : ℕ) → result ≡ is_item_unsettled (item_meaning size entry.now) }
 {
     entry.standing != Standing::Unsent && !entry.covered && !entry.abandoned
-}
-
-/// An entry that is covered, or whose message was abandoned: nothing of it is to be done.
-pub(crate) fn is_done(entry: &Entry) -> bool
-    ensures { result ≡ (entry.now.covered || entry.now.abandoned) }
-{
-    entry.covered || entry.abandoned
 }
 
 /// A first sending of so many bytes needs that nothing is in flight, or that the peer's window has room (RFC 9260, 6.1, rule A).

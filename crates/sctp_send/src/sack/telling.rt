@@ -62,7 +62,8 @@ impl Outstanding {
         }
     }
 
-    /// Sets the next entries of a run that begins at `from`: those of a known stretch, otherwise one. It returns the offset after them.
+    /// Sets the next entries of a run that begins at `from`: those of a known stretch as a whole, otherwise each one up to the next stretch.
+    /// It returns the offset after them.
     fn tell_on(&mut self, covered: bool, from: usize, at: usize, to: usize) -> usize
         requires order { at < to }
         requires within { to ≤ length self.old.items }
@@ -73,9 +74,21 @@ impl Outstanding {
         if self.tell_known(covered, at, to) {
             return at + STRETCH;
         }
-        self.tell(at, covered);
-        self.learn(from, at + 1);
-        at + 1
+        let end = self.stretch_end(at, to);
+        self.tell_each(covered, at, end);
+        self.learn(from, end);
+        end
+    }
+
+    /// The offset after the stretch of the entry at an offset; or `to`, if that is less.
+    fn stretch_end(&self, at: usize, to: usize) -> usize
+        requires order { at < to }
+        requires within { to ≤ length self.now.items }
+        ensures further { at < result }
+        ensures upto { result ≤ to }
+    {
+        let more = STRETCH - self.by_ticket.index(at) as usize % STRETCH;
+        at + more.min(to - at)
     }
 
     /// Sets the stretch that begins at an offset, if one begins there, ends in the run and is known; returns whether it did.

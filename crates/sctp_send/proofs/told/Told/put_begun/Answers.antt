@@ -122,7 +122,7 @@ returns-clause-put g c = λ v k stands next flying.
     let few = begun_few f s v d m c.args.next.place c.args.next.count c.args.next.turn number k stands next mine refl in
     let new = c.begin.new.stock in
     of_ok _ _ c.put_at.result
-    (λ put tried. begun_put f s v d m c.args.next.place c.args.next.count c.args.next.turn number k stands next mine refl p c.put_at.new.packet new left c.len-at.result new.outstanding.capacity no_item put more window on c.len-at.ensures (c.in_ok-begin.ensures.kept x c.get-message.ensures few) c.in_ok-begin.ensures.room (c.in_ok-begin.ensures.told x c.get-message.ensures) tried)
+    (λ put tried. begun_put f s v d m c.args.next.place c.args.next.count c.args.next.turn number k stands next mine refl p c.put_at.new.packet new left c.len-at.result new.outstanding.capacity no_item put more window on c.len-at.ensures (c.in_ok-begin.ensures.kept x c.get-message.ensures few) c.requires.sized.tracks c.in_ok-begin.ensures.room (c.in_ok-begin.ensures.told x c.get-message.ensures) tried)
     (c.put_at.ensures.tried no_item)
 
 pub returns-clause-refused : goal.returns-clause-refused

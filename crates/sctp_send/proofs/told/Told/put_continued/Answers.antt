@@ -108,7 +108,7 @@ returns-clause-put g c = λ v k stands next flying.
     let kept = c.in_ok-go_on.ensures.kept small
     ∙ ap (λ (x : Rest). gone_on (stocked s d) x c.args.stream (suc c.args.stream % s.streams) new.outstanding.capacity) (c.in_ok-rest.ensures.same s.fragment t) in
     of_ok _ _ c.put_at.result
-    (λ put tried. continued_put f s v d t r c.args.stream k stands next its p c.put_at.new.packet new left c.len-at.result new.outstanding.capacity no_item put more window on c.len-at.ensures kept c.in_ok-go_on.ensures.room c.in_ok-go_on.ensures.told tried)
+    (λ put tried. continued_put f s v d t r c.args.stream k stands next its p c.put_at.new.packet new left c.len-at.result new.outstanding.capacity no_item put more window on c.len-at.ensures kept c.requires.sized.tracks c.in_ok-go_on.ensures.room c.in_ok-go_on.ensures.told tried)
     (c.put_at.ensures.tried no_item)
 
 pub returns-clause-refused : goal.returns-clause-refused
