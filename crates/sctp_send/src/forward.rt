@@ -24,7 +24,7 @@ ghost use Rattle.sctp_send.specs.SenderStands.{StandsFor, Keeps};
 ghost use Rattle.sctp_send.specs.inner.Lanes.{passed_meaning, forward_of_lanes, forward_of_list};
 
 use crate::forward::keeping::kept_for;
-use crate::forward::lanes::{Lanes, Passed, list_of, note_first};
+use crate::forward::lanes::{Lanes, PACKET_ALONE, Passed, list_of, note_first};
 use crate::kept::outstanding::Outstanding;
 use crate::readers::abandoned_run;
 use crate::sender::Sender;
@@ -38,9 +38,6 @@ use std::alloc::Global;
 
 /// What a FORWARD takes beside its entries: the chunk's header and the cumulative TSN.
 const CHUNK_ALONE: usize = 8;
-
-/// What a packet with a FORWARD takes beside the entries: the common header too.
-pub(crate) const PACKET_ALONE: u16 = 20;
 
 #[tactic(auto, unfolding(crate::specs::SenderStands::StandsFor))]
 impl<F: Framing> Sender<F> {

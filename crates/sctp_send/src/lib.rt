@@ -42,6 +42,11 @@
 //! `on_timeout` all that is outstanding; `expire` and `next_late` the tickets whose deadlines have passed; readers are constant, `abandon` and
 //! `acknowledged` a binary search and the message's own entries. What is kept for that is in `kept`, and each part's counts are its invariant.
 //!
+//! The files of `src` form a path on which each imports only what is before it: `due_pages`, `last_forward`, `message`, `ordered`; `blocks`, `by_ticket`,
+//! `due_table`, `entry`, `seats`, `track`; `dues`, `fates`, `part_lists`, `pieces`; `looking`, `queue`, `told`, `wishes`; `counts`, `streams`; `stretches`;
+//! `outstanding`; `by_message`, `entries`, `lanes`, `pushing`, `run_room`, `searching`, `stock`, `telling`; `assigning`, `covered`, `indexed`, `sender`,
+//! `waking`; `entering`, `fill`, `laws`, `queueing`, `readers`, `sack`; `abandon`, `keeping`, `moments`; `expire`, `forward`, `putting`.
+//!
 //! What a body may still get away with: nothing that a caller can see but costs, how much memory is kept, and the texts of `Debug` and of faults. Only
 //! tested: `crates/sctp_call_rows` compares each answer and each packet's bytes at the limits (docs/CALLS.md).
 #![tactic(auto)]

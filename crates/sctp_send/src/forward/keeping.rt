@@ -10,8 +10,7 @@ ghost use Rattle.sctp_send.specs.OutstandingFields.{item_meaning, entries_of};
 ghost use Rattle.sctp_send.specs.ForwardKept.{IsBuilt};
 ghost use Rattle.sctp_send.specs.SenderStands.{StandsFor};
 
-use crate::forward::PACKET_ALONE;
-use crate::forward::lanes::{list_of, note_first};
+use crate::forward::lanes::{PACKET_ALONE, list_of, note_first};
 use crate::kept::last_forward::LastForward;
 use crate::kept::outstanding::Outstanding;
 use crate::readers::abandoned_run;

@@ -18,6 +18,9 @@ use sctp_values::{Kind, NoMemory};
 use sctp_wire::{Skip, put_skip};
 use std::alloc::Global;
 
+/// What a packet with a FORWARD takes beside its list: the common header, the chunk's header and the cumulative TSN.
+pub(crate) const PACKET_ALONE: u16 = 20;
+
 /// A lane, and its largest number so far.
 #[derive(Clone, Copy)]
 pub(crate) struct Passed {
