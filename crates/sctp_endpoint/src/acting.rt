@@ -61,12 +61,12 @@ fn note(machine: &mut Machine, notes: &mut Notes, told: &mut Verdict, after: Aft
 {
     match after {
         After::GoesOn => {
-            machine.rest();
+            machine.advance_closing();
             notes.listed = true;
             false
         }
         After::Acknowledges { is_data, at_once } => {
-            machine.rest();
+            machine.advance_closing();
             notes.acknowledge(is_data, at_once);
             false
         }
@@ -105,7 +105,7 @@ fn go_on_piece(
         return go_on_unheard(machine, interleaved, notes, told, piece);
     }
     let answer = machine.hear_piece(piece)?;
-    machine.rest();
+    machine.advance_closing();
     notes.acknowledge(true, asks_at_once(piece.immediate, answer));
     Ok(false)
 }
@@ -162,7 +162,7 @@ fn go_on_sack(
 {
     if let Chunk::Sack(sack) = chunk {
         if counts(machine, sack) {
-            machine.rest();
+            machine.advance_closing();
             notes.listed = true;
             return Ok(false);
         }

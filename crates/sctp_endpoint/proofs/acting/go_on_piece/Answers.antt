@@ -19,7 +19,7 @@ returns c = λ tag v stands.
     let a = answer_of c.in_ok-answer.answer in
     let w : EndView = with_causes (piece_causes v p a) (record v { receiver = took.0 }) in (
       rested w,
-      c.rest.ensures w took.2,
+      c.advance_closing.ensures w took.2,
       rw (c.acknowledge.ensures, c.asks_at_once.ensures p refl)
           (piece_goes_on c.args.interleaved tag v w (notes_meaning c.args.notes.now) (ToAcknowledge true (asks_at_once p a)) p
           (PieceComes h.tags h.stage a took.0 h.phase h.takes h.some h.same took.1)),
