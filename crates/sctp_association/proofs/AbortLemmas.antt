@@ -1,4 +1,4 @@
--- The ABORT of the user, and whether it fits a packet.
+-- `abort`: the ABORT with the user's reason is the specification's packet, and it is refused as too long exactly if it doesn't fit the packet limit.
 use Rattle.std.proofs.Common.{◌≡◌, ◌∙◌, ℕ, ◌+◌, ◌<◌, ◌≤◌, nat_le, Bool, true, false, List, [], ◌∷◌, length, refl, ap, sym, arith}
 use Rattle.std.specs.Prelude.{Some, None, if◌then◌else◌}
 use Rattle.std.proofs.lemmas.Bool.Decides.{nat_tests}

@@ -1,4 +1,4 @@
--- What the user's calls answer and leave.
+-- `connect`, `send`, `abandon` and `shutdown`: each answer is the specification's for the phase, and each step leaves its view.
 use Rattle.std.proofs.Common.{◌≡◌, ◌∙◌, ℕ, ◌+◌, nat_lt, nat_le, Bool, true, false, List, [], ◌∷◌, length, refl, ap, sym, arith}
 use Rattle.std.proofs.lemmas.Bool.{false≢true}
 use Rattle.std.proofs.lemmas.Bool.Decides.{nat_tests}
@@ -126,6 +126,7 @@ called_stands m v draw d s k idle due timers = record {
   delayed = k.delayed;
   phase = refl;
   life = idle_unjoined m.life v.configuration v.terms v.sender v.receiver idle k.life;
+  room = k.room;
 }
 
 abbrev pub stop_at : Alarm → (Alarm → Timer) → Alarm → Timer

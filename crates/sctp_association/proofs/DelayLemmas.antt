@@ -1,4 +1,4 @@
--- A packet that had something to acknowledge: whether a SACK waits, and what it leaves.
+-- `acknowledge`: whether the SACK of a packet is due at once or delayed, and that this is the specification's step.
 use Rattle.std.proofs.Common.{◌≡◌, ◌∙◌, ℕ, Bool, true, false, refl, sym, ap}
 use Rattle.std.proofs.lemmas.Bool.{false≢true}
 use Rattle.std.specs.Prelude.{Option, if◌then◌else◌, ◌&&◌}

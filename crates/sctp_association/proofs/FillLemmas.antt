@@ -1,4 +1,4 @@
--- What `fill` answers is what the function computes.
+-- `Sender::fill` fills in exactly what the specification's function `fill` computes: chunks, view and tickets.
 use Rattle.std.proofs.Common.{◌≡◌, ◌∙◌, List, map, Result, Ok, Err, IfOk, OnOk, ap, subst}
 use Rattle.sctp_model.specs.messages.Format.{Format}
 use Rattle.sctp_model.specs.sender.SenderView.{SenderView}

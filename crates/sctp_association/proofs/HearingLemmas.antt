@@ -1,4 +1,4 @@
--- What comes from the peer, at an association that is open: what its traffic takes, and what is left of the end.
+-- `hear_piece`, `hear_forward`, `hear_sack`, `hear_shutdown`: what sender and receiver do with a chunk is the step of the open association's view.
 use Rattle.std.proofs.Common.{◌≡◌, ◌∙◌, ℕ, nat_le, nat_lt, Bool, true, false, List, length, refl, ap, subst}
 use Rattle.std.specs.Prelude.{Option, Some, None, is_some, if◌then◌else◌, ◌&&◌, Result, Ok, Err, IfOk, OnErr}
 use Rattle.sctp_model.specs.wire.Chunk.{PieceMeaning, ForwardMeaning, SackMeaning}

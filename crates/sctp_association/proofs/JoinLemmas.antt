@@ -1,4 +1,4 @@
--- An end that joins an association: what stands for its view once it has its terms and its traffic.
+-- `begin`, `echo`, `paired`: an endpoint with the terms, sender and receiver of an association stands for the view that the specification begins with.
 use Rattle.std.proofs.Common.{◌≡◌, ◌∙◌, ℕ, List, refl, ap, subst}
 use Rattle.sctp_model.specs.sender.SenderView.{fresh_sender}
 use Rattle.sctp_model.specs.receiver.ReceiverView.{fresh_receiver}
@@ -38,6 +38,7 @@ joined_there m v a d s x rwnd h y k terms phase due timers begins =
       delayed = k.delayed;
       phase = phase;
       life = record { terms = refl; traffic = subst (λ (c : Configuration). Begins a c rwnd) k.configuration begins; buffer = refl };
+      room = k.room;
     })
 
 echoed_at : (t : model.Tags) (xs : List ℕ) (f : Alarm → model.Timer) (a : Alarm)

@@ -14,4 +14,5 @@ pub mod PutLemmas
 pub mod BuildLemmas
 pub mod PlainLemmas
 pub mod AbortLemmas
+pub mod KeptLemmas
 mod SoundLemmas

@@ -1,6 +1,6 @@
--- An end that stands for a view, with a part of both changed.
-use Rattle.std.proofs.Common.{◌≡◌, ◌∙◌, ℕ, Bool, false, refl, sym, ap, subst}
-use Rattle.std.specs.Prelude.{max, zero, suc, Option, None}
+-- An endpoint and a view that it stands for, with the same part of both changed, stand for each other again: clock, due chunks, timers, buffer, traffic, phase.
+use Rattle.std.proofs.Common.{◌≡◌, ◌≤◌, ◌∙◌, ℕ, Bool, false, refl, sym, ap, subst}
+use Rattle.std.specs.Prelude.{max, zero, suc, Option, None, vec_capacity}
 use Rattle.std.specs.declared.vec.Vec.{Vec}
 use Rattle.std.specs.declared.alloc.Global.{Global}
 use Rattle.sctp_model.specs.sender.SenderView.{SenderView, fresh_sender}
@@ -37,24 +37,24 @@ at_view m v w same keeps = subst (λ x. KeepsMachine m x) (sym same) keeps
 -- ---- the clock, what is due, the timers
 
 pub with_clock : (m : Machine) (v : EndView) (n now : ℕ) → KeepsMachine m v → n ≡ max m.moment now → KeepsMachine (record m { moment = n }) (at_moment v now)
-with_clock m v n now k is = record { configuration = k.configuration; role = k.role; clock = is ∙ ap (λ (x : ℕ). max x now) k.clock; due = k.due; timers = k.timers; delayed = k.delayed; phase = k.phase; life = k.life }
+with_clock m v n now k is = record { configuration = k.configuration; role = k.role; clock = is ∙ ap (λ (x : ℕ). max x now) k.clock; due = k.due; timers = k.timers; delayed = k.delayed; phase = k.phase; life = k.life; room = k.room }
 
 pub with_due : (m : Machine) (v : EndView) (d : Due) (x : model.Due) → KeepsMachine m v → DueStands d x → KeepsMachine (record m { due = d }) (record v { due = x })
-with_due m v d x k due = record { configuration = k.configuration; role = k.role; clock = k.clock; due = due; timers = k.timers; delayed = k.delayed; phase = k.phase; life = k.life }
+with_due m v d x k due = record { configuration = k.configuration; role = k.role; clock = k.clock; due = due; timers = k.timers; delayed = k.delayed; phase = k.phase; life = k.life; room = k.room }
 
 pub with_timers : (m : Machine) (v : EndView) (s : Timers) (f : Alarm → model.Timer) → KeepsMachine m v → timers_meaning s ≡ f → KeepsMachine (record m { timers = s }) (record v { timers = f })
-with_timers m v s f k timers = record { configuration = k.configuration; role = k.role; clock = k.clock; due = k.due; timers = timers; delayed = k.delayed; phase = k.phase; life = k.life }
+with_timers m v s f k timers = record { configuration = k.configuration; role = k.role; clock = k.clock; due = k.due; timers = timers; delayed = k.delayed; phase = k.phase; life = k.life; room = k.room }
 
 pub with_both : (m : Machine) (v : EndView) (d : Due) (x : model.Due) (s : Timers) (f : Alarm → model.Timer) → KeepsMachine m v → DueStands d x → timers_meaning s ≡ f
     → KeepsMachine (record m { due = d; timers = s }) (record v { due = x; timers = f })
-with_both m v d x s f k due timers = record { configuration = k.configuration; role = k.role; clock = k.clock; due = due; timers = timers; delayed = k.delayed; phase = k.phase; life = k.life }
+with_both m v d x s f k due timers = record { configuration = k.configuration; role = k.role; clock = k.clock; due = due; timers = timers; delayed = k.delayed; phase = k.phase; life = k.life; room = k.room }
 
 pub with_delayed : (m : Machine) (v : EndView) (n o : Option ℕ) → KeepsMachine m v → n ≡ o → KeepsMachine (record m { delayed = n }) (record v { delayed = o })
-with_delayed m v n o k is = record { configuration = k.configuration; role = k.role; clock = k.clock; due = k.due; timers = k.timers; delayed = is; phase = k.phase; life = k.life }
+with_delayed m v n o k is = record { configuration = k.configuration; role = k.role; clock = k.clock; due = k.due; timers = k.timers; delayed = is; phase = k.phase; life = k.life; room = k.room }
 
--- the room for the next packet is no part of any view
-pub with_room : (m : Machine) (v : EndView) (room : Vec ℕ Global) → KeepsMachine m v → KeepsMachine (record m { room = room }) v
-with_room m v room k = record { configuration = k.configuration; role = k.role; clock = k.clock; due = k.due; timers = k.timers; delayed = k.delayed; phase = k.phase; life = k.life }
+-- the buffer for the next packet is no part of any view
+pub with_room : (m : Machine) (v : EndView) (room : Vec ℕ Global) → KeepsMachine m v → vec_capacity room ≤ v.configuration.limit → KeepsMachine (record m { room = room }) v
+with_room m v room k within = record { configuration = k.configuration; role = k.role; clock = k.clock; due = k.due; timers = k.timers; delayed = k.delayed; phase = k.phase; life = k.life; room = within }
 
 -- ---- terms, sender and receiver
 
@@ -84,6 +84,7 @@ with_traffic m a s v x y is k stands same = record {
   delayed = k.delayed;
   phase = phase_joined m a v is k;
   life = record { terms = (joined m a v is k).terms; traffic = stands; buffer = same ∙ (joined m a v is k).buffer };
+  room = k.room;
 }
 
 pub with_expired : (m : Machine) (a : Association) (s : Traffic) (v : EndView) (now : ℕ) → m.life ≡ life.Joined a → KeepsMachine m v → now ≡ v.moment
@@ -124,6 +125,7 @@ turned_open m a v t g stage d s is k phase due timers =
       delayed = k.delayed;
       phase = ap (λ (x : model.Tags). model.Open x (stage_meaning stage)) same;
       life = record { terms = (joined m a v is k).terms; traffic = (joined m a v is k).traffic; buffer = (joined m a v is k).buffer };
+      room = k.room;
     }
 
 -- no timer is at home where all is over
@@ -162,6 +164,7 @@ closed_joined m a v why d s is k due timers = record {
   delayed = refl;
   phase = refl;
   life = record { terms = (joined m a v is k).terms; traffic = (joined m a v is k).traffic; buffer = (joined m a v is k).buffer };
+  room = k.room;
 }
 
 pub closed_unjoined : (m : Machine) (x : Unjoined) (v : EndView) (why : End) (d : Due) (s : Timers) → m.life ≡ life.Unjoined x → KeepsMachine m v → DueStands d nothing_due
@@ -175,4 +178,5 @@ closed_unjoined m x v why d s is k due timers = record {
   delayed = refl;
   phase = refl;
   life = unjoined m x v is k;
+  room = k.room;
 }

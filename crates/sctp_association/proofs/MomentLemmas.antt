@@ -1,4 +1,4 @@
--- Timers that expire, and messages that are given up.
+-- `on_moment`: a timer that expires, repeats or gives up, and messages that are abandoned, are the specification's steps of time.
 use Rattle.std.proofs.Common.{◌≡◌, ◌∙◌, ℕ, nat_lt, Bool, true, false, ap, sym, subst}
 use Rattle.std.specs.Prelude.{if◌then◌else◌, ◌&&◌, ◌||◌}
 use Rattle.sctp_model.specs.end.EndView.{TimedOut, Alarm, DataAlarm, Timer, EndView}

@@ -1,4 +1,4 @@
--- An end that opens an association: what it reads in its own phase and role, and what a COOKIE ACK and a COOKIE ECHO leave of it.
+-- Opening: what an endpoint knows by its phase and role, that a cookie it echoes fits a chunk, and what COOKIE ACK and COOKIE ECHO leave of it.
 use Rattle.std.proofs.Common.{◌≡◌, ◌∙◌, ℕ, ◌+◌, ◌≤◌, ◌<◌, ◌^◌, Bool, true, false, List, length, refl, ap, sym, subst, arith}
 use Rattle.std.proofs.lemmas.Bool.{false≢true, leb-true}
 use Rattle.std.specs.Prelude.{if◌then◌else◌, Some, None, Result, Ok, Err, MatchResult, IfOk}
@@ -57,6 +57,7 @@ established_there m a v t xs d s is k phase due timers =
       delayed = k.delayed;
       phase = ap (λ (x : model.Tags). model.Open x model.Established) same;
       life = record { terms = (joined m a v is k).terms; traffic = (joined m a v is k).traffic; buffer = (joined m a v is k).buffer };
+      room = k.room;
     }
 
 -- ---- the seal of an end that listens

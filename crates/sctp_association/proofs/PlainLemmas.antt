@@ -1,4 +1,4 @@
--- A plain packet: no place but that of the SACK is due.
+-- The fast path: if no slot but the SACK's is due, a packet of SACK and user data is the specification's next packet.
 use Rattle.std.proofs.Common.{◌≡◌, ◌∙◌, ℕ, Bool, true, false, ◌&&◌, [], ◌∷◌, Result, Ok, Err, IfOk, refl, ap, sym, subst}
 use Rattle.sctp_model.specs.sender.SenderView.{SenderView}
 use Rattle.sctp_model.specs.end.EndView as model
@@ -6,6 +6,9 @@ use Rattle.sctp_model.specs.end.EndView.{EndView, Alarm, InitAlarm, CookieAlarm,
 use Rattle.sctp_model.specs.end.Clock.{is_point_past}
 use Rattle.sctp_model.specs.end.Building.{CookieAckSlot, HeartbeatSlot, ErrorSlot, SackSlot, ForwardSlot, ShutdownSlot, ShutdownAckSlot, open_slots}
 use Rattle.sctp_packet.specs.Draft.{Draft}
+use Rattle.std.specs.declared.vec.Vec.{Vec}
+use Rattle.std.specs.declared.alloc.Global.{Global}
+use Rattle.sctp_values.specs.declared.ticket.Ticket.{Ticket}
 use Rattle.sctp_values.specs.declared.no_memory.NoMemory.{NoMemory}
 use Rattle.sctp_association.specs.StartsMean.{starts_at, with_fragments}
 use Rattle.sctp_association.specs.DueStands.{DueStands}
@@ -64,14 +67,12 @@ module _ (e : EndView) (d : Due) (plain : IsPlain d e.due) where
       (cut (SackSlot ∷ []) (ForwardSlot ∷ ShutdownSlot ∷ ShutdownAckSlot ∷ []) e p q false refl puts)
 
 -- fragments behind the SACK
-pub plain_fills : (r : Result Plain NoMemory) (e : EndView) (t : model.Tags) (g : model.Stage) (d : Due) (old mid new : Draft) (s : Bool) (traffic : Traffic) → e.phase ≡ model.Open t g
+pub plain_fills : (e : EndView) (t : model.Tags) (g : model.Stage) (d : Due) (old mid new : Draft) (s some : Bool) (traffic : Traffic) (tickets : Vec Ticket Global) → e.phase ≡ model.Open t g
     → IsEmpty e (plain_at d old s false) → PutsAt open_slots e (plain_at d old s false) (plain_at d mid false false) true
-    → IfOk r (λ p. (p.sack ≡ false) × FillsBehind e (plain_at d mid false false) (plain_at d new false p.fragments) traffic p.tickets)
-    → IfOk r (λ p. (x : SenderView) × IsPacked e x (plain_at d new p.sack p.fragments) p.tickets × TrafficStands traffic (format_of e) x e.receiver)
-plain_fills (Ok p) e t g d old mid new s traffic phase empty puts fills =
-    let went = fills_packet {E = NoMemory} (Ok p.tickets) e t g (plain_at d old s false) (plain_at d mid false false) (plain_at d new false p.fragments) true traffic phase empty refl puts fills.1 in
-    (went.0, subst (λ (b : Bool). IsPacked e went.0 (plain_at d new b p.fragments) p.tickets) (sym fills.0) went.1, went.2)
-plain_fills (Err failed) e t g d old mid new s traffic phase empty puts fills = fills
+    → FillsBehind e (plain_at d mid false false) (plain_at d new false some) traffic tickets
+    → (x : SenderView) × IsPacked e x (plain_at d new false some) tickets × TrafficStands traffic (format_of e) x e.receiver
+plain_fills e t g d old mid new s some traffic tickets phase empty puts fills =
+    fills_packet {E = NoMemory} (Ok tickets) e t g (plain_at d old s false) (plain_at d mid false false) (plain_at d new false some) true traffic phase empty refl puts fills
 
 -- no timer but that of fragments starts
 starts_alone_at : (b : Bool) (a : Alarm) → starts_at (fragments_alone b) a ≡ with_fragments b (starts_at (fragments_alone false)) a

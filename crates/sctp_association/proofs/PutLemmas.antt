@@ -1,4 +1,4 @@
--- One chunk goes into a packet, or doesn't fit, or isn't due; and several, one after the other.
+-- A chunk that is put in, doesn't fit or isn't due is a step of the specification's filling order, and so are several one after the other.
 use Rattle.std.proofs.Common.{Result, Ok, Err, IfOk, ◌≡◌, ◌∙◌, ℕ, ◌<◌, nat_le, replicate, length-append, Bool, true, false, not, List, [], ◌∷◌, ◌++◌, Option, None, length, refl, ap, sym, subst, arith}
 use Rattle.sctp_model.specs.wire.Typed.{Typed, typed_bytes, filled, written_typed}
 use Rattle.sctp_model.specs.wire.Chunk.{ChunkMeaning, SackMeaning, Sack, Shutdown, padding_after}

@@ -1,4 +1,4 @@
--- Causes that wait for one ERROR: how long they are with one more, and whether it fits; and what is left of an end that reports.
+-- ERROR: the length of the collected causes with one more, whether they fit a packet, and that collecting one is the specification's step.
 use Rattle.std.proofs.Common.{◌≡◌, ◌∙◌, ℕ, ◌+◌, ◌-◌, ◌<◌, ◌≤◌, nat_le, Bool, true, false, List, [], ◌∷◌, ◌++◌, length, replicate, sym, ap, subst, arith, length-append}
 use Rattle.std.proofs.lemmas.Bool.{false≢true, lt-leb}
 use Rattle.std.specs.Prelude.{if◌then◌else◌, Result, Ok, Err, is_err, OnOk, OnErr}

@@ -1,4 +1,4 @@
--- An end that isn't open, or isn't drained, or is in another stage, is at rest as it is.
+-- `advance_closing`: closing doesn't go on unless the association is open, in SHUTDOWN-PENDING or SHUTDOWN-RECEIVED, and nothing is left to be acknowledged.
 use Rattle.std.proofs.Common.{◌≡◌, ◌∙◌, Bool, true, false, refl, sym, ap}
 use Rattle.std.proofs.lemmas.Bool.{false≢true}
 use Rattle.sctp_model.specs.sender.Readers.{drained}

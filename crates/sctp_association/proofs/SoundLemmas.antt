@@ -1,5 +1,4 @@
--- Every view that an end stands for is sound: it is bare before an association, its receiver has the buffer that it is set up with, and each index is of
--- a message that has its number.
+-- `sound`, `tickets_are_apart`, `packets_begin_few`: each view of an endpoint is bare before an association, has the configured buffer, and names its messages.
 use Rattle.std.proofs.Common.{◌≡◌, ◌∙◌, ℕ, ◌<◌, List, [], ◌∷◌, length, inl, inr, true, false, refl, sym, ap, subst}
 use Rattle.sctp_model.specs.numbers.Lists.{Has}
 use Rattle.sctp_model.specs.messages.Format.{Format}

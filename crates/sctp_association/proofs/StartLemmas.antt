@@ -1,4 +1,4 @@
--- Timers that start: one more, in whatever order, and a timer that runs already.
+-- Timers that a packet starts: one more may be noted in any order, and one that runs already keeps its expiry.
 use Rattle.std.proofs.Common.{◌≡◌, ◌∙◌, ℕ, zero, suc, Bool, true, false, ◌==◌, if◌then◌else◌, Option, Some, None, refl, ap, sym, arith}
 use Rattle.std.proofs.lemmas.Bool.Decides.{nat_tests}
 use Rattle.sctp_model.specs.end.EndView.{Alarm, InitAlarm, CookieAlarm, DataAlarm, ShutdownAlarm, AckAlarm, Timer}

@@ -1,5 +1,5 @@
 -- Which end stands for which view of an end (RFC 9260, 4).
-use Rattle.std.specs.Prelude.{◌≡◌, false}
+use Rattle.std.specs.Prelude.{◌≡◌, ◌≤◌, false, vec_capacity}
 use Rattle.sctp_model.specs.sender.SenderView.{SenderView, fresh_sender}
 use Rattle.sctp_model.specs.receiver.ReceiverView.{ReceiverView, fresh_receiver}
 use Rattle.sctp_model.specs.end.Sealing.{Sealing}
@@ -41,7 +41,7 @@ abbrev pub LifeStands : Life → Configuration → Terms → SenderView → Rece
 LifeStands (Unjoined x) c t s r = IsUnjoined c t s r
 LifeStands (Joined a) c t s r = IsJoined a c t s r
 
--- each part stands for its part
+-- each part stands for its part; the buffer that is kept for the next packet is part of no view, and no larger than a packet may be
 pub record KeepsMachine (m : Machine) (v : EndView) : Type 0 where
   pub configuration : m.config ≡ v.configuration
   pub role : RoleStands m.role v.role
@@ -51,6 +51,7 @@ pub record KeepsMachine (m : Machine) (v : EndView) : Type 0 where
   pub delayed : m.delayed ≡ v.delayed
   pub phase : phase_of m.life ≡ v.phase
   pub life : LifeStands m.life v.configuration v.terms v.sender v.receiver
+  pub room : vec_capacity m.room ≤ v.configuration.limit
 
 -- Stands for: hidden from the crates above, which know it by the clauses alone.
 unfoldable pub MachineStands : Machine → EndView → Type 0

@@ -1,5 +1,5 @@
-//! An end's next packet (RFC 9260, 5.1, 6.10 and 9.2): all its chunks are put in first, which alone wants memory, and then the end is left as
-//! they leave it.
+//! The next packet of an endpoint (RFC 9260, 5.1, 6.10 and 9.2): first all its chunks are put in, which alone may allocate; then the state of the
+//! endpoint changes as these chunks say.
 
 pub mod filling;
 pub mod packing;
@@ -39,7 +39,7 @@ use sctp_terms::{Config, Draw};
 use sctp_values::{NoMemory, Ticket};
 use std::alloc::Global;
 
-/// A packet that goes out, and the tickets of the messages that took their numbers with it, by their first TSN.
+/// A packet to send, and the tickets of the messages that were assigned their TSNs with it, by their first TSN.
 #[derive(Drop)]
 pub struct Built {
     pub packet: Vec<u8>,
@@ -48,11 +48,11 @@ pub struct Built {
 
 #[tactic(auto, unfolding(crate::specs::MachineStands::MachineStands))]
 impl Machine {
-    /// The next packet at this moment, in milliseconds: what is due, in the order of filling, and then fragments. None exactly where nothing
+    /// The next packet at this time, in milliseconds: the chunks that are due, in the order of filling, and then user data. None exactly if nothing
     /// is to be sent.
     ///
     /// # Errors
-    /// `NoMemory` where a growth was refused; nothing changed then, not even the moment.
+    /// `NoMemory` if an allocation was refused; nothing changed then, not even the clock.
     pub fn build(&mut self, now: u64) -> Result<Option<Built>, NoMemory>
         ensures built { (v : EndView) → MachineStands self.old v → IfOk result (λ built. BuildAnswer (at_moment v now) built self.new) }
         ensures memory { (v : EndView) → MachineStands self.old v → OnErr result (MachineStands self.new v) }
@@ -64,10 +64,10 @@ impl Machine {
         self.build_any(moment)
     }
 
-    /// The same, whatever is due, once the moment is told.
+    /// The next packet at this time, which isn't before the latest one, whatever chunks are due.
     ///
     /// # Errors
-    /// `NoMemory` where a growth was refused; nothing changed then.
+    /// `NoMemory` if an allocation was refused; nothing changed then.
     #[inline(never)]
     fn build_any(&mut self, moment: u64) -> Result<Option<Built>, NoMemory>
         ensures built { (v : EndView) → MachineStands self.old v → IfOk result (λ built. BuildAnswer (record v { moment = moment }) built self.new) }
@@ -78,10 +78,10 @@ impl Machine {
         Ok(self.sent(moment, packing, tickets))
     }
 
-    /// All chunks of the next packet go in, by where the end stands in its life. Of the end only the sender changes.
+    /// Puts all chunks of the next packet in, by the state of the endpoint. Of the endpoint only the sender changes.
     ///
     /// # Errors
-    /// Memory ran out.
+    /// `NoMemory` if an allocation was refused.
     fn pack(&mut self, packing: &mut Packing) -> Result<Vec<Ticket>, NoMemory>
         ensures packed { (v : EndView) (moment : ℕ) → MachineStands self.old v → IsEmpty (record v { moment = moment }) packing.old
             → IfOk result (λ tickets. (s : SenderView) × IsPacked (record v { moment = moment }) s packing.new tickets × MachineStands self.new (record v { sender = s })) }
@@ -96,7 +96,7 @@ impl Machine {
         }
     }
 
-    /// What went in is due no more, its timers start, and the packet is ready, if anything is in it; else its room is kept.
+    /// The packet goes out, if it has a chunk: its chunks are no longer due, and their timers start.
     fn sent(&mut self, moment: u64, packing: Packing, tickets: Vec<Ticket>) -> Option<Built>
         ensures stands { (v : EndView) → MachineStands self.old v → MachineStands self.new (drafted packing.marks (record v { moment = moment })) }
         ensures packet { MatchOption result (packing.writer.chunks ≡ []) (λ b. WritesPacket b.packet.items (packet_of packing.writer)) }
@@ -108,16 +108,10 @@ impl Machine {
         self.when_sack_sent(self.due.sack, packing.marks.sack);
         self.timers.start_all(packing.marks.starts, moment);
         self.due.leave(self.alloc, packing.marks);
-        match packing.writer.finish_or_room() {
-            Ok(packet) => Some(Built { packet, tickets }),
-            Err(room) => {
-                self.recycle(room);
-                None
-            }
-        }
+        self.finished(packing.writer, tickets)
     }
 
-    /// Once a SACK that was due went out, the duplicates that it told are forgotten, and none waits (RFC 9260, 6.2).
+    /// If a SACK that was due went out, the duplicates that it reported are forgotten, and no SACK is delayed any more (RFC 9260, 6.2).
     pub(crate) fn when_sack_sent(&mut self, was_due: bool, is_due: bool)
         ensures { (v : EndView) → MachineStands self.old v
             → MachineStands self.new (record v { delayed = delayed_left was_due is_due v.delayed; receiver = receiver_left was_due is_due v.receiver }) }
@@ -132,7 +126,7 @@ impl Machine {
         self.sack_sent();
     }
 
-    /// A SACK went out: the duplicates that it told are forgotten.
+    /// A SACK went out: the duplicates that it reported are forgotten.
     fn sack_sent(&mut self)
         ensures { (v : EndView) → MachineStands self.old v → MachineStands self.new (record v { receiver = sack_sent v.receiver }) }
     {
@@ -143,7 +137,7 @@ impl Machine {
     }
 }
 
-/// What an end sends that never had an association: its INIT, while it calls.
+/// What an endpoint sends before an association: its INIT, while it calls.
 fn pack_unjoined(
     alloc: Global,
     config: &Config,
@@ -161,7 +155,7 @@ fn pack_unjoined(
     }
 }
 
-/// INIT, where it is due; it stands alone (RFC 9260, 5.1, A).
+/// INIT, if it is due, alone in its packet (RFC 9260, 5.1, A).
 fn pack_init(
     alloc: Global,
     config: &Config,
@@ -171,7 +165,7 @@ fn pack_init(
     ensures { (e : EndView) → e.configuration ≡ config.now → e.phase ≡ model.Calling draw → IsEmpty e packing.old
         → IfOk result (λ tickets. IsPacked e e.sender packing.new tickets) }
 {
-    // So its packet has room for it.
+    // By the clause of `limit` its packet has space for it.
     let _limit = config.limit();
     if !packing.marks.init {
         return Ok(Vec::new(alloc));
@@ -184,7 +178,7 @@ fn pack_init(
     Ok(Vec::new(alloc))
 }
 
-/// What an association sends, by how far it has come; once it is over, nothing.
+/// What an association sends, by its progress; once it is over, nothing.
 fn pack_joined(
     alloc: Global,
     config: &Config,
@@ -204,7 +198,7 @@ fn pack_joined(
     }
 }
 
-/// COOKIE ECHO, and what is reported with it (RFC 9260, 5.1, C).
+/// COOKIE ECHO, and the ERROR after it (RFC 9260, 5.1, C).
 fn pack_echoing(
     alloc: Global,
     cookie: &EchoedCookie,
@@ -218,7 +212,7 @@ fn pack_echoing(
     Ok(Vec::new(alloc))
 }
 
-/// All that is due while the association is open, and fragments where there is room behind it (RFC 9260, 6.1 and 6.10).
+/// The chunks that are due while the association is open, and user data in what is left after them (RFC 9260, 6.1 and 6.10).
 fn pack_open(
     alloc: Global,
     config: &Config,

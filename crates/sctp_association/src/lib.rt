@@ -1,5 +1,50 @@
-//! An end of an association from its parts: where it stands, what is due, its timers, its sender and its receiver; how its packets are built,
-//! what time does to it, and what its user asks of it (RFC 9260, 4).
+//! One endpoint of an SCTP association as a state machine: its state, the chunks that its next packets owe, its timers, its sender and its receiver;
+//! how its next packet is built, what time does to it, and the user's calls (RFC 9260, 4). It reads no packet: `sctp_endpoint` does, and calls it
+//! for each chunk. In comments FORWARD-TSN stands for I-FORWARD-TSN too, and T3-rtx for the one timer of user data; times are in milliseconds.
+//!
+//! Contracts speak of the specification's view of an endpoint (`EndView` of `sctp_model`) by `MachineStands`, which is hidden from the crates above.
+//! Each call is the specification's function on every view that the endpoint stands for; if an allocation fails, it still stands for the old view.
+//! The crates above name `Machine` and what its calls take and return (`Agreed`, `Built`, `Opened`, `Refused`, `Stage`, `Tags`). The promises:
+//!
+//! - **Creation.** A caller begins in CLOSED, a listener in LISTEN with its key (`Machine::caller`, `listener`); two endpoints may begin established,
+//!   without packets (`paired`).
+//! - **Opening** (RFC 9260, 5.1). The listener enters the association by the cookie that it reads (`read_cookie`, `begin`), the caller by the INIT ACK
+//!   that it accepts (`calling`, `cookie_in`, `echo`) and by the COOKIE ACK (`is_echoing`, `establish`). A refused INIT ACK is answered by an ABORT with
+//!   the cause (`refuse_ack`); a repeated COOKIE ECHO by a COOKIE ACK (`acknowledge_cookie`); `may_report` says if unknown chunks may be reported.
+//! - **Packets without an association** are judged as `sctp_opening::Outside::hear` says, by the endpoint's own configuration, clock and key
+//!   (`hear_outside`). Which tags are accepted: `passes_tag`; whether there is an association, and its tags and stage: `has_association`, `is_open`,
+//!   `opened`.
+//! - **Received chunks.** User data and FORWARD-TSN are processed as the receiver's contract says, an invalid stream is reported (`hear_piece`,
+//!   `hear_forward`). A SACK and the cumulative TSN of a SHUTDOWN are refused for their first fault, or acknowledge, with what that does to T3-rtx and to
+//!   a FORWARD-TSN that is due (`hear_sack`, `hear_shutdown`). A HEARTBEAT whose value fits a packet, and a SHUTDOWN, are answered (`hear_heartbeat`,
+//!   `answer_shutdown`, `repeat_shutdown_ack`); `abort_with` and `complete` close the endpoint with an ABORT or a SHUTDOWN COMPLETE.
+//! - **Acknowledging** (RFC 9260, 6.2). After a packet a SACK is due, and in SHUTDOWN-SENT the SHUTDOWN again. An endpoint that delays SACKs delays it by
+//!   200 ms in any other state, if nothing in the packet asks for it at once and none is owed. With standard closing, data in SHUTDOWN-SENT restarts the
+//!   SHUTDOWN's timer and count (`acknowledge`). Whether received TSNs have a gap: `leaves_gap`.
+//! - **ERROR.** A cause joins those that are collected exactly if the ERROR of them all still fits a packet; a chunk of an unknown type is such a cause
+//!   (`report_chunk`; `WaitingCauses::report`, `has_room`).
+//! - **Closing** (RFC 9260, 9.2). Transitions, the end for good, and what follows once all is acknowledged: `turn`, `close`, `advance_closing`.
+//! - **Time.** Messages whose lifetime is over are abandoned, then each timer that is due expires once, and after its last retransmission the endpoint
+//!   gives up; a SACK that was delayed long enough is due. An earlier time than the latest counts as the latest (`on_moment`, `advance_clock`). When to
+//!   call next: `next_moment`, which doesn't count lifetimes. Each timer starts, stops, expires, doubles its timeout and counts as RFC 9260, 6.3 says
+//!   (`Timers`, `Timer`, by equations).
+//! - **The next packet** (`build`: `BuildAnswer`). INIT alone; COOKIE ECHO and an ERROR; or all chunks that are due, in the specification's order, and user
+//!   data after them. There is a packet exactly if the specification's has a chunk; its bytes are that packet, within the packet limit, and its tickets
+//!   those of the messages that were assigned TSNs, by first TSN. Chunks that went in are no longer due, their timers run, and a SACK's duplicates are
+//!   forgotten. What doesn't fit stays due, and nothing goes out after it. User data goes out at one place: `fill_rest`.
+//! - **Every packet** that an endpoint returns is within its packet limit (clauses `within`; `build`).
+//! - **The user's calls** are refused exactly as specified: `connect`, `send`, `abandon`, `shutdown`, `abort`, `take`.
+//! - **Readers** return what the view says, before, in and after an association: `state`, `ended`, `config`, `agreed` (None exactly if no stream is agreed
+//!   on), `tickets`, `waiting`, `readable`, `inbound`, `outbound`, `is_interleaved`, `is_partial`, `has_late`, `next_late`, `acknowledged`, `abandoned`,
+//!   `queued`, `queued_bytes`, `peer_window`, `held_bytes`, `outstanding`.
+//! - **Bounds.** Received bytes that aren't taken never exceed the receive buffer (`held_bytes`, `bound`); at most 32,767 TSNs and partly sent messages are
+//!   outstanding (`outstanding`, `bound`).
+//! - **Laws of every view** that an endpoint stands for (their functions do nothing): it is sound (`sound`), no two messages with TSNs share a ticket
+//!   (`tickets_are_apart`), and a packet begins at most one message for each 20 bytes (`packets_begin_few`). The headline theorem uses them.
+//! - **Buffers that the user hands back** change no view. Of packets the larger buffer is kept, never one above the packet limit (`recycle`, clauses `kept`
+//!   and `within`); that the next packet is made in it, and received data in a message's memory (`give_back`), is only measured.
+//!
+//! What a body may still get away with: calls that allocate could always fail. That they succeed is only tested, by the rows of `sctp_rows`.
 #![tactic(auto)]
 
 mod build;

@@ -1,5 +1,4 @@
-//! An end: its parts, how it is made, and what it tells of itself. It is the machine without its packets: `sctp_endpoint` reads them and lets
-//! their chunks act on it.
+//! `Machine`: the state of one endpoint, and how it is created. It reads no packet: `sctp_endpoint` reads them and calls it for each chunk.
 
 ghost use Rattle.std.specs.Prelude.{◌≡◌, Bool, false, MatchOption};
 ghost use Rattle.sctp_model.specs.end.Sealing.{Sealing};
@@ -18,8 +17,8 @@ use sctp_cookie::Key;
 use sctp_terms::Config;
 use std::alloc::Global;
 
-/// An end of an association: how it is set up and came to be, the latest moment that it was told, what is due, its timers, a SACK that waits,
-/// and where it stands; beside that a room for its next packet.
+/// One endpoint of an association: its configuration and role, the latest time that it was given in milliseconds, the chunks that its next
+/// packets owe, its timers, a delayed SACK, and the state of its association; beside that a buffer for its next packet.
 #[derive(Drop)]
 pub struct Machine {
     pub(crate) alloc: Global,
@@ -28,30 +27,30 @@ pub struct Machine {
     pub(crate) moment: u64,
     pub(crate) due: Due,
     pub(crate) timers: Timers,
-    /// The moment at which a SACK that waits is due, while one waits (RFC 9260, 6.2).
+    /// The time at which a delayed SACK is due, while one is delayed (RFC 9260, 6.2).
     pub(crate) delayed: Option<u64>,
     pub(crate) life: Life,
-    /// The room of a packet that the user is done with; nothing where none was handed back.
+    /// The buffer that is kept for the next packet, of one that was handed back; empty if none was.
     pub(crate) room: Vec<u8>,
 }
 
 #[tactic(auto, unfolding(crate::specs::MachineStands::MachineStands))]
 impl Machine {
-    /// An end that may call.
+    /// A caller in CLOSED: it may send an INIT.
     pub fn caller(alloc: Global, config: Config) -> Machine
         ensures { MachineStands result (fresh_end config model.Caller model.Idle) }
     {
         Machine::fresh(alloc, config, Role::Caller, Unjoined::Idle)
     }
 
-    /// An end that listens, and seals its cookies with this key.
+    /// A listener, which seals its cookies with this key (RFC 9260, 5.1.3).
     pub fn listener(alloc: Global, config: Config, key: Key) -> Machine
         ensures { (s : Sealing) → IsUnder key s → MachineStands result (fresh_end config (model.Listener s) model.Listening) }
     {
         Machine::fresh(alloc, config, Role::Listener(key), Unjoined::Listening)
     }
 
-    /// An end as it is made.
+    /// A new endpoint of this role.
     fn fresh(alloc: Global, config: Config, role: Role, stands: Unjoined) -> Machine
         ensures { (r : model.Role) → RoleStands role r → MachineStands result (fresh_end config r (phase_unjoined stands)) }
     {
@@ -68,7 +67,7 @@ impl Machine {
         }
     }
 
-    /// The association, while it is open: its tags and its stage.
+    /// The tags and the stage of the association, while it is open.
     pub fn opened(&self) -> Option<Opened>
         ensures { (v : EndView) → MachineStands self.now v
             → MatchOption result ((says : model.Stage → Bool) → hears says v.phase ≡ false)

@@ -1,4 +1,4 @@
-//! The traffic of an association: its sender and its receiver, in the format that both ends agreed on. Above it nobody names a format.
+//! Sender and receiver of an association, in the format that both endpoints agreed on: DATA, or I-DATA. Nothing above names a format.
 
 pub mod parts;
 pub mod receiving;
@@ -18,21 +18,21 @@ use sctp_send::Sender;
 use sctp_values::NoMemory;
 use std::alloc::Global;
 
-/// Sender and receiver, in one format.
+/// Sender and receiver of one format.
 #[derive(Drop)]
 pub(crate) struct Directions<F: Framing> {
     pub(crate) sender: Sender<F>,
     pub(crate) receiver: Receiver<F>,
 }
 
-/// Sender and receiver, in the format that both ends agreed on: DATA, or I-DATA (RFC 8260, 2.2.1).
+/// Sender and receiver, in the format that both endpoints agreed on: DATA, or I-DATA (RFC 8260, 2.2.1).
 #[derive(Drop)]
 pub(crate) enum Traffic {
     Plain(Directions<DataFraming>),
     Interleaved(Directions<IDataFraming>),
 }
 
-/// What an end has of its own: the bytes of a fragment, the bytes of its receive buffer.
+/// The configured sizes, in bytes: of a fragment, and of the receive buffer.
 #[derive(Clone, Copy)]
 pub(crate) struct Sizes {
     pub(crate) fragment: u16,
@@ -40,10 +40,10 @@ pub(crate) struct Sizes {
 }
 
 impl Traffic {
-    /// Traffic that begins on these terms: nothing was sent and nothing came. `peer_rwnd` is the window that the peer advertised, in bytes.
+    /// A new sender and a new receiver, on these terms. `peer_rwnd` is the window that the peer advertised, in bytes.
     ///
     /// # Errors
-    /// Memory ran out.
+    /// `NoMemory` if an allocation was refused.
     pub(crate) fn begun(
         alloc: Global,
         terms: Terms,
@@ -61,7 +61,7 @@ impl Traffic {
         Ok(Traffic::Plain(begun_in(alloc, terms, sizes, peer_rwnd)?))
     }
 
-    /// I-DATA is in force (RFC 8260, 2.2.1).
+    /// I-DATA is in use (RFC 8260, 2.2.1).
     pub(crate) fn is_interleaved(&self) -> bool
         ensures { (f : Format) (s : SenderView) (r : ReceiverView) → TrafficStands self.now f s r → f ≡ format_for result }
     {
@@ -69,10 +69,10 @@ impl Traffic {
     }
 }
 
-/// Both directions, in one format.
+/// A new sender and a new receiver of one format.
 ///
 /// # Errors
-/// Memory ran out.
+/// `NoMemory` if an allocation was refused.
 fn begun_in<F: Framing>(
     alloc: Global,
     terms: Terms,

@@ -62,12 +62,12 @@ fn note(machine: &mut Machine, notes: &mut Notes, told: &mut Verdict, after: Aft
 {
     match after {
         After::GoesOn => {
-            machine.rest();
+            machine.advance_closing();
             notes.listed = true;
             false
         }
         After::Acknowledges { is_data, at_once } => {
-            machine.rest();
+            machine.advance_closing();
             notes.acknowledge(is_data, at_once);
             false
         }

@@ -47,7 +47,7 @@ impl Endpoint {
     {
         // law: it is sound
         self.machine.sound();
-        self.machine.tell(now);
+        self.machine.advance_clock(now);
         match read_packet(bytes) {
             Err(_) => Ok(Verdict::Dropped(Reason::Fault)),
             Ok(packet) => arrive(&mut self.machine, packet, draw),

@@ -1,5 +1,5 @@
-//! A packet is filled from the traffic: with the FORWARD, and with fragments behind all control chunks (RFC 9260, 6.1 and 6.3.2; RFC 3758,
-//! 3.5; RFC 8260, 2.2 and 2.3.1).
+//! What the sender puts into a packet: FORWARD-TSN, and user data after all control chunks (RFC 9260, 6.1 and 6.3.2; RFC 3758, 3.5; RFC 8260, 2.2
+//! and 2.3.1).
 
 ghost use Rattle.std.specs.Prelude.{◌≡◌, ◌≤◌, ◌&&◌, map, IfOk, OnOk, OnErr};
 ghost use Rattle.sctp_model.specs.numbers.Limits.{LEAST_PACKET, GREATEST_PACKET};
@@ -16,6 +16,8 @@ ghost use Rattle.sctp_association.specs.StartsMean.{starts_at, with_fragments};
 ghost use Rattle.sctp_association.specs.TrafficStands.{TrafficStands};
 ghost use Rattle.sctp_association.specs.Drafted.{IsOf};
 ghost use Rattle.sctp_association.specs.FillsBehind.{FillsBehind};
+ghost use Rattle.sctp_association.specs.declared.time.starts.Starts as starts;
+ghost use Rattle.sctp_association.specs.declared.build.packing.Marks as marks;
 
 use crate::build::packing::Packing;
 use crate::time::starts::Starts;
@@ -27,11 +29,11 @@ use sctp_send::{Filled, Sender};
 use sctp_values::{NoMemory, Ticket};
 
 impl Traffic {
-    /// Puts the FORWARD in, which goes as far as fits a packet of this limit, in bytes (RFC 3758, 3.5). False exactly where there is nothing to
-    /// skip, or the chunk doesn't fit.
+    /// Puts the FORWARD-TSN or I-FORWARD-TSN in, up to the TSN whose entries fit a packet of this limit, in bytes (RFC 3758, 3.5). False exactly if
+    /// it would skip nothing, or the chunk doesn't fit.
     ///
     /// # Errors
-    /// Memory ran out.
+    /// `NoMemory` if an allocation was refused.
     pub(crate) fn put_forward(
         &self,
         packet: &mut PacketWriter,
@@ -50,10 +52,11 @@ impl Traffic {
         }
     }
 
-    /// Fills the packet with fragments, as many as go (RFC 9260, 6.1). It answers the tickets newly numbered.
+    /// Fills the packet with DATA or I-DATA chunks, as many as may be sent and fit (RFC 9260, 6.1). It returns the tickets of the messages that were
+    /// assigned their TSNs.
     ///
     /// # Errors
-    /// Memory ran out; nothing of the traffic changed.
+    /// `NoMemory` if an allocation was refused; nothing of the traffic changed then.
     #[inline(always)]
     pub(crate) fn fill(&mut self, packet: &mut PacketWriter) -> Result<Filled, NoMemory>
         ensures chunks { (f : Format) (s : SenderView) (r : ReceiverView) → TrafficStands self.old f s r
@@ -71,7 +74,7 @@ impl Traffic {
     }
 }
 
-/// What a sender fills in, told by the function that computes it.
+/// `Sender::fill`, with its contract in terms of the function that computes what is filled in.
 fn fill_from<F: Framing>(
     sender: &mut Sender<F>,
     packet: &mut PacketWriter,
@@ -86,10 +89,43 @@ fn fill_from<F: Framing>(
     sender.fill(packet)
 }
 
-/// What fits behind the control chunks is filled with fragments, which start their timer.
+/// The DATA or I-DATA chunks that went into a packet.
+#[derive(Drop)]
+pub(crate) struct Fragments {
+    /// There are some.
+    pub(crate) some: bool,
+    /// The tickets of the messages that were assigned their TSNs with them, by their first TSN.
+    pub(crate) tickets: Vec<Ticket>,
+}
+
+/// Fills what is left of a packet with user data. It is the one place where user data goes out (RFC 9260, 6.1).
 ///
 /// # Errors
-/// Memory ran out; nothing of the traffic changed.
+/// `NoMemory` if an allocation was refused; nothing of the traffic changed then.
+#[inline(always)]
+pub(crate) fn fill_rest(
+    traffic: &mut Traffic,
+    writer: &mut PacketWriter,
+) -> Result<Fragments, NoMemory>
+    ensures filled { (e : EndView) (m : marks.Marks) (n : starts.Starts) → TrafficStands traffic.old (format_of e) e.sender e.receiver
+        → IsOf e (record { writer = writer.old; marks = m })
+        → IfOk result (λ fragments. starts_at n ≡ with_fragments fragments.some (starts_at m.starts)
+        → FillsBehind e (record { writer = writer.old; marks = m }) (record { writer = writer.new; marks = record m { starts = n } }) traffic.new fragments.tickets) }
+    ensures memory { (f : Format) (s : SenderView) (r : ReceiverView) → TrafficStands traffic.old f s r → OnErr result (TrafficStands traffic.new f s r) }
+{
+    let before = writer.room();
+    let filled = traffic.fill(writer)?;
+    let some = writer.room() < before;
+    Ok(Fragments {
+        some,
+        tickets: filled.tickets,
+    })
+}
+
+/// Fills what is left after the control chunks with user data, which starts T3-rtx.
+///
+/// # Errors
+/// `NoMemory` if an allocation was refused; nothing of the traffic changed then.
 pub(crate) fn fill_behind(
     traffic: &mut Traffic,
     packing: &mut Packing,
@@ -98,14 +134,12 @@ pub(crate) fn fill_behind(
         → IfOk result (λ tickets. FillsBehind e packing.old packing.new traffic.new tickets) }
     ensures memory { (f : Format) (s : SenderView) (r : ReceiverView) → TrafficStands traffic.old f s r → OnErr result (TrafficStands traffic.new f s r) }
 {
-    let before = packing.writer.room();
-    let filled = traffic.fill(&mut packing.writer)?;
-    let went_out = packing.writer.room() < before;
-    start_fragments(&mut packing.marks.starts, went_out);
-    Ok(filled.tickets)
+    let fragments = fill_rest(traffic, &mut packing.writer)?;
+    start_fragments(&mut packing.marks.starts, fragments.some);
+    Ok(fragments.tickets)
 }
 
-/// The timer of fragments is to start, if something went out.
+/// T3-rtx is to start, if user data went out.
 fn start_fragments(starts: &mut Starts, went_out: bool)
     ensures { starts_at starts.new ≡ with_fragments went_out (starts_at starts.old) }
 {

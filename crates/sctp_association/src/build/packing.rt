@@ -1,30 +1,35 @@
-//! A packet in the making, and what it leaves at its end (RFC 9260, 6.10). Nothing of the end changes before the packet is whole, so that
-//! there is nothing to undo where memory runs out.
+//! A packet under construction, and what it changes at its endpoint (RFC 9260, 6.10). Nothing of the endpoint changes before the packet is complete,
+//! so there is nothing to undo if an allocation fails.
 
-ghost use Rattle.std.specs.Prelude.{◌≡◌, ℕ, List, option_map};
+ghost use Rattle.std.specs.Prelude.{◌≡◌, ◌≤◌, ℕ, List, [], length, option_map, IfSome, MatchOption};
 ghost use Rattle.sctp_model.specs.wire.Typed.{Typed, WritesTyped};
+ghost use Rattle.sctp_model.specs.wire.Packet.{size_of_packet};
 ghost use Rattle.sctp_model.specs.end.EndView as model;
 ghost use Rattle.sctp_model.specs.end.EndView.{EndView};
+ghost use Rattle.sctp_packet.specs.Draft.{packet_of};
+ghost use Rattle.sctp_packet.specs.PacketBytes.{WritesPacket};
 ghost use Rattle.sctp_association.specs.DueStands.{DueStands, info_bytes};
 ghost use Rattle.sctp_association.specs.Drafted.{value_left, causes_left, due_left, drafted, IsFresh, IsEmpty};
 ghost use Rattle.sctp_association.specs.MachineStands.{MachineStands};
 
+use crate::build::Built;
 use crate::machine::Machine;
 use crate::state::carried::{HeartbeatInfo, WaitingCauses};
 use crate::state::due::Due;
 use crate::time::starts::Starts;
 use sctp_packet::PacketWriter;
+use sctp_values::Ticket;
 use std::alloc::Global;
 
-/// What a packet changes at its end, besides sender and receiver: what is still due, and which timers start.
+/// What a packet changes at its endpoint, besides sender and receiver: the chunks that are still due, and the timers that start.
 #[derive(Clone, Copy)]
 pub(crate) struct Marks {
     pub(crate) init: bool,
     pub(crate) cookie_echo: bool,
     pub(crate) cookie_ack: bool,
-    /// The value of a HEARTBEAT didn't go out, if there is one.
+    /// The value of a HEARTBEAT is still due, if there is one.
     pub(crate) heartbeat: bool,
-    /// The causes of an ERROR didn't go out, if there are any.
+    /// The causes of an ERROR are still due, if there are any.
     pub(crate) causes: bool,
     pub(crate) sack: bool,
     pub(crate) forward: bool,
@@ -33,7 +38,7 @@ pub(crate) struct Marks {
     pub(crate) starts: Starts,
 }
 
-/// A packet in the making, and what it leaves.
+/// A packet under construction, and what it changes.
 #[derive(Drop)]
 pub(crate) struct Packing {
     pub(crate) writer: PacketWriter,
@@ -42,7 +47,7 @@ pub(crate) struct Packing {
 
 #[tactic(auto, unfolding(crate::specs::MachineStands::MachineStands))]
 impl Machine {
-    /// An empty packet of this end, in the room that it keeps, and all that is due.
+    /// An empty packet of this endpoint, in the buffer that it keeps, with all that is due.
     pub(crate) fn packing(&mut self) -> Packing
         ensures empty { (v : EndView) (moment : ℕ) → MachineStands self.old v → IsEmpty (record v { moment = moment }) result }
         ensures keeps { (v : EndView) → MachineStands self.old v → MachineStands self.new v }
@@ -54,7 +59,7 @@ impl Machine {
         }
     }
 
-    /// An empty packet of this end, in the room that it keeps.
+    /// An empty packet of this endpoint, in the buffer that it keeps.
     #[inline(always)]
     pub(crate) fn empty_packet(&mut self) -> PacketWriter
         ensures empty { (v : EndView) → MachineStands self.old v → IsFresh v result }
@@ -72,10 +77,28 @@ impl Machine {
             tag,
         )
     }
+
+    /// The packet is ready if it has a chunk; else its buffer is kept.
+    #[inline(always)]
+    pub(crate) fn finished(&mut self, writer: PacketWriter, tickets: Vec<Ticket>) -> Option<Built>
+        ensures stands { (v : EndView) → MachineStands self.old v → MachineStands self.new v }
+        ensures packet { MatchOption result (writer.chunks ≡ []) (λ b. WritesPacket b.packet.items (packet_of writer)) }
+        ensures size { IfSome result (λ b. length b.packet.items ≡ size_of_packet writer.chunks) }
+        ensures within { IfSome result (λ b. length b.packet.items ≤ writer.limit) }
+        ensures tickets { IfSome result (λ b. b.tickets ≡ tickets) }
+    {
+        match writer.finish_or_room() {
+            Ok(packet) => Some(Built { packet, tickets }),
+            Err(room) => {
+                self.recycle(room);
+                None
+            }
+        }
+    }
 }
 
 impl Marks {
-    /// All that is due; no timer starts.
+    /// All that is due stays due, and no timer starts.
     pub(crate) fn of(due: &Due) -> Marks
         ensures same { (v : EndView) → DueStands due.now v.due → drafted result v ≡ v }
         ensures sack { result.sack ≡ due.now.sack }
@@ -96,7 +119,7 @@ impl Marks {
 }
 
 impl Due {
-    /// What isn't marked any more is due no more.
+    /// What went out is no longer due.
     pub(crate) fn leave(&mut self, alloc: Global, marks: Marks)
         ensures { (d : model.Due) → DueStands self.old d → DueStands self.new (due_left marks d) }
     {
@@ -112,7 +135,7 @@ impl Due {
     }
 }
 
-/// The value of a HEARTBEAT stays, or goes.
+/// The value of a HEARTBEAT, unless it went out.
 fn leave_info(heartbeat: &mut Option<HeartbeatInfo>, stays: bool)
     ensures { option_map info_bytes heartbeat.new ≡ value_left stays (option_map info_bytes heartbeat.old) }
 {
@@ -122,7 +145,7 @@ fn leave_info(heartbeat: &mut Option<HeartbeatInfo>, stays: bool)
     *heartbeat = None;
 }
 
-/// The causes stay, or go.
+/// The causes, unless they went out.
 fn leave_causes(alloc: Global, causes: &mut WaitingCauses, stay: bool)
     ensures { (xs : List Typed) → WritesTyped causes.old.bytes.items xs → WritesTyped causes.new.bytes.items (causes_left stay xs) }
 {

@@ -1,49 +1,47 @@
-//! An end's next packet while its association is open and nothing is due but a SACK at most, as mostly: nothing is noted then of all else that
-//! may be due (RFC 9260, 6.1, 6.2 and 6.10).
+//! The fast path of most packets: while the association is open and nothing is due but a SACK, no other chunk that may be due is looked at (RFC 9260,
+//! 6.1, 6.2 and 6.10). SACK and user data go in by the same functions as in any other packet.
 
-ghost use Rattle.std.specs.Prelude.{◌≡◌, ◌≤◌, ℕ, [], ◌∷◌, true, false, length, IfOk, OnErr, IfSome, MatchOption};
+ghost use Rattle.std.specs.Prelude.{◌≡◌, ◌≤◌, ℕ, [], true, false, length, IfOk, OnErr, IfSome, MatchOption};
 ghost use Rattle.sctp_model.specs.messages.Format.{Format};
 ghost use Rattle.sctp_model.specs.sender.SenderView.{SenderView};
 ghost use Rattle.sctp_model.specs.receiver.ReceiverView.{ReceiverView};
 ghost use Rattle.sctp_model.specs.wire.Packet.{size_of_packet};
 ghost use Rattle.sctp_model.specs.end.EndView.{EndView, format_of};
 ghost use Rattle.sctp_model.specs.end.EndView as model;
-ghost use Rattle.sctp_model.specs.end.Building.{SackSlot};
 ghost use Rattle.sctp_packet.specs.Draft.{packet_of};
 ghost use Rattle.sctp_packet.specs.PacketBytes.{WritesPacket};
 ghost use Rattle.sctp_association.specs.DueStands.{DueStands};
 ghost use Rattle.sctp_association.specs.TrafficStands.{TrafficStands};
 ghost use Rattle.sctp_association.specs.MachineStands.{MachineStands};
-ghost use Rattle.sctp_association.specs.Drafted.{drafted, IsOf, IsEmpty, PutsAt, IsPacked};
-ghost use Rattle.sctp_association.specs.FillsBehind.{FillsBehind};
+ghost use Rattle.sctp_association.specs.Drafted.{drafted, IsEmpty, IsPacked};
 ghost use Rattle.sctp_association.specs.BuildAnswers.{BuildAnswer};
-ghost use Rattle.sctp_association.specs.PlainPacket.{IsPlain, still_due, plain_marks};
+ghost use Rattle.sctp_association.specs.PlainPacket.{IsPlain, plain_marks};
 ghost use Rattle.sctp_association.specs.declared.state.due.Due as kept;
-ghost use Rattle.sctp_association.specs.declared.build.packing.Marks as marks;
 
 use crate::build::Built;
+use crate::build::filling::fill_rest;
+use crate::build::putting::put_due_sack;
 use crate::machine::Machine;
 use crate::state::due::Due;
 use crate::state::life::Life;
 use crate::traffic::Traffic;
 use sctp_packet::PacketWriter;
 use sctp_values::{NoMemory, Ticket};
-use sctp_wire::Chunk;
 use std::alloc::Global;
 
-/// What a plain packet leaves.
+/// What a packet of the fast path changes.
 #[derive(Drop)]
 pub(crate) struct Plain {
-    /// The SACK is due still.
+    /// The SACK is still due.
     pub(crate) sack: bool,
-    /// Fragments went out.
+    /// User data went out.
     pub(crate) fragments: bool,
-    /// Those of the messages that took their numbers with it, by their first TSN.
+    /// The tickets of the messages that were assigned their TSNs with it, by their first TSN.
     pub(crate) tickets: Vec<Ticket>,
 }
 
 impl Due {
-    /// Nothing is due but a SACK at most, while the association is open.
+    /// Of the chunks of an open association nothing is due but a SACK at most.
     pub(crate) fn is_plain(&self) -> bool
         ensures { (d : model.Due) → DueStands self.now d → result ≡ true → IsPlain self.now d }
     {
@@ -80,10 +78,10 @@ impl Machine {
         }
     }
 
-    /// The next packet at this moment, of an end of which that is so.
+    /// The next packet at this time, of an endpoint that `is_plain`.
     ///
     /// # Errors
-    /// `NoMemory` where a growth was refused; nothing changed then, not even the moment.
+    /// `NoMemory` if an allocation was refused; nothing changed then, not even the clock.
     #[inline(always)]
     pub(crate) fn build_plain(&mut self, moment: u64) -> Result<Option<Built>, NoMemory>
         ensures built { (v : EndView) (t : model.Tags) (g : model.Stage) → MachineStands self.old v → v.phase ≡ model.Open t g → IsPlain self.old.due v.due
@@ -95,10 +93,10 @@ impl Machine {
         Ok(self.sent_plain(moment, writer, plain))
     }
 
-    /// The SACK that is due and fragments go in. Of the end only the sender changes.
+    /// Puts the SACK in, if it is due, and user data. Of the endpoint only the sender changes.
     ///
     /// # Errors
-    /// Memory ran out.
+    /// `NoMemory` if an allocation was refused.
     #[inline(always)]
     fn pack_plain(&mut self, writer: &mut PacketWriter) -> Result<Plain, NoMemory>
         ensures packed { (v : EndView) (t : model.Tags) (g : model.Stage) (moment : ℕ) → MachineStands self.old v → v.phase ≡ model.Open t g → IsPlain self.old.due v.due
@@ -120,8 +118,7 @@ impl Machine {
         }
     }
 
-    /// The SACK is due as this says, the timer of fragments starts where some went out, and the packet is ready, if anything is in it; else its
-    /// room is kept.
+    /// The packet goes out, if it has a chunk: the SACK is due as `plain` says, and T3-rtx starts if user data went out.
     #[inline(always)]
     fn sent_plain(&mut self, moment: u64, writer: PacketWriter, plain: Plain) -> Option<Built>
         ensures stands { (v : EndView) → MachineStands self.old v
@@ -135,21 +132,14 @@ impl Machine {
         self.when_sack_sent(self.due.sack, plain.sack);
         self.timers.start_fragments(plain.fragments, moment);
         self.due.owe_sack(plain.sack);
-        let tickets = plain.tickets;
-        match writer.finish_or_room() {
-            Ok(packet) => Some(Built { packet, tickets }),
-            Err(room) => {
-                self.recycle(room);
-                None
-            }
-        }
+        self.finished(writer, plain.tickets)
     }
 }
 
-/// The SACK goes in, where it is due, and fragments where there is room behind it.
+/// Puts the SACK in, if it is due, and user data in what is left after it.
 ///
 /// # Errors
-/// Memory ran out; nothing of the traffic changed.
+/// `NoMemory` if an allocation was refused; nothing of the traffic changed then.
 #[inline(always)]
 fn put_plain(
     alloc: Global,
@@ -170,48 +160,10 @@ fn put_plain(
             tickets: Vec::new(alloc),
         });
     }
-    fill_plain(traffic, writer)
-}
-
-/// The SACK goes in, where it is due. False where it has no room.
-///
-/// # Errors
-/// Memory ran out.
-#[inline(always)]
-fn put_due_sack(traffic: &Traffic, sack: bool, writer: &mut PacketWriter) -> Result<bool, NoMemory>
-    ensures { (e : EndView) (m : marks.Marks) → TrafficStands traffic.now (format_of e) e.sender e.receiver
-        → IsOf e (record { writer = writer.old; marks = record m { sack = sack } })
-        → IfOk result (λ room. PutsAt (SackSlot ∷ []) e (record { writer = writer.old; marks = record m { sack = sack } })
-        (record { writer = writer.new; marks = record m { sack = still_due room sack } }) room) }
-{
-    if !sack {
-        return Ok(true);
-    }
-    let lists = traffic.sack()?;
-    if !writer.try_chunk(&Chunk::Sack(lists.view()))? {
-        return Ok(false);
-    }
-    Ok(true)
-}
-
-/// What fits behind it is filled with fragments.
-///
-/// # Errors
-/// Memory ran out; nothing of the traffic changed.
-#[inline(always)]
-fn fill_plain(traffic: &mut Traffic, writer: &mut PacketWriter) -> Result<Plain, NoMemory>
-    ensures filled { (e : EndView) (d : kept.Due) → TrafficStands traffic.old (format_of e) e.sender e.receiver
-        → IsOf e (record { writer = writer.old; marks = plain_marks d false false })
-        → IfOk result (λ p. (p.sack ≡ false) × FillsBehind e (record { writer = writer.old; marks = plain_marks d false false })
-        (record { writer = writer.new; marks = plain_marks d false p.fragments }) traffic.new p.tickets) }
-    ensures memory { (f : Format) (s : SenderView) (r : ReceiverView) → TrafficStands traffic.old f s r → OnErr result (TrafficStands traffic.new f s r) }
-{
-    let before = writer.room();
-    let filled = traffic.fill(writer)?;
-    let fragments = writer.room() < before;
+    let fragments = fill_rest(traffic, writer)?;
     Ok(Plain {
         sack: false,
-        fragments,
-        tickets: filled.tickets,
+        fragments: fragments.some,
+        tickets: fragments.tickets,
     })
 }

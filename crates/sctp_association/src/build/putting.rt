@@ -1,5 +1,5 @@
-//! What is due goes into a packet, one chunk after the other, in the order of filling; the first that doesn't fit ends the packet
-//! (RFC 9260, 6.10). Each function says false exactly where its chunk is due and there is no room for it.
+//! The chunks that are due go into a packet one after the other, in the order of filling; the first that doesn't fit ends the packet
+//! (RFC 9260, 6.10). Each function returns false exactly if its chunk is due and doesn't fit.
 
 ghost use Rattle.std.specs.Prelude.{◌≡◌, [], ◌∷◌, IfOk};
 ghost use Rattle.sctp_model.specs.end.EndView.{EndView, Echoing, format_of};
@@ -8,6 +8,8 @@ ghost use Rattle.sctp_model.specs.end.Building.{SackSlot, ForwardSlot, ShutdownS
 ghost use Rattle.sctp_association.specs.DueStands.{DueStands};
 ghost use Rattle.sctp_association.specs.TrafficStands.{TrafficStands};
 ghost use Rattle.sctp_association.specs.Drafted.{PutsAt, IsOf, IsPartOf};
+ghost use Rattle.sctp_association.specs.PlainPacket.{still_due};
+ghost use Rattle.sctp_association.specs.declared.build.packing.Marks as marks;
 
 use crate::build::packing::Packing;
 use crate::build::replying::{put_answers, put_error};
@@ -15,14 +17,15 @@ use crate::state::carried::EchoedCookie;
 use crate::state::due::Due;
 use crate::time::timer::Alarm;
 use crate::traffic::Traffic;
+use sctp_packet::PacketWriter;
 use sctp_terms::Config;
 use sctp_values::NoMemory;
 use sctp_wire::Chunk;
 
-/// What is due while the association is open.
+/// The chunks that are due while the association is open.
 ///
 /// # Errors
-/// Memory ran out.
+/// `NoMemory` if an allocation was refused.
 pub(crate) fn put_open(
     config: &Config,
     traffic: &Traffic,
@@ -46,10 +49,10 @@ pub(crate) fn put_open(
     put_shutdown_ack(packing)
 }
 
-/// What is due while a cookie is echoed.
+/// The chunks that are due in COOKIE-ECHOED.
 ///
 /// # Errors
-/// Memory ran out.
+/// `NoMemory` if an allocation was refused.
 pub(crate) fn put_echoing(
     cookie: &EchoedCookie,
     due: &Due,
@@ -88,18 +91,39 @@ fn put_sack(traffic: &Traffic, packing: &mut Packing) -> Result<bool, NoMemory>
     ensures { (e : EndView) → TrafficStands traffic.now (format_of e) e.sender e.receiver → IsOf e packing.old
         → IfOk result (λ room. PutsAt (SackSlot ∷ []) e packing.old packing.new room) }
 {
-    if !packing.marks.sack {
-        return Ok(true);
-    }
-    let lists = traffic.sack()?;
-    if !packing.writer.try_chunk(&Chunk::Sack(lists.view()))? {
+    if !put_due_sack(traffic, packing.marks.sack, &mut packing.writer)? {
         return Ok(false);
     }
     packing.marks.sack = false;
     Ok(true)
 }
 
-/// FORWARD-TSN or I-FORWARD-TSN, where there is something to skip, as far as one packet tells (RFC 3758, 3.5; RFC 8260, 2.3.1).
+/// Puts the SACK into a packet if it is due. False if it doesn't fit: it is due still.
+///
+/// # Errors
+/// `NoMemory` if an allocation was refused.
+#[inline(always)]
+pub(crate) fn put_due_sack(
+    traffic: &Traffic,
+    sack: bool,
+    writer: &mut PacketWriter,
+) -> Result<bool, NoMemory>
+    ensures { (e : EndView) (m : marks.Marks) → TrafficStands traffic.now (format_of e) e.sender e.receiver
+        → IsOf e (record { writer = writer.old; marks = record m { sack = sack } })
+        → IfOk result (λ room. PutsAt (SackSlot ∷ []) e (record { writer = writer.old; marks = record m { sack = sack } })
+        (record { writer = writer.new; marks = record m { sack = still_due room sack } }) room) }
+{
+    if !sack {
+        return Ok(true);
+    }
+    let lists = traffic.sack()?;
+    if !writer.try_chunk(&Chunk::Sack(lists.view()))? {
+        return Ok(false);
+    }
+    Ok(true)
+}
+
+/// FORWARD-TSN or I-FORWARD-TSN, if it skips something, up to the TSN whose entries fit one packet (RFC 3758, 3.5; RFC 8260, 2.3.1).
 fn put_forward(config: &Config, traffic: &Traffic, packing: &mut Packing) -> Result<bool, NoMemory>
     ensures { (e : EndView) → config.now ≡ e.configuration → TrafficStands traffic.now (format_of e) e.sender e.receiver → IsOf e packing.old
         → IfOk result (λ room. PutsAt (ForwardSlot ∷ []) e packing.old packing.new room) }

@@ -13,10 +13,10 @@ use crate::state::due::Due;
 use sctp_values::NoMemory;
 use sctp_wire::{Causes, Chunk};
 
-/// What the peer is answered goes in: COOKIE ACK, HEARTBEAT ACK, ERROR. False where one of them is due and doesn't fit.
+/// COOKIE ACK, HEARTBEAT ACK and ERROR, as they are due. False if one of them is due and doesn't fit.
 ///
 /// # Errors
-/// Memory ran out.
+/// `NoMemory` if an allocation was refused.
 pub(crate) fn put_answers(due: &Due, packing: &mut Packing) -> Result<bool, NoMemory>
     ensures { (e : EndView) → DueStands due.now e.due → IsOf e packing.old
         → IfOk result (λ room. PutsAt (CookieAckSlot ∷ HeartbeatSlot ∷ ErrorSlot ∷ []) e packing.old packing.new room) }
@@ -44,7 +44,7 @@ fn put_cookie_ack(packing: &mut Packing) -> Result<bool, NoMemory>
     Ok(true)
 }
 
-/// HEARTBEAT ACK (RFC 9260, 8.3), where a HEARTBEAT came.
+/// HEARTBEAT ACK (RFC 9260, 8.3), if a HEARTBEAT is to be answered.
 fn put_heartbeat(due: &Due, packing: &mut Packing) -> Result<bool, NoMemory>
     ensures { (e : EndView) → DueStands due.now e.due → IsOf e packing.old → IfOk result (λ room. PutsAt (HeartbeatSlot ∷ []) e packing.old packing.new room) }
 {
@@ -54,7 +54,7 @@ fn put_heartbeat(due: &Due, packing: &mut Packing) -> Result<bool, NoMemory>
     }
 }
 
-/// HEARTBEAT ACK with this value, unless it went in.
+/// HEARTBEAT ACK with this value, unless it is in already.
 fn put_info(info: &HeartbeatInfo, packing: &mut Packing) -> Result<bool, NoMemory>
     ensures { (e : EndView) → e.due.heartbeat ≡ Some info.now.bytes.items → IsOf e packing.old → IfOk result (λ room. PutsAt (HeartbeatSlot ∷ []) e packing.old packing.new room) }
 {
@@ -69,7 +69,7 @@ fn put_info(info: &HeartbeatInfo, packing: &mut Packing) -> Result<bool, NoMemor
     Ok(true)
 }
 
-/// ERROR (RFC 9260, 3.3.10), where there are causes.
+/// ERROR (RFC 9260, 3.3.10), if there are causes.
 pub(crate) fn put_error(due: &Due, packing: &mut Packing) -> Result<bool, NoMemory>
     ensures { (e : EndView) → DueStands due.now e.due → IsOf e packing.old → IfOk result (λ room. PutsAt (ErrorSlot ∷ []) e packing.old packing.new room) }
 {
@@ -79,7 +79,7 @@ pub(crate) fn put_error(due: &Due, packing: &mut Packing) -> Result<bool, NoMemo
     put_causes(&due.causes, packing)
 }
 
-/// ERROR with these causes, unless it went in.
+/// ERROR with these causes, unless it is in already.
 fn put_causes(causes: &WaitingCauses, packing: &mut Packing) -> Result<bool, NoMemory>
     ensures { (e : EndView) → causes.now.bytes.items ≡ written e.due.causes → has_causes e.due.causes ≡ true → IsOf e packing.old
         → IfOk result (λ room. PutsAt (ErrorSlot ∷ []) e packing.old packing.new room) }

@@ -1,4 +1,4 @@
-//! What an end answers to its peer, at once or in its next packets (RFC 9260, 8.3, 9.1 and 9.2). All memory is taken before anything
+//! What an endpoint answers to its peer, at once or in its next packets (RFC 9260, 8.3, 9.1 and 9.2). All memory is allocated before anything
 //! changes.
 
 ghost use Rattle.std.specs.Prelude.{◌≡◌, ◌≤◌, true, false, length, IfOk, OnOk, OnErr};
@@ -23,10 +23,10 @@ use sctp_wire::Chunk;
 
 #[tactic(auto, unfolding(crate::specs::MachineStands::MachineStands))]
 impl Machine {
-    /// A HEARTBEAT comes: its value is to go back, if that fits a packet; an older value that waits is forgotten then (RFC 9260, 8.3).
+    /// Processes a HEARTBEAT: a HEARTBEAT ACK with its value is due, if that fits a packet, in place of an older one that is still due (RFC 9260, 8.3).
     ///
     /// # Errors
-    /// `NoMemory` where a growth was refused; nothing changed then.
+    /// `NoMemory` if an allocation was refused; nothing changed then.
     pub fn hear_heartbeat(&mut self, info: &[u8]) -> Result<(), NoMemory>
         ensures step { (v : EndView) → MachineStands self.old v → OnOk result (MachineStands self.new (heartbeat_heard v info.now)) }
         ensures refused { (v : EndView) → MachineStands self.old v → OnErr result (MachineStands self.new v) }
@@ -39,10 +39,10 @@ impl Machine {
         Ok(())
     }
 
-    /// The end closes with an ABORT for a short cause, to the end whose packets carry this tag (RFC 9260, 9.1).
+    /// Closes the endpoint. The packet is an ABORT with this cause, of at most 4 bytes, under the peer's tag (RFC 9260, 9.1).
     ///
     /// # Errors
-    /// `NoMemory` where a growth was refused; nothing changed then.
+    /// `NoMemory` if an allocation was refused; nothing changed then.
     pub fn abort_with(&mut self, tag: u32, cause: u16, value: &[u8]) -> Result<Vec<u8>, NoMemory>
         requires { length value.now ≤ 4 }
         ensures step { (v : EndView) → MachineStands self.old v
@@ -50,24 +50,24 @@ impl Machine {
         ensures within { (v : EndView) → MachineStands self.old v → IfOk result (λ packet. length packet.items ≤ v.configuration.limit) }
         ensures refused { (v : EndView) → MachineStands self.old v → OnErr result (MachineStands self.new v) }
     {
-        // So a packet has room for the cause.
+        // By the clause of `limit` a packet has space for the cause.
         let _limit = self.config.limit();
         let packet = abort_packet(self.alloc, &self.config, tag, cause, value)?;
         self.close(End::AbortedHere);
         Ok(packet)
     }
 
-    /// The association is over as both users wanted, and the end whose packets carry this tag is told so (RFC 9260, 9.2).
+    /// Closes the endpoint gracefully. The packet is a SHUTDOWN COMPLETE under the peer's tag (RFC 9260, 9.2).
     ///
     /// # Errors
-    /// `NoMemory` where a growth was refused; nothing changed then.
+    /// `NoMemory` if an allocation was refused; nothing changed then.
     pub fn complete(&mut self, tag: u32) -> Result<Vec<u8>, NoMemory>
         ensures step { (v : EndView) → MachineStands self.old v
             → IfOk result (λ packet. WritesPacket packet.items (packet_to v.configuration tag (ShutdownComplete false)) × MachineStands self.new (closed model.Completed v)) }
         ensures within { (v : EndView) → MachineStands self.old v → IfOk result (λ packet. length packet.items ≤ v.configuration.limit) }
         ensures refused { (v : EndView) → MachineStands self.old v → OnErr result (MachineStands self.new v) }
     {
-        // So a packet has room for it.
+        // By the clause of `limit` a packet has space for it.
         let _limit = self.config.limit();
         let chunk = Chunk::ShutdownComplete { reflected: false };
         let packet = lone_packet(self.alloc, &self.config, tag, &chunk)?;
@@ -75,18 +75,18 @@ impl Machine {
         Ok(packet)
     }
 
-    /// An open association answers the peer's SHUTDOWN (RFC 9260, 9.2).
+    /// An open association answers the peer's SHUTDOWN: it enters SHUTDOWN-ACK-SENT, and a SHUTDOWN ACK is due (RFC 9260, 9.2).
     pub fn answer_shutdown(&mut self)
         ensures { (v : EndView) (t : model.Tags) (g : model.Stage) → MachineStands self.old v → v.phase ≡ model.Open t g → MachineStands self.new (answers_shutdown t v) }
     {
         self.turn(Stage::ShutdownAckSent);
-        self.due.answer_shut();
+        self.due.owe_shutdown_ack();
     }
 
-    /// The SHUTDOWN ACK is due once more: the peer's SHUTDOWN came again (RFC 9260, 9.2).
+    /// The SHUTDOWN ACK is due again: the peer repeated its SHUTDOWN (RFC 9260, 9.2).
     pub fn repeat_shutdown_ack(&mut self)
         ensures { (v : EndView) → MachineStands self.old v → MachineStands self.new (with_due (record v.due { shutdown_ack = true }) v) }
     {
-        self.due.answer_shut();
+        self.due.owe_shutdown_ack();
     }
 }

@@ -1,5 +1,5 @@
-//! What the peer sends to an association that is open: chunks with data, FORWARDs, and what acknowledges (RFC 9260, 6.2 and 6.2.1; RFC 3758,
-//! 3.6). All memory is taken before anything changes.
+//! What an open association receives: user data, FORWARD-TSN, and acknowledgements (RFC 9260, 6.2 and 6.2.1; RFC 3758, 3.6). All memory is allocated
+//! before anything changes.
 
 ghost use Rattle.std.specs.Prelude.{◌≡◌, ◌+◌, ◌≤◌, length, vec_capacity, IfOk, OnOk, OnErr};
 ghost use Rattle.sctp_model.specs.wire.Chunk.{PieceMeaning};
@@ -28,10 +28,10 @@ use sctp_wire::{Forward, Piece, Sack};
 
 #[tactic(auto, unfolding(crate::specs::MachineStands::MachineStands))]
 impl Machine {
-    /// A chunk with data comes, in the association's format; a stream that isn't there is reported (RFC 9260, 6.2 and 6.5).
+    /// Processes a DATA chunk, or an I-DATA chunk under interleaving; an invalid stream is reported in an ERROR (RFC 9260, 6.2 and 6.5).
     ///
     /// # Errors
-    /// `NoMemory` where a growth was refused; nothing changed then.
+    /// `NoMemory` if an allocation was refused; nothing changed then.
     #[inline(always)]
     pub fn hear_piece(&mut self, piece: &Piece<'_>) -> Result<Answer, NoMemory>
         ensures step { (v : EndView) (t : model.Tags) (g : model.Stage) → MachineStands self.old v → v.phase ≡ model.Open t g
@@ -44,10 +44,10 @@ impl Machine {
         Ok(answer)
     }
 
-    /// The receiver takes a chunk with data, once there is room for the cause that may follow.
+    /// The receiver takes user data, once there is space for the cause that may follow.
     ///
     /// # Errors
-    /// `NoMemory` where a growth was refused; nothing changed then.
+    /// `NoMemory` if an allocation was refused; nothing changed then.
     #[inline(always)]
     fn take_piece(&mut self, piece: &Piece<'_>) -> Result<Answer, NoMemory>
         ensures step { (v : EndView) (t : model.Tags) (g : model.Stage) → MachineStands self.old v → v.phase ≡ model.Open t g
@@ -63,7 +63,7 @@ impl Machine {
         }
     }
 
-    /// What follows from the answer to a chunk on this stream. There is room for a cause.
+    /// Reports the stream if the receiver's answer is that it is invalid. There is space for the cause.
     fn report_answer(&mut self, answer: Answer, stream: u16)
         requires { length self.old.due.causes.bytes.items + 11 ≤ vec_capacity self.old.due.causes.bytes }
         ensures { (v : EndView) (p : PieceMeaning) → p.stream ≡ stream → MachineStands self.old v → MachineStands self.new (with_causes (piece_causes v p (answer_of answer)) v) }
@@ -74,10 +74,10 @@ impl Machine {
         }
     }
 
-    /// A FORWARD-TSN or an I-FORWARD-TSN comes, of the association's format (RFC 3758, 3.6; RFC 8260, 2.3.1).
+    /// Processes a FORWARD-TSN, or an I-FORWARD-TSN under interleaving (RFC 3758, 3.6; RFC 8260, 2.3.1).
     ///
     /// # Errors
-    /// `NoMemory` where a growth was refused; nothing changed then.
+    /// `NoMemory` if an allocation was refused; nothing changed then.
     pub fn hear_forward(&mut self, forward: &Forward<'_>) -> Result<ForwardAnswer, NoMemory>
         ensures step { (v : EndView) (t : model.Tags) (g : model.Stage) → MachineStands self.old v → v.phase ≡ model.Open t g
             → IfOk result (λ a. (r : ReceiverView) × ForwardTaken (format_of v) v.receiver (forward_meaning forward.now) (forward_answer_of a) r
@@ -90,11 +90,11 @@ impl Machine {
         }
     }
 
-    /// A SACK comes: what it acknowledges is acknowledged, a FORWARD is due where there is something to skip, and the timer of fragments counts
-    /// anew (RFC 9260, 6.2.1 and 6.3.2; RFC 3758, 3.5). It takes no memory.
+    /// Processes a SACK: what it acknowledges is acknowledged, a FORWARD-TSN is due if it skips something, and T3-rtx counts its retransmissions
+    /// anew (RFC 9260, 6.2.1 and 6.3.2; RFC 3758, 3.5). It doesn't allocate.
     ///
     /// # Errors
-    /// The first fault that it has; nothing changed then.
+    /// Its first fault; nothing changed then.
     #[inline(always)]
     pub fn hear_sack(&mut self, sack: &Sack<'_>) -> Result<(), SackFault>
         ensures answer { (v : EndView) (t : model.Tags) (g : model.Stage) → MachineStands self.old v → v.phase ≡ model.Open t g
@@ -120,7 +120,7 @@ impl Machine {
     /// The sender takes a SACK.
     ///
     /// # Errors
-    /// The first fault that it has; nothing changed then.
+    /// Its first fault; nothing changed then.
     #[inline(always)]
     fn take_sack(&mut self, sack: &Sack<'_>) -> Result<(), SackFault>
         ensures answer { (v : EndView) (t : model.Tags) (g : model.Stage) → MachineStands self.old v → v.phase ≡ model.Open t g
@@ -134,7 +134,7 @@ impl Machine {
         }
     }
 
-    /// The index up to which all is acknowledged.
+    /// The index of the cumulative TSN Ack Point, counted from the initial TSN.
     fn cum(&self) -> u64
         ensures { (v : EndView) → MachineStands self.now v → result ≡ v.sender.cum }
     {
@@ -144,7 +144,7 @@ impl Machine {
         }
     }
 
-    /// A timer counts anew; where its peer went on it waits anew, too (RFC 9260, 6.3.2 and 9.2).
+    /// A timer counts its retransmissions anew; if something new was acknowledged, its timeout begins anew, too (RFC 9260, 6.3.2 and 9.2).
     pub(crate) fn renew(&mut self, alarm: Alarm, moved: bool)
         ensures { (v : EndView) → MachineStands self.old v
             → MachineStands self.new (with_timer (alarm_meaning alarm) (renewed v.moment moved (v.timers (alarm_meaning alarm))) v) }
@@ -153,11 +153,11 @@ impl Machine {
         self.timers.put(alarm, timer.renewed(self.moment, moved));
     }
 
-    /// The cumulative TSN of a SHUTDOWN comes, and acknowledges; with standard closing one that moves the acknowledged index is for the timer of
-    /// fragments what a SACK is (RFC 9260, 6.3.2 and 9.2). It takes no memory.
+    /// Processes the cumulative TSN of a SHUTDOWN, which acknowledges; with standard closing one that acknowledges something new restarts T3-rtx as a
+    /// SACK does (RFC 9260, 6.3.2 and 9.2). It doesn't allocate.
     ///
     /// # Errors
-    /// The first fault that it has; nothing changed then.
+    /// Its first fault; nothing changed then.
     pub fn hear_shutdown(&mut self, tsn: u32) -> Result<(), SackFault>
         ensures answer { (v : EndView) (t : model.Tags) (g : model.Stage) → MachineStands self.old v → v.phase ≡ model.Open t g
             → reason_meaning result ≡ shutdown_fault v.sender tsn }
@@ -177,7 +177,7 @@ impl Machine {
         }
     }
 
-    /// With standard closing a SHUTDOWN that moved the acknowledged index renews the timer of fragments (RFC 9260, 6.3.2 and 9.2).
+    /// With standard closing a SHUTDOWN that acknowledged something new restarts T3-rtx (RFC 9260, 6.3.2 and 9.2).
     fn renew_shut(&mut self, moved: bool)
         ensures { (v : EndView) → MachineStands self.old v
             → MachineStands self.new (with_timer model.DataAlarm (shut_timer v.configuration.standard_closing moved v.moment (v.timers model.DataAlarm)) v) }
@@ -190,7 +190,7 @@ impl Machine {
     /// The sender takes the cumulative TSN of a SHUTDOWN.
     ///
     /// # Errors
-    /// The first fault that it has; nothing changed then.
+    /// Its first fault; nothing changed then.
     fn take_shutdown(&mut self, tsn: u32) -> Result<(), SackFault>
         ensures answer { (v : EndView) (t : model.Tags) (g : model.Stage) → MachineStands self.old v → v.phase ≡ model.Open t g
             → reason_meaning result ≡ shutdown_fault v.sender tsn }

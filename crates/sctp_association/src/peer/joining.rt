@@ -1,5 +1,5 @@
-//! How an end joins an association: a listener by the cookie that comes back, a caller by the first INIT ACK that it may take, two ends
-//! without packets (RFC 9260, 5.1). Each makes its traffic first, which alone wants memory, and then goes there.
+//! How an endpoint enters an association: a listener by the cookie that returns to it, a caller by the INIT ACK that it accepts, two endpoints without
+//! packets (RFC 9260, 5.1). Sender and receiver are created first, which alone may allocate; then the state changes.
 
 ghost use Rattle.std.specs.Prelude.{◌≡◌, ℕ, List, ◌<◌, ◌+◌, ◌^◌, length, IfOk, OnOk, OnErr};
 ghost use Rattle.sctp_model.specs.sender.SenderView.{fresh_sender};
@@ -32,10 +32,10 @@ use std::mem::replace;
 
 #[tactic(auto, unfolding(crate::specs::MachineStands::MachineStands))]
 impl Machine {
-    /// An end that is established at once with a peer that is set up alike and drew `peer`.
+    /// An endpoint that is established from the start, with a peer of the same configuration and these random values.
     ///
     /// # Errors
-    /// `NoMemory` where a growth was refused.
+    /// `NoMemory` if an allocation was refused.
     pub fn paired(alloc: Global, config: Config, own: Draw, peer: Draw) -> Result<Machine, NoMemory>
         ensures { IfOk result (λ m. MachineStands m (opened config own peer)) }
     {
@@ -63,10 +63,10 @@ impl Machine {
         })
     }
 
-    /// A listener joins on the terms of a cookie that opened, and its peer is to be told by a COOKIE ACK (RFC 9260, 5.1, D).
+    /// The listener enters the association on the terms of a cookie that it read; a COOKIE ACK is due (RFC 9260, 5.1, D).
     ///
     /// # Errors
-    /// `NoMemory` where a growth was refused; nothing changed then.
+    /// `NoMemory` if an allocation was refused; nothing changed then.
     pub fn begin(&mut self, body: &CookieBody) -> Result<(), NoMemory>
         ensures step { (v : EndView) → MachineStands self.old v → OnOk result (MachineStands self.new (begun (body_meaning body.now) v)) }
         ensures refused { (v : EndView) → MachineStands self.old v → OnErr result (MachineStands self.new v) }
@@ -89,10 +89,11 @@ impl Machine {
         Ok(())
     }
 
-    /// A caller with this draw joins on the terms of the INIT ACK that it takes, and is to send its cookie back (RFC 9260, 5.1, C).
+    /// The caller with these random values enters the association on the terms of the INIT ACK that it accepts; a COOKIE ECHO with this cookie is due
+    /// (RFC 9260, 5.1, C).
     ///
     /// # Errors
-    /// `NoMemory` where a growth was refused; nothing changed then.
+    /// `NoMemory` if an allocation was refused; nothing changed then.
     pub fn echo(&mut self, draw: Draw, offer: &Init<'_>, cookie: &[u8]) -> Result<(), NoMemory>
         requires { 4 + length cookie.now < 2 ^ 16 }
         ensures step { (v : EndView) → MachineStands self.old v → OnOk result (MachineStands self.new (echoing v draw (init_meaning offer.now) cookie.now)) }
@@ -122,7 +123,7 @@ impl Machine {
     }
 }
 
-/// The traffic of an end that is set up so, on these terms.
+/// Sender and receiver of an endpoint of this configuration, on these terms. `peer_rwnd` is the window that the peer advertised, in bytes.
 fn begun_for(
     alloc: Global,
     config: &Config,
@@ -140,7 +141,7 @@ fn begun_for(
     Traffic::begun(alloc, terms, sizes, peer_rwnd)
 }
 
-/// The timers of a caller that sends its cookie back.
+/// The timers of a caller that echoes its cookie.
 fn echo_timers(timers: &mut Timers)
     ensures { (t : model.Tags) (xs : List ℕ) → timers_meaning timers.new ≡ timers_in (model.Echoing t xs) (timers_meaning timers.old) }
 {

@@ -1,5 +1,5 @@
-//! What an end asks of itself while an association opens, and what it does then (RFC 9260, 5.1 and 5.2.4): the caller that waits for an
-//! INIT ACK or for a COOKIE ACK, the key of a listener, and an end without an association.
+//! Opening an association (RFC 9260, 5.1 and 5.2.4): the caller that waits for an INIT ACK or for a COOKIE ACK, the listener that reads cookies, and
+//! an endpoint without an association.
 
 ghost use Rattle.std.specs.Prelude.{◌≡◌, true, false, ◌≤◌, ◌<◌, ◌+◌, ◌^◌, length, List, ℕ, Some, None, MatchOption, MatchResult, IfOk, OnErr};
 ghost use Rattle.sctp_model.specs.end.EndView.{EndView};
@@ -37,7 +37,7 @@ use sctp_wire::{Chunks, Init, NoMemory};
 impl Machine {
     // ---- the caller
 
-    /// The draw of a caller that waits for an INIT ACK (RFC 9260, 4: COOKIE-WAIT).
+    /// The random values (tag, initial TSN) of a caller that waits for an INIT ACK (RFC 9260, 4: COOKIE-WAIT).
     pub fn calling(&self) -> Option<Draw>
         ensures { (v : EndView) → MachineStands self.now v → MatchOption result (is_calling v.phase ≡ false) (λ d. v.phase ≡ model.Calling d) }
     {
@@ -47,7 +47,7 @@ impl Machine {
         }
     }
 
-    /// A caller waits for the COOKIE ACK (RFC 9260, 4: COOKIE-ECHOED).
+    /// It is a caller that waits for the COOKIE ACK (RFC 9260, 4: COOKIE-ECHOED).
     pub fn is_echoing(&self) -> bool
         ensures { (v : EndView) → MachineStands self.now v → result ≡ is_echoing v.phase }
     {
@@ -57,7 +57,7 @@ impl Machine {
         }
     }
 
-    /// The end may tell its peer what it doesn't know: a caller that knows no peer yet may not (RFC 9260, 3.2).
+    /// Unrecognized chunks and parameters may be reported to the peer: not by a caller that has no peer yet (RFC 9260, 3.2).
     pub fn may_report(&self) -> bool
         ensures { (v : EndView) → MachineStands self.now v → result ≡ may_report v.phase }
     {
@@ -67,7 +67,7 @@ impl Machine {
         }
     }
 
-    /// The cookie of an INIT ACK, which is to go back in a COOKIE ECHO: it has room in one packet (RFC 9260, 5.1.2).
+    /// The cookie of an INIT ACK, which a COOKIE ECHO returns: it fits one packet (RFC 9260, 5.1.2).
     ///
     /// # Errors
     /// Why the INIT ACK is refused; `refuse_ack` answers it.
@@ -77,15 +77,16 @@ impl Machine {
             (λ fault. ack_fault v (init_meaning offer.now) (value_of STATE_COOKIE offer.now.parameters) ≡ Some (cause_of fault)) }
         ensures small { IfOk result (λ cookie. 4 + length cookie.now < 2 ^ 16) }
     {
-        // So what has room in a packet has a length of 16 bits.
+        // By the clause of `limit` what fits a packet has a length of 16 bits.
         let _limit = self.config.limit();
         cookie_of(&self.config, offer)
     }
 
-    /// The end closes, and this packet tells the sender of an INIT ACK why, under its initiate tag (RFC 9260, 5.1.2 and 3.3.10).
+    /// Closes the endpoint. The packet is an ABORT that reports the fault to the sender of the INIT ACK, under its initiate tag (RFC 9260, 5.1.2 and
+    /// 3.3.10).
     ///
     /// # Errors
-    /// `NoMemory` where a growth was refused; nothing changed then.
+    /// `NoMemory` if an allocation was refused; nothing changed then.
     pub fn refuse_ack(&mut self, tag: u32, fault: AckFault) -> Result<Vec<u8>, NoMemory>
         ensures step { (v : EndView) → MachineStands self.old v → IfOk result (λ packet. WritesPacket packet.items (packet_to v.configuration tag (abort_for (cause_of fault)))
             × MachineStands self.new (closed model.AbortedHere v)) }
@@ -97,7 +98,7 @@ impl Machine {
         Ok(packet)
     }
 
-    /// The association of a caller whose cookie was taken is established (RFC 9260, 5.1, E).
+    /// A COOKIE ACK arrived: the caller's association is established (RFC 9260, 5.1, E).
     pub fn establish(&mut self)
         ensures { (v : EndView) (t : model.Tags) (xs : List ℕ) → MachineStands self.old v → v.phase ≡ model.Echoing t xs
             → MachineStands self.new (turned (model.Open t model.Established) v) }
@@ -118,7 +119,7 @@ impl Machine {
         self.due.acknowledge_cookie();
     }
 
-    /// What a listener reads in a cookie that came under this verification tag (RFC 9260, 5.1.5); None at an end that isn't one.
+    /// What a listener reads in a cookie that was received under this verification tag (RFC 9260, 5.1.5); None at an endpoint that doesn't listen.
     pub fn read_cookie(&self, tag: u32, cookie: &[u8]) -> Option<CookieReading>
         ensures { (v : EndView) → MachineStands self.now v → MatchOption result (seal_in v.role ≡ None)
             (λ r. (s : Sealing) × (seal_in v.role ≡ Some s) × (reading_meaning r ≡ cookie_read s v tag cookie.now)) }
@@ -141,7 +142,7 @@ impl Machine {
         }
     }
 
-    /// It listens, and there was no association yet (RFC 9260, 4).
+    /// It listens, and had no association yet (RFC 9260, 4: LISTEN).
     fn is_listening(&self) -> bool
         ensures { (v : EndView) → MachineStands self.now v → result ≡ is_listening v.phase }
     {
@@ -153,11 +154,11 @@ impl Machine {
 
     // ---- without an association
 
-    /// What becomes of a packet of these chunks, under this verification tag, where there is no association: nothing is kept of it. An INIT is
-    /// answered with this draw (RFC 9260, 5.1 and 8.4).
+    /// Judges a packet of these chunks, under this verification tag, if there is no association: nothing of it is kept. An INIT ACK has these random
+    /// values as its tag and initial TSN (RFC 9260, 5.1 and 8.4).
     ///
     /// # Errors
-    /// `NoMemory` where a growth was refused: only where the packet is answered.
+    /// `NoMemory` if an allocation was refused: only if the packet is answered.
     pub fn hear_outside(&self, draw: Draw, tag: u32, chunks: &Chunks<'_>) -> Result<Stray, NoMemory>
         ensures answer { (v : EndView) → MachineStands self.now v
             → IfOk result (λ told. IsTold told (body_among v tag chunks.now) (chunks_verdict v draw tag chunks.now)) }
@@ -167,7 +168,7 @@ impl Machine {
         self.outside(draw).hear(self.alloc, tag, chunks)
     }
 
-    /// What it answers such packets by.
+    /// Configuration, clock and key, by which such packets are judged.
     fn outside(&self, draw: Draw) -> Outside
         ensures answers { (v : EndView) → MachineStands self.now v → IsOutside result v }
         ensures drawn { result.draw ≡ draw }

@@ -1,4 +1,4 @@
-//! Which verification tags an end looks for (RFC 9260, 8.5).
+//! Which verification tags an endpoint accepts (RFC 9260, 8.5).
 
 ghost use Rattle.std.specs.Prelude.{◌≡◌, if◌then◌else◌};
 ghost use Rattle.sctp_model.specs.end.EndView.{EndView};
@@ -12,8 +12,8 @@ use crate::state::stage::Tags;
 
 #[tactic(auto, unfolding(crate::specs::MachineStands::MachineStands))]
 impl Machine {
-    /// A packet under this tag is for this end: the tag is its own, or its peer's where it is reflected, which an ABORT and a SHUTDOWN
-    /// COMPLETE may do (RFC 9260, 8.5.1). Without an association every tag is.
+    /// A packet with this tag is accepted: the tag is the endpoint's own, or its peer's if `reflected`, that is, if the packet's ABORT or SHUTDOWN
+    /// COMPLETE has the T bit set (RFC 9260, 8.5.1). Without an association every tag is accepted.
     pub fn passes_tag(&self, reflected: bool, tag: u32) -> bool
         ensures { (v : EndView) → MachineStands self.now v → result ≡ passes_tag v.phase reflected tag }
     {
@@ -25,7 +25,7 @@ impl Machine {
 }
 
 impl Unjoined {
-    /// The same before an association: a caller knows its own tag alone.
+    /// Before an association: a caller accepts its own tag alone, any other endpoint every tag.
     fn passes_tag(self, reflected: bool, tag: u32) -> bool
         ensures { result ≡ passes_tag (phase_unjoined self) reflected tag }
     {
@@ -39,7 +39,7 @@ impl Unjoined {
 }
 
 impl Association {
-    /// The same in an association: once it is over, every tag is right.
+    /// In an association: the tag that is asked for; once it is over, every tag.
     fn passes_tag(&self, reflected: bool, tag: u32) -> bool
         ensures { result ≡ passes_tag (phase_in self.now.tags self.now.progress) reflected tag }
     {

@@ -1,5 +1,5 @@
-//! What the peer is to be told of what couldn't be used: causes that wait for one ERROR, as many as a packet holds (RFC 9260, 3.3.10). All
-//! memory is taken before anything changes.
+//! What is reported to the peer in an ERROR: causes that are collected for the next one, as many as a packet holds (RFC 9260, 3.3.10). All memory is
+//! allocated before anything changes.
 
 ghost use Rattle.std.specs.Prelude.{◌≡◌, ℕ, ◌+◌, ◌<◌, ◌≤◌, ◌^◌, ◌∷◌, [], ◌++◌, List, length, true, vec_len, vec_capacity, IsOk, IfOk, OnOk, OnErr};
 ghost use Rattle.sctp_model.specs.numbers.Numbers.{u16_bytes, AreBytes};
@@ -19,7 +19,7 @@ use sctp_wire::codes::{INVALID_STREAM, UNRECOGNIZED_CHUNK};
 use sctp_wire::{padded, put_cause};
 use std::alloc::Global;
 
-/// The room of a short cause: the padding before it, its type and length, and four bytes.
+/// The space of a short cause, in bytes: the padding before it, its code and length, and four bytes of value.
 const SHORT_CAUSE: usize = 11;
 
 impl WaitingCauses {
@@ -29,10 +29,10 @@ impl WaitingCauses {
     ghost use Rattle.sctp_model.specs.end.EndView.{EndView};
     ghost use Rattle.sctp_model.specs.end.Reports.{item, written, fits_alone, causes_with};
 
-    /// Gets room for one short cause more.
+    /// Makes space for one more short cause.
     ///
     /// # Errors
-    /// `NoMemory` where a growth was refused; nothing changed then.
+    /// `NoMemory` if an allocation was refused; nothing changed then.
     #[inline(always)]
     pub(crate) fn make_room(&mut self) -> Result<(), NoMemory>
         ensures same { self.new.bytes.items ≡ self.old.bytes.items }
@@ -44,7 +44,7 @@ impl WaitingCauses {
         self.bytes.reserve(SHORT_CAUSE).map_err(|_| NoMemory)
     }
 
-    /// The ERROR fits a packet with one cause more, whose value has so many bytes.
+    /// The ERROR still fits a packet with one more cause, whose value has `size` bytes.
     pub(crate) fn has_room(&self, config: &Config, size: usize) -> bool
         ensures exact { (e : EndView) (x : Typed) → e.configuration ≡ config.now → WritesTyped self.now.bytes.items e.due.causes → length x.value ≡ size
             → result ≡ fits_alone e (Error (written (e.due.causes ++ x ∷ []))) }
@@ -58,10 +58,10 @@ impl WaitingCauses {
         size <= room - used
     }
 
-    /// A cause joins those that wait, unless the ERROR of them all would pass the packet limit.
+    /// Adds a cause to the next ERROR, unless the ERROR would be longer than the packet limit.
     ///
     /// # Errors
-    /// `NoMemory` where a growth was refused; nothing changed then.
+    /// `NoMemory` if an allocation was refused; nothing changed then.
     pub(crate) fn report(
         &mut self,
         config: &Config,
@@ -71,7 +71,7 @@ impl WaitingCauses {
         ensures step { (e : EndView) → e.configuration ≡ config.now → WritesTyped self.old.bytes.items e.due.causes
             → OnOk result (WritesTyped self.new.bytes.items (causes_with e (item cause value.now))) }
         ensures refused { OnErr result (self.new.bytes.items ≡ self.old.bytes.items) }
-        // A short cause that has room takes no memory.
+        // A short cause that has its space doesn't allocate.
         ensures memory { length value.now ≤ 4 → length self.old.bytes.items + 11 ≤ vec_capacity self.old.bytes → IsOk result }
     {
         if !self.has_room(config, value.len()) {
@@ -81,10 +81,10 @@ impl WaitingCauses {
     }
 }
 
-/// Appends a cause to causes that stay short enough for a chunk with it.
+/// Appends a cause to causes that stay short enough for one chunk with it.
 ///
 /// # Errors
-/// `NoMemory` where a growth was refused; the causes are then as before.
+/// `NoMemory` if an allocation was refused; the causes are then as before.
 fn put_short(cause: u16, value: &[u8], causes: &mut Vec<u8>) -> Result<(), NoMemory>
     requires { padded (length causes.old.items) + 4 + length value.now < 1500 }
     ensures writes { (xs : List Typed) → WritesTyped causes.old.items xs → OnOk result (WritesTyped causes.new.items (xs ++ item cause value.now ∷ [])) }
@@ -98,7 +98,8 @@ fn put_short(cause: u16, value: &[u8], causes: &mut Vec<u8>) -> Result<(), NoMem
     put_cause(cause, value, causes)
 }
 
-/// Each byte of a slice is one.
+// law
+/// Each element of a slice of bytes is below 256.
 fn are_bytes(bytes: &[u8])
     ensures { AreBytes bytes.now }
 {
@@ -107,7 +108,7 @@ fn are_bytes(bytes: &[u8])
 
 #[tactic(auto, unfolding(crate::specs::MachineStands::MachineStands))]
 impl Machine {
-    /// A stream that isn't there is reported (RFC 9260, 3.3.10.1). There is room for it.
+    /// Reports an invalid stream (RFC 9260, 3.3.10.1). There is space for the cause.
     #[inline(never)]
     pub(crate) fn report_stream(&mut self, stream: u16)
         requires { length self.old.due.causes.bytes.items + 11 ≤ vec_capacity self.old.due.causes.bytes }
@@ -124,10 +125,10 @@ impl Machine {
         }
     }
 
-    /// A chunk of an unknown type is reported, header and value, where the ERROR with it fits a packet (RFC 9260, 3.2 and 3.3.10.6).
+    /// Reports a chunk of an unrecognized type, with header and value, if the ERROR with it fits a packet (RFC 9260, 3.2 and 3.3.10.6).
     ///
     /// # Errors
-    /// `NoMemory` where a growth was refused; nothing changed then.
+    /// `NoMemory` if an allocation was refused; nothing changed then.
     pub fn report_chunk(&mut self, kind: u8, flags: u8, value: &[u8]) -> Result<(), NoMemory>
         ensures step { (v : EndView) → MachineStands self.old v → OnOk result (MachineStands self.new (with_causes (causes_with v (unknown_item kind flags value.now)) v)) }
         ensures refused { (v : EndView) → MachineStands self.old v → OnErr result (MachineStands self.new v) }
@@ -142,7 +143,7 @@ impl Machine {
     }
 }
 
-/// The value of the cause for a stream that isn't there: its number, and two reserved bytes (RFC 9260, 3.3.10.1).
+/// The value of the cause Invalid Stream Identifier: the stream, and two reserved bytes (RFC 9260, 3.3.10.1).
 #[tactic(auto, unfolding(sctp_model::specs::numbers::Numbers::u16_bytes))]
 fn stream_value(stream: u16) -> [u8; 4]
     ensures { result ≡ u16_bytes stream ++ 0 ∷ 0 ∷ [] }
@@ -150,10 +151,10 @@ fn stream_value(stream: u16) -> [u8; 4]
     [(stream / 256 % 256) as u8, (stream % 256) as u8, 0, 0]
 }
 
-/// A chunk as it stands in a packet, without padding (RFC 9260, 3.2).
+/// The bytes of a chunk in a packet, without padding (RFC 9260, 3.2).
 ///
 /// # Errors
-/// `NoMemory` where a growth was refused.
+/// `NoMemory` if an allocation was refused.
 #[tactic(auto, unfolding(sctp_model::specs::numbers::Numbers::u16_bytes))]
 fn chunk_bytes(alloc: Global, kind: u8, flags: u8, value: &[u8]) -> Result<Vec<u8>, NoMemory>
     requires { 4 + length value.now < 2 ^ 16 }

@@ -1,4 +1,4 @@
-//! Bytes that an end keeps until they go out in a chunk. Each type knows what lets it go there, so that a chunk is built without asking again.
+//! Bytes that are kept until they go out in a chunk. Each type carries the fact that they fit one, so that building the chunk can't fail for it.
 
 ghost use Rattle.std.specs.Prelude.{◌≡◌, ◌<◌, ◌+◌, ◌^◌, true, length, IfOk};
 ghost use Rattle.sctp_model.specs.wire.Typed.{are_typed, AreAsWritten};
@@ -9,7 +9,7 @@ use sctp_values::NoMemory;
 use sctp_wire::Parameters;
 use std::alloc::Global;
 
-/// The value of a HEARTBEAT, which its answer brings back (RFC 9260, 8.3).
+/// The value of a HEARTBEAT, which the HEARTBEAT ACK returns (RFC 9260, 8.3).
 #[derive(Drop)]
 pub(crate) struct HeartbeatInfo {
     pub(crate) bytes: Vec<u8>,
@@ -23,7 +23,7 @@ pub(crate) struct EchoedCookie {
     ghost small: { 4 + length bytes.items < 2 ^ 16 },
 }
 
-/// What the peer is to be told in one ERROR: its causes, as they are written there (RFC 9260, 3.3.10).
+/// The causes that the next ERROR reports to the peer, as they are written there (RFC 9260, 3.3.10).
 #[derive(Drop)]
 pub(crate) struct WaitingCauses {
     pub(crate) bytes: Vec<u8>,
@@ -38,7 +38,7 @@ impl HeartbeatInfo {
     /// A copy of the value.
     ///
     /// # Errors
-    /// Memory ran out.
+    /// `NoMemory` if an allocation was refused.
     pub(crate) fn copied(alloc: Global, info: &[u8]) -> Result<HeartbeatInfo, NoMemory>
         requires { 4 + length info.now < 2 ^ 16 }
         ensures { IfOk result (λ h. h.bytes.items ≡ info.now) }
@@ -55,7 +55,7 @@ impl EchoedCookie {
     /// A copy of the cookie.
     ///
     /// # Errors
-    /// Memory ran out.
+    /// `NoMemory` if an allocation was refused.
     pub(crate) fn copied(alloc: Global, cookie: &[u8]) -> Result<EchoedCookie, NoMemory>
         requires { 4 + length cookie.now < 2 ^ 16 }
         ensures { IfOk result (λ c. c.bytes.items ≡ cookie.now) }
@@ -83,11 +83,11 @@ impl WaitingCauses {
         }
     }
 
-    /// These causes, and behind them one that reports the unknown parameters of an INIT ACK, as far as the ERROR with it fits a packet
+    /// These causes, and after them one that reports the unrecognized parameters of an INIT ACK, if the ERROR with it fits a packet
     /// (RFC 9260, 3.3.10.8).
     ///
     /// # Errors
-    /// Memory ran out.
+    /// `NoMemory` if an allocation was refused.
     pub(crate) fn with_ack_report(
         &self,
         alloc: Global,
@@ -103,7 +103,7 @@ impl WaitingCauses {
     }
 }
 
-/// The same bytes once more.
+/// A copy of these bytes.
 fn copy_of(alloc: Global, bytes: &[u8]) -> Result<Vec<u8>, NoMemory>
     ensures { IfOk result (λ copy. copy.items ≡ bytes.now) }
 {

@@ -1,4 +1,4 @@
-//! How an end goes from state to state, and what follows at once (RFC 9260, 9.2).
+//! Transitions between the states of an open association, and its closing (RFC 9260, 9.2).
 
 ghost use Rattle.std.specs.Prelude.{◌≡◌};
 ghost use Rattle.sctp_model.specs.end.EndView.{EndView};
@@ -18,7 +18,7 @@ use sctp_terms::End;
 
 #[tactic(auto, unfolding(crate::specs::MachineStands::MachineStands))]
 impl Machine {
-    /// An open association goes to this stage: what only another state sends is forgotten, and its timers rest.
+    /// An open association enters this stage: chunks that only another state sends are no longer due, and its timers stop.
     pub fn turn(&mut self, stage: Stage)
         ensures { (v : EndView) (t : model.Tags) (g : model.Stage) → MachineStands self.old v → v.phase ≡ model.Open t g
             → MachineStands self.new (turned (model.Open t (stage_meaning stage)) v) }
@@ -30,7 +30,7 @@ impl Machine {
         }
     }
 
-    /// The end is closed for good, for this reason: it sends nothing more, and waits for nothing.
+    /// Closes the endpoint for good, for this reason: it sends nothing more and runs no timer.
     pub fn close(&mut self, why: End)
         ensures { (v : EndView) → MachineStands self.old v → MachineStands self.new (closed (end_meaning why) v) }
     {
@@ -44,9 +44,10 @@ impl Machine {
         }
     }
 
-    /// An end that has nothing left to be acknowledged goes on with closing at once (RFC 9260, 9.2).
+    /// Goes on with closing as soon as nothing is left to be acknowledged: SHUTDOWN-PENDING becomes SHUTDOWN-SENT, SHUTDOWN-RECEIVED becomes
+    /// SHUTDOWN-ACK-SENT, and the chunk of that state is due (RFC 9260, 9.2).
     #[inline(always)]
-    pub fn rest(&mut self)
+    pub fn advance_closing(&mut self)
         ensures { (v : EndView) → MachineStands self.old v → MachineStands self.new (rested v) }
     {
         let Some(opened) = self.opened() else {
@@ -55,12 +56,12 @@ impl Machine {
         if opened.stage.is_established() {
             return;
         }
-        self.rest_in(opened.stage);
+        self.advance_closing_in(opened.stage);
     }
 
-    /// The same in this stage, in which the association is open.
+    /// Goes on with closing in this stage, if nothing is left to be acknowledged.
     #[inline(never)]
-    fn rest_in(&mut self, stage: Stage)
+    fn advance_closing_in(&mut self, stage: Stage)
         ensures { (v : EndView) (t : model.Tags) → MachineStands self.old v → v.phase ≡ model.Open t (stage_meaning stage) → MachineStands self.new (rested v) }
     {
         if !self.is_drained() {
@@ -69,18 +70,18 @@ impl Machine {
         match stage {
             Stage::ShutdownPending => {
                 self.turn(Stage::ShutdownSent);
-                self.due.shut();
+                self.due.owe_shutdown();
             }
             Stage::ShutdownReceived => {
                 self.turn(Stage::ShutdownAckSent);
-                self.due.answer_shut();
+                self.due.owe_shutdown_ack();
             }
             _ => {}
         }
     }
 }
 
-/// The timers of an association that goes to this stage.
+/// The timers of an association that enters this stage: those of other states stop.
 pub(crate) fn turn_timers(timers: &mut Timers, stage: Stage)
     ensures { (t : model.Tags) → timers_meaning timers.new ≡ timers_in (model.Open t (stage_meaning stage)) (timers_meaning timers.old) }
 {

@@ -1,4 +1,5 @@
-//! What goes into an end's next packets (RFC 9260, 6.10): the one place that says "later". It knows nothing of states and timers.
+//! The chunks that are due: what goes into the next packets (RFC 9260, 6.10), the one place where a chunk is scheduled for later. It doesn't know
+//! states or timers.
 
 ghost use Rattle.std.specs.Prelude.{ℕ, List, ◌≡◌, ◌||◌, ◌&&◌, ◌+◌, ◌≤◌, ◌∷◌, [], nat_le, true, false, if◌then◌else◌, length, option_map, Some, None, vec_len, vec_capacity, IsOk, OnOk, OnErr};
 ghost use Rattle.sctp_model.specs.wire.Typed.{Typed, WritesTyped};
@@ -14,15 +15,15 @@ use crate::state::carried::{HeartbeatInfo, WaitingCauses};
 use crate::state::stage::Stage;
 use std::alloc::Global;
 
-/// What is due, in the order in which a packet is filled.
+/// The chunks that are due, in the order in which a packet is filled.
 #[derive(Drop)]
 pub(crate) struct Due {
     pub(crate) init: bool,
     pub(crate) cookie_echo: bool,
     pub(crate) cookie_ack: bool,
-    /// The value that the last HEARTBEAT asks back.
+    /// The value of the latest HEARTBEAT that isn't answered yet.
     pub(crate) heartbeat: Option<HeartbeatInfo>,
-    /// What the peer is to be told in one ERROR.
+    /// The causes that the next ERROR reports.
     pub(crate) causes: WaitingCauses,
     pub(crate) sack: bool,
     pub(crate) forward: bool,
@@ -31,7 +32,7 @@ pub(crate) struct Due {
 }
 
 impl Due {
-    /// Nothing at all.
+    /// Nothing is due.
     pub(crate) fn nothing(alloc: Global) -> Due
         ensures { DueStands result nothing_due }
     {
@@ -55,7 +56,7 @@ impl Due {
         *self = Due::nothing(alloc);
     }
 
-    /// The association goes to this stage: what only another state sends is forgotten (RFC 9260, 4).
+    /// The association enters this stage: chunks that only another state sends are no longer due (RFC 9260, 4).
     pub(crate) fn turn(&mut self, stage: Stage)
         ensures { (d : model.Due) (t : model.Tags) → DueStands self.old d → DueStands self.new (due_in (model.Open t (stage_meaning stage)) d) }
     {
@@ -65,7 +66,7 @@ impl Due {
         self.shutdown_ack = self.shutdown_ack && stage.is_shutdown_ack_sent();
     }
 
-    /// The association begins at a listener: the caller is to be told by a COOKIE ACK (RFC 9260, 5.1, D).
+    /// The association begins at the listener: a COOKIE ACK is due (RFC 9260, 5.1, D).
     pub(crate) fn begin(&mut self)
         ensures { (d : model.Due) (t : model.Tags) → DueStands self.old d → DueStands self.new (record (due_in (model.Open t model.Established) d) { cookie_ack = true }) }
     {
@@ -73,7 +74,7 @@ impl Due {
         self.acknowledge_cookie();
     }
 
-    /// The association begins at the caller: its cookie is to go back, with these causes behind it (RFC 9260, 5.1, C).
+    /// The association begins at the caller: a COOKIE ECHO is due, and these causes after it (RFC 9260, 5.1, C).
     pub(crate) fn echo(&mut self, causes: WaitingCauses)
         ensures { (d : model.Due) (t : model.Tags) (xs : List ℕ) (ys : List Typed) → DueStands self.old d → WritesTyped causes.bytes.items ys
             → DueStands self.new (record (due_in (model.Echoing t xs) d) { cookie_echo = true; causes = ys }) }
@@ -85,7 +86,7 @@ impl Due {
         self.shutdown_ack = false;
     }
 
-    /// The end calls: INIT is due, and nothing that only another state sends (RFC 9260, 5.1, A).
+    /// The endpoint calls: an INIT is due, and nothing that only another state sends (RFC 9260, 5.1, A).
     pub(crate) fn call(&mut self)
         ensures { (d : model.Due) (x : model.Draw) → DueStands self.old d → DueStands self.new (record (due_in (model.Calling x) d) { init = true }) }
     {
@@ -95,7 +96,7 @@ impl Due {
         self.shutdown_ack = false;
     }
 
-    /// INIT goes out once more (RFC 9260, 5.1, A).
+    /// The INIT is due again (RFC 9260, 5.1, A).
     #[inline(always)]
     pub(crate) fn repeat_init(&mut self)
         ensures { (d : model.Due) → DueStands self.old d → DueStands self.new (record d { init = true }) }
@@ -103,7 +104,7 @@ impl Due {
         self.init = true;
     }
 
-    /// The cookie goes back once more (RFC 9260, 5.1, C).
+    /// The COOKIE ECHO is due again (RFC 9260, 5.1, C).
     #[inline(always)]
     pub(crate) fn repeat_echo(&mut self)
         ensures { (d : model.Due) → DueStands self.old d → DueStands self.new (record d { cookie_echo = true }) }
@@ -111,7 +112,7 @@ impl Due {
         self.cookie_echo = true;
     }
 
-    /// The caller's cookie is to be acknowledged (RFC 9260, 5.1, D and 5.2.4).
+    /// A COOKIE ACK is due (RFC 9260, 5.1, D and 5.2.4).
     #[inline(always)]
     pub(crate) fn acknowledge_cookie(&mut self)
         ensures { (d : model.Due) → DueStands self.old d → DueStands self.new (record d { cookie_ack = true }) }
@@ -119,7 +120,7 @@ impl Due {
         self.cookie_ack = true;
     }
 
-    /// The value of a HEARTBEAT is to go back; an older one that waits is forgotten (RFC 9260, 8.3).
+    /// A HEARTBEAT ACK with this value is due; an older one that is still due is replaced (RFC 9260, 8.3).
     #[inline(always)]
     pub(crate) fn bring_back(&mut self, info: HeartbeatInfo)
         ensures { (d : model.Due) (xs : List ℕ) → DueStands self.old d → info.bytes.items ≡ xs → DueStands self.new (record d { heartbeat = Some xs }) }
@@ -127,7 +128,7 @@ impl Due {
         self.heartbeat = Some(info);
     }
 
-    /// A SACK is due, or is due no more (RFC 9260, 6.2).
+    /// Sets whether a SACK is due (RFC 9260, 6.2).
     #[inline(always)]
     pub(crate) fn owe_sack(&mut self, is_due: bool)
         ensures { (d : model.Due) → DueStands self.old d → DueStands self.new (record d { sack = is_due }) }
@@ -135,7 +136,7 @@ impl Due {
         self.sack = is_due;
     }
 
-    /// A FORWARD is due, or is due no more (RFC 3758, 3.5).
+    /// Sets whether a FORWARD-TSN is due (RFC 3758, 3.5).
     #[inline(always)]
     pub(crate) fn owe_forward(&mut self, is_due: bool)
         ensures { (d : model.Due) → DueStands self.old d → DueStands self.new (record d { forward = is_due }) }
@@ -145,7 +146,7 @@ impl Due {
 
     /// A SHUTDOWN is due (RFC 9260, 9.2).
     #[inline(always)]
-    pub(crate) fn shut(&mut self)
+    pub(crate) fn owe_shutdown(&mut self)
         ensures { (d : model.Due) → DueStands self.old d → DueStands self.new (record d { shutdown = true }) }
     {
         self.shutdown = true;
@@ -153,27 +154,27 @@ impl Due {
 
     /// A SHUTDOWN ACK is due (RFC 9260, 9.2).
     #[inline(always)]
-    pub(crate) fn answer_shut(&mut self)
+    pub(crate) fn owe_shutdown_ack(&mut self)
         ensures { (d : model.Due) → DueStands self.old d → DueStands self.new (record d { shutdown_ack = true }) }
     {
         self.shutdown_ack = true;
     }
 
-    /// A FORWARD is due where the point moved (RFC 3758, 3.5).
+    /// A FORWARD-TSN is due if the Advanced Peer Ack Point moved (RFC 3758, 3.5).
     pub(crate) fn skip(&mut self, moved: bool)
         ensures { (d : model.Due) → DueStands self.old d → DueStands self.new (record d { forward = d.forward || moved }) }
     {
         self.forward = self.forward || moved;
     }
 
-    /// A FORWARD is due no more where the point isn't past the cumulative index (RFC 3758, 3.5).
+    /// A FORWARD-TSN is no longer due unless the Advanced Peer Ack Point is past the cumulative TSN Ack Point (RFC 3758, 3.5).
     pub(crate) fn settle(&mut self, past: bool)
         ensures { (d : model.Due) → DueStands self.old d → DueStands self.new (record d { forward = d.forward && past }) }
     {
         self.forward = self.forward && past;
     }
 
-    /// Something is to be acknowledged in this stage: a SACK is due, and in SHUTDOWN SENT the SHUTDOWN again (RFC 9260, 6.2 and 9.2).
+    /// Received data is to be acknowledged in this stage: a SACK is due, and in SHUTDOWN-SENT the SHUTDOWN again (RFC 9260, 6.2 and 9.2).
     pub(crate) fn acknowledge(&mut self, stage: Stage)
         ensures { (d : model.Due) → DueStands self.old d → DueStands self.new (record d { sack = true; shutdown = d.shutdown || is_shutdown_sent (stage_meaning stage) }) }
     {

@@ -1,5 +1,5 @@
-//! Where an end stands in its life, with what it has there alone (RFC 9260, 4). The state owns its data: sender and receiver are there exactly
-//! where there is an association, also once it is over.
+//! The states of an endpoint (RFC 9260, 4), each with the data that it has in that state alone: sender and receiver exist exactly if there is or
+//! was an association.
 
 ghost use Rattle.std.specs.Prelude.{◌≡◌, Bool, false, MatchOption};
 ghost use Rattle.sctp_model.specs.end.EndView as model;
@@ -17,18 +17,18 @@ use sctp_cookie::Key;
 use sctp_opening::Terms;
 use sctp_terms::{Draw, End};
 
-/// How an end came to be.
+/// How an endpoint was created.
 #[derive(Drop)]
 pub(crate) enum Role {
-    /// It calls.
+    /// It calls, by an INIT.
     Caller,
-    /// It listens, and its cookies are sealed with this key.
+    /// It listens; this key seals its cookies.
     Listener(Key),
-    /// It was opened together with its peer, without packets.
+    /// It was created established, together with its peer, without packets.
     Paired,
 }
 
-/// Where an end stands in its life.
+/// The state of an endpoint.
 #[derive(Drop)]
 pub(crate) enum Life {
     /// There was no association yet.
@@ -37,20 +37,20 @@ pub(crate) enum Life {
     Joined(Association),
 }
 
-/// Where an end stands that never had an association.
+/// The state of an endpoint that never had an association.
 #[derive(Clone, Copy)]
 pub(crate) enum Unjoined {
     /// Nothing happened yet.
     Idle,
-    /// It waits for a cookie, and remembers nothing.
+    /// It waits for a COOKIE ECHO, and keeps no state.
     Listening,
-    /// The caller remembers what it drew.
+    /// It sent or is to send its INIT, with this tag and initial TSN.
     Calling(Draw),
-    /// Over before there was an association.
+    /// Closed for good before there was an association.
     Failed(End),
 }
 
-/// An association: there as soon as both tags and all terms are known, also once it is over.
+/// An association: it exists as soon as both tags and all terms are known, and also once it is over.
 #[derive(Drop)]
 pub(crate) struct Association {
     pub(crate) tags: Tags,
@@ -59,18 +59,18 @@ pub(crate) struct Association {
     pub(crate) traffic: Traffic,
 }
 
-/// How far an association has come.
+/// The progress of an association.
 #[derive(Drop)]
 pub(crate) enum Progress {
-    /// Its cookie is on the way back to the listener.
+    /// COOKIE ECHOED: the cookie goes back to the listener.
     Echoing(EchoedCookie),
-    /// Both ends are there.
+    /// Open, in this stage.
     Open(Stage),
-    /// It is over for good.
+    /// Closed for good.
     Over(End),
 }
 
-/// Of an association that is open: its tags, and how far it has come.
+/// The tags and the stage of an open association.
 #[derive(Clone, Copy)]
 pub struct Opened {
     pub tags: Tags,
@@ -78,7 +78,7 @@ pub struct Opened {
 }
 
 impl Unjoined {
-    /// What a caller drew that waits for an INIT ACK.
+    /// The tag and initial TSN of a caller that waits for an INIT ACK.
     pub(crate) fn calling(&self) -> Option<Draw>
         ensures { MatchOption result (is_calling (phase_unjoined self.now) ≡ false) (λ d. phase_unjoined self.now ≡ model.Calling d) }
     {
@@ -92,7 +92,7 @@ impl Unjoined {
 }
 
 impl Association {
-    /// Its tags and its stage, while it is open.
+    /// Tags and stage, while it is open.
     pub(crate) fn opened(&self) -> Option<Opened>
         ensures { MatchOption result ((says : model.Stage → Bool) → hears says (phase_in self.now.tags self.now.progress) ≡ false)
             (λ o. phase_in self.now.tags self.now.progress ≡ model.Open (tags_meaning o.tags) (stage_meaning o.stage)) }
@@ -106,7 +106,7 @@ impl Association {
         }
     }
 
-    /// The tag of the peer, unless all is over.
+    /// The peer's tag, unless the association is over.
     pub(crate) fn peer_tag(&self) -> Option<u32>
         ensures { result ≡ peer_tag (phase_in self.now.tags self.now.progress) }
     {

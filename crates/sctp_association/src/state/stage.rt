@@ -1,4 +1,4 @@
-//! The states in which an association has both its ends, and the tags of its packets (RFC 9260, 4 and 8.5).
+//! The states of an open association, and the verification tags of its packets (RFC 9260, 4 and 8.5).
 
 ghost use Rattle.std.specs.Prelude.{◌≡◌};
 ghost use Rattle.sctp_model.specs.end.EndView as model;
@@ -7,25 +7,25 @@ ghost use Rattle.sctp_model.specs.end.Closing.{takes_data, takes_acknowledgement
 ghost use Rattle.sctp_model.specs.end.UserCalls.{is_established};
 ghost use Rattle.sctp_association.specs.StageMeans.{stage_meaning};
 
-/// The verification tags of an association: packets to this end carry the first, packets from it the second (RFC 9260, 8.5).
+/// The verification tags of an association: packets to this endpoint carry `own`, packets from it `peer` (RFC 9260, 8.5).
 #[derive(Clone, Copy)]
 pub struct Tags {
     pub own: u32,
     pub peer: u32,
 }
 
-/// How far an association has come that has both its ends (RFC 9260, 4).
+/// The state of an open association (RFC 9260, 4).
 #[derive(Clone, Copy)]
 pub enum Stage {
-    /// Both users may send.
+    /// ESTABLISHED: both users may send.
     Established,
-    /// The user has no more to send; what waits still goes out.
+    /// SHUTDOWN-PENDING: the user called `shutdown`; what is queued still goes out.
     ShutdownPending,
-    /// All was acknowledged, and the peer is told.
+    /// SHUTDOWN-SENT: all was acknowledged, and a SHUTDOWN is sent.
     ShutdownSent,
-    /// The peer has no more to send; what waits here still goes out.
+    /// SHUTDOWN-RECEIVED: the peer sent a SHUTDOWN; what is queued here still goes out.
     ShutdownReceived,
-    /// All was acknowledged here too, and the peer is answered.
+    /// SHUTDOWN-ACK-SENT: all was acknowledged here too, and a SHUTDOWN ACK is sent.
     ShutdownAckSent,
 }
 
@@ -52,7 +52,7 @@ impl Stage {
         matches!(self, Stage::ShutdownAckSent)
     }
 
-    /// Data and FORWARDs act: until the peer has shut its direction (RFC 9260, 6.2 and 9.2).
+    /// User data and FORWARD-TSN are processed: until the peer has sent its SHUTDOWN (RFC 9260, 6.2 and 9.2).
     pub fn takes_data(self) -> bool
         ensures { result ≡ takes_data (stage_meaning self) }
     {
@@ -62,7 +62,8 @@ impl Stage {
         )
     }
 
-    /// SACKs act, and the cumulative TSN of a SHUTDOWN: until this end has closed its direction (RFC 9260, 6.2.1 and 9.2).
+    /// SACKs and the cumulative TSN of a SHUTDOWN are processed: until all data of this endpoint is acknowledged and its closing went on (RFC
+    /// 9260, 6.2.1 and 9.2).
     pub fn takes_acknowledgements(self) -> bool
         ensures { result ≡ takes_acknowledgements (stage_meaning self) }
     {
@@ -72,21 +73,21 @@ impl Stage {
         )
     }
 
-    /// A COOKIE ECHO that comes again is answered (RFC 9260, 5.2.4).
+    /// A repeated COOKIE ECHO is answered (RFC 9260, 5.2.4).
     pub fn takes_cookies(self) -> bool
         ensures { result ≡ takes_cookies (stage_meaning self) }
     {
         !matches!(self, Stage::ShutdownAckSent)
     }
 
-    /// SHUTDOWN ACK completes the association (RFC 9260, 9.2).
+    /// A SHUTDOWN ACK closes the association (RFC 9260, 9.2).
     pub fn awaits_shutdown_ack(self) -> bool
         ensures { result ≡ awaits_ack (stage_meaning self) }
     {
         matches!(self, Stage::ShutdownSent | Stage::ShutdownAckSent)
     }
 
-    /// SHUTDOWN COMPLETE completes the association (RFC 9260, 9.2).
+    /// A SHUTDOWN COMPLETE closes the association (RFC 9260, 9.2).
     pub fn awaits_shutdown_complete(self) -> bool
         ensures { result ≡ awaits_complete (stage_meaning self) }
     {

@@ -1,5 +1,5 @@
-//! How a packet is acknowledged that had something to acknowledge: at once, or by a SACK that waits for a second one or for its moment
-//! (RFC 9260, 6.2 and 9.2).
+//! Delayed acknowledgement: a packet with user data is acknowledged at once, or by a SACK that is delayed until a second packet arrives or until
+//! 200 ms are over (RFC 9260, 6.2 and 9.2).
 
 ghost use Rattle.std.specs.Prelude.{◌≡◌, ◌&&◌, true, if◌then◌else◌};
 ghost use Rattle.sctp_model.specs.end.EndView.{EndView};
@@ -16,7 +16,8 @@ use sctp_values::SACK_DELAY;
 
 #[tactic(auto, unfolding(crate::specs::MachineStands::MachineStands))]
 impl Machine {
-    /// What came left a gap, at an end that delays its SACKs; at another one it makes no difference (RFC 9260, 6.2).
+    /// Received TSNs have a gap, at an endpoint that delays its SACKs: such a packet is acknowledged at once. Without delayed SACKs the answer makes
+    /// no difference (RFC 9260, 6.2).
     pub fn leaves_gap(&self) -> bool
         ensures { (v : EndView) → MachineStands self.now v → LeavesGap v result }
     {
@@ -26,7 +27,7 @@ impl Machine {
         self.has_gap()
     }
 
-    /// An index above the cumulative one came: one below it is missing (RFC 9260, 6.2).
+    /// A TSN above the cumulative one was received: one below it is missing (RFC 9260, 6.2).
     fn has_gap(&self) -> bool
         ensures { (v : EndView) → MachineStands self.now v → TellsGap result v.receiver }
     {
@@ -36,8 +37,10 @@ impl Machine {
         }
     }
 
-    /// A packet had something to acknowledge, at once or not, and brought user data or not: a SACK is due, and in SHUTDOWN SENT the SHUTDOWN again,
-    /// or a SACK waits where it may. Nothing where the association isn't open any more (RFC 9260, 6.2 and 9.2).
+    /// Call it at the end of a packet that had something to acknowledge: `at_once` if it may not be delayed, `brings_data` if it held user data. A
+    /// SACK is due, and in SHUTDOWN-SENT the SHUTDOWN again; or a SACK is delayed by 200 ms, if the endpoint delays SACKs and none is owed yet. With
+    /// standard closing, data in SHUTDOWN-SENT restarts the SHUTDOWN's timer and its count. Nothing if the association isn't open (RFC 9260, 6.2
+    /// and 9.2).
     pub fn acknowledge(&mut self, at_once: bool, brings_data: bool)
         ensures { (v : EndView) (n : Notes) → n.at_once ≡ at_once → n.brings_data ≡ brings_data → MachineStands self.old v
             → MachineStands self.new (acknowledges_in n true v.phase v) }
@@ -49,7 +52,7 @@ impl Machine {
         self.keep_going(brings_data, opened.stage);
     }
 
-    /// A SACK is due, or waits where it may (RFC 9260, 6.2).
+    /// A SACK is due, or delayed if it may be (RFC 9260, 6.2).
     fn owe_sack(&mut self, at_once: bool, stage: Stage)
         ensures { (v : EndView) (n : Notes) → n.at_once ≡ at_once → MachineStands self.old v
             → MachineStands self.new (if is_at_once n (stage_meaning stage) v then acknowledges (stage_meaning stage) v else delays v) }
@@ -61,21 +64,22 @@ impl Machine {
         self.delayed = Some(self.moment.saturating_add(SACK_DELAY));
     }
 
-    /// A SACK may not wait: the end doesn't delay, the packet asks for it, it is the second one, or a SHUTDOWN was sent (RFC 9260, 6.2 and 9.2).
+    /// The SACK may not be delayed: the endpoint doesn't delay SACKs, the packet asks for one at once, it is the second packet, or a SHUTDOWN was sent
+    /// (RFC 9260, 6.2 and 9.2).
     fn is_at_once(&self, at_once: bool, stage: Stage) -> bool
         ensures { (v : EndView) (n : Notes) → n.at_once ≡ at_once → MachineStands self.now v → result ≡ is_at_once n (stage_meaning stage) v }
     {
         !self.config.delay() || (at_once || (self.owes_sack() || stage.is_shutdown_sent()))
     }
 
-    /// A packet was acted on since the last SACK went out: a SACK is due, or waits.
+    /// A packet was received since the last SACK was sent: a SACK is due or delayed.
     fn owes_sack(&self) -> bool
         ensures { (v : EndView) → MachineStands self.now v → result ≡ owes_sack v }
     {
         self.due.sack || self.delayed.is_some()
     }
 
-    /// With standard closing user data in SHUTDOWN SENT clears the count of the SHUTDOWN's timer, which begins anew where it runs (RFC 9260, 9.2).
+    /// With standard closing, user data in SHUTDOWN-SENT clears the count of the SHUTDOWN's timer and restarts it if it runs (RFC 9260, 9.2).
     fn keep_going(&mut self, brings_data: bool, stage: Stage)
         ensures { (v : EndView) → MachineStands self.old v
             → MachineStands self.new (kept_going (v.configuration.standard_closing && (brings_data && is_shutdown_sent (stage_meaning stage))) v) }
@@ -85,7 +89,7 @@ impl Machine {
         }
     }
 
-    /// It does so: standard closing is asked for, user data came, and a SHUTDOWN was sent.
+    /// User data restarts the SHUTDOWN's timer: standard closing is configured, and a SHUTDOWN was sent.
     fn keeps_going(&self, brings_data: bool, stage: Stage) -> bool
         ensures { (v : EndView) → MachineStands self.now v
             → result ≡ (v.configuration.standard_closing && (brings_data && is_shutdown_sent (stage_meaning stage))) }

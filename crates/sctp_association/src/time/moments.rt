@@ -1,5 +1,5 @@
-//! Time at an end: what is past its time is abandoned, then each timer that is due expires once, and a SACK that waited is due (RFC 9260, 5.1,
-//! 6.2, 6.3.3 and 9.2; RFC 3758, 3.5). Nothing here takes memory.
+//! What the time does to an endpoint: messages whose lifetime is over are abandoned, then each timer that is due expires once, and a delayed SACK is
+//! due (RFC 9260, 5.1, 6.2, 6.3.3 and 9.2; RFC 3758, 3.5). Nothing here allocates.
 
 ghost use Rattle.std.specs.Prelude.{◌≡◌};
 ghost use Rattle.sctp_model.specs.sender.SenderView.{SenderView};
@@ -18,41 +18,41 @@ use sctp_terms::End;
 
 #[tactic(auto, unfolding(crate::specs::MachineStands::MachineStands))]
 impl Machine {
-    /// The end is told a moment, in milliseconds; one before the latest that it was told counts as that one. No timer runs.
-    pub fn tell(&mut self, now: u64)
+    /// Sets the clock to this time, in milliseconds; an earlier time than the latest one counts as the latest one. No timer expires.
+    pub fn advance_clock(&mut self, now: u64)
         ensures { (v : EndView) → MachineStands self.old v → MachineStands self.new (at_moment v now) }
     {
         self.moment = self.moment.max(now);
     }
 
-    /// Takes a moment, in milliseconds: what is past its time is abandoned, then each timer that is due expires once, and a SACK that
-    /// waited long enough is due.
+    /// Sets the clock to this time, in milliseconds: messages whose lifetime is over are abandoned, then each timer that is due expires once, and a
+    /// SACK that was delayed long enough is due. An expiry past the last retransmission closes the endpoint.
     pub fn on_moment(&mut self, now: u64)
         ensures { (v : EndView) → MachineStands self.old v → MachineStands self.new (ticked v now) }
     {
-        self.tell(now);
+        self.advance_clock(now);
         if !self.has_association() {
             return;
         }
         self.pass();
     }
 
-    /// What a moment does at an end with an association.
+    /// What the time does at an endpoint with an association.
     fn pass(&mut self)
         ensures { (v : EndView) → MachineStands self.old v → MachineStands self.new (passed v) }
     {
         let before = self.point();
         self.expire();
         self.when_abandoned(before);
-        self.ring(Alarm::Init);
-        self.ring(Alarm::Cookie);
-        self.ring(Alarm::Fragments);
-        self.ring(Alarm::Shutdown);
-        self.ring(Alarm::ShutdownAck);
+        self.expire_timer(Alarm::Init);
+        self.expire_timer(Alarm::Cookie);
+        self.expire_timer(Alarm::Fragments);
+        self.expire_timer(Alarm::Shutdown);
+        self.expire_timer(Alarm::ShutdownAck);
         self.wait_over();
     }
 
-    /// A SACK that waited long enough is due, and waits no more (RFC 9260, 6.2).
+    /// A SACK that was delayed long enough is due (RFC 9260, 6.2).
     fn wait_over(&mut self)
         ensures { (v : EndView) → MachineStands self.old v → MachineStands self.new (waited v) }
     {
@@ -63,17 +63,17 @@ impl Machine {
         self.delayed = None;
     }
 
-    /// Messages were abandoned, where the point was at this index before: a FORWARD is due where it moved (RFC 3758, 3.5).
+    /// Call it after messages were abandoned: a FORWARD-TSN is due if the Advanced Peer Ack Point moved from this index (RFC 3758, 3.5).
     pub(crate) fn when_abandoned(&mut self, before: u64)
         ensures { (v : EndView) (s : SenderView) → MachineStands self.old (record v { sender = s }) → before ≡ point v.sender → MachineStands self.new (after_abandoning v s) }
     {
         let moved = self.point() != before;
         self.due.skip(moved);
         self.settle();
-        self.rest();
+        self.advance_closing();
     }
 
-    /// The timer of fragments stops where nothing is unsettled (RFC 9260, 6.3.2), and a FORWARD is due no more where there is nothing to skip.
+    /// Stops T3-rtx if nothing is outstanding (RFC 9260, 6.3.2); a FORWARD-TSN is no longer due if it would skip nothing.
     pub(crate) fn settle(&mut self)
         ensures { (v : EndView) → MachineStands self.old v → MachineStands self.new (settled v) }
     {
@@ -83,8 +83,8 @@ impl Machine {
         self.due.settle(past);
     }
 
-    /// A timer that is due expires; the last time the end gives up (RFC 9260, 8.1).
-    fn ring(&mut self, alarm: Alarm)
+    /// A timer that is due expires; once its packet was repeated as often as may be, the endpoint closes as timed out (RFC 9260, 8.1).
+    fn expire_timer(&mut self, alarm: Alarm)
         ensures { (v : EndView) → MachineStands self.old v → MachineStands self.new (ring (alarm_meaning alarm) v) }
     {
         let timer = self.timers.get(alarm);
@@ -96,23 +96,23 @@ impl Machine {
             return;
         }
         self.timers.put(alarm, timer.expired());
-        self.again(alarm);
+        self.resend(alarm);
     }
 
-    /// What goes out once more after an expiry (RFC 9260, 6.3.3).
-    fn again(&mut self, alarm: Alarm)
+    /// The packet of the timer is due again (RFC 9260, 6.3.3).
+    fn resend(&mut self, alarm: Alarm)
         ensures { (v : EndView) → MachineStands self.old v → MachineStands self.new (due_again (alarm_meaning alarm) v) }
     {
         match alarm {
             Alarm::Init => self.due.repeat_init(),
             Alarm::Cookie => self.due.repeat_echo(),
             Alarm::Fragments => self.repeat_fragments(),
-            Alarm::Shutdown => self.due.shut(),
-            Alarm::ShutdownAck => self.due.answer_shut(),
+            Alarm::Shutdown => self.due.owe_shutdown(),
+            Alarm::ShutdownAck => self.due.owe_shutdown_ack(),
         }
     }
 
-    /// All that is unsettled goes out once more, and a FORWARD where there is something to skip.
+    /// All outstanding user data is due again, and a FORWARD-TSN if it skips something.
     fn repeat_fragments(&mut self)
         ensures { (v : EndView) → MachineStands self.old v → MachineStands self.new (record v { sender = timed_out v.sender; due = record v.due { forward = is_point_past v.sender } }) }
     {
@@ -121,8 +121,8 @@ impl Machine {
         self.repeat();
     }
 
-    /// When to come again: the earliest expiry of a timer that runs, a SACK that waits counted, in milliseconds. The moments after which messages
-    /// are worthless aren't among them.
+    /// The time of the next event, in milliseconds: the earliest expiry of a timer that runs, or of a delayed SACK. Lifetimes of messages aren't
+    /// counted: wake up at the message's own deadline.
     pub fn next_moment(&self) -> Option<u64>
         ensures { (v : EndView) → MachineStands self.now v → result ≡ next_moment v }
     {

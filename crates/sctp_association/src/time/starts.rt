@@ -1,4 +1,4 @@
-//! Which timers start with a packet in the making, once it is whole (RFC 9260, 6.3.2). It knows nothing of when they expire.
+//! The timers that start with a packet, once it is complete (RFC 9260, 6.3.2).
 
 ghost use Rattle.std.specs.Prelude.{◌≡◌, false};
 ghost use Rattle.sctp_association.specs.TimersMean.{alarm_meaning};
@@ -6,7 +6,7 @@ ghost use Rattle.sctp_association.specs.StartsMean.{starts_at, with_start};
 
 use crate::time::timer::Alarm;
 
-/// Which timers of an end are to start.
+/// The timers that are to start.
 #[derive(Clone, Copy)]
 pub(crate) struct Starts {
     pub(crate) init: bool,

@@ -1,5 +1,5 @@
-//! One timer of an end, and which it is: each repeats one kind of packet, which is sent again until it is answered (RFC 9260, 5.1, 6.3 and 9.2).
-//! Pure arithmetic on moments: it knows nothing of what a timer repeats.
+//! One retransmission timer, and its kind: each repeats one kind of packet until it is answered (RFC 9260, 5.1, 6.3 and 9.2). Pure arithmetic on
+//! times in milliseconds: it doesn't know what a timer repeats.
 
 ghost use Rattle.std.specs.Prelude.{◌≡◌, ◌<◌, ◌≤◌, ◌^◌, nat_lt, true};
 ghost use Rattle.sctp_model.specs.end.EndView.{unused_timer};
@@ -9,23 +9,23 @@ ghost use Rattle.sctp_association.specs.StartsMean.{started_if};
 
 use sctp_values::{FIRST_WAIT, LONGEST_WAIT, OPENING_REPEATS, REPEATS};
 
-/// Which timer of an end.
+/// A kind of timer.
 #[derive(Clone, Copy)]
 pub(crate) enum Alarm {
-    /// INIT, until the INIT ACK comes (RFC 9260, 5.1, A).
+    /// T1-init: INIT, until the INIT ACK arrives (RFC 9260, 5.1, A).
     Init,
-    /// COOKIE ECHO, until the COOKIE ACK comes (RFC 9260, 5.1, C).
+    /// T1-cookie: COOKIE ECHO, until the COOKIE ACK arrives (RFC 9260, 5.1, C).
     Cookie,
-    /// Fragments and FORWARDs, until they are acknowledged (RFC 9260, 6.3; RFC 3758, 3.5).
+    /// T3-rtx: user data and FORWARD-TSN, until they are acknowledged (RFC 9260, 6.3; RFC 3758, 3.5).
     Fragments,
-    /// SHUTDOWN, until the SHUTDOWN ACK comes (RFC 9260, 9.2).
+    /// T2-shutdown: SHUTDOWN, until the SHUTDOWN ACK arrives (RFC 9260, 9.2).
     Shutdown,
-    /// SHUTDOWN ACK, until the SHUTDOWN COMPLETE comes (RFC 9260, 9.2).
+    /// T2-shutdown: SHUTDOWN ACK, until the SHUTDOWN COMPLETE arrives (RFC 9260, 9.2).
     ShutdownAck,
 }
 
-/// A timer: how long it will wait when it starts next, in milliseconds; how often it expired since all was well; the moment at which it expires,
-/// while it runs.
+/// A timer: its timeout (RTO) at its next start, in milliseconds; the number of expiries since an answer arrived; the time at which it expires, while
+/// it runs.
 #[derive(Clone, Copy)]
 pub(crate) struct Timer {
     wait: u64,
@@ -45,7 +45,7 @@ impl Timer {
         }
     }
 
-    /// The timer, running from this moment on; one that runs already keeps its expiry (RFC 9260, 6.3.2).
+    /// The timer, started at this time; one that runs already keeps its expiry (RFC 9260, 6.3.2).
     fn running(self, now: u64) -> Timer
         ensures { timer_meaning result ≡ running now (timer_meaning self) (timer_meaning self).expiry }
     {
@@ -58,7 +58,7 @@ impl Timer {
         }
     }
 
-    /// The timer starts at this moment, where it is wanted and doesn't run.
+    /// Starts the timer at this time if it is wanted and doesn't run.
     pub(crate) fn start_if(&mut self, wanted: bool, now: u64)
         ensures { timer_meaning self.new ≡ started_if wanted now (timer_meaning self.old) }
     {
@@ -68,7 +68,7 @@ impl Timer {
         *self = self.running(now);
     }
 
-    /// The timer at rest.
+    /// The timer, stopped.
     pub(crate) fn stopped(self) -> Timer
         ensures { timer_meaning result ≡ stopped (timer_meaning self) }
     {
@@ -78,7 +78,7 @@ impl Timer {
         }
     }
 
-    /// The timer as it is where it is wanted, else at rest.
+    /// The timer, stopped unless it is wanted.
     pub(crate) fn kept_if(self, wanted: bool) -> Timer
         ensures { timer_meaning result ≡ kept_if wanted (timer_meaning self) }
     {
@@ -88,7 +88,7 @@ impl Timer {
         self.stopped()
     }
 
-    /// The timer once it has expired: it counts one more, rests, and will wait twice as long (RFC 9260, 6.3.3).
+    /// The timer after an expiry: counted, stopped, with twice the timeout, at most 60 seconds (RFC 9260, 6.3.3).
     pub(crate) fn expired(self) -> Timer
         requires { self.repeats < 2 ^ 8 }
         ensures { timer_meaning result ≡ expired_timer (timer_meaning self) }
@@ -100,14 +100,14 @@ impl Timer {
         }
     }
 
-    /// Its expiry, if it runs, has come by this moment.
+    /// It runs, and expires at this time or before.
     pub(crate) fn is_over(self, now: u64) -> bool
         ensures { result ≡ is_over_at now (timer_meaning self).expiry }
     {
         is_over_at(self.expiry, now)
     }
 
-    /// Its packet may go out once more: it was repeated fewer times than may be.
+    /// Its packet may be repeated once more: the limit of retransmissions isn't reached.
     pub(crate) fn can_repeat(self, alarm: Alarm) -> bool
         ensures answer { result ≡ nat_lt self.repeats (repeats_of (alarm_meaning alarm)) }
         ensures few { result ≡ true → self.repeats < 2 ^ 8 }
@@ -115,7 +115,7 @@ impl Timer {
         self.repeats < repeats_of(alarm)
     }
 
-    /// The timer once its packet was answered in part: it counts anew; where that moved something it waits anew, too (RFC 9260, 6.3.2).
+    /// The timer after an answer: its count is 0; if the answer acknowledged something new, timeout and expiry begin anew, too (RFC 9260, 6.3.2).
     pub(crate) fn renewed(self, now: u64, moved: bool) -> Timer
         ensures { timer_meaning result ≡ renewed now moved (timer_meaning self) }
     {
@@ -130,7 +130,7 @@ impl Timer {
     }
 }
 
-/// A moment that is set has come by this one.
+/// A time is set, and it is this one or before.
 pub(crate) fn is_over_at(set: Option<u64>, now: u64) -> bool
     ensures { result ≡ is_over_at now set }
 {
@@ -140,7 +140,7 @@ pub(crate) fn is_over_at(set: Option<u64>, now: u64) -> bool
     }
 }
 
-/// A first wait from this moment on, where a timer runs.
+/// The initial timeout from this time on, if a timer runs.
 fn expiry_after(now: u64, expiry: Option<u64>) -> Option<u64>
     ensures { result ≡ renewed_expiry now expiry }
 {
@@ -150,7 +150,7 @@ fn expiry_after(now: u64, expiry: Option<u64>) -> Option<u64>
     }
 }
 
-/// How often a timer's packet is repeated before the end gives up (Max.Init.Retransmits and Association.Max.Retrans of RFC 9260, 16).
+/// How often a timer's packet is repeated before the association is given up (Max.Init.Retransmits and Association.Max.Retrans of RFC 9260, 16).
 fn repeats_of(alarm: Alarm) -> u32
     ensures exact { result ≡ repeats_of (alarm_meaning alarm) }
     ensures few { result ≤ 10 }

@@ -1,4 +1,4 @@
-//! The timers of an end, by their names: which start, stop and rest together, and which expires first (RFC 9260, 6.3 and 9.2).
+//! The five timers of an endpoint: which start and stop together, and which expires first (RFC 9260, 6.3 and 9.2).
 
 ghost use Rattle.std.specs.Prelude.{◌≡◌};
 ghost use Rattle.sctp_model.specs.end.EndView.{unused_timer};
@@ -11,7 +11,7 @@ ghost use Rattle.sctp_association.specs.PlainPacket.{fragments_alone};
 use crate::time::starts::Starts;
 use crate::time::timer::{Alarm, Timer};
 
-/// The earlier of two moments, where there are any.
+/// The earlier of two times, if either is set.
 pub(crate) fn earlier(one: Option<u64>, other: Option<u64>) -> Option<u64>
     ensures { result ≡ earlier one other }
 {
@@ -24,7 +24,7 @@ pub(crate) fn earlier(one: Option<u64>, other: Option<u64>) -> Option<u64>
     }
 }
 
-/// The five timers of an end.
+/// The five timers of an endpoint.
 #[derive(Clone, Copy)]
 pub(crate) struct Timers {
     init: Timer,
@@ -48,7 +48,7 @@ impl Timers {
         }
     }
 
-    /// One of them.
+    /// The timer of this kind.
     pub(crate) fn get(self, alarm: Alarm) -> Timer
         ensures { timer_meaning result ≡ timers_meaning self (alarm_meaning alarm) }
     {
@@ -61,7 +61,7 @@ impl Timers {
         }
     }
 
-    /// Puts another timer in one's place.
+    /// Replaces the timer of this kind.
     pub(crate) fn put(&mut self, alarm: Alarm, timer: Timer)
         ensures { timers_meaning self.new ≡ replaced (alarm_meaning alarm) (timer_meaning timer) (timers_meaning self.old) }
     {
@@ -74,7 +74,7 @@ impl Timers {
         }
     }
 
-    /// Starts those that are to start, as far as they don't run, at this moment.
+    /// Starts at this time those of these that don't run.
     pub(crate) fn start_all(&mut self, starts: Starts, now: u64)
         ensures { timers_meaning self.new ≡ started_from (starts_at starts) now (timers_meaning self.old) }
     {
@@ -85,7 +85,7 @@ impl Timers {
         self.shutdown_ack.start_if(starts.shutdown_ack, now);
     }
 
-    /// Starts that of fragments, where it is to start and doesn't run, at this moment.
+    /// Starts T3-rtx at this time if it is to start and doesn't run.
     pub(crate) fn start_fragments(&mut self, starts: bool, now: u64)
         ensures { timers_meaning self.new ≡ started_from (starts_at (fragments_alone starts)) now (timers_meaning self.old) }
     {
@@ -106,7 +106,7 @@ impl Timers {
         self.put(alarm, self.get(alarm).kept_if(wanted));
     }
 
-    /// Where an association is open the timers of its opening rest, and those of its closing where they aren't wanted.
+    /// The timers of an open association: those of its opening stop, and those of its closing unless they are wanted.
     pub(crate) fn keep_open(&mut self, shutdown: bool, shutdown_ack: bool)
         ensures { timers_meaning self.new ≡ open_timers shutdown shutdown_ack (timers_meaning self.old) }
     {

@@ -1,4 +1,4 @@
-//! What an end asks of its traffic, and does to it, in every state: before an association nothing was sent, and nothing came.
+//! An endpoint's sender and receiver in every state: before an association nothing was sent or received.
 
 ghost use Rattle.std.specs.Prelude.{◌≡◌, ◌≤◌, option_map, false};
 ghost use Rattle.sctp_model.specs.numbers.Limits.{WINDOW};
@@ -20,7 +20,7 @@ use sctp_values::Ticket;
 
 #[tactic(auto, unfolding(crate::specs::MachineStands::MachineStands))]
 impl Machine {
-    /// It has something to do with a peer (RFC 9260, 4).
+    /// It calls, or has an association that isn't over (RFC 9260, 4).
     pub fn has_association(&self) -> bool
         ensures { (v : EndView) → MachineStands self.now v → result ≡ has_association v.phase }
     {
@@ -30,7 +30,7 @@ impl Machine {
         }
     }
 
-    /// Both ends are there, and it isn't over (RFC 9260, 4).
+    /// Its association is open: established, or closing (RFC 9260, 4).
     pub fn is_open(&self) -> bool
         ensures { (v : EndView) → MachineStands self.now v → result ≡ is_open v.phase }
     {
@@ -40,7 +40,7 @@ impl Machine {
         }
     }
 
-    /// The index up to which all is acknowledged or abandoned: the Advanced Peer Ack Point (RFC 3758, 3.5).
+    /// The index of the Advanced Peer Ack Point, up to which all is acknowledged or abandoned (RFC 3758, 3.5).
     pub(crate) fn point(&self) -> u64
         ensures { (v : EndView) → MachineStands self.now v → result ≡ point v.sender }
     {
@@ -50,7 +50,7 @@ impl Machine {
         }
     }
 
-    /// There is something to skip: the point is past the acknowledged index.
+    /// A FORWARD-TSN would skip something: the Advanced Peer Ack Point is past the cumulative TSN Ack Point.
     pub(crate) fn is_point_past(&self) -> bool
         ensures { (v : EndView) → MachineStands self.now v → result ≡ is_point_past v.sender }
     {
@@ -60,7 +60,7 @@ impl Machine {
         }
     }
 
-    /// The timer of fragments is wanted (RFC 9260, 6.3.2).
+    /// T3-rtx is wanted: user data or a FORWARD-TSN is outstanding (RFC 9260, 6.3.2).
     pub(crate) fn unsettled(&self) -> bool
         ensures { (v : EndView) → MachineStands self.now v → result ≡ unsettled v.sender }
     {
@@ -70,7 +70,7 @@ impl Machine {
         }
     }
 
-    /// Nothing waits to go out, and all is acknowledged (RFC 9260, 9.2).
+    /// No message is queued, and all is acknowledged (RFC 9260, 9.2).
     pub(crate) fn is_drained(&self) -> bool
         ensures { (v : EndView) → MachineStands self.now v → result ≡ drained v.sender }
     {
@@ -80,7 +80,7 @@ impl Machine {
         }
     }
 
-    /// The message with this ticket was acknowledged whole.
+    /// The message with this ticket is acknowledged in full.
     pub fn acknowledged(&self, ticket: Ticket) -> bool
         ensures { (v : EndView) → MachineStands self.now v → result ≡ acknowledged v.sender ticket.0 }
     {
@@ -90,7 +90,7 @@ impl Machine {
         }
     }
 
-    /// The message with this ticket has a number, and was abandoned.
+    /// The message with this ticket has a TSN and was abandoned.
     pub fn abandoned(&self, ticket: Ticket) -> bool
         ensures { (v : EndView) → MachineStands self.now v → result ≡ abandoned v.sender ticket.0 }
     {
@@ -100,8 +100,8 @@ impl Machine {
         }
     }
 
-    /// The indexes above the acknowledged one, and the messages in part. There are never more than 32,767, so that the peer can tell each TSN that it
-    /// doesn't know yet (RFC 9260, 1.6).
+    /// The number of TSNs above the cumulative TSN Ack Point, and of messages that are sent in part. Never more than 32,767, so that the peer can tell
+    /// each new TSN from an old one (RFC 9260, 1.6).
     pub fn outstanding(&self) -> u32
         ensures count { (v : EndView) → MachineStands self.now v → result ≡ outstanding v.sender }
         ensures bound { (v : EndView) → MachineStands self.now v → outstanding v.sender ≤ WINDOW }
@@ -112,7 +112,7 @@ impl Machine {
         }
     }
 
-    /// The bytes of all data that came and wasn't taken yet: never more than the receive buffer has.
+    /// The bytes of user data that was received and isn't taken yet: never more than the receive buffer.
     pub fn held_bytes(&self) -> u32
         ensures held { (v : EndView) → MachineStands self.now v → result ≡ held_bytes v.receiver }
         ensures bound { (v : EndView) → MachineStands self.now v → result ≤ v.configuration.buffer }
@@ -144,7 +144,7 @@ impl Machine {
         }
     }
 
-    /// What is wanted still is marked for repeating (RFC 9260, 6.3.3).
+    /// Marks all outstanding user data for retransmission (RFC 9260, 6.3.3).
     pub(crate) fn repeat(&mut self)
         ensures { (v : EndView) → MachineStands self.old v → MachineStands self.new (record v { sender = timed_out v.sender }) }
     {
@@ -165,7 +165,7 @@ impl Machine {
         }
     }
 
-    /// The sender is handed a message.
+    /// Queues a message at the sender.
     ///
     /// # Errors
     /// Why it is refused; nothing changed.
@@ -188,7 +188,7 @@ impl Machine {
         }
     }
 
-    /// Takes the first message that waits on a stream: None where none does (RFC 9260, 11.1.6). It takes no memory.
+    /// Takes the next message of a stream; None if there is none (RFC 9260, 11.1.6). It doesn't allocate.
     pub fn take(&mut self, stream: u16) -> Option<Message>
         ensures { (v : EndView) → MachineStands self.old v → (t : EndView) × UserTakes v stream (option_map handed_of result) t × MachineStands self.new t }
     {

@@ -1,4 +1,4 @@
-//! What an association's traffic does as a receiver, in either format (RFC 9260, 6.2; RFC 3758, 3.6; RFC 8260, 2.2.3).
+//! The receiver of an association, in either format (RFC 9260, 6.2; RFC 3758, 3.6; RFC 8260, 2.2.3).
 
 ghost use Rattle.std.specs.Prelude.{◌≡◌, ℕ, ◌≤◌, Some, None, option_map, slice_get, IfOk, OnErr, MatchOption};
 ghost use Rattle.sctp_model.specs.numbers.Serial.{tsn};
@@ -23,10 +23,10 @@ use sctp_values::NoMemory;
 use sctp_wire::{Forward, Piece};
 
 impl Traffic {
-    /// A chunk with data comes (RFC 9260, 6.2; RFC 8260, 2.2.3).
+    /// Processes a DATA or I-DATA chunk (RFC 9260, 6.2; RFC 8260, 2.2.3).
     ///
     /// # Errors
-    /// Memory ran out, and nothing changed.
+    /// `NoMemory` if an allocation was refused; nothing changed then.
     pub(crate) fn on_data(&mut self, piece: &Piece<'_>) -> Result<Answer, NoMemory>
         ensures step { (f : Format) (s : SenderView) (r : ReceiverView) → TrafficStands self.old f s r → IfOk result (λ a. (t : ReceiverView) × PieceTaken f r (piece_meaning piece.now) (answer_of a) t × TrafficStands self.new f s t) }
         ensures refused { (f : Format) (s : SenderView) (r : ReceiverView) → TrafficStands self.old f s r → OnErr result (TrafficStands self.new f s r) }
@@ -37,10 +37,10 @@ impl Traffic {
         }
     }
 
-    /// A FORWARD-TSN or an I-FORWARD-TSN comes (RFC 3758, 3.6; RFC 8260, 2.3.1).
+    /// Processes a FORWARD-TSN or I-FORWARD-TSN (RFC 3758, 3.6; RFC 8260, 2.3.1).
     ///
     /// # Errors
-    /// Memory ran out, and nothing changed.
+    /// `NoMemory` if an allocation was refused; nothing changed then.
     pub(crate) fn on_forward(&mut self, forward: &Forward<'_>) -> Result<ForwardAnswer, NoMemory>
         ensures step { (f : Format) (s : SenderView) (r : ReceiverView) → TrafficStands self.old f s r → IfOk result (λ a. (t : ReceiverView) × ForwardTaken f r (forward_meaning forward.now) (forward_answer_of a) t × TrafficStands self.new f s t) }
         ensures refused { (f : Format) (s : SenderView) (r : ReceiverView) → TrafficStands self.old f s r → OnErr result (TrafficStands self.new f s r) }
@@ -51,10 +51,10 @@ impl Traffic {
         }
     }
 
-    /// What a SACK says now (RFC 9260, 3.3.4). Nothing changes.
+    /// The contents of a SACK at this point (RFC 9260, 3.3.4). Nothing changes.
     ///
     /// # Errors
-    /// Memory ran out.
+    /// `NoMemory` if an allocation was refused.
     #[inline(always)]
     pub(crate) fn sack(&self) -> Result<SackLists, NoMemory>
         ensures sack { (f : Format) (s : SenderView) (r : ReceiverView) → TrafficStands self.now f s r → IfOk result (λ l. IsSack r (lists_meaning l)) }
@@ -66,7 +66,7 @@ impl Traffic {
         }
     }
 
-    /// A SACK was sent: the duplicates that it told are forgotten.
+    /// A SACK was sent: the duplicates that it reported are forgotten.
     pub(crate) fn sack_sent(&mut self)
         ensures { (f : Format) (s : SenderView) (r : ReceiverView) → TrafficStands self.old f s r → TrafficStands self.new f s (sack_sent r) }
     {
@@ -76,7 +76,7 @@ impl Traffic {
         }
     }
 
-    /// The TSN up to which all came or was passed (RFC 9260, 6.2).
+    /// The cumulative TSN, up to which all was received or skipped (RFC 9260, 6.2).
     pub(crate) fn cumulative(&self) -> u32
         ensures { (f : Format) (s : SenderView) (r : ReceiverView) → TrafficStands self.now f s r → (c : ℕ) × IsCumulative r c × (result ≡ tsn r.initial c) }
     {
@@ -86,7 +86,7 @@ impl Traffic {
         }
     }
 
-    /// An index above the cumulative one came: one below it is missing (RFC 9260, 6.2).
+    /// A TSN above the cumulative one was received: one below it is missing (RFC 9260, 6.2).
     pub(crate) fn has_gap(&self) -> bool
         ensures { (f : Format) (s : SenderView) (r : ReceiverView) → TrafficStands self.now f s r → TellsGap result r }
     {
@@ -96,7 +96,7 @@ impl Traffic {
         }
     }
 
-    /// The bytes of all data that was recorded and not taken yet.
+    /// The bytes of user data that was received and isn't taken yet.
     pub(crate) fn held_bytes(&self) -> u32
         ensures held { (f : Format) (s : SenderView) (r : ReceiverView) → TrafficStands self.now f s r → result ≡ held_bytes r }
         ensures bound { (f : Format) (s : SenderView) (r : ReceiverView) → TrafficStands self.now f s r → result ≤ r.buffer }
@@ -127,7 +127,7 @@ impl Traffic {
         }
     }
 
-    /// The message that waits on a stream at a place, from 0, and isn't taken.
+    /// The message at this place, from 0, of those that wait to be taken on a stream.
     pub(crate) fn waiting(&self, stream: u16, place: usize) -> Option<&Message>
         ensures { (f : Format) (s : SenderView) (r : ReceiverView) → TrafficStands self.now f s r → MatchOption result (slice_get (r.waiting stream) place ≡ None) (λ m. slice_get (r.waiting stream) place ≡ Some (handed_of m.now)) }
     {
@@ -137,7 +137,7 @@ impl Traffic {
         }
     }
 
-    /// Takes the first message that waits on a stream (RFC 9260, 11.1.6).
+    /// Takes the next message of a stream (RFC 9260, 11.1.6).
     pub(crate) fn take(&mut self, stream: u16) -> Option<Message>
         ensures { (f : Format) (s : SenderView) (r : ReceiverView) → TrafficStands self.old f s r → (t : ReceiverView) × TakeLeaves r stream (option_map handed_of result) t × TrafficStands self.new f s t }
     {
@@ -147,7 +147,7 @@ impl Traffic {
         }
     }
 
-    /// A message that was taken is handed back: no step of the receiver.
+    /// Hands back a message that was taken: no view of the receiver changes.
     pub(crate) fn give_back(&mut self, message: Message)
         ensures { (f : Format) (s : SenderView) (r : ReceiverView) → TrafficStands self.old f s r → TrafficStands self.new f s r }
     {

@@ -1,4 +1,4 @@
-//! What an association's traffic does as a sender, in either format (RFC 9260, 6; RFC 3758, 3.5; RFC 8260, 2.2).
+//! The sender of an association, in either format (RFC 9260, 6; RFC 3758, 3.5; RFC 8260, 2.2).
 
 ghost use Rattle.std.specs.Prelude.{◌≡◌, ◌<◌, ◌≤◌, nat_lt, false, option_map};
 ghost use Rattle.sctp_model.specs.numbers.Limits.{WINDOW};
@@ -20,7 +20,7 @@ use sctp_values::Ticket;
 use sctp_wire::Sack;
 
 impl Traffic {
-    /// The index up to which all is acknowledged.
+    /// The index of the cumulative TSN Ack Point, counted from the initial TSN.
     pub(crate) fn cum(&self) -> u64
         ensures { (f : Format) (s : SenderView) (r : ReceiverView) → TrafficStands self.now f s r → result ≡ s.cum }
     {
@@ -30,7 +30,7 @@ impl Traffic {
         }
     }
 
-    /// The index up to which all is acknowledged or abandoned: the Advanced Peer Ack Point (RFC 3758, 3.5).
+    /// The index of the Advanced Peer Ack Point, up to which all is acknowledged or abandoned (RFC 3758, 3.5).
     pub(crate) fn point(&self) -> u64
         ensures { (f : Format) (s : SenderView) (r : ReceiverView) → TrafficStands self.now f s r → result ≡ point s }
     {
@@ -40,7 +40,8 @@ impl Traffic {
         }
     }
 
-    /// Its sender stands only for views that calls reach. It does nothing, and has this as its contract.
+    // law
+    /// Its sender stands only for views that calls reach.
     pub(crate) fn reached(&self)
         ensures { (f : Format) (s : SenderView) (r : ReceiverView) → TrafficStands self.now f s r → IsReached f s }
     {
@@ -50,15 +51,14 @@ impl Traffic {
         }
     }
 
-    /// The point is past the acknowledged index: there is something to skip (RFC 3758, 3.5).
+    /// The Advanced Peer Ack Point is past the cumulative TSN Ack Point: a FORWARD-TSN would skip something (RFC 3758, 3.5).
     pub(crate) fn is_point_past(&self) -> bool
         ensures { (f : Format) (s : SenderView) (r : ReceiverView) → TrafficStands self.now f s r → result ≡ is_point_past s }
     {
         self.cum() < self.point()
     }
 
-    /// The timer of fragments is wanted: something that went out is neither acknowledged nor abandoned, or there is something to skip
-    /// (RFC 9260, 6.3.2).
+    /// T3-rtx is wanted: user data that was sent is neither acknowledged nor abandoned, or a FORWARD-TSN would skip something (RFC 9260, 6.3.2).
     pub(crate) fn unsettled(&self) -> bool
         ensures { (f : Format) (s : SenderView) (r : ReceiverView) → TrafficStands self.now f s r → result ≡ unsettled s }
     {
@@ -68,7 +68,7 @@ impl Traffic {
         }
     }
 
-    /// Nothing waits to go out, and all is acknowledged (RFC 9260, 9.2).
+    /// No message is queued, and all is acknowledged (RFC 9260, 9.2).
     pub(crate) fn drained(&self) -> bool
         ensures { (f : Format) (s : SenderView) (r : ReceiverView) → TrafficStands self.now f s r → result ≡ drained s }
     {
@@ -78,7 +78,7 @@ impl Traffic {
         }
     }
 
-    /// The indexes above the acknowledged one, and the messages in part: at most 32,767.
+    /// The number of TSNs above the cumulative TSN Ack Point, and of messages that are sent in part: at most 32,767.
     pub(crate) fn outstanding(&self) -> u32
         ensures count { (f : Format) (s : SenderView) (r : ReceiverView) → TrafficStands self.now f s r → result ≡ outstanding s }
         ensures bound { (f : Format) (s : SenderView) (r : ReceiverView) → TrafficStands self.now f s r → result ≤ WINDOW }
@@ -89,7 +89,7 @@ impl Traffic {
         }
     }
 
-    /// How many tickets were given.
+    /// The number of tickets that were issued.
     pub(crate) fn tickets(&self) -> u64
         ensures { (f : Format) (s : SenderView) (r : ReceiverView) → TrafficStands self.now f s r → result ≡ s.tickets }
     {
@@ -99,7 +99,7 @@ impl Traffic {
         }
     }
 
-    /// Some message is past its time at this moment: where none is, `expire` changes nothing.
+    /// A message's lifetime is over at this time; if there is none, `expire` changes nothing.
     pub(crate) fn has_late(&self, now: u64) -> bool
         ensures exact { (f : Format) (s : SenderView) (r : ReceiverView) → TrafficStands self.now f s r → result ≡ has_late s now }
         ensures idle { (f : Format) (s : SenderView) (r : ReceiverView) → TrafficStands self.now f s r → result ≡ false → expired s now ≡ s }
@@ -110,7 +110,7 @@ impl Traffic {
         }
     }
 
-    /// The lowest ticket above `last` of a message that may be abandoned and is past its time at this moment; `Ticket(0)` lies below all.
+    /// The lowest ticket above `last` of a message that may be abandoned and whose lifetime is over at this time; `Ticket(0)` is below all.
     pub(crate) fn next_late(&self, last: Ticket, now: u64) -> Option<Ticket>
         ensures { (f : Format) (s : SenderView) (r : ReceiverView) → TrafficStands self.now f s r → option_map (λ t. t.0) result ≡ next_late s last.0 now }
     {
@@ -120,7 +120,7 @@ impl Traffic {
         }
     }
 
-    /// The message with this ticket was acknowledged whole.
+    /// The message with this ticket is acknowledged in full.
     pub(crate) fn acknowledged(&self, ticket: Ticket) -> bool
         ensures { (f : Format) (s : SenderView) (r : ReceiverView) → TrafficStands self.now f s r → result ≡ acknowledged s ticket.0 }
     {
@@ -130,7 +130,7 @@ impl Traffic {
         }
     }
 
-    /// The message with this ticket has a number, and was abandoned.
+    /// The message with this ticket has a TSN and was abandoned.
     pub(crate) fn abandoned(&self, ticket: Ticket) -> bool
         ensures { (f : Format) (s : SenderView) (r : ReceiverView) → TrafficStands self.now f s r → result ≡ abandoned s ticket.0 }
     {
@@ -140,10 +140,10 @@ impl Traffic {
         }
     }
 
-    /// A SACK comes (RFC 9260, 6.2.1).
+    /// Processes a SACK (RFC 9260, 6.2.1).
     ///
     /// # Errors
-    /// The fault that it has; nothing changed.
+    /// Its first fault; nothing changed.
     pub(crate) fn on_sack(&mut self, sack: &Sack<'_>) -> Result<(), SackFault>
         ensures answer { (f : Format) (s : SenderView) (r : ReceiverView) → TrafficStands self.old f s r → reason_meaning result ≡ sack_fault s (sack_meaning sack.now) }
         ensures step { (f : Format) (s : SenderView) (r : ReceiverView) → TrafficStands self.old f s r → TrafficStands self.new f (sack_after s (sack_meaning sack.now)) r }
@@ -154,10 +154,10 @@ impl Traffic {
         }
     }
 
-    /// The cumulative TSN of a SHUTDOWN comes (RFC 9260, 9.2).
+    /// Processes the cumulative TSN of a SHUTDOWN (RFC 9260, 9.2).
     ///
     /// # Errors
-    /// The fault that it has; nothing changed.
+    /// Its first fault; nothing changed.
     pub(crate) fn on_shutdown(&mut self, tsn: u32) -> Result<(), SackFault>
         ensures answer { (f : Format) (s : SenderView) (r : ReceiverView) → TrafficStands self.old f s r → reason_meaning result ≡ shutdown_fault s tsn }
         ensures step { (f : Format) (s : SenderView) (r : ReceiverView) → TrafficStands self.old f s r → TrafficStands self.new f (shutdown_after s tsn) r }
@@ -168,7 +168,7 @@ impl Traffic {
         }
     }
 
-    /// The timer of fragments expired: what is wanted still is marked for repeating (RFC 9260, 6.3.3).
+    /// T3-rtx expired: all outstanding user data is marked for retransmission (RFC 9260, 6.3.3).
     pub(crate) fn on_timeout(&mut self)
         ensures { (f : Format) (s : SenderView) (r : ReceiverView) → TrafficStands self.old f s r → TrafficStands self.new f (timed_out s) r }
     {
@@ -178,7 +178,7 @@ impl Traffic {
         }
     }
 
-    /// What is past its time at this moment is abandoned (RFC 3758, 3.5).
+    /// Abandons the messages whose lifetime is over at this time (RFC 3758, 3.5).
     pub(crate) fn expire(&mut self, now: u64)
         ensures { (f : Format) (s : SenderView) (r : ReceiverView) → TrafficStands self.old f s r → TrafficStands self.new f (expired s now) r }
     {
@@ -199,7 +199,7 @@ impl Traffic {
         }
     }
 
-    /// A message is handed in (RFC 9260, 11.1.5).
+    /// Queues a message (RFC 9260, 11.1.5).
     ///
     /// # Errors
     /// Why it is refused; nothing changed.

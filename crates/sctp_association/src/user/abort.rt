@@ -12,16 +12,16 @@ use sctp_opening::{abort_packet, room_behind};
 use sctp_terms::{AbortFault, End};
 use sctp_wire::codes::USER_ABORT;
 
-/// What stands in an ABORT before the user's reason: the headers of the chunk and of its cause (RFC 9260, 3.3.7 and 3.3.10.12).
+/// The bytes of an ABORT before the user's reason: the headers of the chunk and of its cause (RFC 9260, 3.3.7 and 3.3.10.12).
 const HEADERS: usize = 8;
 
 #[tactic(auto, unfolding(crate::specs::MachineStands::MachineStands))]
 impl Machine {
-    /// Aborts the association: what waits is dropped, and the peer is told why, in the packet that is answered (RFC 9260, 9.1).
+    /// Aborts the association and closes the endpoint: queued messages are dropped. The packet is an ABORT with this reason (RFC 9260, 9.1).
     ///
     /// # Errors
-    /// The first of these that holds: `State` where no peer is known, `TooLong` where the reason doesn't fit a packet, `NoMemory` where a growth
-    /// was refused. Nothing changed then.
+    /// The first of these that holds: `State` if no peer is known, `TooLong` if the reason doesn't fit a packet, `NoMemory` if an allocation was
+    /// refused. Nothing changed then.
     pub fn abort(&mut self, reason: &[u8]) -> Result<Vec<u8>, AbortFault>
         ensures answer { (v : EndView) → MachineStands self.old v → AbortAnswers v reason.now result }
         ensures within { (v : EndView) → MachineStands self.old v → IfOk result (λ packet. length packet.items ≤ v.configuration.limit) }
@@ -42,7 +42,7 @@ impl Machine {
         }
     }
 
-    /// The tag of the peer, where one is known.
+    /// The tag of the peer, if one is known.
     pub(crate) fn peer_tag(&self) -> Option<u32>
         ensures { (v : EndView) → MachineStands self.now v → result ≡ peer_tag v.phase }
     {

@@ -1,25 +1,25 @@
-//! What both ends agreed on, as an end's user is told it.
+//! What both endpoints agreed on, as it is reported to the user.
 
 ghost use Rattle.sctp_opening.specs.Terms.{terms_meaning};
 ghost use Rattle.sctp_association.specs.Agreeing.{AgreedAnswer};
 
 use sctp_opening::Terms;
 
-/// The streams of each way, and what is turned on, as both ends agreed (RFC 9260, 5.1.1; RFC 8260, 2.2.1; RFC 3758, 3.1).
+/// What both endpoints agreed on: the streams of each direction, and the extensions in use (RFC 9260, 5.1.1; RFC 8260, 2.2.1; RFC 3758, 3.1).
 #[derive(Clone, Copy, Debug, PartialEq, Eq)]
 pub struct Agreed {
-    /// How many streams this end may send on.
+    /// The number of streams on which this endpoint may send.
     pub outbound: u16,
-    /// How many streams its peer may send on.
+    /// The number of streams on which its peer may send.
     pub inbound: u16,
-    /// User data goes as I-DATA, and what is skipped as I-FORWARD-TSN; else as DATA and FORWARD-TSN.
+    /// User data is sent as I-DATA and skipped by I-FORWARD-TSN; else by DATA and FORWARD-TSN.
     pub interleave: bool,
-    /// Messages that have gone out may be abandoned, so that the peer is told to skip them.
+    /// Messages with TSNs may be abandoned: the peer skips them by FORWARD-TSN or I-FORWARD-TSN.
     pub partial: bool,
 }
 
 impl Agreed {
-    /// What these terms say: None exactly where they have no stream either way.
+    /// From these terms: None exactly if they have no stream in either direction.
     pub(crate) fn on(terms: Terms) -> Option<Agreed>
         ensures { AgreedAnswer (terms_meaning terms) result }
     {

@@ -1,4 +1,4 @@
-//! What the user of an end calls (RFC 9260, 11.1).
+//! The user's calls (RFC 9260, 11.1): connect, send, abandon, shutdown.
 
 ghost use Rattle.std.specs.Prelude.{◌≡◌, option_map};
 ghost use Rattle.sctp_model.specs.end.EndView.{EndView};
@@ -22,23 +22,23 @@ use sctp_values::Ticket;
 use std::mem::replace;
 use thiserror::Error;
 
-/// Why a message isn't accepted.
+/// Why a message is refused.
 #[derive(Clone, Copy, Debug, PartialEq, Eq, Error)]
 pub enum Refused {
     /// The association isn't established.
     #[error("the association isn't established")]
     NotOpen,
-    /// The sender refuses it, for the first reason that holds.
+    /// The sender refuses it, for this reason.
     #[error(transparent)]
     Fault(SendFault),
 }
 
 #[tactic(auto, unfolding(crate::specs::MachineStands::MachineStands))]
 impl Machine {
-    /// Calls the peer: an INIT is due (RFC 9260, 5.1, A and 11.1.2). It takes no memory.
+    /// Calls the peer at this time, in milliseconds, with these random values (tag, initial TSN): an INIT is due (RFC 9260, 5.1, A and 11.1.2). It doesn't allocate.
     ///
     /// # Errors
-    /// `ConnectFault::State` where something happened to this end already; nothing changed then, not even its moment.
+    /// `ConnectFault::State` unless it is a caller that wasn't used yet; nothing changed then, not even the clock.
     pub fn connect(&mut self, now: u64, draw: Draw) -> Result<(), ConnectFault>
         ensures answer { (v : EndView) → MachineStands self.old v → connect_meaning result ≡ connect_answer v.phase }
         ensures step { (v : EndView) → MachineStands self.old v → MachineStands self.new (connected v now draw result) }
@@ -53,7 +53,7 @@ impl Machine {
         Ok(())
     }
 
-    /// Nothing happened to it yet.
+    /// It is a caller that wasn't used yet.
     fn is_idle(&self) -> bool
         ensures { result ≡ is_idle self.now.life }
     {
@@ -63,11 +63,11 @@ impl Machine {
         }
     }
 
-    /// Sends a message on a stream, ordered or not (RFC 9260, 11.1.5): `until` is the moment from which it is worthless, in milliseconds.
+    /// Queues a message on a stream, ordered or not (RFC 9260, 11.1.5): from the time `until` on, in milliseconds, it may be abandoned.
     ///
     /// # Errors
-    /// `NotOpen` where the association isn't established, before every other reason; else the first reason that the sender has. Nothing
-    /// changed; the bytes are dropped.
+    /// `NotOpen` if the association isn't established, before every other reason; else the sender's first reason. Nothing changed; the bytes are
+    /// dropped.
     pub fn send(
         &mut self,
         stream: u16,
@@ -91,7 +91,7 @@ impl Machine {
         }
     }
 
-    /// Abandons the message with this ticket (RFC 3758, 3.5). It takes no memory.
+    /// Abandons the message with this ticket (RFC 3758, 3.5). It doesn't allocate.
     pub fn abandon(&mut self, ticket: Ticket) -> Abandoned
         ensures answer { (v : EndView) → MachineStands self.old v → answer_meaning result ≡ abandons v ticket.0 }
         ensures step { (v : EndView) → MachineStands self.old v → MachineStands self.new (abandoned_at v ticket.0) }
@@ -105,11 +105,11 @@ impl Machine {
         answer
     }
 
-    /// Shuts the association: what was sent is still delivered (RFC 9260, 9.2 and 11.1.3). Once that is begun, the call changes nothing. It
-    /// takes no memory.
+    /// Closes the association gracefully: queued messages are still sent and delivered (RFC 9260, 9.2 and 11.1.3). Once that has begun, the call
+    /// changes nothing. It doesn't allocate.
     ///
     /// # Errors
-    /// `ShutdownFault::NotOpen` where no association is open; nothing changed.
+    /// `ShutdownFault::NotOpen` if no association is open; nothing changed.
     pub fn shutdown(&mut self) -> Result<(), ShutdownFault>
         ensures answer { (v : EndView) → MachineStands self.old v → shutdown_meaning result ≡ shutdown_answer v.phase }
         ensures step { (v : EndView) → MachineStands self.old v → MachineStands self.new (shut v) }
@@ -121,12 +121,12 @@ impl Machine {
             return Ok(());
         }
         self.turn(Stage::ShutdownPending);
-        self.rest();
+        self.advance_closing();
         Ok(())
     }
 }
 
-/// The timers of an end that calls: that of the INIT stays as it is, the others rest.
+/// The timers of an endpoint that calls: all but T1-init stop.
 fn call_timers(timers: &mut Timers)
     ensures { (d : model.Draw) → timers_meaning timers.new ≡ timers_in (model.Calling d) (timers_meaning timers.old) }
 {

@@ -1,5 +1,5 @@
-//! What an end tells of itself: where it stands and how it ended, what it is set up with, what both ends agreed on, what it gave tickets for,
-//! and what waits for its user (RFC 9260, 4 and 11.1).
+//! Readers of an endpoint: its configuration, its state and how it ended, what both endpoints agreed on, issued tickets, expired messages, and
+//! messages to be taken (RFC 9260, 4 and 11.1). Beside them laws on every view that an endpoint stands for.
 
 ghost use Rattle.std.specs.Prelude.{◌≡◌, Some, None, MatchOption, option_map, slice_get};
 ghost use Rattle.sctp_model.specs.sender.Abandoning.{has_late};
@@ -23,14 +23,14 @@ use sctp_values::Ticket;
 
 #[tactic(auto, unfolding(crate::specs::MachineStands::MachineStands))]
 impl Machine {
-    /// What it is set up with.
+    /// Its configuration.
     pub fn config(&self) -> &Config
         ensures { (v : EndView) → MachineStands self.now v → result.now ≡ v.configuration }
     {
         &self.config
     }
 
-    /// The state that its user is told (RFC 9260, 4).
+    /// Its state (RFC 9260, 4).
     pub fn state(&self) -> State
         ensures { (v : EndView) → MachineStands self.now v → state_meaning result ≡ state_of v.phase }
     {
@@ -50,7 +50,7 @@ impl Machine {
         }
     }
 
-    /// The streams that it sends on: 0 before an association.
+    /// The number of outbound streams: 0 before an association.
     pub fn outbound(&self) -> u16
         ensures { (v : EndView) → MachineStands self.now v → result ≡ v.terms.outbound }
     {
@@ -60,7 +60,7 @@ impl Machine {
         }
     }
 
-    /// The streams that messages come on: 0 before an association.
+    /// The number of inbound streams: 0 before an association.
     pub fn inbound(&self) -> u16
         ensures { (v : EndView) → MachineStands self.now v → result ≡ v.receiver.streams }
     {
@@ -70,7 +70,7 @@ impl Machine {
         }
     }
 
-    /// User data goes in I-DATA, as both ends agreed (RFC 8260, 2.2.1).
+    /// User data is sent as I-DATA, as both endpoints agreed (RFC 8260, 2.2.1).
     pub fn is_interleaved(&self) -> bool
         ensures { (v : EndView) → MachineStands self.now v → result ≡ v.terms.interleave }
     {
@@ -80,7 +80,7 @@ impl Machine {
         }
     }
 
-    /// Messages may be abandoned, as both ends agreed (RFC 3758, 3.1).
+    /// Messages that were sent may be abandoned, as both endpoints agreed (RFC 3758, 3.1).
     pub fn is_partial(&self) -> bool
         ensures { (v : EndView) → MachineStands self.now v → result ≡ v.terms.partial }
     {
@@ -90,8 +90,9 @@ impl Machine {
         }
     }
 
-    /// Every view that it stands for is sound: bare before an association, with the receive buffer that it is set up with, and with a message
-    /// of its own for each TSN. It does nothing, and has this as its contract.
+    // law
+    /// Every view that it stands for is sound: before an association its sender and receiver are new, its receiver has the configured receive buffer,
+    /// and each TSN belongs to a message of its own.
     pub fn sound(&self)
         ensures { (v : EndView) → MachineStands self.now v → IsSound v }
     {
@@ -101,7 +102,8 @@ impl Machine {
         }
     }
 
-    /// In no view that it stands for do two messages that have numbers have one ticket. It does nothing, and has this as its contract.
+    // law
+    /// In no view that it stands for do two messages with TSNs have the same ticket.
     pub fn tickets_are_apart(&self)
         ensures { (v : EndView) → MachineStands self.now v → NoTicketTwice (numbered v) }
     {
@@ -111,8 +113,8 @@ impl Machine {
         }
     }
 
-    /// A packet that is built from any view that it stands for begins a message for each 20 bytes behind its header at most. It does nothing,
-    /// and has this as its contract.
+    // law
+    /// A packet that is built from any view that it stands for begins at most one message for each 20 bytes after its header.
     pub fn packets_begin_few(&self)
         ensures { (v : EndView) → MachineStands self.now v → BeginsFew v }
     {
@@ -122,7 +124,7 @@ impl Machine {
         }
     }
 
-    /// How many tickets were given.
+    /// The number of tickets that were issued.
     pub fn tickets(&self) -> u64
         ensures { (v : EndView) → MachineStands self.now v → result ≡ v.sender.tickets }
     {
@@ -132,7 +134,7 @@ impl Machine {
         }
     }
 
-    /// Some message is past its time at this moment, in milliseconds, and may be abandoned (RFC 3758, 3.5).
+    /// A message's lifetime is over at this time, in milliseconds, and it may be abandoned (RFC 3758, 3.5).
     pub fn has_late(&self, now: u64) -> bool
         ensures { (v : EndView) → MachineStands self.now v → result ≡ has_late v.sender now }
     {
@@ -142,8 +144,8 @@ impl Machine {
         }
     }
 
-    /// The lowest ticket above `last` of a message that may be abandoned and is past its time at this moment, in milliseconds; `Ticket(0)`
-    /// lies below all. Before an association none is.
+    /// The lowest ticket above `last` of a message that may be abandoned and whose lifetime is over at this time, in milliseconds; `Ticket(0)` is below
+    /// all. None before an association.
     pub fn next_late(&self, last: Ticket, now: u64) -> Option<Ticket>
         ensures { (v : EndView) → MachineStands self.now v → option_map (λ t. t.0) result ≡ next_late v.sender last.0 now }
     {
@@ -153,7 +155,7 @@ impl Machine {
         }
     }
 
-    /// The message that waits for the user on a stream at a place, from 0: None where none does.
+    /// The message at this place, from 0, of those that wait to be taken on a stream; None if there is none.
     pub fn waiting(&self, stream: u16, place: usize) -> Option<&Message>
         ensures { (v : EndView) → MachineStands self.now v → MatchOption result (slice_get (v.receiver.waiting stream) place ≡ None)
             (λ m. slice_get (v.receiver.waiting stream) place ≡ Some (handed_of m.now)) }
@@ -166,7 +168,7 @@ impl Machine {
 }
 
 impl Unjoined {
-    /// The state that the user is told.
+    /// The state, as the user reads it.
     fn state(&self) -> State
         ensures { state_meaning result ≡ state_of (phase_unjoined self.now) }
     {
@@ -192,7 +194,7 @@ impl Unjoined {
 }
 
 impl Association {
-    /// The state that the user is told.
+    /// The state, as the user reads it.
     fn state(&self) -> State
         ensures { state_meaning result ≡ state_of (phase_in self.now.tags self.now.progress) }
     {
@@ -216,7 +218,7 @@ impl Association {
 }
 
 impl Stage {
-    /// The state that the user is told.
+    /// The state, as the user reads it.
     fn state(self) -> State
         ensures { state_meaning result ≡ InStage (stage_meaning self) }
     {

@@ -1,8 +1,9 @@
-//! Rooms that come back: what the user of an end is done with is used again, in place of new memory. None of it shows in what an end is or answers.
+//! Buffers that the user hands back, to be used again in place of new memory. No view and no answer of an endpoint depends on them.
 
-ghost use Rattle.std.specs.Prelude.{◌≡◌};
+ghost use Rattle.std.specs.Prelude.{◌≡◌, ◌≤◌, vec_capacity};
 ghost use Rattle.sctp_model.specs.end.EndView.{EndView};
 ghost use Rattle.sctp_association.specs.MachineStands.{MachineStands};
+ghost use Rattle.sctp_association.specs.KeptRoom.{kept_capacity, kept_of};
 
 use crate::machine::Machine;
 use crate::state::life::Life;
@@ -11,10 +12,12 @@ use std::mem::replace;
 
 #[tactic(auto, unfolding(crate::specs::MachineStands::MachineStands))]
 impl Machine {
-    /// The next packet is made in the room of these bytes, which are forgotten: of two rooms the larger one is kept, and none that is larger than
-    /// a packet may be. It takes no memory.
+    /// Hands back a packet that was sent: its bytes are forgotten, and the next packet is made in its buffer in place of new memory. One buffer is
+    /// kept: the larger one, and none that is larger than a packet may be. It doesn't allocate.
     pub fn recycle(&mut self, packet: Vec<u8>)
-        ensures { (v : EndView) → MachineStands self.old v → MachineStands self.new v }
+        ensures stands { (v : EndView) → MachineStands self.old v → MachineStands self.new v }
+        ensures kept { (v : EndView) → MachineStands self.old v → kept_capacity self.new ≡ kept_of v.configuration.limit (vec_capacity packet) (kept_capacity self.old) }
+        ensures within { (v : EndView) → MachineStands self.old v → kept_capacity self.new ≤ v.configuration.limit }
     {
         let size = packet.capacity();
         if size > usize::from(self.config.limit()) {
@@ -26,7 +29,7 @@ impl Machine {
         self.room = packet;
     }
 
-    /// What comes next may be kept in the blocks of this message, which is forgotten. It takes no memory.
+    /// Hands back a message that was taken: its bytes are forgotten, and its memory may be used for the next received data. It doesn't allocate.
     pub fn give_back(&mut self, message: Message)
         ensures { (v : EndView) → MachineStands self.old v → MachineStands self.new v }
     {
@@ -36,7 +39,7 @@ impl Machine {
         }
     }
 
-    /// The room that is kept, for the next packet: none is kept any more.
+    /// Takes the buffer that is kept, for the next packet: none is kept any more.
     pub(crate) fn take_room(&mut self) -> Vec<u8>
         ensures stands { (v : EndView) → MachineStands self.old v → MachineStands self.new v }
         ensures due { self.new.due ≡ self.old.due }

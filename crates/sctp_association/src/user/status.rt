@@ -1,4 +1,4 @@
-//! How much waits to go out, what the peer has room for, on which stream a message waits for the user, and what both ends agreed on.
+//! Queued messages, the peer's window, streams with a message to be taken, and what both endpoints agreed on.
 
 ghost use Rattle.std.specs.Prelude.{◌≡◌, ◌≤◌, ◌*◌, ℕ, length};
 ghost use Rattle.sctp_model.specs.numbers.Limits.{QUEUE_LIMIT, LONGEST_MESSAGE};
@@ -18,7 +18,7 @@ use crate::traffic::Traffic;
 use crate::user::agreed::Agreed;
 
 impl Traffic {
-    /// How many messages wait for their numbers: at most 1,024.
+    /// The number of queued messages that have no TSN yet: at most 1,024.
     pub(crate) fn queued(&self) -> usize
         ensures count { (f : Format) (s : SenderView) (r : ReceiverView) → TrafficStands self.now f s r → result ≡ length s.queue }
         ensures bound { (f : Format) (s : SenderView) (r : ReceiverView) → TrafficStands self.now f s r → result ≤ QUEUE_LIMIT }
@@ -50,7 +50,7 @@ impl Traffic {
         }
     }
 
-    /// The first stream from one on, on which a message waits to be taken.
+    /// The first stream, from this one on, with a message to be taken.
     pub(crate) fn readable(&self, from: u16) -> Option<u16>
         ensures { (f : Format) (s : SenderView) (r : ReceiverView) → TrafficStands self.now f s r → ReadableAnswer r.waiting from result }
     {
@@ -63,7 +63,7 @@ impl Traffic {
 
 #[tactic(auto, unfolding(crate::specs::MachineStands::MachineStands))]
 impl Machine {
-    /// How many messages wait for their numbers: none before an association, and at most 1,024.
+    /// The number of queued messages that have no TSN yet: at most 1,024, and 0 before an association.
     pub fn queued(&self) -> usize
         ensures count { (v : EndView) → MachineStands self.now v → result ≡ length v.sender.queue }
         ensures bound { (v : EndView) → MachineStands self.now v → result ≤ QUEUE_LIMIT }
@@ -95,7 +95,7 @@ impl Machine {
         }
     }
 
-    /// The first stream from one on, on which a message waits to be taken: none before an association.
+    /// The first stream, from this one on, with a message to be taken; None if there is none, as before an association.
     pub fn readable(&self, from: u16) -> Option<u16>
         ensures { (v : EndView) → MachineStands self.now v → ReadableAnswer v.receiver.waiting from result }
     {
@@ -105,7 +105,7 @@ impl Machine {
         }
     }
 
-    /// What both ends agreed on, also once the association is over: None before it, exactly where no stream is agreed on.
+    /// What both endpoints agreed on, also once the association is over. None before it: exactly if no stream is agreed on.
     pub fn agreed(&self) -> Option<Agreed>
         ensures { (v : EndView) → MachineStands self.now v → AgreedAnswer v.terms result }
     {

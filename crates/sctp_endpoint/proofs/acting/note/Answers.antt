@@ -11,14 +11,14 @@ use Rattle.sctp_endpoint.proofs.acting.note.Goals as goal
 pub returns-in-GoesOn : goal.returns-in-GoesOn
 returns-in-GoesOn c = λ tag v m left.
     let a = rw c.in-GoesOn.is at left in
-    (rested a.0, c.rest.ensures a.0 a.2, goes_on tag v a.0 (notes_meaning c.args.notes.now) Unnoted _ a.1)
+    (rested a.0, c.advance_closing.ensures a.0 a.2, goes_on tag v a.0 (notes_meaning c.args.notes.now) Unnoted _ a.1)
 
 pub returns-in-Acknowledges : goal.returns-in-Acknowledges
 returns-in-Acknowledges c = λ tag v m left.
     let a = rw c.in-Acknowledges.is at left in
     let note = ToAcknowledge c.in-Acknowledges.is_data c.in-Acknowledges.at_once in (
       rested a.0,
-      c.rest-in-Acknowledges.ensures a.0 a.2,
+      c.advance_closing-in-Acknowledges.ensures a.0 a.2,
       rw c.acknowledge.ensures (goes_on tag v a.0 (notes_meaning c.args.notes.now) note _ a.1),
     )
 

@@ -1,9 +1,9 @@
 use Rattle.std.proofs.Common.{Bool, true, false, [], ◌∷◌, refl, subst}
 use Rattle.sctp_model.specs.end.Building.{SackSlot}
 use Rattle.sctp_association.specs.Drafted.{PutsAt}
-use Rattle.sctp_association.specs.PlainPacket.{still_due, plain_marks}
+use Rattle.sctp_association.specs.PlainPacket.{still_due, fragments_alone, plain_marks}
 use Rattle.sctp_association.proofs.BuildLemmas.{full_packet}
-use Rattle.sctp_association.proofs.PlainLemmas.{plain_at, all_slots, plain_fills}
+use Rattle.sctp_association.proofs.PlainLemmas.{plain_at, all_slots, plain_fills, starts_alone}
 use Rattle.sctp_association.proofs.build.plain.put_plain.Goals as goal
 
 pub returns-then-not-branch-clause-packed : goal.returns-then-not-branch-clause-packed
@@ -18,5 +18,6 @@ returns-clause-packed c = λ e t g d phase plain stands empty.
     let one = subst (λ (b : Bool). PutsAt (SackSlot ∷ []) e (plain_at d c.args.writer.now c.args.sack false) (plain_at d c.put_due_sack.new.writer (still_due b c.args.sack) false) b)
     c.if-not-branch.false (c.in_ok-put_due_sack.ensures e (plain_marks d c.args.sack false) stands empty.packet) in
     let puts = all_slots e d plain c.args.writer.now c.put_due_sack.new.writer c.args.sack false true empty.packet one in
-    plain_fills c.fill_plain.result e t g d c.args.writer.now c.put_due_sack.new.writer c.fill_plain.new.writer c.args.sack c.fill_plain.new.traffic phase empty puts
-    (c.fill_plain.ensures.filled e d stands puts.packet)
+    let x = c.in_ok-fragments.fragments in
+    plain_fills e t g d c.args.writer.now c.put_due_sack.new.writer c.fill_rest.new.writer c.args.sack x.some c.fill_rest.new.traffic x.tickets phase empty puts
+    (c.in_ok-fragments.ensures.filled e (plain_marks d false false) (fragments_alone x.some) stands puts.packet (starts_alone x.some))

@@ -1,4 +1,4 @@
-use Rattle.std.proofs.Common.{refl, subst}
+use Rattle.std.proofs.Common.{refl, subst, arith}
 use Rattle.sctp_model.specs.sender.SenderView.{fresh_sender}
 use Rattle.sctp_model.specs.receiver.ReceiverView.{fresh_receiver}
 use Rattle.sctp_model.specs.end.EndView.{format_for}
@@ -26,4 +26,5 @@ returns c =
             (fresh_sender x.own_tsn x.outbound config.fragment config.buffer x.partial) (fresh_receiver x.peer_tsn x.inbound config.buffer)) c.alike-terms.ensures begins;
         buffer = refl;
       };
+      room = rw c.new.ensures.capacity (omega arith);
     }

@@ -3,5 +3,5 @@ use Rattle.sctp_association.proofs.machine.Machine.pass.Goals as goal
 
 pub returns : goal.returns
 returns c = λ v stands.
-    c.wait_over.ensures _ (c.ring-5.ensures _ (c.ring-4.ensures _ (c.ring-3.ensures _ (c.ring-2.ensures _ (c.ring.ensures _
+    c.wait_over.ensures _ (c.expire_timer-5.ensures _ (c.expire_timer-4.ensures _ (c.expire_timer-3.ensures _ (c.expire_timer-2.ensures _ (c.expire_timer.ensures _
     (c.when_abandoned.ensures v (expired v.sender v.moment) (c.expire.ensures v stands) (c.point-before.ensures v stands)))))))

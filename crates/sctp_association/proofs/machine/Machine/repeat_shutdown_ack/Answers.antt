@@ -4,4 +4,4 @@ use Rattle.sctp_association.proofs.machine.Machine.repeat_shutdown_ack.Goals as 
 
 pub returns : goal.returns
 unfolding MachineStands
-returns c = λ v stands. with_due _ v _ _ stands (c.answer_shut.ensures v.due stands.due)
+returns c = λ v stands. with_due _ v _ _ stands (c.owe_shutdown_ack.ensures v.due stands.due)

@@ -8,20 +8,11 @@ use Rattle.sctp_association.proofs.BuildLemmas.{with_moment}
 use Rattle.sctp_association.proofs.PlainLemmas.{due_plain}
 use Rattle.sctp_association.proofs.machine.Machine.sent_plain.Goals as goal
 
-pub returns-in-Ok-clause-stands : goal.returns-in-Ok-clause-stands
+pub returns-clause-stands : goal.returns-clause-stands
 unfolding MachineStands
-returns-in-Ok-clause-stands c = λ v stands.
+returns-clause-stands c = λ v stands.
     let told = c.when_sack_sent.ensures _ (with_moment _ v c.args.moment stands) in
     let m = plain_marks c.args.self.now.due c.args.plain.sack c.args.plain.fragments in
-    at_view _ _ _ (ap (λ (b : Bool). record v { moment = c.args.moment; due = due_left m v.due; timers = started_from (starts_at m.starts) c.args.moment v.timers; delayed = delayed_left b m.sack v.delayed; receiver = receiver_left b m.sack v.receiver }) (sym stands.due.sack))
-    (with_both _ _ _ (due_left m v.due) _ (started_from (starts_at m.starts) c.args.moment v.timers) told (due_plain _ _ v.due _ c.args.plain.fragments stands.due (c.owe_sack.ensures v.due told.due))
-    (c.start_fragments.ensures ∙ ap (started_from (starts_at m.starts) c.args.moment) told.timers))
-
-pub returns-in-Err-clause-stands : goal.returns-in-Err-clause-stands
-unfolding MachineStands
-returns-in-Err-clause-stands c = λ v stands.
-    let told = c.when_sack_sent.ensures _ (with_moment _ v c.args.moment stands) in
-    let m = plain_marks c.args.self.now.due c.args.plain.sack c.args.plain.fragments in
-    c.recycle.ensures _ (at_view _ _ _ (ap (λ (b : Bool). record v { moment = c.args.moment; due = due_left m v.due; timers = started_from (starts_at m.starts) c.args.moment v.timers; delayed = delayed_left b m.sack v.delayed; receiver = receiver_left b m.sack v.receiver }) (sym stands.due.sack))
+    c.finished.ensures.stands _ (at_view _ _ _ (ap (λ (b : Bool). record v { moment = c.args.moment; due = due_left m v.due; timers = started_from (starts_at m.starts) c.args.moment v.timers; delayed = delayed_left b m.sack v.delayed; receiver = receiver_left b m.sack v.receiver }) (sym stands.due.sack))
     (with_both _ _ _ (due_left m v.due) _ (started_from (starts_at m.starts) c.args.moment v.timers) told (due_plain _ _ v.due _ c.args.plain.fragments stands.due (c.owe_sack.ensures v.due told.due))
     (c.start_fragments.ensures ∙ ap (started_from (starts_at m.starts) c.args.moment) told.timers)))

@@ -27,4 +27,4 @@ pub returns-clause-step : goal.returns-clause-step
 unfolding MachineStands
 returns-clause-step c = λ v stands.
     let phase = c.in-Some.ensures v stands in
-    at_view _ _ _ (shut_first v _ _ phase (sym c.is_established.ensures ∙ c.if-not-is_established.false)) (c.rest.ensures _ (c.turn.ensures v _ _ stands phase))
+    at_view _ _ _ (shut_first v _ _ phase (sym c.is_established.ensures ∙ c.if-not-is_established.false)) (c.advance_closing.ensures _ (c.turn.ensures v _ _ stands phase))

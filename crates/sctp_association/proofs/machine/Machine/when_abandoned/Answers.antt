@@ -14,4 +14,4 @@ returns c = λ v s stands before.
     let moved = ap (λ (n : ℕ). not (n == c.args.before)) (c.point.ensures there stands) ∙ ap (λ (n : ℕ). not (point s == n)) before in
     let due = skipped_due _ v.due _ _ (c.skip.ensures v.due stands.due) moved in
     let skips : EndView = record there { due = record v.due { forward = v.due.forward || not (point s == point v.sender) } } in
-    c.rest.ensures _ (c.settle.ensures skips (with_due _ there _ _ stands due))
+    c.advance_closing.ensures _ (c.settle.ensures skips (with_due _ there _ _ stands due))

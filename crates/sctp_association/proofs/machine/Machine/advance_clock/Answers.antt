@@ -1,6 +1,6 @@
 use Rattle.sctp_association.specs.MachineStands.{MachineStands}
 use Rattle.sctp_association.proofs.MachineLemmas.{with_clock}
-use Rattle.sctp_association.proofs.machine.Machine.tell.Goals as goal
+use Rattle.sctp_association.proofs.machine.Machine.advance_clock.Goals as goal
 
 pub returns : goal.returns
 unfolding MachineStands

@@ -1,6 +1,6 @@
 use Rattle.sctp_association.specs.MachineStands.{MachineStands}
 use Rattle.sctp_association.proofs.MachineLemmas.{with_due}
-use Rattle.sctp_association.proofs.machine.Machine.again.Goals as goal
+use Rattle.sctp_association.proofs.machine.Machine.resend.Goals as goal
 
 pub returns-in-Init : goal.returns-in-Init
 unfolding MachineStands
@@ -15,8 +15,8 @@ returns-in-Fragments c = λ v stands. rw c.in-Fragments.is (c.repeat_fragments.e
 
 pub returns-in-Shutdown : goal.returns-in-Shutdown
 unfolding MachineStands
-returns-in-Shutdown c = λ v stands. rw c.in-Shutdown.is (with_due _ v _ _ stands (c.shut.ensures v.due stands.due))
+returns-in-Shutdown c = λ v stands. rw c.in-Shutdown.is (with_due _ v _ _ stands (c.owe_shutdown.ensures v.due stands.due))
 
 pub returns-in-ShutdownAck : goal.returns-in-ShutdownAck
 unfolding MachineStands
-returns-in-ShutdownAck c = λ v stands. rw c.in-ShutdownAck.is (with_due _ v _ _ stands (c.answer_shut.ensures v.due stands.due))
+returns-in-ShutdownAck c = λ v stands. rw c.in-ShutdownAck.is (with_due _ v _ _ stands (c.owe_shutdown_ack.ensures v.due stands.due))

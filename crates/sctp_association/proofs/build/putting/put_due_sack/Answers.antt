@@ -8,7 +8,7 @@ use Rattle.sctp_association.specs.Drafted.{PutsAt}
 use Rattle.sctp_association.specs.declared.build.packing.Marks.{Marks}
 use Rattle.sctp_association.specs.declared.build.packing.Packing.{Packing}
 use Rattle.sctp_association.proofs.PutLemmas.{not_due, stays_out, goes_in, acknowledges, sack_left}
-use Rattle.sctp_association.proofs.build.plain.put_due_sack.Goals as goal
+use Rattle.sctp_association.proofs.build.putting.put_due_sack.Goals as goal
 
 pub returns-then-not-sack : goal.returns-then-not-sack
 returns-then-not-sack c = λ e m stands packet.

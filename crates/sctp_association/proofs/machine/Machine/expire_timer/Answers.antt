@@ -5,7 +5,7 @@ use Rattle.sctp_association.specs.TimersMean.{alarm_meaning, timer_meaning}
 use Rattle.sctp_association.specs.MachineStands.{MachineStands}
 use Rattle.sctp_association.proofs.MachineLemmas.{at_view, with_timers}
 use Rattle.sctp_association.proofs.MomentLemmas.{ring_waits, ring_goes, put_in}
-use Rattle.sctp_association.proofs.machine.Machine.ring.Goals as goal
+use Rattle.sctp_association.proofs.machine.Machine.expire_timer.Goals as goal
 
 pub returns-then-not-is_over : goal.returns-then-not-is_over
 unfolding MachineStands
@@ -28,5 +28,5 @@ returns c = λ v stands.
     let a = alarm_meaning c.args.alarm in
     let here = c.get-timer.ensures ∙ ap (λ (f : Alarm → Timer). f a) stands.timers in
     at_view _ _ _ (ring_goes a v _ (timer_meaning c.get-timer.result) _ stands.clock here (sym c.is_over.ensures ∙ c.if-not-is_over.false) (sym c.can_repeat.ensures.answer ∙ c.if-not-can_repeat.false))
-    (c.again.ensures (with_timer a (expired_timer (v.timers a)) v)
+    (c.resend.ensures (with_timer a (expired_timer (v.timers a)) v)
     (with_timers _ v _ _ stands (put_in a _ _ _ (timer_meaning c.expired.result) (timer_meaning c.get-timer.result) (v.timers a) c.put.ensures c.expired.ensures c.get-timer.ensures stands.timers)))
