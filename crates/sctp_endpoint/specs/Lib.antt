@@ -1,5 +1,6 @@
 pub mod EndpointStands
 pub mod Handled
+pub mod KeptBuffer
 pub mod Left
 pub mod Logs
 pub mod Packets

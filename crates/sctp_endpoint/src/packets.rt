@@ -1,9 +1,8 @@
 //! What a packet says, read from its bytes without an endpoint: which association it belongs to, and why its sender aborted.
 
-ghost use Rattle.std.specs.Prelude.{◌≡◌, ◌<◌, length, Option, option_map, MatchOption, IfSome};
+ghost use Rattle.std.specs.Prelude.{◌≡◌, ◌<◌, length, Option, option_map, MatchOption};
 ghost use Rattle.sctp_model.specs.wire.Packet as meaning;
 ghost use Rattle.sctp_model.specs.wire.Packet.{HEADER_ROOM};
-ghost use Rattle.sctp_model.specs.wire.Typed.{typed_in};
 ghost use Rattle.sctp_packet.specs.PacketBytes.{ReadsPacket};
 ghost use Rattle.sctp_endpoint.specs.Handled.{IsRead};
 ghost use Rattle.sctp_endpoint.specs.Packets.{BeginsWith, IsHeaderOf, abort_said, abort_among, first_cause, cause_meaning};

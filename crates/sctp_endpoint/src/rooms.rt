@@ -1,7 +1,10 @@
 //! Buffers that the user returns for reuse, or not.
 
+ghost use Rattle.std.specs.Prelude.{◌≡◌, ◌≤◌, vec_capacity};
 ghost use Rattle.sctp_model.specs.end.EndView.{EndView};
+ghost use Rattle.sctp_association.specs.KeptRoom.{kept_of};
 ghost use Rattle.sctp_endpoint.specs.EndpointStands.{EndpointStands};
+ghost use Rattle.sctp_endpoint.specs.KeptBuffer.{kept_capacity};
 
 use crate::endpoint::Endpoint;
 use sctp_recv::Message;
@@ -12,7 +15,10 @@ impl Endpoint {
     /// is kept, the larger one of two, and none larger than the packet limit. Calling it is optional, and no other result depends on it. It allocates no
     /// memory.
     pub fn recycle(&mut self, packet: Vec<u8>)
-        ensures { (v : EndView) → EndpointStands self.old v → EndpointStands self.new v }
+        ensures stands { (v : EndView) → EndpointStands self.old v → EndpointStands self.new v }
+        ensures kept { (v : EndView) → EndpointStands self.old v
+            → kept_capacity self.new ≡ kept_of v.configuration.limit (vec_capacity packet) (kept_capacity self.old) }
+        ensures within { (v : EndView) → EndpointStands self.old v → kept_capacity self.new ≤ v.configuration.limit }
     {
         self.machine.recycle(packet);
     }

@@ -1,4 +1,4 @@
--- The one cause that reports the unknown parameters of an INIT ACK: where it is put behind those that wait, and which parameters it holds.
+-- The cause that reports the unrecognized parameters of an INIT ACK: it is appended to the pending ones, with the parameters that fit.
 use Rattle.std.proofs.Common.{◌≡◌, ℕ, ◌+◌, ◌-◌, ◌<◌, ◌≤◌, Bool, true, false, List, [], ◌∷◌, ◌++◌, length, refl, ap, sym, ◌∙◌, arith, nat_le}
 use Rattle.std.proofs.lemmas.List.{append-nil}
 use Rattle.std.proofs.lemmas.Bool.{le-leb, lt-leb}

@@ -1,4 +1,4 @@
--- Parameters one after another: the first of a type that is acted on.
+-- The search through a list of parameters finds the first of its type that is used.
 use Rattle.std.proofs.Common.{◌≡◌, ℕ, Bool, true, false, cond, List, [], ◌∷◌, Option, Some, None, refl, ap, ◌∙◌, nat_eq}
 use Rattle.std.proofs.lemmas.Bool.{eqb-true}
 use Rattle.std.specs.Prelude.{not, ◌&&◌}

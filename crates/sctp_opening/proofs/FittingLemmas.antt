@@ -1,4 +1,4 @@
--- What goes into a list of so many bytes: one item, and all those of a list that the definitions choose.
+-- Which items fit a list with a limit on its bytes: the choice by bytes is that of the definitions, which ask whether the whole chunk would fit.
 use Rattle.std.proofs.Common.{◌≡◌, ℕ, ◌+◌, ◌≤◌, Bool, true, false, cond, List, [], ◌∷◌, ◌++◌, length, length-append, replicate, refl, ap, ◌∙◌, arith, nat_le, append_assoc}
 use Rattle.std.proofs.lemmas.Bool.{leb-true}
 use Rattle.sctp_model.specs.wire.Chunk.{padded, padding_after}

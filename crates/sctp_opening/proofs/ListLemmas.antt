@@ -1,4 +1,4 @@
--- Lists of parameters and causes as chunks hold them: what is written is a list, how long it is, and which chunks may be written with it.
+-- Lists of parameters and causes: what is written is a list, its length, and which chunks may be written with it.
 use Rattle.std.proofs.Common.{◌≡◌, ℕ, ◌+◌, ◌<◌, ◌≤◌, ◌^◌, Bool, true, false, cond, List, [], ◌∷◌, ◌++◌, length, length-append, refl, arith}
 use Rattle.std.specs.Prelude.{◌&&◌}
 use Rattle.sctp_model.specs.wire.Chunk.{InitMeaning, Init, InitAck, Abort, padded}

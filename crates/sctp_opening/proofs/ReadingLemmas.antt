@@ -1,4 +1,4 @@
--- What a listener reads in a cookie, by what opening it was answered.
+-- Whether a cookie is valid, stale or strange, by what opening it returned.
 use Rattle.std.proofs.Common.{◌≡◌, ℕ, List, Result, Err, sym, ap, ◌∙◌}
 use Rattle.sctp_model.specs.end.Sealing.{Body, Sealing}
 use Rattle.sctp_model.specs.end.EndView.{Configuration, EndView}

@@ -1,4 +1,4 @@
--- First chunks that hold no cookie, whether the end listens or not.
+-- Packets whose first chunk has no cookie, at a listener and at a closed endpoint.
 use Rattle.std.proofs.Common.{◌≡◌, ℕ, Option, Some, None, refl}
 use Rattle.sctp_model.specs.wire.Chunk.{InitMeaning, Init, ShutdownAck}
 use Rattle.sctp_model.specs.end.Sealing.{Sealing}

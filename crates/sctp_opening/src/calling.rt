@@ -1,4 +1,4 @@
-//! A caller reads an INIT ACK: its cookie, or why it is refused, and what its peer is told (RFC 9260, 5.1.2 and 3.3.3).
+//! A caller reads an INIT ACK: its cookie, or why it is refused, and what is reported to the peer (RFC 9260, 5.1.2 and 3.3.3).
 
 ghost use Rattle.std.specs.Prelude.{◌≡◌, ◌≤◌, ◌<◌, ◌+◌, ◌^◌, true, length, Some, None, MatchResult, IfOk, OnOk, OnErr};
 ghost use Rattle.sctp_model.specs.wire.Chunk.{InitMeaning};
@@ -22,21 +22,21 @@ use sctp_wire::codes::{
 use sctp_wire::{Init, NoMemory, Parameters, padded, put_cause};
 use std::alloc::Global;
 
-/// Why an INIT ACK is refused: the first that holds.
+/// Why an INIT ACK is refused: the first of these that applies.
 #[derive(Clone, Copy, Debug, PartialEq, Eq)]
 pub enum AckFault {
-    /// It offers or takes no stream (RFC 9260, 3.3.3).
+    /// It has no outbound or no inbound stream (RFC 9260, 3.3.3).
     NoStream,
-    /// It has no cookie (RFC 9260, 5.1.2).
+    /// It has no State Cookie (RFC 9260, 5.1.2).
     NoCookie,
-    /// Its cookie can't be echoed in one packet.
+    /// Its cookie doesn't fit a COOKIE ECHO of one packet.
     LargeCookie,
 }
 
-/// The cookie of an INIT ACK, which is to go back in a COOKIE ECHO.
+/// The State Cookie of an INIT ACK, for the COOKIE ECHO. It takes no memory.
 ///
 /// # Errors
-/// Why the INIT ACK is refused; `ack_abort` is what answers it.
+/// Why the INIT ACK is refused; the reply is then [`ack_abort`].
 pub fn cookie_of<'a>(config: &Config, offer: &Init<'a>) -> Result<&'a [u8], AckFault>
     ensures { (e : EndView) → e.configuration ≡ config.now → MatchResult result
         (λ cookie. (value_of STATE_COOKIE offer.now.parameters ≡ Some cookie.now) × (ack_fault e (init_meaning offer.now) (Some cookie.now) ≡ None))
@@ -54,10 +54,11 @@ pub fn cookie_of<'a>(config: &Config, offer: &Init<'a>) -> Result<&'a [u8], AckF
     Ok(cookie)
 }
 
-/// The ABORT that answers an INIT ACK which is refused, to its initiate tag (RFC 9260, 3.3.10).
+/// The packet with the ABORT that answers a refused INIT ACK, with the error cause of that fault; `tag` is the INIT ACK's initiate tag (RFC 9260,
+/// 3.3.10).
 ///
 /// # Errors
-/// `NoMemory` where a growth was refused.
+/// `NoMemory` if an allocation failed.
 #[tactic(auto, unfolding(sctp_model::specs::numbers::Numbers::u16_bytes, sctp_model::specs::numbers::Numbers::u32_bytes))]
 pub fn ack_abort(
     alloc: Global,
@@ -68,7 +69,7 @@ pub fn ack_abort(
     ensures packet { IfOk result (λ packet. WritesPacket packet.items (packet_to config.now tag (abort_for (cause_of fault)))) }
     ensures within { IfOk result (λ packet. length packet.items ≤ config.now.limit) }
 {
-    // So a packet has room for each cause.
+    // Its contract bounds the limit, so each cause fits a packet.
     let _limit = config.limit();
     match fault {
         AckFault::NoStream => abort_packet(alloc, config, tag, INVALID_PARAMETER, &[]),
@@ -80,11 +81,11 @@ pub fn ack_abort(
     }
 }
 
-/// Appends to the causes that wait for an ERROR one that reports the unknown parameters of an INIT ACK, as far as the ERROR with it fits
-/// a packet; none where nothing is reported, or nothing goes in (RFC 9260, 3.2.2 and 3.3.10.8).
+/// Appends to the causes of the next ERROR one that reports the unrecognized parameters of an INIT ACK, as many as fit a packet with that ERROR; none
+/// if nothing is to be reported or nothing fits (RFC 9260, 3.2.2 and 3.3.10.8).
 ///
 /// # Errors
-/// `NoMemory` where a growth was refused; the causes are then as before.
+/// `NoMemory` if an allocation failed; the causes are then unchanged.
 pub fn put_ack_report(
     alloc: Global,
     config: &Config,
@@ -115,7 +116,8 @@ pub fn put_ack_report(
     Ok(())
 }
 
-/// Each byte of a slice is one.
+/// What a slice of `u8` holds are bytes, each below 256.
+// law
 fn are_bytes(bytes: &[u8])
     ensures { AreBytes bytes.now }
 {

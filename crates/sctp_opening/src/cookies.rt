@@ -1,4 +1,4 @@
-//! What a listener makes of a cookie that comes back to it (RFC 9260, 5.1.5 and 5.2.4).
+//! A listener reads the State Cookie of a COOKIE ECHO (RFC 9260, 5.1.5 and 5.2.4).
 
 ghost use Rattle.std.specs.Prelude.{◌≡◌, Ok};
 ghost use Rattle.sctp_model.specs.end.EndView.{EndView};
@@ -14,20 +14,20 @@ use sctp_cookie::{
 };
 use sctp_terms::Config;
 
-/// What a listener reads in a cookie.
+/// What the cookie of a COOKIE ECHO is to a listener.
 #[derive(Clone, Copy, Debug, PartialEq, Eq)]
 pub enum CookieReading {
-    /// It opens: it is of this key, these ports and this tag, and no older than its life.
+    /// It is valid: made under this key, for these ports and this tag, and not older than its lifetime.
     Opens(CookieBody),
-    /// It would open, but it came past its life, by so many microseconds or by more than 32 bits hold (RFC 9260, 3.3.10.3).
+    /// It would be valid, but it is older than its lifetime, by this number of microseconds, or by more than 32 bits hold (RFC 9260, 3.3.10.3).
     Late { body: CookieBody, microseconds: u32 },
-    /// It is of another key, other ports or another tag, or it is no cookie at all.
+    /// It was made under another key, or for other ports or another tag, or it is no cookie at all.
     Strange,
 }
 
 impl CookieReading {
-    /// Whether the cookie is that of the association with these tags, however old: packets to this end carry the first, packets from
-    /// it the second (RFC 9260, 5.2.4).
+    /// Whether it is the cookie of the association with these tags, whatever its age: packets to this endpoint carry `own`, packets from it
+    /// `peer` (RFC 9260, 5.2.4).
     pub fn is_of(&self, own: u32, peer: u32) -> bool
         ensures { result ≡ is_ours (record { own = own; peer = peer }) (reading_meaning self.now) }
     {
@@ -41,8 +41,8 @@ impl CookieReading {
     }
 }
 
-/// What an end with this key and this configuration reads at the moment `now`, in milliseconds, in a cookie that came in a COOKIE ECHO
-/// under the verification tag `tag`.
+/// Reads the cookie of a COOKIE ECHO that arrived under the verification tag `tag` at the time `now`, in milliseconds, at an endpoint with this key
+/// and this configuration (RFC 9260, 5.1.5). It takes no memory.
 pub fn read_cookie(key: &Key, config: &Config, now: u64, tag: u32, cookie: &[u8]) -> CookieReading
     ensures read { (s : Sealing) (e : EndView) → IsUnder key.now s → IsAt config.now now e
         → reading_meaning result ≡ cookie_read s e tag cookie.now }
@@ -61,7 +61,7 @@ pub fn read_cookie(key: &Key, config: &Config, now: u64, tag: u32, cookie: &[u8]
     }
 }
 
-/// A cookie past its life: its body is what it would have opened to.
+/// A cookie older than its lifetime, with the body that it would have had.
 fn late(key: &Key, cookie: &[u8], ports: Ports, tag: u32, microseconds: u32) -> CookieReading
     requires { open_answer key.now cookie.now 0 ports tag ≡ Ok (body_of cookie.now) }
     ensures { IsLate (body_of cookie.now) microseconds result }
@@ -72,7 +72,7 @@ fn late(key: &Key, cookie: &[u8], ports: Ports, tag: u32, microseconds: u32) -> 
     }
 }
 
-/// The ports of packets to an end that listens.
+/// The ports of packets to a listener.
 fn ports_of(config: &Config) -> Ports
     ensures { result ≡ ports_in config.now }
 {

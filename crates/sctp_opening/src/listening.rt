@@ -1,5 +1,4 @@
-//! A listener is asked for an association: it answers an INIT and keeps nothing, and a cookie that comes back begins one
-//! (RFC 9260, 5.1, 5.1.3 and 5.1.5).
+//! A listener: it answers an INIT without keeping state, and the cookie of a COOKIE ECHO begins an association (RFC 9260, 5.1, 5.1.3 and 5.1.5).
 
 ghost use Rattle.std.specs.Prelude.{◌≡◌, ℕ, ◌+◌, ◌≤◌, true, length, Some, None, IfOk, OnErr};
 ghost use Rattle.sctp_model.specs.wire.Chunk as meaning;
@@ -30,7 +29,7 @@ use sctp_wire::{Chunk, Init, NoMemory, put_parameter};
 use std::alloc::Global;
 
 impl Outside {
-    /// What becomes of a packet of one INIT.
+    /// Handles a packet whose first chunk is an INIT.
     pub(crate) fn hear_init(&self, alloc: Global, offer: &Init<'_>) -> Result<Stray, NoMemory>
         ensures answer { (e : EndView) (tag : ℕ) → IsOutside self.now e
             → IfOk result (λ told. IsTold told None (first_verdict e self.now.draw tag (meaning.Init (init_meaning offer.now)))) }
@@ -47,7 +46,7 @@ impl Outside {
         }
     }
 
-    /// What becomes of a packet whose first chunk is a COOKIE ECHO, under this tag.
+    /// Handles a packet with this verification tag whose first chunk is a COOKIE ECHO.
     pub(crate) fn hear_cookie(
         &self,
         alloc: Global,
@@ -73,13 +72,13 @@ impl Outside {
         }
     }
 
-    /// What answers an INIT of a tag that isn't 0 where the end listens: an INIT ACK, or an ABORT where it offers or takes no stream.
+    /// A listener's reply to an INIT whose initiate tag isn't 0: an INIT ACK, or an ABORT if the INIT has no outbound or no inbound stream.
     fn answer_init(&self, alloc: Global, key: &Key, offer: &Init<'_>) -> Result<Vec<u8>, NoMemory>
         ensures answer { (s : Sealing) (e : EndView) → IsUnder key.now s → IsAt self.now.config self.now.moment e
             → IfOk result (λ packet. IsAnswer packet.items (init_verdict (Some s) e self.now.draw (init_meaning offer.now))) }
         ensures within { IfOk result (λ packet. length packet.items ≤ self.now.config.limit) }
     {
-        // So a packet has room for the cause, and its length for the parameters.
+        // Its contract bounds the limit, so the cause fits a packet, and the parameters' length its field.
         let _limit = self.config.limit();
         if has_no_stream(offer) {
             return abort_packet(alloc, &self.config, offer.tag, INVALID_PARAMETER, &[]);
@@ -89,7 +88,7 @@ impl Outside {
         lone_packet(alloc, &self.config, offer.tag, &chunk)
     }
 
-    /// The parameters of an INIT ACK: the cookie, the end's own options, and reports as far as they fit (RFC 9260, 3.2.2 and 3.3.3).
+    /// The parameters of an INIT ACK: the cookie, this endpoint's extensions, and as many Unrecognized Parameters as fit (RFC 9260, 3.2.2 and 3.3.3).
     fn ack_parameters(
         &self,
         alloc: Global,
@@ -114,7 +113,7 @@ impl Outside {
         Ok(list)
     }
 
-    /// What a listener would have to remember of an INIT and of its own answer (RFC 9260, 5.1.3).
+    /// The cookie's content: the state that a listener would have to keep of an INIT and of its INIT ACK (RFC 9260, 5.1.3).
     fn cookie_body(&self, offer: &Init<'_>) -> CookieBody
         ensures { (e : EndView) → IsAt self.now.config self.now.moment e → body_meaning result ≡ body_for e self.now.draw (init_meaning offer.now) }
     {

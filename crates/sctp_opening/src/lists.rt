@@ -1,4 +1,4 @@
-//! A list of parameters or causes that has to stay within so many bytes.
+//! A list of parameters or causes with a limit on its size.
 
 ghost use Rattle.std.specs.Prelude.{◌≡◌, ◌≤◌, ◌+◌, nat_le, OnOk};
 ghost use Rattle.sctp_model.specs.wire.Chunk.{padded};
@@ -7,7 +7,7 @@ ghost use Rattle.sctp_opening.specs.inner.Fitting.{IsList, appended_within};
 
 use sctp_wire::{NoMemory, padded, put_parameter};
 
-/// Appends an item, where the list then has at most `most` bytes.
+/// Appends a parameter or a cause if the list then has at most `most` bytes.
 pub(crate) fn put_within(
     kind: u16,
     value: &[u8],
@@ -24,8 +24,8 @@ pub(crate) fn put_within(
     put_parameter(kind, value, list)
 }
 
-/// Whether a list of so many bytes has at most `most` with an item of this value behind it: four bytes of the item's header, and
-/// the padding before it.
+/// Whether a list of `used` bytes has at most `most` once an item with a value of `size` bytes follows: the padding before it, and four bytes of
+/// header.
 fn has_room(used: usize, size: usize, most: usize) -> bool
     requires { most ≤ 1500 }
     ensures { result ≡ nat_le (padded used + 4 + size) most }

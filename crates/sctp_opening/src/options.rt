@@ -1,4 +1,4 @@
-//! What an end says of itself in INIT and in INIT ACK, and what both turn on (RFC 9260, 3.3.2 and 3.3.3; RFC 3758, 3.1 and 3.3;
+//! What an endpoint offers in INIT and in INIT ACK, and which extensions are used (RFC 9260, 3.3.2 and 3.3.3; RFC 3758, 3.1 and 3.3;
 //! RFC 8260, 2.2.1 and 2.3.1).
 
 ghost use Rattle.std.specs.Prelude.{◌≡◌, List, ◌++◌, true, IfOk, OnOk, OnErr};
@@ -17,15 +17,15 @@ use sctp_wire::codes::{
 use sctp_wire::{Chunk, Init, NoMemory, Parameters, put_parameter};
 use std::alloc::Global;
 
-/// Whether both ends turn on I-DATA: this one is set up for it, and its peer lists the chunk type (RFC 8260, 2.2.1).
+/// Whether I-DATA is used: this endpoint is configured for it, and its peer lists the chunk type (RFC 8260, 2.2.1).
 pub(crate) fn agreed_interleave(config: &Config, parameters: &Parameters<'_>) -> bool
     ensures { result ≡ agreed_interleave config.now parameters.now }
 {
     config.interleave() && lists_type(I_DATA, parameters)
 }
 
-/// Whether both ends turn on partial reliability: this one is set up for it, and its peer says so (RFC 3758, 3.3); with I-DATA the peer
-/// also lists I-FORWARD-TSN (RFC 8260, 2.3.1).
+/// Whether partial reliability is used: this endpoint is configured for it, and its peer supports it (RFC 3758, 3.3); with I-DATA the peer also
+/// lists I-FORWARD-TSN (RFC 8260, 2.3.1).
 pub(crate) fn agreed_partial(config: &Config, parameters: &Parameters<'_>) -> bool
     ensures { result ≡ agreed_partial config.now parameters.now }
 {
@@ -44,7 +44,7 @@ fn lists_type(kind: u8, parameters: &Parameters<'_>) -> bool
     }
 }
 
-/// The chunk types of this end's extensions, rising (RFC 5061, 4.2.7).
+/// The chunk types of this endpoint's extensions, in ascending order (RFC 5061, 4.2.7).
 fn extensions(config: &Config) -> &'static [u8]
     ensures { result.now ≡ own_extensions config.now }
 {
@@ -56,7 +56,7 @@ fn extensions(config: &Config) -> &'static [u8]
     }
 }
 
-/// Appends this end's options to a list of parameters.
+/// Appends this endpoint's extensions to a list of parameters.
 pub(crate) fn put_options(config: &Config, list: &mut Vec<u8>) -> Result<(), NoMemory>
     ensures { (xs : List Typed) → WritesTyped list.old.items xs → OnOk result (WritesTyped list.new.items (xs ++ own_options config.now)) }
 {
@@ -70,14 +70,14 @@ pub(crate) fn put_options(config: &Config, list: &mut Vec<u8>) -> Result<(), NoM
     Ok(())
 }
 
-/// Whether an INIT or an INIT ACK offers or takes no stream (RFC 9260, 3.3.2 and 3.3.3).
+/// Whether an INIT or an INIT ACK has no outbound or no inbound stream (RFC 9260, 3.3.2 and 3.3.3).
 pub(crate) fn has_no_stream(offer: &Init<'_>) -> bool
     ensures { result ≡ has_no_stream (init_meaning offer.now) }
 {
     offer.outbound == 0 || offer.inbound == 0
 }
 
-/// What this end says of itself, with these parameters.
+/// The fields of this endpoint's INIT or INIT ACK, with these parameters.
 pub(crate) fn introduction<'a>(config: &Config, draw: Draw, parameters: &'a [u8]) -> Init<'a>
     requires { are_typed parameters.now ≡ true }
     ensures { init_meaning result ≡ introduction config.now draw parameters.now }
@@ -92,11 +92,11 @@ pub(crate) fn introduction<'a>(config: &Config, draw: Draw, parameters: &'a [u8]
     }
 }
 
-/// Puts the INIT of a caller with this draw into a packet (RFC 9260, 5.1, A). False exactly where it doesn't fit, which it does into an
-/// empty one; the packet is then as before.
+/// Appends a caller's INIT, with its verification tag and initial TSN `draw`, to a packet (RFC 9260, 5.1, A). False exactly if it doesn't fit; into an
+/// empty packet it always does. The packet is then unchanged.
 ///
 /// # Errors
-/// `NoMemory` where a growth was refused; the packet is then as before.
+/// `NoMemory` if an allocation failed; the packet is then unchanged.
 pub fn put_init(
     alloc: Global,
     config: &Config,

@@ -1,11 +1,11 @@
-//! A packet at an end without an association: its first chunk decides, and nothing is kept of it (RFC 9260, 5.1, 5.1.3 and 8.4).
+//! A packet that arrives at an endpoint without an association: its first chunk decides, and no state is kept of it (RFC 9260, 5.1, 5.1.3 and 8.4).
 //!
-//! | first chunk | where the end listens | where it is closed |
+//! | first chunk | the endpoint listens | the endpoint is closed |
 //! |---|---|---|
 //! | any, with an ABORT among the chunks | dropped | dropped |
-//! | INIT of tag 0 | dropped | dropped |
-//! | INIT | INIT ACK; ABORT where it has no stream | ABORT |
-//! | COOKIE ECHO | an association begins; ERROR where the cookie is late; else dropped | ABORT |
+//! | INIT with initiate tag 0 | dropped | dropped |
+//! | INIT | INIT ACK; ABORT if it has no stream | ABORT |
+//! | COOKIE ECHO | an association begins; ERROR if the cookie is stale; else dropped | ABORT |
 //! | SHUTDOWN ACK | SHUTDOWN COMPLETE | SHUTDOWN COMPLETE |
 //! | SHUTDOWN COMPLETE, COOKIE ACK, INIT ACK, ERROR, an unknown type | dropped | dropped |
 //! | any other | ABORT | ABORT |
@@ -26,35 +26,35 @@ use sctp_terms::{Config, Draw, Reason};
 use sctp_wire::{Chunk, Chunks, NoMemory};
 use std::alloc::Global;
 
-/// What an end without an association answers by.
+/// An endpoint without an association: what its replies are made from.
 #[derive(Clone, Copy)]
 pub struct Outside {
-    /// How it is set up.
+    /// Its configuration.
     pub config: Config,
-    /// The latest moment that it was told, in milliseconds.
+    /// The latest time that it knows, in milliseconds.
     pub moment: u64,
-    /// The key of its cookies, where it listens.
+    /// The key of its cookies if it listens.
     pub key: Option<Key>,
-    /// Its tag and its first TSN in the association that an INIT asks for.
+    /// Fresh random values: its verification tag and its initial TSN in the association that an INIT asks for.
     pub draw: Draw,
 }
 
-/// What becomes of a packet at an end without an association.
+/// What is done with a packet at an endpoint without an association.
 #[derive(Drop)]
 pub enum Stray {
-    /// Its first chunk holds a cookie that opens: an association begins by it, and the other chunks act there.
+    /// Its first chunk has a valid cookie: an association begins with this content, and the chunks after it are handled there.
     Begins(CookieBody),
     /// It is dropped.
     Dropped(Reason),
-    /// This packet answers it, and is to be sent at once.
+    /// It is answered by this packet, to be sent at once.
     Answered(Vec<u8>),
 }
 
 impl Outside {
-    /// What becomes of a packet of these chunks under this verification tag.
+    /// Handles a packet of these chunks with this verification tag. It changes nothing: no state is kept of the packet.
     ///
     /// # Errors
-    /// `NoMemory` where a growth was refused: only where the packet is answered.
+    /// `NoMemory` if an allocation failed, which can happen only if the packet is to be answered.
     pub fn hear(&self, alloc: Global, tag: u32, chunks: &Chunks<'_>) -> Result<Stray, NoMemory>
         ensures answer { (e : EndView) → IsOutside self.now e
             → IfOk result (λ told. IsTold told (body_among e tag chunks.now) (chunks_verdict e self.now.draw tag chunks.now)) }
@@ -70,7 +70,7 @@ impl Outside {
         }
     }
 
-    /// What becomes of a packet by its first chunk, where none of them is an ABORT.
+    /// Handles a packet without an ABORT by its first chunk.
     fn hear_first(&self, alloc: Global, tag: u32, chunk: &Chunk<'_>) -> Result<Stray, NoMemory>
         ensures answer { (e : EndView) → IsOutside self.now e
             → IfOk result (λ told. IsTold told (body_in (listens e) e tag (chunk_meaning chunk.now)) (first_verdict e self.now.draw tag (chunk_meaning chunk.now))) }
@@ -98,7 +98,7 @@ impl Outside {
         }
     }
 
-    /// An ABORT under the packet's own tag (RFC 9260, 8.4, rule 8).
+    /// An ABORT with the T bit and the packet's own verification tag (RFC 9260, 8.4, rule 8).
     pub(crate) fn refuse(&self, alloc: Global, tag: u32) -> Result<Stray, NoMemory>
         ensures answer { (e : EndView) → IsOutside self.now e → IfOk result (λ told. IsTold told None (refused e tag)) }
         ensures within { IfOk result (λ told. IsToldWithin self.now.config.limit told) }
@@ -106,19 +106,19 @@ impl Outside {
         Ok(Stray::Answered(bare_abort(alloc, &self.config, tag, true)?))
     }
 
-    /// A SHUTDOWN COMPLETE under the packet's own tag (RFC 9260, 8.4, rule 5).
+    /// A SHUTDOWN COMPLETE with the T bit and the packet's own verification tag (RFC 9260, 8.4, rule 5).
     fn complete(&self, alloc: Global, tag: u32) -> Result<Stray, NoMemory>
         ensures answer { (e : EndView) (d : meaning.Draw) → IsOutside self.now e → IfOk result (λ told. IsTold told None (first_verdict e d tag ShutdownAck)) }
         ensures within { IfOk result (λ told. IsToldWithin self.now.config.limit told) }
     {
-        // So a packet has room for it.
+        // Its contract bounds the limit, so the chunk fits a packet.
         let _limit = self.config.limit();
         let chunk = Chunk::ShutdownComplete { reflected: true };
         Ok(Stray::Answered(lone_packet(alloc, &self.config, tag, &chunk)?))
     }
 }
 
-/// Whether one of the chunks is an ABORT: a packet with one is never answered (RFC 9260, 8.4, rule 2).
+/// Whether one of the chunks is an ABORT: a packet with an ABORT is never answered (RFC 9260, 8.4, rule 2).
 fn holds_abort(chunks: Chunks<'_>) -> bool
     ensures { result ≡ holds_abort chunks.entry }
 {

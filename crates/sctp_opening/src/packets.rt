@@ -1,4 +1,4 @@
-//! Packets of one chunk, which answer another packet at once (RFC 9260, 3.3.7, 5.1 and 8.4).
+//! Packets of one chunk, sent in direct reply to another packet (RFC 9260, 3.3.7, 5.1 and 8.4).
 
 ghost use Rattle.std.specs.Prelude.{◌≡◌, ◌≤◌, ◌<◌, ◌+◌, ℕ, nat_le, [], ◌∷◌, length, true, IfOk};
 ghost use Rattle.sctp_model.specs.numbers.Numbers.{u32_bytes};
@@ -18,7 +18,7 @@ use sctp_wire::codes::STALE_COOKIE;
 use sctp_wire::{Causes, Chunk, NoMemory, put_cause, put_word};
 use std::alloc::Global;
 
-/// The most bytes that a chunk has behind `fixed` ones, where it has a packet to itself.
+/// The space in a chunk that is alone in its packet: how many bytes fit after its `fixed` first ones.
 pub fn room_behind(config: &Config, fixed: usize) -> usize
     requires { fixed ≤ 500 }
     ensures exact { (n : ℕ) → nat_le (size_alone (fixed + n)) config.now.limit ≡ nat_le n result }
@@ -28,10 +28,10 @@ pub fn room_behind(config: &Config, fixed: usize) -> usize
     (usize::from(config.limit()) - HEADER) / 4 * 4 - fixed
 }
 
-/// The packet of one chunk, between the configured ports and under this tag.
+/// A packet of one chunk, between the configured ports and with this verification tag.
 ///
 /// # Errors
-/// `NoMemory` where a growth was refused.
+/// `NoMemory` if an allocation failed.
 pub fn lone_packet(
     alloc: Global,
     config: &Config,
@@ -54,10 +54,10 @@ pub fn lone_packet(
     }
 }
 
-/// An ABORT for one cause, to the end whose packets carry this tag (RFC 9260, 3.3.7).
+/// A packet with an ABORT of one error cause, with this verification tag, which is that of its receiver (RFC 9260, 3.3.7).
 ///
 /// # Errors
-/// `NoMemory` where a growth was refused.
+/// `NoMemory` if an allocation failed.
 pub fn abort_packet(
     alloc: Global,
     config: &Config,
@@ -69,7 +69,7 @@ pub fn abort_packet(
     ensures packet { IfOk result (λ packet. WritesPacket packet.items (packet_to config.now tag (abort_for (item cause value.now)))) }
     ensures within { IfOk result (λ packet. length packet.items ≤ config.now.limit) }
 {
-    // So the cause has a length of 16 bits.
+    // Its contract bounds the limit, so the length of the cause fits 16 bits.
     let _limit = config.limit();
     let causes = one_cause(alloc, cause, value)?;
     let chunk = Chunk::Abort {
@@ -79,7 +79,8 @@ pub fn abort_packet(
     lone_packet(alloc, config, tag, &chunk)
 }
 
-/// An ABORT without a cause; `reflected` is its flag T: the tag is the one that came (RFC 9260, 3.3.7 and 8.5.1).
+/// A packet with an ABORT that has no cause. `reflected` is its T bit: the verification tag is that of the packet it answers (RFC 9260, 3.3.7 and
+/// 8.5.1).
 pub(crate) fn bare_abort(
     alloc: Global,
     config: &Config,
@@ -89,7 +90,7 @@ pub(crate) fn bare_abort(
     ensures packet { IfOk result (λ packet. WritesPacket packet.items (packet_to config.now tag (Abort reflected []))) }
     ensures within { IfOk result (λ packet. length packet.items ≤ config.now.limit) }
 {
-    // So a packet has room for it.
+    // Its contract bounds the limit, so the chunk fits a packet.
     let _limit = config.limit();
     let chunk = Chunk::Abort {
         reflected,
@@ -98,7 +99,7 @@ pub(crate) fn bare_abort(
     lone_packet(alloc, config, tag, &chunk)
 }
 
-/// The ERROR for a cookie that came so many microseconds past its life (RFC 9260, 3.3.10.3 and 5.1.5).
+/// A packet with the ERROR for a cookie older than its lifetime, by this number of microseconds (RFC 9260, 3.3.10.3 and 5.1.5).
 pub(crate) fn stale_cookie_packet(
     alloc: Global,
     config: &Config,
@@ -108,7 +109,7 @@ pub(crate) fn stale_cookie_packet(
     ensures packet { IfOk result (λ packet. WritesPacket packet.items (packet_to config.now tag (Error (written (item STALE_COOKIE (u32_bytes microseconds) ∷ []))))) }
     ensures within { IfOk result (λ packet. length packet.items ≤ config.now.limit) }
 {
-    // So a packet has room for the cause.
+    // Its contract bounds the limit, so the cause fits a packet.
     let _limit = config.limit();
     let mut value = Vec::new(alloc);
     put_word(microseconds, &mut value)?;
@@ -119,7 +120,7 @@ pub(crate) fn stale_cookie_packet(
     lone_packet(alloc, config, tag, &chunk)
 }
 
-/// The bytes of a list of one cause.
+/// The bytes of a list with one error cause.
 fn one_cause(alloc: Global, cause: u16, value: &[u8]) -> Result<Vec<u8>, NoMemory>
     requires { length value.now ≤ 1500 }
     ensures bytes { IfOk result (λ causes. causes.items ≡ written (item cause value.now ∷ [])) }

@@ -1,4 +1,4 @@
-//! The parameters of an INIT or an INIT ACK, read: which is acted on, and which are reported (RFC 9260, 3.2.1).
+//! The parameters of an INIT or an INIT ACK: which are used, and which are reported as unrecognized (RFC 9260, 3.2.1).
 
 ghost use Rattle.std.specs.Prelude.{◌≡◌, ◌≤◌, true, MatchOption, OnOk, Some, None};
 ghost use Rattle.sctp_model.specs.wire.Typed.{typed_in, typed_bytes};
@@ -16,7 +16,7 @@ use sctp_wire::codes::{
 use sctp_wire::{NoMemory, Parameters, put_parameter, unknown_parameter};
 use std::alloc::Global;
 
-/// The value of the first parameter of a known type, where no unknown one before it stops the reader.
+/// The value of the first parameter of a known type, unless an unrecognized one before it stops processing.
 #[tactic(auto, using(crate::proofs::FirstLemmas::firsts))]
 pub(crate) fn value_of<'a>(kind: u16, parameters: &Parameters<'a>) -> Option<&'a [u8]>
     requires { is_known_parameter kind ≡ true }
@@ -33,8 +33,8 @@ pub(crate) fn value_of<'a>(kind: u16, parameters: &Parameters<'a>) -> Option<&'a
     None
 }
 
-/// Appends to a list of parameters, for each unknown one that is reported, an Unrecognized Parameter that holds it whole, as far as
-/// the list then has at most `most` bytes (RFC 9260, 3.2.2).
+/// Appends an Unrecognized Parameter, which holds the whole parameter, for each one that is to be reported, as long as the list has at most `most`
+/// bytes with it (RFC 9260, 3.2.2).
 pub(crate) fn put_reports(
     alloc: Global,
     parameters: &Parameters<'_>,
@@ -54,8 +54,8 @@ pub(crate) fn put_reports(
     Ok(())
 }
 
-/// Appends to a list of parameters each unknown one that is reported, as far as the list then has at most `most` bytes: the value of a
-/// cause that reports them (RFC 9260, 3.3.10.8).
+/// Appends each parameter that is to be reported, as long as the list has at most `most` bytes with it: the value of the Unrecognized Parameters
+/// cause (RFC 9260, 3.3.10.8).
 pub(crate) fn put_unrecognized(
     parameters: &Parameters<'_>,
     most: usize,
@@ -74,7 +74,7 @@ pub(crate) fn put_unrecognized(
     Ok(())
 }
 
-/// Appends the report of one parameter, where its type asks for one and the list then has at most `most` bytes.
+/// Appends the report of one parameter if its type asks for one and the list then has at most `most` bytes.
 fn put_report(
     alloc: Global,
     kind: u16,
@@ -97,7 +97,7 @@ fn put_report(
     put_within(UNRECOGNIZED_PARAMETER, &whole, most, list)
 }
 
-/// Appends one parameter itself, where its type asks for a report and the list then has at most `most` bytes.
+/// Appends one parameter itself if its type asks for a report and the list then has at most `most` bytes.
 fn put_whole(kind: u16, value: &[u8], most: usize, list: &mut Vec<u8>) -> Result<(), NoMemory>
     requires { most ≤ 1500 }
     ensures bytes { OnOk result (list.new.items ≡ told_within most list.old.items kind (item kind value.now)) }
@@ -109,7 +109,7 @@ fn put_whole(kind: u16, value: &[u8], most: usize, list: &mut Vec<u8>) -> Result
     put_within(kind, value, most, list)
 }
 
-/// Whether a parameter of this type is acted on.
+/// Whether a parameter of this type is used.
 fn is_known(kind: u16) -> bool
     ensures { result ≡ is_known_parameter kind }
 {
@@ -119,7 +119,7 @@ fn is_known(kind: u16) -> bool
     )
 }
 
-/// Whether a parameter of this type is passed over without a report (RFC 9260, 3.3.2.1).
+/// Whether a parameter of this type is ignored without a report (RFC 9260, 3.3.2.1).
 fn is_passed_over(kind: u16) -> bool
     ensures { result ≡ is_passed_over kind }
 {
@@ -129,14 +129,14 @@ fn is_passed_over(kind: u16) -> bool
     )
 }
 
-/// Whether nothing behind a parameter of this type is looked at.
+/// Whether processing stops at a parameter of this type.
 fn stops(kind: u16) -> bool
     ensures { result ≡ stops kind }
 {
     !is_known(kind) && !is_passed_over(kind) && unknown_parameter(kind).stop
 }
 
-/// Whether a parameter of this type is reported.
+/// Whether a parameter of this type is reported as unrecognized.
 fn is_reported(kind: u16) -> bool
     ensures { result ≡ is_reported kind }
 {

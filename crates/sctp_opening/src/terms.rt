@@ -1,4 +1,4 @@
-//! What both ends of an association agreed on.
+//! What both endpoints of an association have negotiated.
 
 ghost use Rattle.std.specs.Prelude.{◌≡◌};
 ghost use Rattle.sctp_model.specs.end.Opening.{terms_of_ack, terms_of_body, terms_alike};
@@ -11,26 +11,26 @@ use sctp_cookie::CookieBody;
 use sctp_terms::{Config, Draw};
 use sctp_wire::Init;
 
-/// The first TSNs, the streams of each way, and what is turned on (RFC 9260, 5.1.1; RFC 8260, 2.2.1; RFC 3758, 3.1).
+/// The initial TSNs, the number of streams each way, and the extensions in use (RFC 9260, 5.1.1; RFC 8260, 2.2.1; RFC 3758, 3.1).
 #[derive(Clone, Copy, Debug, PartialEq, Eq)]
 pub struct Terms {
-    /// The TSN of this end's index 1.
+    /// This endpoint's initial TSN.
     pub own_tsn: u32,
-    /// The TSN of its peer's.
+    /// Its peer's initial TSN.
     pub peer_tsn: u32,
-    /// The streams that this end sends on: any number of 16 bits, where a cookie says so.
+    /// The number of streams that this endpoint sends on: any number of 16 bits if a cookie says so.
     pub outbound: u16,
-    /// The streams that it takes messages on.
+    /// The number of streams that it receives on.
     pub inbound: u16,
-    /// User data goes in I-DATA (RFC 8260).
+    /// User data is sent as I-DATA (RFC 8260).
     pub interleave: bool,
-    /// Messages may be abandoned (RFC 3758).
+    /// Messages may be abandoned once sent (RFC 3758).
     pub partial: bool,
 }
 
 impl Terms {
-    /// The terms of a caller with this draw that this INIT ACK answers: each way has the lesser of the streams that its sender asks for
-    /// and of those that its receiver takes (RFC 9260, 5.1.1).
+    /// The terms of a caller whose INIT had the random values `draw`, by the INIT ACK that answers it. Each way has the lesser of the number of
+    /// streams its sender asks for and the number its receiver allows (RFC 9260, 5.1.1).
     pub fn of_init_ack(config: &Config, draw: Draw, offer: &Init<'_>) -> Terms
         ensures { terms_meaning result ≡ terms_of_ack config.now draw (init_meaning offer.now) }
     {
@@ -44,7 +44,7 @@ impl Terms {
         }
     }
 
-    /// The terms of a listener, by what its cookie says: any numbers, also no stream (RFC 9260, 5.1.3).
+    /// The terms of a listener, as its cookie has them: any numbers, also no stream (RFC 9260, 5.1.3).
     pub fn of_cookie(body: &CookieBody) -> Terms
         ensures { terms_meaning result ≡ terms_of_body (body_meaning body.now) }
     {
@@ -58,7 +58,7 @@ impl Terms {
         }
     }
 
-    /// The terms of an end with the draw `own` that is opened without packets, where its peer is set up alike and has the draw `peer`.
+    /// The terms of an endpoint that is established without packets: its own random values, its peer's, and a peer with the same configuration.
     pub fn alike(config: &Config, own: Draw, peer: Draw) -> Terms
         ensures { terms_meaning result ≡ terms_alike config.now own peer }
     {

@@ -1,8 +1,7 @@
-use Rattle.std.proofs.Common.{◌≡◌, ◌∙◌, subst}
+use Rattle.std.proofs.Common.{◌∙◌, subst}
 use Rattle.std.specs.Prelude.{IfOk, OnErr}
 use Rattle.sctp_model.specs.wire.Chunk.{ChunkMeaning}
 use Rattle.sctp_model.specs.end.Acting.{Acts}
-use Rattle.sctp_wire.specs.ChunkTree.{chunk_meaning}
 use Rattle.sctp_endpoint.specs.Left.{Left}
 use Rattle.sctp_endpoint.specs.inner.Acted.{HasTag}
 use Rattle.sctp_endpoint.proofs.RowLemmas.{on_err}
