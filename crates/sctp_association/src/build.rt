@@ -73,9 +73,25 @@ impl Machine {
         ensures built { (v : EndView) → MachineStands self.old v → IfOk result (λ built. BuildAnswer (record v { moment = moment }) built self.new) }
         ensures memory { (v : EndView) → MachineStands self.old v → OnErr result (MachineStands self.new v) }
     {
+        self.keep_forward();
         let mut packing = self.packing();
         let tickets = self.pack(&mut packing)?;
         Ok(self.sent(moment, packing, tickets))
+    }
+
+    /// If a FORWARD-TSN is due, has it ready for this packet: one that was built for the same point is used again (`Sender::keep_forward`), so that
+    /// a SACK which changes nothing costs no walk over the TSNs that it skips. It may allocate, and does without where memory is refused.
+    fn keep_forward(&mut self)
+        ensures { (v : EndView) → MachineStands self.old v → MachineStands self.new v }
+    {
+        if !self.due.forward {
+            return;
+        }
+        let limit = self.config.limit();
+        match &mut self.life {
+            Life::Unjoined(_) => {}
+            Life::Joined(association) => association.traffic.keep_forward(limit),
+        }
     }
 
     /// Puts all chunks of the next packet in, by the state of the endpoint. Of the endpoint only the sender changes.

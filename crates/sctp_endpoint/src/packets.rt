@@ -11,7 +11,7 @@ use byteorder::{BigEndian, ByteOrder};
 use sctp_packet::{HEADER, read_packet};
 use sctp_wire::{Causes, Chunk, Chunks};
 
-/// The fields of a common header that tell associations apart (RFC 9260, 3.1).
+/// The fields of a common header that identify an association (RFC 9260, 3.1).
 #[derive(Clone, Copy, Debug, PartialEq, Eq)]
 pub struct PacketHeader {
     /// The sender's port.

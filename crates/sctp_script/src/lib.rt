@@ -1,8 +1,8 @@
 //! The script language of a pair of endpoints: reads its lines, and writes the lines of outcomes and of the report.
 //!
 //! Events, outcomes and the pair's configuration are those of sctp_events; numbers, tags and TSNs, modes, names and line faults those of
-//! sctp_words. `specs/Commands` has the fourteen commands and the fields of each (their names are thirteen: `pair` has two forms, told
-//! apart by the number of words), `specs/Fields` the values of a field, `specs/Grammar` what a line says, which faults it has and which of
+//! sctp_words. `specs/Commands` has the fourteen commands and the fields of each (their names are thirteen: `pair` has two forms, distinguished
+//! by the number of words), `specs/Fields` the values of a field, `specs/Grammar` what a line says, which faults it has and which of
 //! them counts. `specs/OutcomeText` has the line of each outcome, `specs/ReportText` the report.
 //!
 //! # Promises
@@ -31,7 +31,7 @@
 //!
 //! # How the proofs go
 //!
-//! Commands are told apart by `command_named`, a search in the list `commands` that computes, and then by `form_of`. `named_again`
+//! Commands are distinguished by `command_named`, a search in the list `commands` that computes, and then by `form_of`. `named_again`
 //! (`proofs/CommandLemmas`) has a row for each command: its name finds `first_form` of it. That a name and a number of words determine one
 //! command (`same_command`) follows from it and `formed_again`; what is said of all names follows from the list (`each_passes`). Words are
 //! decided field by field and a line by the list of its fields (`proofs/FieldLemmas`), so a further command with known fields needs no new

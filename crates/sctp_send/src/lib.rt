@@ -12,7 +12,7 @@
 //! | [`Sender::on_sack`] | `answer`: the first of Stale, Beyond, BadBlock that applies, in this order, each if and only if it is the first. `step`: the view with the SACK's CUM, gap blocks (in place of those of the last SACK) and window, or the same view |
 //! | [`Sender::on_shutdown`] | as `on_sack` for the cumulative TSN of a SHUTDOWN; what gap blocks acknowledged beyond it stays acknowledged |
 //! | [`Sender::on_timeout`] | every chunk that was sent and is neither acknowledged nor abandoned is marked for retransmission |
-//! | [`Sender::abandon`] | `answer`: the first of the five answers that applies. `step`: a message without a TSN leaves the queue; one with TSNs is abandoned, with its marks; one in part gets an end mark |
+//! | [`Sender::abandon`] | `answer`: the first of the five answers that applies. `step`: a message without a TSN leaves the queue; one with TSNs is abandoned, with its marks; one sent in part gets an end mark |
 //! | [`Sender::expire`] | each message whose lifetime is over is abandoned, by rising ticket, as `abandon` would |
 //! | [`Sender::put_forward`] | `answer`: true if and only if the FORWARD goes past CUM and fits what is left of the packet. `after`: the packet has it after its other chunks, or is as before. `reaches`: with the least packet limit or more it goes past CUM whenever the point does. `memory`: NoMemory only if the chunk would have gone in |
 //! | [`Sender::keep_forward`] | the sender stands for the same views: it builds the FORWARD ahead, for `put_forward` to take |

@@ -46,7 +46,7 @@ pub(crate) enum Change {
         stream: u16,
         track: Track,
     },
-    /// The message in part of a stream took its next index; the stream and the turn were so.
+    /// The message of a stream that is sent in part took its next index; the stream and the turn before that.
     Continued {
         stream: u16,
         track: Track,

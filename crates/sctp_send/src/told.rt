@@ -1,4 +1,4 @@
-//! What a sender was told: a fill leaves it as it is, but for the fates that it sets in the end.
+//! What a sender knows beside its queue and its entries: a fill leaves it as it is, but for the fates that it sets at its end.
 
 use crate::kept::dues::Dues;
 use crate::kept::entry::CoveredRun;

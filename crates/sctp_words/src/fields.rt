@@ -12,7 +12,7 @@ use sctp_text::{Bytes, read_hex};
 use sctp_values::{Kind, NoMemory};
 use std::alloc::Global;
 
-/// Reads a draw: a verification tag, not 0, and an initial TSN. None if a word isn't its value.
+/// Reads random values: a verification tag, not 0, and an initial TSN. None if a word isn't its value.
 pub fn read_draw(tag: &[u8], tsn: &[u8]) -> Option<Draw>
     ensures { MatchOption result
         ((t n : ℕ) → IsTag tag.now t → IsNumber 32 tsn.now n → ⊥)

@@ -29,6 +29,17 @@ use sctp_send::{Filled, Sender};
 use sctp_values::{NoMemory, Ticket};
 
 impl Traffic {
+    /// Builds the FORWARD-TSN or I-FORWARD-TSN for a packet of this limit, in bytes, and keeps it for `put_forward` (`Sender::keep_forward`).
+    pub(crate) fn keep_forward(&mut self, limit: u16)
+        requires { limit ≤ GREATEST_PACKET }
+        ensures { (f : Format) (s : SenderView) (r : ReceiverView) → TrafficStands self.old f s r → TrafficStands self.new f s r }
+    {
+        match self {
+            Traffic::Plain(directions) => directions.sender.keep_forward(limit),
+            Traffic::Interleaved(directions) => directions.sender.keep_forward(limit),
+        }
+    }
+
     /// Puts the FORWARD-TSN or I-FORWARD-TSN in, up to the TSN whose entries fit a packet of this limit, in bytes (RFC 3758, 3.5). False exactly if
     /// it would skip nothing, or the chunk doesn't fit.
     ///

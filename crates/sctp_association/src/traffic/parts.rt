@@ -100,7 +100,7 @@ impl Machine {
         }
     }
 
-    /// The number of TSNs above the cumulative TSN Ack Point, and of messages that are sent in part. Never more than 32,767, so that the peer can tell
+    /// The number of TSNs above the cumulative TSN Ack Point, and of messages that are sent in part. Never more than 32,767, so that the peer distinguishes
     /// each new TSN from an old one (RFC 9260, 1.6).
     pub fn outstanding(&self) -> u32
         ensures count { (v : EndView) → MachineStands self.now v → result ≡ outstanding v.sender }

@@ -35,7 +35,7 @@ pub(crate) struct Beginning {
 pub(crate) enum Next {
     /// A message that has no number yet.
     Begins(Beginning),
-    /// The next fragment of the message in part of this stream.
+    /// The next fragment of the message of this stream that is sent in part.
     Continues(u16),
 }
 

@@ -1,4 +1,4 @@
-//! What is counted of the entries above CUM: each count follows an entry that comes, goes or changes.
+//! What is counted of the entries above CUM: each count follows an entry that is added, removed or changed.
 
 ghost use Rattle.std.specs.Prelude.{◌≡◌, ℕ, ◌+◌, ◌<◌, ◌≤◌, ◌∷◌, List, min, if◌then◌else◌, map, drop, length, slice_set};
 ghost use Rattle.sctp_send.specs.SenderKept.{Item};

@@ -1,4 +1,4 @@
-//! Moments of tickets in pages of 64: a page none of whose moments has come is passed at once.
+//! Deadlines of tickets in pages of 64: a page none of whose deadlines is over is skipped at once.
 
 ghost use Rattle.std.specs.Prelude.{◌≡◌, ℕ, ◌<◌, ◌≤◌, drop, length, slice_index_or, unwrap_or, IfSome, IfNone};
 ghost use Rattle.std.specs.Vec.{vec_capacity};

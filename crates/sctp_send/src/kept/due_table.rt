@@ -1,4 +1,4 @@
-//! From which moment on the message of each ticket may be past its time (RFC 3758, 3.5), one by one, in pages.
+//! The deadline of the message of each ticket (RFC 3758, 3.5), one by one, in pages.
 
 ghost use Rattle.std.specs.Prelude.{◌≡◌, ℕ, ◌+◌, ◌^◌, ◌<◌, ◌≤◌, ◌++◌, ◌∷◌, ◌⊎◌, [], true, false, drop, length, unwrap_or, OnOk, IfSome, IfNone};
 ghost use Rattle.sctp_model.specs.numbers.Limits.{LAST_MOMENT};

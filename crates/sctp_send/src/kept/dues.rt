@@ -1,5 +1,5 @@
-//! From which moment on the message of each ticket may be past its time (RFC 3758, 3.5): of all messages, whether they wait, are in part or
-//! are outstanding, in one table by ticket.
+//! The deadline from which on the lifetime of the message of each ticket may be over (RFC 3758, 3.5): of all messages, whether they are queued,
+//! sent in part or outstanding, in one table by ticket.
 
 ghost use Rattle.std.specs.Prelude.{◌≡◌, ℕ, ◌+◌, ◌^◌, ◌<◌, ◌≤◌, ◌++◌, ◌∷◌, ◌⊎◌, [], true, false, drop, length, unwrap_or, OnOk, IfSome, IfNone};
 ghost use Rattle.sctp_model.specs.numbers.Limits.{LAST_MOMENT};

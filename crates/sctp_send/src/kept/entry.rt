@@ -1,4 +1,4 @@
-//! What stands at an index above CUM, and runs of such entries.
+//! What the TSN of an index above CUM is: a fragment or an end mark, and runs of such entries.
 
 ghost use Rattle.std.specs.Prelude.{◌≡◌};
 ghost use Rattle.sctp_send.specs.inner.Changes.{unmarked};

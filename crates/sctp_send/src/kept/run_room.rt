@@ -1,4 +1,4 @@
-//! The room for the runs of a SACK that is taken: it comes with the first entry, so that an end to which no entry came has none and a SACK takes no memory.
+//! Memory for the runs of a SACK: it is allocated with the first entry, so that a sender that never sent has none and a SACK allocates nothing.
 
 ghost use Rattle.std.specs.Prelude.{◌≡◌};
 

@@ -1,4 +1,4 @@
-//! What is kept of each stream, and what is counted of all: so many messages in part, and the TSNs that they may take.
+//! What is kept of each stream, and what is counted of all: how many messages are sent in part, and the TSNs that they may take.
 
 ghost use Rattle.std.specs.Prelude.{◌≡◌, ℕ, ◌+◌, ◌<◌, ◌≤◌, ◌%◌, ◌^◌, true, false, map, length, set, replicate, slice_index_or, IfOk, IfSome, IfNone};
 ghost use Rattle.sctp_send.specs.SenderFields.{track_meaning};

@@ -3,11 +3,12 @@ use Rattle.sctp_association.proofs.ReportLemmas.{on_err}
 use Rattle.sctp_association.proofs.machine.Machine.build_any.Goals as goal
 
 pub returns-in_err-tickets-clause-memory : goal.returns-in_err-tickets-clause-memory
-returns-in_err-tickets-clause-memory c = λ v stands. on_err _ _ (c.in_err-tickets.ensures.memory v (c.packing-packing.ensures.keeps v stands))
+returns-in_err-tickets-clause-memory c = λ v stands. on_err _ _ (c.in_err-tickets.ensures.memory v (c.packing-packing.ensures.keeps v (c.keep_forward.ensures v stands)))
 
 pub returns-clause-built : goal.returns-clause-built
 returns-clause-built c = λ v stands.
     let n = c.args.moment in
-    let packed = c.in_ok-tickets.ensures.packed v n (c.packing-packing.ensures.keeps v stands) (c.packing-packing.ensures.empty v n stands) in
+    let kept = c.keep_forward.ensures v stands in
+    let packed = c.in_ok-tickets.ensures.packed v n (c.packing-packing.ensures.keeps v kept) (c.packing-packing.ensures.empty v n kept) in
     answered (record v { moment = n }) packed.0 c.sent.result c.sent.new.self c.pack.new.packing c.in_ok-tickets.tickets packed.1
     c.sent.ensures.packet c.sent.ensures.size c.sent.ensures.within c.sent.ensures.tickets (c.sent.ensures.stands (record v { sender = packed.0 }) packed.2)
