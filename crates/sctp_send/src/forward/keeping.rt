@@ -1,5 +1,6 @@
 //! The FORWARD over the entries up to the point is kept once it was built, until CUM or the point moves: a peer that repeats a SACK which changes
-//! nothing has it sent again, and building it costs a walk over all entries that it passes (RFC 3758, 3.5).
+//! nothing has it sent again, and building it costs a walk over all entries that it passes (RFC 3758, 3.5). No call forgets it: what it says of the
+//! entries that it was built from stays true, since their TSNs are assigned for good, and whether it is the FORWARD of now is tested when it is used.
 
 ghost use Rattle.std.specs.Prelude.{◌≡◌, ℕ, ◌%◌, ◌≤◌, true, length, map, take, Some, IfSome};
 ghost use Rattle.sctp_model.specs.numbers.Limits.{GREATEST_PACKET};
