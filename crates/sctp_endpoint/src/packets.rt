@@ -19,7 +19,8 @@ pub struct PacketHeader {
     pub source: u16,
     /// The receiver's port.
     pub destination: u16,
-    /// The verification tag: that of the receiver. It is 0 with an INIT, and with the T bit of an ABORT or a SHUTDOWN COMPLETE the sender's.
+    /// The verification tag: the one that the receiver chose. It is 0 in a packet with an INIT; an ABORT or a SHUTDOWN COMPLETE with the T bit has that
+    /// of the packet that it answers, which its sender chose (RFC 9260, 8.5.1).
     pub tag: u32,
 }
 
