@@ -1,21 +1,45 @@
 #!/bin/sh
-# Tries the wrong bodies that stand beside the gate, crates/NAME/wrong-bodies/*.edit: the prover must refuse each. They have the form of
-# crates/NAME/must-fail/*.edit, which the gate tries. To be run by hand, before a crate's contracts change and at the end of a stage:
+# Tries the mutants of the sources that are kept beside the gate: the prover must refuse each. A mutant is a wrong body of a function, an
+# entry of crates/NAME/wrong-bodies.txt: a sentence that says the mistake, then the lines of an edit (`file:`, `old:`, `new:`) as in
+# crates/NAME/must-fail/*.edit, which the gate tries; a blank line between two entries. To be run by hand, before a crate's contracts change:
 #   tests/wrong-bodies.sh                      all of them (hours of processor time)
 #   tests/wrong-bodies.sh sctp_send ..         those of these crates
-#   tests/wrong-bodies.sh sctp_send/NAME ..    this one alone (of must-fail too), NAME without its ending
-#   tests/wrong-bodies.sh --look [CRATE ..]    tries none, and says which of all edits, of must-fail too, don't fit: an edit fits where its
+#   tests/wrong-bodies.sh sctp_send/NAME ..    this one alone (of must-fail too): NAME is its file without the ending, or its sentence with `_`
+#                                              for each space
+#   tests/wrong-bodies.sh --look [CRATE ..]    tries none, and says which of all edits, of must-fail too, don't fit: an edit fits if its
 #                                              file is there, and each of its old texts stands in it once
 #   tests/wrong-bodies.sh --compile [CRATE, CRATE/NAME ..]
 #                                              proves none, and says which of all edits, of must-fail too, don't fit or don't compile (some
 #                                              minutes a crate)
 #   tests/wrong-bodies.sh --list [CRATE ..]    tries none, and prints all edits, of must-fail too, crate by crate: the gate's or beside it,
-#                                              what is wrong (its name as a sentence), the files that it changes
+#                                              what is wrong, the files that it changes
 # It works on a copy of what the crates stand on, with the libraries that earlier checks left in out/ (`rt all check` makes those that are
-# missing or old in the checkout; here they would be made again). It ends with 0 where each was refused, or fits, or compiles.
+# missing or old in the checkout; here they would be made again). It ends with 0 if each was refused, or fits, or compiles.
 
 root=$(CDPATH='' cd -- "$(dirname -- "$0")/.." && pwd -P) || exit 3
 cd -- "$root" || exit 3
+room=$(mktemp -d) || exit 3
+trap 'rm -rf -- "$room"' EXIT
+trap 'exit 130' HUP INT TERM
+
+# Writes each entry of a crate's wrong-bodies.txt as an edit of its own, $room/beside/CRATE/NAME.edit; it says what is no entry.
+unpack() {
+    mkdir -p "$room/beside/$1"
+    [ -e "crates/$1/wrong-bodies.txt" ] || return 0
+    awk -v page="crates/$1/wrong-bodies.txt" -v into="$room/beside/$1" '
+        function refuse(why) { printf "%s:%d: %s\n", page, NR, why; refused = 1 }
+        /^$/ { path = ""; next }
+        path == "" {
+            name = $0; gsub(" ", "_", name); path = into "/" name ".edit"
+            if (name !~ /^[a-z0-9_]+$/) refuse("an entry begins with its sentence, in lower case letters and digits")
+            if (name in names) refuse("this sentence is an entry already")
+            names[name] = 1; printf "" > path; next
+        }
+        /^file: / || /^old: / || /^new:/ { print > path; next }
+        { refuse("this line is none of an edit") }
+        END { exit refused }
+    ' "crates/$1/wrong-bodies.txt"
+}
 
 # The crates that these stand on, and these.
 closure() {
@@ -69,13 +93,13 @@ fits() {
 look() {
     count=0 failed=0
     for crate in $*; do
-        for edit in crates/"$crate"/must-fail/*.edit crates/"$crate"/wrong-bodies/*.edit; do
+        for edit in crates/"$crate"/must-fail/*.edit "$room/beside/$crate"/*.edit; do
             [ -e "$edit" ] || continue
             count=$((count + 1))
             fits "crates/$crate" "$edit" || failed=$((failed + 1))
-            other=crates/$crate/wrong-bodies/${edit##*/}
+            other=$room/beside/$crate/${edit##*/}
             if [ "$edit" != "$other" ] && [ -e "$other" ]; then
-                echo "$edit: another of this name stands in wrong-bodies"
+                echo "$edit: crates/$crate/wrong-bodies.txt has another of this name"
                 failed=$((failed + 1))
             fi
         done
@@ -87,8 +111,8 @@ look() {
 # Each edit of each crate, a line for each.
 list() {
     for crate in $*; do
-        set -- "gate crates/$crate/must-fail" "beside crates/$crate/wrong-bodies"
-        [ -d "${1#* }" ] || [ -d "${2#* }" ] || continue
+        set -- "gate crates/$crate/must-fail" "beside $room/beside/$crate"
+        ls "${1#* }" "${2#* }" 2>/dev/null | grep -q '[.]edit$' || continue
         printf '%s\n' "$crate"
         for place in "$@"; do
             for edit in "${place#* }"/*.edit; do
@@ -187,37 +211,45 @@ edits_of() {
     shift
     for word in "$@"; do
         case $word in
-            "$crate") set -- crates/"$crate"/$folders/*.edit ;;
-            "$crate"/*) set -- crates/"$crate"/[mw]*/"${word#*/}".edit ;;
+            "$crate")
+                set -- "$room/beside/$crate"/*.edit
+                if [ "$task" = compile ]; then set -- crates/"$crate"/must-fail/*.edit "$@"; fi
+                ;;
+            "$crate"/*) set -- crates/"$crate"/must-fail/"${word#*/}".edit "$room/beside/$crate/${word#*/}".edit ;;
             *) continue ;;
         esac
-        [ -e "$1" ] || { echo "$word: there is no such edit" >&2; return 1; }
-        printf '%s\n' "$@"
+        ls -- "$@" 2>/dev/null | grep '' || { echo "$word: there is no such edit" >&2; return 1; }
     done
 }
 
-task=try folders=wrong-bodies
+task=try
 case "${1:-}" in
-    --look | --list)
+    --look | --list | --compile)
         task=${1#--}
-        shift
-        [ $# -gt 0 ] || set -- $(cd crates && ls)
-        $task "$@"
-        exit
-        ;;
-    --compile)
-        task=compile folders='[mw]*'
         shift
         ;;
 esac
-[ $# -gt 0 ] || set -- $(for folder in crates/*/$folders; do basename "$(dirname "$folder")"; done | sort -u)
-room=$(mktemp -d) || exit 3
-trap 'rm -rf -- "$room"' EXIT
-trap 'exit 130' HUP INT TERM
-lay $(printf '%s\n' "$@" | sed 's,/.*,,')
 status=0
+crates=$(printf '%s\n' "$@" | sed 's,/.*,,' | sort -u)
+for crate in ${crates:-$(ls crates)}; do unpack "$crate" || status=1; done
+[ $status = 0 ] || exit 1
+case $task in
+    look | list)
+        # shellcheck disable=SC2046
+        [ $# -gt 0 ] || set -- $(ls crates)
+        $task "$@"
+        exit
+        ;;
+    compile) with='crates/*/must-fail' ;;
+    *) with='' ;;
+esac
+# shellcheck disable=SC2046,SC2086
+[ $# -gt 0 ] || set -- $(for folder in crates/*/wrong-bodies.txt $with; do [ -e "$folder" ] && basename "$(dirname "$folder")"; done | sort -u)
+# shellcheck disable=SC2046
+lay $(printf '%s\n' "$@" | sed 's,/.*,,')
 for crate in $(printf '%s\n' "$@" | sed 's,/.*,,' | sort -u); do
     edits=$(edits_of "$crate" "$@") || exit 2
+    # shellcheck disable=SC2086
     $task "$crate" $edits || status=1
 done
 exit $status
