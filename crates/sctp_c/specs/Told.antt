@@ -32,10 +32,6 @@ use Rattle.sctp_c.specs.declared.crossing.SctpVerdict.{SctpVerdict}
 
 -- ---- bytes in a buffer
 
--- reserved numbers
-abbrev pub ZEROED : List ℕ
-ZEROED = 0 ∷ 0 ∷ 0 ∷ 0 ∷ []
-
 -- the count is that of these bytes, which are at the beginning of the buffer; after them it is as it was
 abbrev pub IsPut : (bytes : List ℕ) → (count : ℕ) → (old new : List ℕ) → Type 0
 IsPut bytes n old new = (n ≡ length bytes) × (new ≡ bytes ++ drop n old)
