@@ -312,7 +312,8 @@ _call = _load()
 
 def _text(name: str, *arguments) -> str:
     text = ctypes.create_string_buffer(96)
-    return text.raw[: _call[name](*arguments, text, len(text))].decode()
+    length = _call[name](*arguments, text, len(text))
+    return text.raw[:length].decode()
 
 
 def version() -> str:
