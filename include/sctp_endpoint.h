@@ -124,7 +124,7 @@ struct sctp_endpoint_config {
 struct sctp_endpoint_draw {
     uint32_t tag;         /* the verification tag of packets to this endpoint: not 0 */
     uint32_t tsn;         /* the first TSN that it sends */
-    uint32_t reserved[4]; /* 0 */
+    uint64_t reserved;    /* 0 */
 };
 
 /* Secret random bytes that authenticate a listener's state cookies (RFC 9260, 5.1.3); listeners may share them. */
@@ -171,7 +171,7 @@ struct sctp_endpoint_verdict {
     size_t length;        /* of the answer; at NEEDS_ROOM the bytes that the buffer must have */
     uint32_t verdict;     /* enum sctp_endpoint_verdict_kind */
     uint32_t reason;      /* enum sctp_endpoint_reason: why it was dropped */
-    uint32_t reserved[4]; /* 0 */
+    uint64_t reserved;    /* 0 */
 };
 
 /* Processes a received packet: its bytes from the common header on. The draw is used if it is an INIT to a listener; pass a new one each time.
@@ -186,7 +186,7 @@ uint32_t sctp_endpoint_handle_packet(struct sctp_endpoint *handle, uint64_t now,
 struct sctp_endpoint_sent {
     size_t length;        /* of the packet, 0 if there is none; at NEEDS_ROOM the bytes that the buffer must have */
     uint64_t tickets;     /* how many messages have their first fragment in it */
-    uint32_t reserved[4]; /* 0 */
+    uint64_t reserved;    /* 0 */
 };
 
 /* Returns the next packet to send, with the tickets of the messages whose first fragments it carries. It counts as sent: call this after

@@ -52,6 +52,42 @@ class Result(enum.IntEnum):
     BAD_STREAMS = 25
 
 
+class State(enum.IntEnum):
+    CLOSED = 1
+    LISTEN = 2
+    COOKIE_WAIT = 3
+    COOKIE_ECHOED = 4
+    ESTABLISHED = 5
+    SHUTDOWN_PENDING = 6
+    SHUTDOWN_SENT = 7
+    SHUTDOWN_RECEIVED = 8
+    SHUTDOWN_ACK_SENT = 9
+
+
+class Ended(enum.IntEnum):
+    COMPLETED = 1
+    ABORTED = 2
+    ABORTED_HERE = 3
+    TIMED_OUT = 4
+    STALE_COOKIE = 5
+
+
+class Fate(enum.IntEnum):
+    WITHDRAWN = 1
+    ABANDONED = 2
+    ACKNOWLEDGED = 3
+    UNKNOWN = 4
+    RELIABLE = 5
+
+
+class Reason(enum.IntEnum):
+    FAULT = 1
+    PORTS = 2
+    TAG = 3
+    STATE = 4
+    COOKIE = 5
+
+
 def _number(value: int, bits: int, name: str) -> int:
     """The number itself, if it is an unsigned one of so many bits."""
     if not isinstance(value, int):
@@ -126,7 +162,7 @@ class Config(Structure):
 class Draw(Structure):
     """Two random values, from `secrets` unless they are given: a verification tag, which isn't 0, and a first TSN."""
 
-    _fields_ = [("tag", c_uint32), ("tsn", c_uint32), ("_reserved", c_uint32 * 4)]
+    _fields_ = [("tag", c_uint32), ("tsn", c_uint32), ("_reserved", c_uint64)]
 
     def __init__(self, tag: Optional[int] = None, tsn: Optional[int] = None):
         super().__init__(
@@ -140,11 +176,11 @@ class _Key(Structure):
 
 
 class _Verdict(Structure):
-    _fields_ = [("length", c_size_t), ("verdict", c_uint32), ("reason", c_uint32), ("_reserved", c_uint32 * 4)]
+    _fields_ = [("length", c_size_t), ("verdict", c_uint32), ("reason", c_uint32), ("_reserved", c_uint64)]
 
 
 class _Sent(Structure):
-    _fields_ = [("length", c_size_t), ("tickets", c_uint64), ("_reserved", c_uint32 * 4)]
+    _fields_ = [("length", c_size_t), ("tickets", c_uint64), ("_reserved", c_uint64)]
 
 
 class _Message(Structure):
@@ -276,7 +312,8 @@ _call = _load()
 
 def _text(name: str, *arguments) -> str:
     text = ctypes.create_string_buffer(96)
-    return text.raw[: _call[name](*arguments, text, len(text))].decode()
+    length = _call[name](*arguments, text, len(text))
+    return text.raw[:length].decode()
 
 
 def version() -> str:

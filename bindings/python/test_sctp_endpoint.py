@@ -111,6 +111,15 @@ class Talk(unittest.TestCase):
             listener.handle_packet(0, memoryview(bytearray(sent.packet)))
         self.assertEqual([listener.take(0).bytes for _ in range(3)], [b"Hi"] * 3)
 
+    def test_bytes_of_a_message_in_part_are_counted(self):
+        caller, listener = opened()
+        caller.send(0, bytes(2000))
+        listener.handle_packet(10, caller.poll_transmit(10).packet)
+        status = listener.status()
+        self.assertTrue(0 < status.reassembly_bytes == status.held_bytes)
+        exchange(caller, listener, 10)
+        self.assertEqual((listener.status().held_bytes, listener.status().reassembly_bytes), (2000, 0))
+
     def test_long_messages_on_17_streams_at_once_arrive(self):
         caller, listener = opened()
         for stream in range(17):

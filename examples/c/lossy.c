@@ -36,7 +36,7 @@ static uint32_t random_below(uint32_t below) {
 }
 
 static struct sctp_endpoint_draw draw(void) {
-    struct sctp_endpoint_draw d = { 1 + random_below(UINT32_MAX), random_below(UINT32_MAX), { 0 } };
+    struct sctp_endpoint_draw d = { 1 + random_below(UINT32_MAX), random_below(UINT32_MAX), 0 };
     return d;
 }
 

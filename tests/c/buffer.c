@@ -8,7 +8,7 @@
 
 static struct sctp_endpoint ends[2];
 static uint8_t text[SCTP_EP_LONGEST_MESSAGE], buffer[SCTP_EP_LONGEST_MESSAGE];
-static const struct sctp_endpoint_draw draws[2] = { { 7, 100, { 0 } }, { 9, 500, { 0 } } };
+static const struct sctp_endpoint_draw draws[2] = { { 7, 100, 0 }, { 9, 500, 0 } };
 
 static bool carry(struct sctp_endpoint *from, struct sctp_endpoint *to, uint64_t now) {
     uint8_t packet[SCTP_EP_LONGEST_PACKET], answer[SCTP_EP_LONGEST_PACKET];

@@ -7,7 +7,7 @@
 #include <string.h>
 
 static struct sctp_endpoint ends[2];
-static const struct sctp_endpoint_draw draws[2] = { { 7, 100, { 0 } }, { 9, 500, { 0 } } };
+static const struct sctp_endpoint_draw draws[2] = { { 7, 100, 0 }, { 9, 500, 0 } };
 static uint8_t text[SCTP_EP_LONGEST_MESSAGE], room[SCTP_EP_LONGEST_MESSAGE], packet[SCTP_EP_LONGEST_PACKET], answer[SCTP_EP_LONGEST_PACKET];
 static uint64_t tickets[SCTP_EP_MOST_TICKETS], ticket;
 static struct sctp_endpoint_sent sent;

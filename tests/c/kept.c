@@ -41,7 +41,7 @@ struct sctp_endpoint_block rattle_realloc(void *at, size_t old_size, size_t size
 void rattle_dealloc(void *at) { free(uncounted(at)); }
 
 static bool carry(struct sctp_endpoint *from, struct sctp_endpoint *to) {
-    static const struct sctp_endpoint_draw draw = { 9, 500, { 0 } };
+    static const struct sctp_endpoint_draw draw = { 9, 500, 0 };
     uint8_t packet[SCTP_EP_LONGEST_PACKET], answer[SCTP_EP_LONGEST_PACKET];
     uint64_t tickets[SCTP_EP_MOST_TICKETS];
     struct sctp_endpoint_sent sent = { 0 };
@@ -64,7 +64,7 @@ static long turn(long many) {
 }
 
 int main(int argc, char **argv) {
-    static const struct sctp_endpoint_draw draws[2] = { { 7, 100, { 0 } }, { 9, 500, { 0 } } };
+    static const struct sctp_endpoint_draw draws[2] = { { 7, 100, 0 }, { 9, 500, 0 } };
     struct sctp_endpoint_config config = SCTP_ENDPOINT_CONFIG(5000, 5001);
     long many = argc > 1 ? atol(argv[1]) : 0, taken;
     if (sctp_endpoint_opened(&ends[0], &config, &draws[0], &draws[1])) return 1;

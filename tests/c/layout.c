@@ -16,7 +16,7 @@ static int is_kept(const uint8_t *bytes, size_t from, size_t to) {
 int main(void) {
     struct sctp_endpoint a = SCTP_ENDPOINT_INIT, b = SCTP_ENDPOINT_INIT, other = SCTP_ENDPOINT_INIT;
     struct sctp_endpoint_config config = SCTP_ENDPOINT_CONFIG(5000, 5001), wrong;
-    struct sctp_endpoint_draw own = { 7, 100, { 0 } }, peer = { 9, 500, { 0 } }, none = { 0, 1, { 0 } }, later = own;
+    struct sctp_endpoint_draw own = { 7, 100, 0 }, peer = { 9, 500, 0 }, none = { 0, 1, 0 }, later = own;
     struct sctp_endpoint_key key = { { 7 }, { 0 } };
     char name[SCTP_EP_LONGEST_NAME];
     uint8_t room[SCTP_EP_LONGEST_PACKET], text[8] = "message";
@@ -32,8 +32,8 @@ int main(void) {
     bool is = false;
 
     HOLDS(sctp_endpoint_abi() == SCTP_EP_ABI);
-    HOLDS(sizeof(struct sctp_endpoint) == 16 && sizeof config == 36 && sizeof own == 24 && sizeof(struct sctp_endpoint_key) == 48);
-    HOLDS(sizeof(struct sctp_endpoint_sent) == 32 && sizeof(struct sctp_endpoint_verdict) == 32);
+    HOLDS(sizeof(struct sctp_endpoint) == 16 && sizeof config == 36 && sizeof own == 16 && sizeof(struct sctp_endpoint_key) == 48);
+    HOLDS(sizeof(struct sctp_endpoint_sent) == 24 && sizeof(struct sctp_endpoint_verdict) == 24);
 
     /* Texts: of each result, and of the version; with a 0 after them, and not at all if that doesn't fit. */
     for (uint32_t code = 0; code < 30; code++) HOLDS(sctp_endpoint_name(code, name, sizeof name) == strlen(name) && strlen(name) > 3);
@@ -63,7 +63,7 @@ int main(void) {
     for (int i = 0; i < 4; i++) { wrong = config; wrong.reserved[i] = 1u << 31; HOLDS(sctp_endpoint_caller(&a, &wrong) == SCTP_EP_BAD_RESERVED); }
     for (int i = 0; i < 4; i++) { key.reserved[i] = 1; HOLDS(sctp_endpoint_listener(&a, &config, &key) == SCTP_EP_BAD_RESERVED); key.reserved[i] = 0; }
     HOLDS(sctp_endpoint_opened(&a, &config, &none, &peer) == SCTP_EP_BAD_DRAW && sctp_endpoint_opened(&a, &config, &own, &none) == SCTP_EP_BAD_DRAW);
-    later.reserved[3] = 1;
+    later.reserved = 1;
     HOLDS(sctp_endpoint_opened(&a, &config, &later, &peer) == SCTP_EP_BAD_RESERVED && sctp_endpoint_opened(&a, &config, &own, &later) == SCTP_EP_BAD_RESERVED);
     HOLDS(!a.full);
 
@@ -87,7 +87,7 @@ int main(void) {
     /* Nothing is written to a buffer that is too small. */
     memset(&sent, BEFORE, sizeof sent);
     HOLDS(sctp_endpoint_poll_transmit(&a, 0, room, 1231, tickets, SCTP_EP_MOST_TICKETS, &sent.it) == SCTP_EP_NEEDS_ROOM && sent.it.length == 1232);
-    HOLDS(is_kept(sent.bytes, sizeof sent.it, sizeof sent.bytes) && sent.it.reserved[0] == 0 && sent.it.reserved[3] == 0);
+    HOLDS(is_kept(sent.bytes, sizeof sent.it, sizeof sent.bytes) && sent.it.reserved == 0);
     HOLDS(sctp_endpoint_poll_transmit(&a, 0, NULL, 0, NULL, 0, &sent.it) == SCTP_EP_NEEDS_ROOM && sent.it.length == 1232);
     memset(tickets, BEFORE, sizeof tickets);
     HOLDS(sctp_endpoint_poll_transmit(&a, 0, room, 1232, tickets, 1, &sent.it) == SCTP_EP_OK && sent.it.length > 12 && sent.it.tickets == 2);
@@ -103,7 +103,7 @@ int main(void) {
         HOLDS(sctp_endpoint_handle_packet(&b, 0, room, sent.it.length, &none, answer, sizeof answer, &verdict.it) == SCTP_EP_BAD_DRAW);
         HOLDS(sctp_endpoint_handle_packet(&b, 0, room, sent.it.length, &later, answer, sizeof answer, &verdict.it) == SCTP_EP_BAD_RESERVED);
         HOLDS(sctp_endpoint_handle_packet(&b, 0, NULL, 0, &own, answer, sizeof answer, &verdict.it) == SCTP_EP_OK && verdict.it.reason == SCTP_EP_FAULT);
-        HOLDS(verdict.it.reserved[0] == 0 && verdict.it.reserved[3] == 0);
+        HOLDS(verdict.it.reserved == 0);
         HOLDS(sctp_endpoint_handle_packet(&b, 0, room, 11, &own, answer, sizeof answer, &verdict.it) == SCTP_EP_OK);
         HOLDS(verdict.it.verdict == SCTP_EP_DROPPED && verdict.it.reason == SCTP_EP_FAULT && verdict.it.length == 0);
         HOLDS(sctp_endpoint_handle_packet(&b, 0, room, sent.it.length, &own, answer, sizeof answer, &verdict.it) == SCTP_EP_OK);

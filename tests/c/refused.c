@@ -45,7 +45,7 @@ static struct sctp_endpoint ends[2];
 static uint8_t text[4000];
 
 static void exchange(void) {
-    struct sctp_endpoint_draw d = { 9, 500, { 0 } };
+    struct sctp_endpoint_draw d = { 9, 500, 0 };
     for (int turn = 0; turn < 16; turn++) {
         struct sctp_endpoint *from = &ends[turn % 2], *to = &ends[(turn + 1) % 2];
         for (;;) {
@@ -65,7 +65,7 @@ static void exchange(void) {
 
 static void talk(void) {
     struct sctp_endpoint_config config = SCTP_ENDPOINT_CONFIG(5000, 5001);
-    struct sctp_endpoint_draw d = { 7, 100, { 0 } };
+    struct sctp_endpoint_draw d = { 7, 100, 0 };
     struct sctp_endpoint_key key = { { 7 }, { 0 } };
     struct sctp_endpoint_message told;
     struct sctp_endpoint_status status;

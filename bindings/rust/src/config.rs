@@ -70,6 +70,6 @@ pub struct Draw {
 
 impl Draw {
     pub(crate) fn raw(self) -> raw::Draw {
-        raw::Draw { tag: self.tag.get(), tsn: self.tsn, reserved: [0; 4] }
+        raw::Draw { tag: self.tag.get(), tsn: self.tsn, reserved: 0 }
     }
 }

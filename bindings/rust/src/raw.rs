@@ -30,7 +30,7 @@ pub struct Config {
 pub struct Draw {
     pub tag: u32,
     pub tsn: u32,
-    pub reserved: [u32; 4],
+    pub reserved: u64,
 }
 
 #[repr(C)]
@@ -45,7 +45,7 @@ pub struct Verdict {
     pub length: usize,
     pub verdict: u32,
     pub reason: u32,
-    pub reserved: [u32; 4],
+    pub reserved: u64,
 }
 
 #[repr(C)]
@@ -53,7 +53,7 @@ pub struct Verdict {
 pub struct Sent {
     pub length: usize,
     pub tickets: u64,
-    pub reserved: [u32; 4],
+    pub reserved: u64,
 }
 
 #[repr(C)]

@@ -32,9 +32,9 @@ abbrev pub is_zeroed : List ℕ → Bool
 is_zeroed [] = true
 is_zeroed (n ∷ ns) = (n == 0) && is_zeroed ns
 
--- These numbers may be used as a draw: the tag isn't 0, the reserved numbers are.
+-- These numbers may be used as a draw: the tag isn't 0, the reserved number is.
 abbrev pub IsDraw : SctpDraw → Type 0
-IsDraw d = (0 < d.tag) × (is_zeroed d.reserved ≡ true)
+IsDraw d = (0 < d.tag) × (d.reserved ≡ 0)
 
 -- the result if nothing but the configuration may be wrong, of which this is the first fault
 abbrev pub IsMadeUnless : Option ConfigurationFault → ℕ → Type 0

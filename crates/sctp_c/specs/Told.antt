@@ -1,5 +1,5 @@
 -- What C gets of a packet, of a message, of a result, and what a call leaves.
-use Rattle.std.specs.Prelude.{◌≡◌, ℕ, ◌-◌, ◌^◌, min, nat_le, not, Bool, true, false, if◌then◌else◌, List, [], ◌∷◌, ◌++◌, length, map, take, drop, Option, Some, None, Result, Ok, Err, IfOk, OnErr}
+use Rattle.std.specs.Prelude.{◌≡◌, ℕ, ◌-◌, ◌^◌, ◌<◌, ◌≤◌, min, not, false, if◌then◌else◌, List, [], ◌∷◌, ◌++◌, length, map, take, drop, Option, Some, None, Result, Ok, Err, IfOk, OnErr}
 use Rattle.std.specs.declared.vec.Vec.{Vec}
 use Rattle.std.specs.declared.alloc.Global.{Global}
 use Rattle.sctp_model.specs.world.Calls.{Call}
@@ -31,10 +31,6 @@ use Rattle.sctp_c.specs.declared.crossing.SctpSent.{SctpSent}
 use Rattle.sctp_c.specs.declared.crossing.SctpVerdict.{SctpVerdict}
 
 -- ---- bytes in a buffer
-
--- reserved numbers
-abbrev pub ZEROED : List ℕ
-ZEROED = 0 ∷ 0 ∷ 0 ∷ 0 ∷ []
 
 -- the count is that of these bytes, which are at the beginning of the buffer; after them it is as it was
 abbrev pub IsPut : (bytes : List ℕ) → (count : ℕ) → (old new : List ℕ) → Type 0
@@ -99,16 +95,17 @@ pub record Aborted (v : EndView) (reason : List ℕ) (e : Option Endpoint) (code
 
 -- ---- the cause of an ABORT in a packet
 
--- its information is at the beginning of the buffer if that has space for it; after it the buffer is as it was
-abbrev pub InfoTold : (fits : Bool) → (info : List ℕ) → (code : ℕ) → (old new : List ℕ) → Type 0
-InfoTold true info n old new = (n ≡ OK) × (new ≡ info ++ drop (length info) old)
-InfoTold false info n old new = (n ≡ NEEDS_ROOM) × (new ≡ old)
+-- its code and length, and its information at the beginning of the buffer if that has space for it; else the buffer is as it was
+pub record IsCause (t : Typed) (code cause count : ℕ) (old new : List ℕ) : Type 0 where
+  pub kind : cause ≡ t.kind
+  pub size : count ≡ length t.value
+  pub narrow : length old < length t.value → (code ≡ NEEDS_ROOM) × (new ≡ old)
+  pub put : length t.value ≤ length old → (code ≡ OK) × (new ≡ t.value ++ drop (length t.value) old)
 
--- what C gets of it: if there is none, all is as it was; else its code and length, and its information
+-- what C gets of it: if there is none, all is as it was
 abbrev pub CauseTold : Option Typed → (code cause_old cause count_old count : ℕ) → (old new : List ℕ) → Type 0
 CauseTold None n cause_old cause count_old count old new = (n ≡ NOTHING) × (cause ≡ cause_old) × (count ≡ count_old) × (new ≡ old)
-CauseTold (Some t) n cause_old cause count_old count old new =
-    (cause ≡ t.kind) × (count ≡ length t.value) × InfoTold (nat_le (length t.value) (length old)) t.value n old new
+CauseTold (Some t) n cause_old cause count_old count old new = IsCause t n cause count old new
 
 -- ---- a message that C sends
 

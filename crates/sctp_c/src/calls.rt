@@ -1,17 +1,16 @@
 //! What C's user calls: connect, shutdown, abandon; and the current time (RFC 9260, 11.1).
 
-ghost use Rattle.std.specs.Prelude.{◌≡◌, ◌<◌, true, false, None, take};
+ghost use Rattle.std.specs.Prelude.{◌≡◌, ◌<◌, true, None, take};
 ghost use Rattle.sctp_model.specs.end.EndView.{EndView};
 ghost use Rattle.sctp_model.specs.end.Clock.{at_moment};
 ghost use Rattle.sctp_model.specs.end.Moments.{ticked};
 ghost use Rattle.sctp_model.specs.end.UserCalls.{connect_answer, called, abandons, abandoned_at, shutdown_answer, shut};
-ghost use Rattle.sctp_c.specs.Asked.{drawn, is_zeroed, IsDraw};
+ghost use Rattle.sctp_c.specs.Asked.{drawn, IsDraw};
 ghost use Rattle.sctp_c.specs.Slot.{is_full};
 ghost use Rattle.sctp_c.specs.Holds.{Holds, KeepsNotes};
 ghost use Rattle.sctp_c.specs.Codes.{connect_code, shutdown_code, fate_number};
 
 use crate::codes::{BAD_DRAW, BAD_RESERVED, BAD_STATE, MISUSE, NOT_OPEN, OK};
-use crate::config::is_zeroed;
 use crate::crossing::SctpDraw;
 use crate::handle::SctpEndpoint;
 use sctp_endpoint::{Draw, Ticket};
@@ -21,7 +20,7 @@ use sctp_endpoint::{Draw, Ticket};
 pub extern "C" fn sctp_endpoint_connect(handle: &mut SctpEndpoint, now: u64, draw: &SctpDraw) -> u32
     ensures undrawn { draw.now.tag ≡ 0 → (result ≡ BAD_DRAW) × (handle.new ≡ handle.old) }
     ensures misuse { 0 < draw.now.tag → handle.old.slot.endpoint ≡ None → (result ≡ MISUSE) × (handle.new.slot.endpoint ≡ None) }
-    ensures unzeroed { 0 < draw.now.tag → is_full handle.old.slot.endpoint ≡ true → is_zeroed draw.now.reserved ≡ false
+    ensures unzeroed { 0 < draw.now.tag → is_full handle.old.slot.endpoint ≡ true → 0 < draw.now.reserved
         → (result ≡ BAD_RESERVED) × (handle.new ≡ handle.old) }
     ensures answer { (v : EndView) → Holds handle.old.slot.endpoint v → IsDraw draw.now → result ≡ connect_code (connect_answer v.phase) }
     ensures step { (v : EndView) → Holds handle.old.slot.endpoint v → (result ≡ OK) → Holds handle.new.slot.endpoint (called (at_moment v now) (drawn draw.now)) }
@@ -35,7 +34,7 @@ pub extern "C" fn sctp_endpoint_connect(handle: &mut SctpEndpoint, now: u64, dra
     if !handle.is_full() {
         return MISUSE;
     }
-    if !is_zeroed(&reserved) {
+    if reserved > 0 {
         return BAD_RESERVED;
     }
     let end = handle.slot.lend();

@@ -39,7 +39,7 @@ pub struct SctpDraw {
     /// The first TSN that it sends.
     pub tsn: u32,
     /// 0.
-    pub reserved: [u32; 4],
+    pub reserved: u64,
 }
 
 /// The key that authenticates a listener's state cookies: random and secret (RFC 9260, 5.1.3).
@@ -63,7 +63,7 @@ pub struct SctpVerdict {
     /// Why it was ignored, 1 to 5; else 0.
     pub reason: u32,
     /// 0.
-    pub reserved: [u32; 4],
+    pub reserved: u64,
 }
 
 /// A packet to send.
@@ -75,7 +75,7 @@ pub struct SctpSent {
     /// How many messages have their first fragment in it.
     pub tickets: u64,
     /// 0.
-    pub reserved: [u32; 4],
+    pub reserved: u64,
 }
 
 /// A message that is ready or was taken.

@@ -1,6 +1,6 @@
 //! How C makes an endpoint, and frees it.
 
-ghost use Rattle.std.specs.Prelude.{◌≡◌, ◌<◌, ◌⊎◌, ◌&&◌, false, true, None, Some};
+ghost use Rattle.std.specs.Prelude.{◌≡◌, ◌<◌, ◌⊎◌, ◌==◌, ◌&&◌, false, true, None, Some};
 ghost use Rattle.sctp_model.specs.end.Sealing.{Sealing};
 ghost use Rattle.sctp_model.specs.end.EndView as model;
 ghost use Rattle.sctp_model.specs.end.EndView.{fresh_end};
@@ -34,9 +34,9 @@ fn are_listening_zeroed(config: &SctpConfig, key: &SctpKey) -> bool
 
 /// Whether the reserved numbers that an opened endpoint is made with are all 0.
 fn are_opened_zeroed(own: &SctpDraw, peer: &SctpDraw, config: &SctpConfig) -> bool
-    ensures { result ≡ (is_zeroed own.now.reserved && (is_zeroed peer.now.reserved && is_zeroed config.now.reserved)) }
+    ensures { result ≡ ((own.now.reserved == 0) && ((peer.now.reserved == 0) && is_zeroed config.now.reserved)) }
 {
-    is_zeroed(&own.reserved) && (is_zeroed(&peer.reserved) && is_zeroed(&config.reserved))
+    own.reserved == 0 && (peer.reserved == 0 && is_zeroed(&config.reserved))
 }
 
 /// Puts an endpoint that was made into the handle.
@@ -119,7 +119,7 @@ pub extern "C" fn sctp_endpoint_opened(
     ensures made { (result ≡ OK) → Holds handle.new.slot.endpoint (opened (asked_by config.now) (drawn own.now) (drawn peer.now)) }
     ensures undrawn { (own.now.tag ≡ 0) ⊎ (peer.now.tag ≡ 0) → result ≡ BAD_DRAW }
     ensures answer { 0 < own.now.tag → 0 < peer.now.tag
-        → IsMade (is_full handle.old.slot.endpoint) (is_zeroed own.now.reserved && (is_zeroed peer.now.reserved && is_zeroed config.now.reserved)) config.now result }
+        → IsMade (is_full handle.old.slot.endpoint) ((own.now.reserved == 0) && ((peer.now.reserved == 0) && is_zeroed config.now.reserved)) config.now result }
     ensures kept { ((result ≡ OK) → ⊥) → handle.new ≡ handle.old }
 {
     let are_zeroed = are_opened_zeroed(own, peer, config);

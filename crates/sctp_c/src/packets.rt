@@ -1,22 +1,21 @@
 //! Received packets, packets to send, and the ABORT (RFC 9260, 6.10, 8.4 and 9.1).
 
-ghost use Rattle.std.specs.Prelude.{◌≡◌, ℕ, ◌<◌, ◌≤◌, length, take, true, false, None, Some, Option, Result, Ok, Err, IfOk, IfSome};
+ghost use Rattle.std.specs.Prelude.{◌≡◌, ℕ, ◌<◌, ◌≤◌, length, take, true, None, Some, Option, Result, Ok, Err, IfOk, IfSome};
 ghost use Rattle.sctp_model.specs.wire.Packet as meaning;
 ghost use Rattle.sctp_model.specs.end.EndView.{EndView};
 ghost use Rattle.sctp_endpoint.specs.EndpointStands.{EndpointStands};
 ghost use Rattle.sctp_endpoint.specs.Transmitted.{TellsFew, MOST_TICKETS};
 ghost use Rattle.sctp_endpoint.specs.Handled.{IsRead, IsAnsweredWithin};
-ghost use Rattle.sctp_c.specs.Asked.{drawn, is_zeroed, IsDraw};
+ghost use Rattle.sctp_c.specs.Asked.{drawn, IsDraw};
 ghost use Rattle.sctp_c.specs.Slot.{is_full};
 ghost use Rattle.sctp_c.specs.Holds.{Holds, KeepsNotes};
-ghost use Rattle.sctp_c.specs.Told.{ZEROED, IsPut, AreTold, PollTold, Polled, HeardTold, Heard, AbortTold, Aborted};
+ghost use Rattle.sctp_c.specs.Told.{IsPut, AreTold, PollTold, Polled, HeardTold, Heard, AbortTold, Aborted};
 
 use crate::buffers::{put_answer, put_bytes, put_tickets};
 use crate::codes::{
     ANSWER, BAD_DRAW, BAD_RESERVED, BAD_STATE, DROPPED, MISUSE, NEEDS_ROOM, NO_MEMORY, OK, TAKEN,
     TOO_LONG,
 };
-use crate::config::is_zeroed;
 use crate::crossing::{SctpDraw, SctpSent, SctpVerdict};
 use crate::handle::SctpEndpoint;
 use sctp_endpoint::{AbortFault, Draw, Endpoint, NoMemory, Sent, Verdict};
@@ -30,12 +29,12 @@ fn limit_of(end: &Endpoint) -> usize
 
 /// What C gets if there is no packet: so many bytes that its buffer must have, or 0.
 fn no_packet(length: usize) -> SctpSent
-    ensures { (result.length ≡ length) × (result.tickets ≡ 0) × (result.reserved ≡ ZEROED) }
+    ensures { (result.length ≡ length) × (result.tickets ≡ 0) × (result.reserved ≡ 0) }
 {
     SctpSent {
         length,
         tickets: 0,
-        reserved: [0; 4],
+        reserved: 0,
     }
 }
 
@@ -50,7 +49,7 @@ fn tell_poll(
     ensures told { IfOk answer (λ o. IfSome o (λ s. length s.packet.items ≤ length buffer.old)) → PollTold answer result sent.new buffer.old buffer.new tickets.old tickets.new }
     ensures untold { ((result ≡ OK) → ⊥) → (buffer.new ≡ buffer.old) × (tickets.new ≡ tickets.old) }
     ensures few { IfOk answer (λ sent. TellsFew sent) → sent.new.tickets ≤ MOST_TICKETS }
-    ensures reserved { sent.new.reserved ≡ ZEROED }
+    ensures reserved { sent.new.reserved ≡ 0 }
     ensures keeps { (v : EndView) → EndpointStands end.old v → EndpointStands end.new v }
 {
     let Ok(next) = answer else {
@@ -68,7 +67,7 @@ fn tell_poll(
     *sent = SctpSent {
         length: packet.len(),
         tickets: put_tickets(&begun, tickets),
-        reserved: [0; 4],
+        reserved: 0,
     };
     // Before the copy, which is a call: so nothing of them has to outlive it.
     drop(begun);
@@ -92,7 +91,7 @@ pub extern "C" fn sctp_endpoint_poll_transmit(
         → (result ≡ NEEDS_ROOM) × (sent.new.length ≡ v.configuration.limit) × (sent.new.tickets ≡ 0) × (handle.new.slot.endpoint ≡ handle.old.slot.endpoint) }
     ensures untold { ((result ≡ OK) → ⊥) → (buffer.new ≡ buffer.old) × (tickets.new ≡ tickets.old) }
     ensures few { (v : EndView) → Holds handle.old.slot.endpoint v → sent.new.tickets ≤ MOST_TICKETS }
-    ensures reserved { (v : EndView) → Holds handle.old.slot.endpoint v → sent.new.reserved ≡ ZEROED }
+    ensures reserved { (v : EndView) → Holds handle.old.slot.endpoint v → sent.new.reserved ≡ 0 }
     ensures did { (v : EndView) → Holds handle.old.slot.endpoint v → v.configuration.limit ≤ length buffer.old
         → Polled v now handle.new.slot.endpoint result sent.new buffer.old buffer.new tickets.old tickets.new }
 {
@@ -112,13 +111,13 @@ pub extern "C" fn sctp_endpoint_poll_transmit(
 
 /// The verdict of a packet without answer or reason: so many bytes that the buffer must have, or 0.
 fn no_verdict(length: usize) -> SctpVerdict
-    ensures { (result.length ≡ length) × (result.verdict ≡ 0) × (result.reason ≡ 0) × (result.reserved ≡ ZEROED) }
+    ensures { (result.length ≡ length) × (result.verdict ≡ 0) × (result.reason ≡ 0) × (result.reserved ≡ 0) }
 {
     SctpVerdict {
         length,
         verdict: TAKEN,
         reason: 0,
-        reserved: [0; 4],
+        reserved: 0,
     }
 }
 
@@ -130,7 +129,7 @@ fn tell_heard(
 ) -> u32
     ensures told { IfOk answer (λ heard. IsAnsweredWithin (length buffer.old) heard) → HeardTold answer result verdict.new buffer.old buffer.new }
     ensures untold { ((result ≡ OK) → ⊥) → buffer.new ≡ buffer.old }
-    ensures reserved { verdict.new.reserved ≡ ZEROED }
+    ensures reserved { verdict.new.reserved ≡ 0 }
 {
     *verdict = no_verdict(0);
     match answer {
@@ -164,13 +163,13 @@ pub extern "C" fn sctp_endpoint_handle_packet(
     ensures undrawn { draw.now.tag ≡ 0 → (result ≡ BAD_DRAW) × (handle.new ≡ handle.old) × (verdict.new ≡ verdict.old) }
     ensures misuse { 0 < draw.now.tag → handle.old.slot.endpoint ≡ None
         → (result ≡ MISUSE) × (handle.new.slot.endpoint ≡ None) × (verdict.new ≡ verdict.old) }
-    ensures unzeroed { 0 < draw.now.tag → is_full handle.old.slot.endpoint ≡ true → is_zeroed draw.now.reserved ≡ false
+    ensures unzeroed { 0 < draw.now.tag → is_full handle.old.slot.endpoint ≡ true → 0 < draw.now.reserved
         → (result ≡ BAD_RESERVED) × (handle.new ≡ handle.old) × (verdict.new ≡ verdict.old) }
     ensures untold { ((result ≡ OK) → ⊥) → buffer.new ≡ buffer.old }
     ensures narrow { (v : EndView) → Holds handle.old.slot.endpoint v → IsDraw draw.now → length buffer.old < v.configuration.limit
         → (result ≡ NEEDS_ROOM) × (verdict.new.length ≡ v.configuration.limit) × (verdict.new.verdict ≡ 0) × (verdict.new.reason ≡ 0)
         × (handle.new.slot.endpoint ≡ handle.old.slot.endpoint) }
-    ensures reserved { (v : EndView) → Holds handle.old.slot.endpoint v → IsDraw draw.now → verdict.new.reserved ≡ ZEROED }
+    ensures reserved { (v : EndView) → Holds handle.old.slot.endpoint v → IsDraw draw.now → verdict.new.reserved ≡ 0 }
     ensures did { (v : EndView) (o : Option meaning.Packet) → Holds handle.old.slot.endpoint v → IsDraw draw.now → v.configuration.limit ≤ length buffer.old
         → IsRead packet.now o → Heard v now (drawn draw.now) o handle.new.slot.endpoint result verdict.new buffer.old buffer.new }
     ensures notes { (v : EndView) → Holds handle.old.slot.endpoint v → IsDraw draw.now → v.configuration.limit ≤ length buffer.old
@@ -183,7 +182,7 @@ pub extern "C" fn sctp_endpoint_handle_packet(
     if !handle.is_full() {
         return MISUSE;
     }
-    if !is_zeroed(&reserved) {
+    if reserved > 0 {
         return BAD_RESERVED;
     }
     let end = handle.slot.lend();

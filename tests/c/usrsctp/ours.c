@@ -13,7 +13,7 @@ static void must(uint32_t result, const char *what) { need(result == SCTP_EP_OK,
 
 /* Chance that repeats itself, so that a run can be repeated: no source for real draws and keys. */
 static struct sctp_endpoint_draw draw(void) {
-    struct sctp_endpoint_draw d = { 1 + chance(UINT32_MAX), chance(UINT32_MAX), { 0 } };
+    struct sctp_endpoint_draw d = { 1 + chance(UINT32_MAX), chance(UINT32_MAX), 0 };
     return d;
 }
 
