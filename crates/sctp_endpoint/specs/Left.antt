@@ -10,7 +10,7 @@ use Rattle.sctp_association.specs.declared.machine.Machine.{Machine}
 use Rattle.sctp_endpoint.specs.declared.after.After.{After}
 use Rattle.sctp_endpoint.specs.declared.after.After.TheVariants.{GoesOn, Acknowledges, Ends, PassedOver, Replies, Drops}
 
--- The answer is what one of the rows leaves, and the machine stands for the view that it leaves. A packet that is answered is within the limit.
+-- What the code returned is what one of the rows leaves, and the machine represents the view that it leaves. An answer is within the packet limit.
 abbrev pub Left : After → EndView → (model.After → Type 0) → Machine → Type 0
 Left GoesOn v acts m = (w : EndView) × acts (model.GoesOn model.Unnoted w) × MachineStands m w
 Left (Acknowledges is_data at_once) v acts m = (w : EndView) × acts (model.GoesOn (model.ToAcknowledge is_data at_once) w) × MachineStands m w

@@ -15,12 +15,12 @@ use Rattle.sctp_endpoint.specs.declared.endpoint.Endpoint.{Endpoint}
 abbrev pub LeavesLogs : EndView → Endpoint → Type 0
 LeavesLogs v e = (t : EndView) × KeepsLogs v t × EndpointStands e t
 
--- Of a packet that goes out its tickets are noted as numbered, behind all before them; nothing else, and of no packet nothing.
+-- With a packet to send its tickets are noted as numbered, after all before them, and nothing else; without a packet nothing.
 abbrev pub SendsLogs : EndView → Option Sent → Endpoint → Type 0
 SendsLogs v None e = LeavesLogs v e
 SendsLogs v (Some s) e = (t : EndView) × AddsNumbers v t × (numbered t ≡ numbered v ++ map (λ t. t.0) s.tickets.items) × EndpointStands e t
 
--- The tickets of a packet that goes out are told for the first time: among those numbered before and these none stands twice.
+-- The tickets of a packet to send are returned for the first time: among those numbered before and these there is none twice.
 abbrev pub TellsAnew : EndView → Option Sent → Type 0
 TellsAnew v None = Unit {0}
 TellsAnew v (Some s) = NoTicketTwice (numbered v ++ map (λ t. t.0) s.tickets.items)
@@ -30,7 +30,7 @@ abbrev pub GivesLogs : EndView → Result Ticket Refused → Endpoint → Type 0
 GivesLogs v (Ok ticket) e = (t : EndView) × AddsTicket v t × EndpointStands e t
 GivesLogs v (Err why) e = LeavesLogs v e
 
--- Of a message taken it alone is noted, on its stream; where there is none nothing.
+-- With a message taken it alone is noted, on its stream; without one nothing.
 abbrev pub TakesLogs : EndView → (stream : ℕ) → Option Message → Endpoint → Type 0
 TakesLogs v stream (Some m) e = (t : EndView) × AddsTaken v stream (handed_of m) t × EndpointStands e t
 TakesLogs v stream None e = LeavesLogs v e

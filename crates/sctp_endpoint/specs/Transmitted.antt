@@ -1,4 +1,4 @@
--- What an end sends next, in terms of a view (RFC 9260, 6.10).
+-- What an endpoint sends next, in terms of a view (RFC 9260, 6.10).
 use Rattle.std.specs.Prelude.{◌≡◌, ℕ, ◌≤◌, List, [], length, map, Option, Some, None}
 use Rattle.sctp_model.specs.wire.Chunk.{ChunkMeaning}
 use Rattle.sctp_model.specs.wire.Packet.{size_of_packet}
@@ -22,7 +22,7 @@ pub record IsSent (v : EndView) (s : Sent) (e : Endpoint) : Type 0 where
   pub tickets : map (λ t. t.0) s.tickets.items ≡ newly_numbered v.sender after.sender
   pub stands : EndpointStands e after
 
--- There is a packet exactly where the next one holds a chunk.
+-- There is a packet exactly if the next one has a chunk.
 abbrev pub Transmits : EndView → Option Sent → Endpoint → Type 0
 Transmits v None e = (after : EndView) × Builds v [] after × EndpointStands e after
 Transmits v (Some s) e = IsSent v s e
@@ -31,7 +31,7 @@ Transmits v (Some s) e = IsSent v s e
 abbrev pub MOST_TICKETS : ℕ
 MOST_TICKETS = 74
 
--- It tells no more tickets.
+-- It has no more tickets.
 abbrev pub TellsFew : Option Sent → Type 0
 TellsFew None = Unit {0}
 TellsFew (Some s) = length s.tickets.items ≤ MOST_TICKETS

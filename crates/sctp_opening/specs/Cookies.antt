@@ -8,12 +8,12 @@ use Rattle.sctp_cookie.specs.declared.body.Ports.{Ports}
 use Rattle.sctp_opening.specs.declared.cookies.CookieReading.{CookieReading}
 use Rattle.sctp_opening.specs.declared.cookies.CookieReading.TheVariants as reading
 
--- The end is set up so, and this is the latest moment that it was told.
+-- The endpoint has this configuration, and this is its latest time.
 pub record IsAt (c : Configuration) (moment : ℕ) (e : EndView) : Type 0 where
   pub configured : e.configuration ≡ c
   pub now : e.moment ≡ moment
 
--- the ports of packets to an end that listens
+-- the ports of packets to a listener
 abbrev pub ports_in : Configuration → Ports
 ports_in c = record { listener = c.own_port; caller = c.peer_port }
 
@@ -23,7 +23,7 @@ reading_meaning (reading.Opens body) = CookieOpens (body_meaning body)
 reading_meaning (reading.Late body microseconds) = CookieLate (body_meaning body)
 reading_meaning reading.Strange = Strange
 
--- Of a cookie past its life the measure of staleness at this moment is told (RFC 9260, 3.3.10.3).
+-- Of a stale cookie the Measure of Staleness at this time is returned (RFC 9260, 3.3.10.3).
 abbrev pub TellsStaleness : (moment : ℕ) → CookieReading → Type 0
 TellsStaleness moment (reading.Late body microseconds) = microseconds ≡ staleness moment (body_meaning body)
 TellsStaleness moment (reading.Opens body) = Unit {0}

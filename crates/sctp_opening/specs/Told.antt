@@ -1,4 +1,4 @@
--- What becomes of a packet at an end without an association (RFC 9260, 5.1 and 8.4).
+-- What is done with a packet at an endpoint without an association (RFC 9260, 5.1 and 8.4).
 use Rattle.std.specs.Prelude.{◌≡◌, ℕ, ◌≤◌, List, length, Option, Some, None}
 use Rattle.sctp_model.specs.end.Sealing.{Body}
 use Rattle.sctp_model.specs.end.Strays.{Verdict, Taken, Dropped, Answer}
@@ -14,13 +14,13 @@ IsAnswer bytes (Answer p) = WritesPacket bytes p
 IsAnswer bytes (Dropped reason) = ⊥
 IsAnswer bytes Taken = ⊥
 
--- What is told of a packet that holds this cookie, or of one that holds none and has this verdict.
+-- What is returned of a packet with this valid cookie, or of one without any and with this verdict.
 abbrev pub IsTold : Stray → Option Body → Verdict → Type 0
 IsTold (stray.Begins body) opened v = opened ≡ Some (body_meaning body)
 IsTold (stray.Dropped reason) opened v = (opened ≡ None) × (v ≡ Dropped (reason_code reason))
 IsTold (stray.Answered packet) opened v = (opened ≡ None) × IsAnswer packet.items v
 
--- Where a packet answers it, that has at most so many bytes.
+-- If it is answered by a packet, that has at most `limit` bytes.
 abbrev pub IsToldWithin : (limit : ℕ) → Stray → Type 0
 IsToldWithin limit (stray.Begins body) = Unit {0}
 IsToldWithin limit (stray.Dropped reason) = Unit {0}

@@ -1,4 +1,4 @@
--- What a packet that reads leaves, at a machine that was told its moment (RFC 9260, 5.1 and 8.4).
+-- What a well-formed packet leaves, at a machine whose time is that of its arrival (RFC 9260, 5.1 and 8.4).
 use Rattle.std.specs.Prelude.{◌≡◌, ℕ, Bool, true, List, ◌∷◌, ◌++◌, Some, Result, Ok, Err}
 use Rattle.sctp_model.specs.wire.Chunk.{ChunkMeaning}
 use Rattle.sctp_model.specs.wire.Packet.{Packet}
@@ -14,16 +14,16 @@ use Rattle.sctp_endpoint.specs.Handled.{VerdictStands, IsAnsweredWithin}
 use Rattle.sctp_endpoint.specs.inner.Acted.{HasTag}
 use Rattle.sctp_endpoint.specs.declared.after.Verdict.{Verdict}
 
--- the packet has the ports of this end, and a tag that it looks for (8.5)
+-- the packet has the ports of this endpoint, and a verification tag that it accepts (8.5)
 pub record IsFor (v : EndView) (p : Packet) : Type 0 where
   pub ports : has_ports v.configuration p ≡ true
   pub tag : passes v.phase p ≡ true
 
--- The packet ended behind chunks that left this view, by the gap that they left.
+-- The packet ended after chunks that left this view, by the gap that they left.
 abbrev pub Ends : EndView → Notes → Machine → Type 0
 Ends t n e = (gap : Bool) × LeavesGap t gap × MachineStands e (packet_ended (urged gap n) t)
 
--- Chunks acted, all or those before the one that wanted memory, and the packet ended behind them.
+-- Chunks acted, all or those before a failed allocation, and the packet ended after them.
 abbrev pub HearsAll : ℕ → EndView → Notes → List ChunkMeaning → Result Verdict NoMemory → Machine → Type 0
 HearsAll tag v k ms (Ok told) e =
     (t : EndView) × (n : Notes) × (x : model.Verdict) × AllAct tag v k ms t n x × VerdictStands told x × IsAnsweredWithin v.configuration.limit told × Ends t n e
@@ -31,8 +31,8 @@ HearsAll tag v k ms (Err why) e =
     (front back : List ChunkMeaning) × (m : ChunkMeaning) × (t : EndView) × (n : Notes) × (ms ≡ front ++ m ∷ back) × HasTag m
     × AllAct tag v k front t n (verdict_of n.listed) × Ends t n e
 
--- The packet was received, and its answer is within the limit; or it was cut short where it wanted memory; that is nothing that is dropped for its ports or its tag, where each of its chunks
--- stands where it may.
+-- The packet was received, and its answer is within the limit; or it was cut short at a failed allocation, and then it isn't one that is dropped for its ports or its tag, if each of its chunks
+-- may be bundled so.
 abbrev pub Arrived : EndView → (now : ℕ) → Draw → Packet → Result Verdict NoMemory → Machine → Type 0
 Arrived v now d p (Ok told) e =
     (t : EndView) × (x : model.Verdict) × Receives v now d (Some p) t x × VerdictStands told x × IsAnsweredWithin v.configuration.limit told × MachineStands e t

@@ -2,7 +2,7 @@
 use Rattle.std.specs.Prelude.{ℕ, Bool, not, ◌&&◌}
 use Rattle.sctp_model.specs.wire.Unknown.{is_known_parameter, is_passed_over, parameter_rule}
 
--- nothing behind a parameter of this type is looked at
+-- processing stops at a parameter of this type
 abbrev pub stops : ℕ → Bool
 stops kind = not (is_known_parameter kind) && (not (is_passed_over kind) && (parameter_rule kind).stop)
 
