@@ -28,6 +28,7 @@ COMMANDS = {
     b'next': (),
     b'state': (),
     b'held': (),
+    b'reassembly': (),
     b'status': (),
 }
 
@@ -83,6 +84,13 @@ def status_of(endpoint):
     readable = min((message.stream for message in receiver.waiting), default='-')
     return ' '.join(map(str, words + [sender.streams, receiver.streams, formats.decode(), sender.outstanding(),
                                       len(queued), sum(queued), receiver.held, sender.rwnd, readable]))
+
+
+def reassembly_of(endpoint):
+    """The bytes of its receive buffer that wait for a fragment or for an earlier message."""
+    if endpoint.receiver is None:
+        return 0
+    return sum(len(kept.piece.data) for pieces in endpoint.receiver.kept.values() for kept in pieces)
 
 
 class Session:
@@ -176,6 +184,9 @@ class Session:
 
     def held(self):
         return 'held %d' % (self.endpoint.receiver.held if self.endpoint.receiver is not None else 0)
+
+    def reassembly(self):
+        return 'reassembly %d' % reassembly_of(self.endpoint)
 
     def status(self):
         return status_of(self.endpoint)

@@ -2,8 +2,8 @@
 """Compares `sctp-end` with the model's ends, packets byte for byte, on random scripts.
 
 ends.py [--program P] N [SEED]: each script opens by packets; what comes to an end is what came to it
-in the model's run. After each line the state, the next moment, the held bytes and the status are asked
-too. The ends of every third script close by the RFC's timers.
+in the model's run. After each line the state, the next moment, the held bytes, those in reassembly and
+the status are asked too. The ends of every third script close by the RFC's timers.
 ends.py --write FILE N [SEED] writes the lines of each end and the answers wanted, and runs nothing.
 """
 
@@ -14,7 +14,7 @@ import sys
 
 import model
 import scripts
-from end import status_of
+from end import reassembly_of, status_of
 
 HERE = os.path.dirname(os.path.abspath(__file__))
 
@@ -52,6 +52,7 @@ class RecordedPair(model.Pair):
         self.notes[x].add('state', 'state %s %s' % (end.state, end.ended or '-'))
         self.notes[x].add('next', 'next %s' % ('-' if moment is None else moment))
         self.notes[x].add('held', 'held %d' % (end.receiver.held if end.receiver else 0))
+        self.notes[x].add('reassembly', 'reassembly %d' % reassembly_of(end))
         self.notes[x].add('status', status_of(end))
 
     def without_side(self, outcome):

@@ -2,7 +2,7 @@
 use Rattle.std.specs.Prelude.{ℕ, if◌then◌else◌, List, [], ◌∷◌, length, Option, None, Some, codes, bytes_eq}
 use Rattle.sctp_end.specs.Fields.{Field, ANumber, ATag, AKind, AnUntil, SomeBytes, Value}
 use Rattle.sctp_end.specs.declared.command.Command.{Command}
-use Rattle.sctp_end.specs.declared.command.Command.TheVariants.{Connect, Draw, At, Packet, Build, Send, Abandon, Acknowledged, Abandoned, Take, Shutdown, Abort, Next, State, Held, Status}
+use Rattle.sctp_end.specs.declared.command.Command.TheVariants.{Connect, Draw, At, Packet, Build, Send, Abandon, Acknowledged, Abandoned, Take, Shutdown, Abort, Next, State, Held, Reassembly, Status}
 use Rattle.sctp_end.specs.declared.call.Call.{Call}
 use Rattle.sctp_end.specs.declared.call.Call.TheVariants as call
 use Rattle.sctp_words.specs.Fields.{Values}
@@ -10,7 +10,7 @@ use Rattle.sctp_words.specs.Fields.{Values}
 -- all commands
 abbrev pub commands : List Command
 commands =
-    Connect ∷ Draw ∷ At ∷ Packet ∷ Build ∷ Send ∷ Abandon ∷ Acknowledged ∷ Abandoned ∷ Take ∷ Shutdown ∷ Abort ∷ Next ∷ State ∷ Held ∷ Status ∷ []
+    Connect ∷ Draw ∷ At ∷ Packet ∷ Build ∷ Send ∷ Abandon ∷ Acknowledged ∷ Abandoned ∷ Take ∷ Shutdown ∷ Abort ∷ Next ∷ State ∷ Held ∷ Reassembly ∷ Status ∷ []
 
 -- the word that a command is
 abbrev pub name_of : Command → List ℕ
@@ -29,6 +29,7 @@ name_of Abort = codes "abort"
 name_of Next = codes "next"
 name_of State = codes "state"
 name_of Held = codes "held"
+name_of Reassembly = codes "reassembly"
 name_of Status = codes "status"
 
 -- TAG TSN
@@ -40,7 +41,7 @@ abbrev pub ticket_fields : List Field
 ticket_fields = ANumber 64 ∷ []
 
 -- connect TAG TSN; draw TAG TSN; at T; packet HEX; build; send STREAM KIND ID UNTIL HEX; abandon K; acknowledged K; abandoned K; take STREAM;
--- shutdown; abort HEX; next; state; held; status
+-- shutdown; abort HEX; next; state; held; reassembly; status
 abbrev pub fields_of : Command → List Field
 fields_of Connect = draw_fields
 fields_of Draw = draw_fields
@@ -57,6 +58,7 @@ fields_of Abort = SomeBytes ∷ []
 fields_of Next = []
 fields_of State = []
 fields_of Held = []
+fields_of Reassembly = []
 fields_of Status = []
 
 -- the number of words after a command's name
@@ -80,6 +82,7 @@ meaning_of Abort (bytes, rest) = call.Abort bytes
 meaning_of Next rest = call.Next
 meaning_of State rest = call.State
 meaning_of Held rest = call.Held
+meaning_of Reassembly rest = call.Reassembly
 meaning_of Status rest = call.Status
 
 -- the first of these commands with this name

@@ -3,7 +3,7 @@ use Rattle.std.specs.Prelude.{◌≡◌, ℕ, max, Bool, true, false, List, [], 
 use Rattle.sctp_model.specs.wire.Chunk.{ChunkMeaning}
 use Rattle.sctp_model.specs.wire.Packet.{Packet}
 use Rattle.sctp_model.specs.world.Calls.{Call as Message}
-use Rattle.sctp_model.specs.receiver.ReceiverView.{Handed, held_bytes}
+use Rattle.sctp_model.specs.receiver.ReceiverView.{Handed, held_bytes, size_of_pieces}
 use Rattle.sctp_model.specs.sender.Queueing as queueing
 use Rattle.sctp_model.specs.sender.Readers.{acknowledged, abandoned}
 use Rattle.sctp_model.specs.end.EndView.{Draw, EndView, state_of, ended_of}
@@ -130,4 +130,5 @@ pub data Performs (s : Standing) : Call → Reply → Standing → Type 0 where
       Performs s call.State (reply.Stands x y) s
   TellsStatus : (x : Status) → IsStatus s.view x → Performs s call.Status (reply.Status x) s
   TellsHeld : (n : ℕ) → n ≡ held_bytes s.view.receiver → Performs s call.Held (reply.Held n) s
+  TellsReassembly : (n : ℕ) → n ≡ size_of_pieces s.view.receiver.kept → Performs s call.Reassembly (reply.Reassembly n) s
   WantsMemory : (c : Call) → may_want c ≡ true → Performs s c reply.NoMemory s

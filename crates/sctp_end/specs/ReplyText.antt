@@ -49,6 +49,7 @@ reply_words (reply.Empty stream) = codes "empty" ∷ decimal stream ∷ []
 reply_words (reply.Next moment) = codes "next" ∷ number_word moment ∷ []
 reply_words (reply.Stands state ended) = codes "state" ∷ state_word (state_meaning state) ∷ end_word (option_map end_meaning ended) ∷ []
 reply_words (reply.Held n) = codes "held" ∷ decimal n ∷ []
+reply_words (reply.Reassembly n) = codes "reassembly" ∷ decimal n ∷ []
 reply_words (reply.Status x) = status_words x
 reply_words (reply.Fault fault) = codes "fault" ∷ decimal (kind_of fault) ∷ []
 reply_words reply.NoMemory = codes "memory" ∷ []

@@ -51,6 +51,8 @@ pub enum Call {
     State,
     /// `held`: the bytes in its receive buffer.
     Held,
+    /// `reassembly`: of these, the bytes of messages that `take` can't return yet, since a fragment or an earlier message is missing.
+    Reassembly,
     /// `status`: next, state and held at once, with what both endpoints agreed on, what is queued, and the first stream on which a message
     /// waits for its user.
     Status,

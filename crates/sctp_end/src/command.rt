@@ -21,6 +21,7 @@ pub enum Command {
     Next,
     State,
     Held,
+    Reassembly,
     Status,
 }
 
@@ -45,6 +46,7 @@ impl Command {
             b"next" => Some(Command::Next),
             b"state" => Some(Command::State),
             b"held" => Some(Command::Held),
+            b"reassembly" => Some(Command::Reassembly),
             b"status" => Some(Command::Status),
             _ => None,
         }
@@ -69,6 +71,7 @@ impl Command {
             | Command::Next
             | Command::State
             | Command::Held
+            | Command::Reassembly
             | Command::Status => 0,
         }
     }

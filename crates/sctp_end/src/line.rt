@@ -64,6 +64,7 @@ fn read_call(alloc: Global, command: Command, words: Words<'_>) -> Result<Option
         Command::Next => Ok(Some(Call::Next)),
         Command::State => Ok(Some(Call::State)),
         Command::Held => Ok(Some(Call::Held)),
+        Command::Reassembly => Ok(Some(Call::Reassembly)),
         Command::Status => Ok(Some(Call::Status)),
     }
 }

@@ -76,6 +76,8 @@ pub enum Reply {
     },
     /// `held N`
     Held(u32),
+    /// `reassembly N`
+    Reassembly(u32),
     /// `status STATE WHY NEXT OUTBOUND INBOUND FORMATS OUTSTANDING QUEUED BYTES HELD WINDOW READABLE`
     Status(Status),
     /// `fault K`: the line has a fault and has changed nothing.

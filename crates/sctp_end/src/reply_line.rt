@@ -48,6 +48,7 @@ pub fn put_reply(reply: &Reply, out: &mut Vec<u8>) -> Result<(), NoMemory>
         }
         Reply::Status(status) => put_status(status, out),
         Reply::Held(bytes) => put_number(b"held", u64::from(*bytes), out),
+        Reply::Reassembly(bytes) => put_number(b"reassembly", u64::from(*bytes), out),
         Reply::Fault(fault) => put_number(b"fault", u64::from(fault.kind()), out),
         Reply::NoMemory => put_words(b"memory", &[], out),
     }

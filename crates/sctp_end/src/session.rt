@@ -60,6 +60,7 @@ impl Session {
                 ended: self.endpoint.ended(),
             },
             Call::Held => Reply::Held(self.endpoint.held_bytes()),
+            Call::Reassembly => Reply::Reassembly(self.endpoint.reassembly_bytes()),
             Call::Status => self.status(),
         }
     }

@@ -48,5 +48,8 @@ returns-in-state c = grind (arith, common_steps)
 pub returns-in-held : goal.returns-in-held
 returns-in-held c = grind (arith, common_steps)
 
+pub returns-in-reassembly : goal.returns-in-reassembly
+returns-in-reassembly c = grind (arith, elements)
+
 pub returns-in-status : goal.returns-in-status
 returns-in-status c = grind (arith, elements)

@@ -1,4 +1,4 @@
-use Rattle.sctp_end.specs.Performing.{TellsNext, TellsState, TellsHeld}
+use Rattle.sctp_end.specs.Performing.{TellsNext, TellsState, TellsHeld, TellsReassembly}
 use Rattle.sctp_end.proofs.session.Session.perform.Goals as goal
 
 pub returns-in-Connect : goal.returns-in-Connect
@@ -45,6 +45,9 @@ returns-in-State c = rw c.in-State.is (λ v stands. (v, TellsState _ _ (c.state.
 
 pub returns-in-Held : goal.returns-in-Held
 returns-in-Held c = rw c.in-Held.is (λ v stands. (v, TellsHeld _ (c.held_bytes.ensures.held v stands), stands))
+
+pub returns-in-Reassembly : goal.returns-in-Reassembly
+returns-in-Reassembly c = rw c.in-Reassembly.is (λ v stands. (v, TellsReassembly _ (c.reassembly_bytes.ensures v stands), stands))
 
 pub returns-in-Status : goal.returns-in-Status
 returns-in-Status c = rw c.in-Status.is c.status.ensures
