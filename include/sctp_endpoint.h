@@ -165,7 +165,7 @@ enum sctp_endpoint_reason {
     SCTP_EP_PORTS = 2,   /* its ports aren't those of the configuration */
     SCTP_EP_TAG = 3,     /* its verification tag is wrong */
     SCTP_EP_STATE = 4,   /* nothing in it applies in this state */
-    SCTP_EP_COOKIE = 5   /* its state cookie isn't one that this listener made for this peer */
+    SCTP_EP_COOKIE = 5   /* its state cookie isn't one made under this key, for these ports and this tag */
 };
 struct sctp_endpoint_verdict {
     size_t length;        /* of the answer; at NEEDS_ROOM the bytes that the buffer must have */
