@@ -35,7 +35,7 @@ pub enum Reason {
     Tag,
     /// Nothing in it applies in this state.
     State,
-    /// Its state cookie isn't one that this listener made for this peer.
+    /// Its state cookie isn't one made under this key, for these ports and this tag.
     Cookie,
 }
 
