@@ -45,17 +45,17 @@ fn tell_cause(
     buffer: &mut [u8],
     count: &mut usize,
 ) -> u32
-    ensures { CauseTold (option_map cause_meaning found) result cause.old cause.new count.old count.new buffer.old buffer.new }
+    ensures { CauseTold (option_map cause_meaning found.entry) result cause.old cause.new count.old count.new buffer.old buffer.new }
 {
-    let Some(found) = found else {
+    let Some(said) = found else {
         return NOTHING;
     };
-    *cause = found.code;
-    *count = found.info.len();
-    if found.info.len() > buffer.len() {
+    *cause = said.code;
+    *count = said.info.len();
+    if said.info.len() > buffer.len() {
         return NEEDS_ROOM;
     }
-    let _ = put_bytes(found.info, buffer);
+    let _ = put_bytes(said.info, buffer);
     OK
 }
 
