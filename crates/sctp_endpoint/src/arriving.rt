@@ -117,6 +117,7 @@ fn behind_first(chunks: Chunks<'_>) -> Chunks<'_>
 ///
 /// # Errors
 /// `NoMemory` if an allocation failed: the chunks before the failing one took effect.
+#[inline(always)]
 fn hear(
     machine: &mut Machine,
     tag: u32,
