@@ -72,11 +72,11 @@ class Forwards(scripts.Maker):
     def moves(self):
         sender = self.end('A').sender
         last = sender.last()
-        self.sack(min(last, sender.cum + self.pick((1, 1, 2, 10, last))), [])
+        self.sack_for(min(last, sender.cum + self.pick((1, 1, 2, 10, last))), [])
 
     def repeats(self):
         for _ in range(self.pick((1, 1, 3))):
-            self.sack(self.end('A').sender.cum, [])
+            self.sack_for(self.end('A').sender.cum, [])
             self.line('build', 'A')
 
     def covers(self):
@@ -89,14 +89,14 @@ class Forwards(scripts.Maker):
                 break
             blocks.append((start, end))
             floor = end
-        self.sack(sender.cum, blocks)
+        self.sack_for(sender.cum, blocks)
 
     def uncovers(self):
         self.covers()
         self.line('build', 'A')
-        self.sack(self.end('A').sender.cum, [])
+        self.sack_for(self.end('A').sender.cum, [])
 
-    def sack(self, index, blocks):
+    def sack_for(self, index, blocks):
         end = self.end('A')
         packet = wire.packet(*self.ports('A'), end.own_tag, [wire.sack_chunk(end.sender.tsn(index), self.pick((0, 1000, 65536)), blocks, [])])
         self.foreign('A', packet)
