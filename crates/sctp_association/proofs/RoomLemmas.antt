@@ -1,4 +1,4 @@
--- User data went out exactly if less space is left in the packet; if so, T3-rtx starts as the specification says.
+-- User data went out exactly if less space is left in the packet; if so, the data timer starts as the specification says.
 use Rattle.std.proofs.Common.{◌≡◌, ℕ, ◌+◌, ◌-◌, ◌<◌, nat_lt, Bool, true, false, List, [], ◌∷◌, ◌++◌, map, refl, ap, sym, arith}
 use Rattle.std.proofs.lemmas.List.{append-nil}
 use Rattle.std.proofs.lemmas.Bool.Decides.{nat_tests}

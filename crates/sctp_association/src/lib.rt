@@ -1,6 +1,7 @@
 //! One endpoint of an SCTP association as a state machine: its state, the chunks that its next packets owe, its timers, its sender and its receiver;
 //! how its next packet is built, what time does to it, and the user's calls (RFC 9260, 4). It reads no packet: `sctp_endpoint` does, and calls it
-//! for each chunk. In comments FORWARD-TSN stands for I-FORWARD-TSN too, and T3-rtx for the one timer of user data; times are in milliseconds.
+//! for each chunk. In comments FORWARD-TSN stands for I-FORWARD-TSN too, and the data timer is the RFC's one timer for the retransmission of
+//! user data (RFC 9260, 6.3); times are in milliseconds.
 //!
 //! Contracts speak of the specification's view of an endpoint (`EndView` of `sctp_model`) by `MachineStands`, which is hidden from the crates above.
 //! Each call is the specification's function on every view that the endpoint stands for; if an allocation fails, it still stands for the old view.
@@ -15,8 +16,8 @@
 //!   (`hear_outside`). Which tags are accepted: `passes_tag`; whether there is an association, and its tags and stage: `has_association`, `is_open`,
 //!   `opened`.
 //! - **Received chunks.** User data and FORWARD-TSN are processed as the receiver's contract says, an invalid stream is reported (`hear_piece`,
-//!   `hear_forward`). A SACK and the cumulative TSN of a SHUTDOWN are refused for their first fault, or acknowledge, with what that does to T3-rtx and to
-//!   a FORWARD-TSN that is due (`hear_sack`, `hear_shutdown`). A HEARTBEAT whose value fits a packet, and a SHUTDOWN, are answered (`hear_heartbeat`,
+//!   `hear_forward`). A SACK and the cumulative TSN of a SHUTDOWN are refused for their first fault, or acknowledge, with what that does to the data
+//!   timer and to a FORWARD-TSN that is due (`hear_sack`, `hear_shutdown`). A HEARTBEAT whose value fits a packet, and a SHUTDOWN, are answered (`hear_heartbeat`,
 //!   `answer_shutdown`, `repeat_shutdown_ack`); `abort_with` and `complete` close the endpoint with an ABORT or a SHUTDOWN COMPLETE.
 //! - **Acknowledging** (RFC 9260, 6.2). After a packet a SACK is due, and in SHUTDOWN-SENT the SHUTDOWN again. An endpoint that delays SACKs delays it by
 //!   200 ms in any other state, if nothing in the packet asks for it at once and none is owed. With standard closing, data in SHUTDOWN-SENT restarts the

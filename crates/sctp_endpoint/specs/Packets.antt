@@ -21,20 +21,22 @@ pub record IsHeaderOf (p : Packet) (h : PacketHeader) : Type 0 where
 
 -- ---- ABORT
 
--- the bytes of the causes of the first ABORT
+-- the bytes of the causes of this chunk if it is an ABORT, else what the later chunks say
 abbrev pub abort_or : ChunkMeaning → Option (List ℕ) → Option (List ℕ)
 abort_or (Abort reflected causes) later = Some causes
 abort_or m later = later
 
+-- the bytes of the causes of the first ABORT among these chunks, if there is one
 abbrev pub abort_among : List ChunkMeaning → Option (List ℕ)
 abort_among [] = None
 abort_among (m ∷ ms) = abort_or m (abort_among ms)
 
--- the first cause of these bytes; code 0 without information if there is none
+-- the first of these causes; code 0 without information if there is none
 abbrev pub head_cause : List Typed → Typed
 head_cause [] = record { kind = 0; value = [] }
 head_cause (cause ∷ causes) = cause
 
+-- the first cause in the bytes of an ABORT's causes
 abbrev pub first_cause : List ℕ → Typed
 first_cause causes = head_cause (typed_in causes)
 

@@ -87,8 +87,8 @@ fn note(machine: &mut Machine, notes: &mut Notes, told: &mut Verdict, after: Aft
     }
 }
 
-/// The first chunk is taken off and acts. Most are DATA or I-DATA, which are read from the bytes directly: a `Chunk` between costs each message some
-/// 3 % of its instructions.
+/// The first chunk is taken off and acts. Most are DATA or I-DATA, which are read from the bytes directly, without a
+/// `Chunk` between.
 ///
 /// # Errors
 /// `NoMemory` if an allocation failed; nothing changed but that the chunk is taken off.

@@ -33,11 +33,9 @@ use sctp_framing::Framing;
 use sctp_packet::PacketWriter;
 use sctp_serial::tsn_of;
 use sctp_values::NoMemory;
+use sctp_wire::codes::FORWARD_HEADER;
 use sctp_wire::{Forward, Skips};
 use std::alloc::Global;
-
-/// What a FORWARD takes beside its entries: the chunk's header and the cumulative TSN.
-const CHUNK_ALONE: usize = 8;
 
 #[tactic(auto, unfolding(crate::specs::SenderStands::StandsFor))]
 impl<F: Framing> Sender<F> {
@@ -124,7 +122,7 @@ fn put_lanes<F: Framing>(
     ensures memory { OnErr result (has_room packet.old (forward_of_lanes F.format cumulative lanes.now) ≡ true) }
 {
     let form = F::skip_form();
-    if CHUNK_ALONE + form.size() * lanes.len() > packet.room() {
+    if FORWARD_HEADER + form.size() * lanes.len() > packet.room() {
         return Ok(false);
     }
     let list = list_of::<F>(alloc, lanes)?;

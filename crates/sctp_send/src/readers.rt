@@ -37,7 +37,7 @@ impl<F: Framing> Sender<F> {
             .wrapping_add(u64::from(abandoned_run(&self.parts.outstanding)))
     }
 
-    /// Whether the T3-rtx timer should run (RFC 9260, 6.3.2): a chunk that was sent is neither acknowledged by a SACK nor abandoned, or the point
+    /// Whether the data timer should run (RFC 9260, 6.3.2): a chunk that was sent is neither acknowledged by a SACK nor abandoned, or the point
     /// is past CUM, so that a FORWARD-TSN is due (RFC 3758, 3.5).
     pub fn unsettled(&self) -> bool
         ensures { (v : SenderView) → StandsFor F.format self.now v → result ≡ unsettled v }

@@ -1,4 +1,4 @@
-//! SACKs and SHUTDOWNs from the peer, and the expiry of the T3-rtx timer (RFC 9260, 6.2.1, 6.3.3 and 9.2).
+//! SACKs and SHUTDOWNs from the peer, and the expiry of the data timer (RFC 9260, 6.2.1, 6.3.3 and 9.2).
 //!
 //! `on_sack` keeps the runs of entries that the last SACK acknowledged by gap blocks, at most 368, as many blocks as a packet of 1,500 bytes has. Their
 //! memory is reserved with the first entry, so that no SACK allocates, and a sender that had no entry has none (`run_room`). It sets only the
@@ -117,7 +117,7 @@ impl<F: Framing> Sender<F> {
         Ok(())
     }
 
-    /// The T3-rtx timer expired: every chunk that was sent and is neither acknowledged nor abandoned is marked for retransmission (RFC 9260, 6.3.3). It
+    /// The data timer expired: every chunk that was sent and is neither acknowledged nor abandoned is marked for retransmission (RFC 9260, 6.3.3). It
     /// doesn't allocate.
     pub fn on_timeout(&mut self)
         ensures { (v : SenderView) → StandsFor F.format self.old v → StandsFor F.format self.new (timed_out v) }

@@ -133,7 +133,7 @@ pub(crate) fn fill_rest(
     })
 }
 
-/// Fills what is left after the control chunks with user data, which starts T3-rtx.
+/// Fills what is left after the control chunks with user data, which starts the data timer.
 ///
 /// # Errors
 /// `NoMemory` if an allocation was refused; nothing of the traffic changed then.
@@ -150,7 +150,7 @@ pub(crate) fn fill_behind(
     Ok(fragments.tickets)
 }
 
-/// T3-rtx is to start, if user data went out.
+/// The data timer is to start, if user data went out.
 fn start_fragments(starts: &mut Starts, went_out: bool)
     ensures { starts_at starts.new ≡ with_fragments went_out (starts_at starts.old) }
 {

@@ -118,7 +118,7 @@ impl Machine {
         }
     }
 
-    /// The packet goes out, if it has a chunk: the SACK is due as `plain` says, and T3-rtx starts if user data went out.
+    /// The packet goes out, if it has a chunk: the SACK is due as `plain` says, and the data timer starts if user data went out.
     #[inline(always)]
     fn sent_plain(&mut self, moment: u64, writer: PacketWriter, plain: Plain) -> Option<Built>
         ensures stands { (v : EndView) → MachineStands self.old v

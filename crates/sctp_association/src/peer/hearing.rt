@@ -90,8 +90,8 @@ impl Machine {
         }
     }
 
-    /// Processes a SACK: what it acknowledges is acknowledged, a FORWARD-TSN is due if it skips something, and T3-rtx counts its retransmissions
-    /// anew (RFC 9260, 6.2.1 and 6.3.2; RFC 3758, 3.5). It doesn't allocate.
+    /// Processes a SACK: what it acknowledges is acknowledged, a FORWARD-TSN is due if it skips something, and the data timer counts its
+    /// retransmissions anew (RFC 9260, 6.2.1 and 6.3.2; RFC 3758, 3.5). It doesn't allocate.
     ///
     /// # Errors
     /// Its first fault; nothing changed then.
@@ -153,8 +153,8 @@ impl Machine {
         self.timers.put(alarm, timer.renewed(self.moment, moved));
     }
 
-    /// Processes the cumulative TSN of a SHUTDOWN, which acknowledges; with standard closing one that acknowledges something new restarts T3-rtx as a
-    /// SACK does (RFC 9260, 6.3.2 and 9.2). It doesn't allocate.
+    /// Processes the cumulative TSN of a SHUTDOWN, which acknowledges; with standard closing one that acknowledges something new restarts the data
+    /// timer as a SACK does (RFC 9260, 6.3.2 and 9.2). It doesn't allocate.
     ///
     /// # Errors
     /// Its first fault; nothing changed then.
@@ -177,7 +177,7 @@ impl Machine {
         }
     }
 
-    /// With standard closing a SHUTDOWN that acknowledged something new restarts T3-rtx (RFC 9260, 6.3.2 and 9.2).
+    /// With standard closing a SHUTDOWN that acknowledged something new restarts the data timer (RFC 9260, 6.3.2 and 9.2).
     fn renew_shut(&mut self, moved: bool)
         ensures { (v : EndView) → MachineStands self.old v
             → MachineStands self.new (with_timer model.DataAlarm (shut_timer v.configuration.standard_closing moved v.moment (v.timers model.DataAlarm)) v) }

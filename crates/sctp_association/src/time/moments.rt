@@ -73,7 +73,7 @@ impl Machine {
         self.advance_closing();
     }
 
-    /// Stops T3-rtx if nothing is outstanding (RFC 9260, 6.3.2); a FORWARD-TSN is no longer due if it would skip nothing.
+    /// Stops the data timer if nothing is outstanding (RFC 9260, 6.3.2); a FORWARD-TSN is no longer due if it would skip nothing.
     pub(crate) fn settle(&mut self)
         ensures { (v : EndView) → MachineStands self.old v → MachineStands self.new (settled v) }
     {

@@ -16,7 +16,7 @@ pub(crate) enum Alarm {
     Init,
     /// T1-cookie: COOKIE ECHO, until the COOKIE ACK arrives (RFC 9260, 5.1, C).
     Cookie,
-    /// T3-rtx: user data and FORWARD-TSN, until they are acknowledged (RFC 9260, 6.3; RFC 3758, 3.5).
+    /// The data timer: user data and FORWARD-TSN, until they are acknowledged (RFC 9260, 6.3; RFC 3758, 3.5).
     Fragments,
     /// T2-shutdown: SHUTDOWN, until the SHUTDOWN ACK arrives (RFC 9260, 9.2).
     Shutdown,

@@ -85,7 +85,7 @@ impl Timers {
         self.shutdown_ack.start_if(starts.shutdown_ack, now);
     }
 
-    /// Starts T3-rtx at this time if it is to start and doesn't run.
+    /// Starts the data timer at this time if it is to start and doesn't run.
     pub(crate) fn start_fragments(&mut self, starts: bool, now: u64)
         ensures { timers_meaning self.new ≡ started_from (starts_at (fragments_alone starts)) now (timers_meaning self.old) }
     {

@@ -60,7 +60,7 @@ impl Machine {
         }
     }
 
-    /// T3-rtx is wanted: user data or a FORWARD-TSN is outstanding (RFC 9260, 6.3.2).
+    /// The data timer is wanted: user data or a FORWARD-TSN is outstanding (RFC 9260, 6.3.2).
     pub(crate) fn unsettled(&self) -> bool
         ensures { (v : EndView) → MachineStands self.now v → result ≡ unsettled v.sender }
     {

@@ -58,7 +58,7 @@ impl Traffic {
         self.cum() < self.point()
     }
 
-    /// T3-rtx is wanted: user data that was sent is neither acknowledged nor abandoned, or a FORWARD-TSN would skip something (RFC 9260, 6.3.2).
+    /// The data timer is wanted: user data that was sent is neither acknowledged nor abandoned, or a FORWARD-TSN would skip something (RFC 9260, 6.3.2).
     pub(crate) fn unsettled(&self) -> bool
         ensures { (f : Format) (s : SenderView) (r : ReceiverView) → TrafficStands self.now f s r → result ≡ unsettled s }
     {
@@ -168,7 +168,7 @@ impl Traffic {
         }
     }
 
-    /// T3-rtx expired: all outstanding user data is marked for retransmission (RFC 9260, 6.3.3).
+    /// The data timer expired: all outstanding user data is marked for retransmission (RFC 9260, 6.3.3).
     pub(crate) fn on_timeout(&mut self)
         ensures { (f : Format) (s : SenderView) (r : ReceiverView) → TrafficStands self.old f s r → TrafficStands self.new f (timed_out s) r }
     {

@@ -14,12 +14,14 @@ use crate::kept::entry::Entry;
 use crate::kept::outstanding::Outstanding;
 use arrayvec::ArrayVec;
 use sctp_framing::Framing;
+use sctp_packet::HEADER;
 use sctp_values::{Kind, NoMemory};
+use sctp_wire::codes::FORWARD_HEADER;
 use sctp_wire::{Skip, put_skip};
 use std::alloc::Global;
 
 /// What a packet with a FORWARD takes beside its list: the common header, the chunk's header and the cumulative TSN.
-pub(crate) const PACKET_ALONE: u16 = 20;
+pub(crate) const PACKET_ALONE: u16 = (HEADER + FORWARD_HEADER) as u16;
 
 /// A lane, and its largest number so far.
 #[derive(Clone, Copy)]

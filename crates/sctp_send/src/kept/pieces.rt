@@ -15,7 +15,7 @@ use crate::kept::message::{Message, fragments_of};
 use sctp_framing::Framing;
 use sctp_packet::PacketWriter;
 use sctp_values::NoMemory;
-use sctp_wire::Piece;
+use sctp_wire::{Piece, padded};
 
 /// The bytes of a fragment: a range of its message's. An end mark has none.
 pub(crate) fn bytes_of(message: &Message, content: Content, size: u16) -> &[u8]
@@ -62,7 +62,7 @@ pub(crate) fn fits<F: Framing>(bytes: usize, packet: &PacketWriter) -> bool
     requires { bytes < 2 ^ 63 }
     ensures { (initial i : ℕ) (e : Entry) (m : Option Said) → bytes ≡ length (bytes_in e m) → result ≡ has_room packet.now (said_chunk F.format initial i e m) }
 {
-    (F::header() + bytes + 3) / 4 * 4 <= packet.room()
+    padded(F::header() + bytes) <= packet.room()
 }
 
 /// Puts the chunk of a fragment into a packet, if it fits.
