@@ -12,7 +12,8 @@
 //! - New endpoints ([`Endpoint::caller`], [`Endpoint::listener`], [`Endpoint::opened`]) represent the state machine's fresh or established state.
 //! - [`Endpoint::handle_packet`]: a packet is dropped for its bytes, its ports, its verification tag or the state, in this order, or its chunks take effect in
 //!   order, as the state machine says; the verdict is the state machine's, an answer's bytes are its packet (clause `step`), no longer than the packet limit
-//!   (`within`). If an allocation fails, the chunks before the failing one took effect and nothing else; what is dropped needs no memory.
+//!   (`within`). If an allocation fails, the chunks before the failing one took effect and nothing else; what is dropped for bytes, ports or tag
+//!   needs no memory.
 //! - [`Endpoint::poll_transmit`]: there is a packet exactly if the state machine's next packet has a chunk; its bytes are that packet, no longer than the
 //!   limit; its tickets are those of the messages that got their first TSN (`step`), none returned before (`anew`), 74 at most (`few`). If an allocation
 //!   fails nothing changed, not even the time (`refused`).
