@@ -33,6 +33,8 @@
 //!   data after them. There is a packet exactly if the specification's has a chunk; its bytes are that packet, within the packet limit, and its tickets
 //!   those of the messages that were assigned TSNs, by first TSN. Chunks that went in are no longer due, their timers run, and a SACK's duplicates are
 //!   forgotten. What doesn't fit stays due, and nothing goes out after it. User data goes out at one place: `fill_rest`.
+//! - **The parts.** What the sender and the receiver do in the format agreed on is the step of both views (`Traffic`: every call); what is due changes as
+//!   the view's does (`Due`: every call, `DueStands`).
 //! - **Every packet** that an endpoint returns is within its packet limit (clauses `within`; `build`).
 //! - **The user's calls** are refused exactly as specified: `connect`, `send`, `abandon`, `shutdown`, `abort`, `take`.
 //! - **Readers** return what the view says, before, in and after an association: `state`, `ended`, `config`, `agreed` (None exactly if no stream is agreed
