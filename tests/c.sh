@@ -93,7 +93,7 @@ if there valgrind "valgrind"; then
     count() { valgrind --tool=callgrind --callgrind-out-file=/dev/null "$at/cost" "$@" 2>&1 | sed -n 's/.*Collected : \([0-9]*\).*/\1/p'; }
     cost() { echo $((($(count "$1" "$2" 300 ${3:+"$3"}) - $(count "$1" "$2" 100 ${3:+"$3"})) / 200 / $1)); }
     # what bench/README.md has of two endpoints that are called directly: the first figure here in the row that begins so
-    direct() { awk -F'|' -v row="| $1" 'index($0, row) == 1 { split($5, here, ", "); gsub(/[ ,]/, "", here[1]); print here[1]; exit }' bench/README.md; }
+    direct() { awk -F'|' -v row="| $1" 'index($0, row) == 1 { split($6, here, ", "); gsub(/[ ,]/, "", here[1]); print here[1]; exit }' bench/README.md; }
     compare() { # ROW, its figure over two handles, how much more it may be than over two endpoints
         more=$(($2 - $(direct "$1")))
         say "$1: $2 instructions a message, $more more than over two endpoints called directly; $3 more are wanted at most"
