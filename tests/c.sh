@@ -101,8 +101,8 @@ if there valgrind "valgrind"; then
     }
     compare "64 bytes, 9.5 to a packet" "$(cost 19 64)" 200
     compare "the same as I-DATA" "$(cost 19 64 i)" 260
-    compare "64 bytes, one to a packet" "$(cost 1 64)" 380
-    compare "16 KiB" "$(($(cost 1 16384) - $(cost 1 16384 b)))" 8500
+    compare "64 bytes, one to a packet" "$(cost 1 64)" 420
+    compare "16 KiB" "$(($(cost 1 16384) - $(cost 1 16384 b)))" 9100
     unset GLIBC_TUNABLES
 fi
 
