@@ -1,12 +1,14 @@
 //! The calls of an endpoint's user, and timers (RFC 9260, 11.1).
 
-ghost use Rattle.std.specs.Prelude.{◌≡◌, option_map};
-ghost use Rattle.sctp_model.specs.end.EndView.{EndView};
+ghost use Rattle.std.specs.Prelude.{◌≡◌, true, option_map};
+ghost use Rattle.sctp_model.specs.end.EndView.{EndView, has_association};
+ghost use Rattle.sctp_model.specs.end.Clock.{at_moment};
 ghost use Rattle.sctp_model.specs.end.Moments.{ticked};
 ghost use Rattle.sctp_model.specs.end.UserCalls.{connect_answer, abandons, abandoned_at, shutdown_answer, shut, UserTakes};
 ghost use Rattle.sctp_send.specs.SenderAnswers.{answer_meaning, lane_for};
 ghost use Rattle.sctp_recv.specs.HandedOf.{handed_of};
 ghost use Rattle.sctp_association.specs.CallAnswers.{connect_meaning, connected, shutdown_meaning, call_of, SendAnswers, sent_view};
+ghost use Rattle.sctp_association.specs.GivenUp.{GivesUpLate};
 ghost use Rattle.sctp_endpoint.specs.EndpointStands.{EndpointStands};
 ghost use Rattle.sctp_endpoint.specs.Logs.{LeavesLogs, GivesLogs, TakesLogs};
 
@@ -105,6 +107,8 @@ impl Endpoint {
     pub fn on_moment(&mut self, now: u64)
         ensures step { (v : EndView) → EndpointStands self.old v → EndpointStands self.new (ticked v now) }
         ensures logs { (v : EndView) → EndpointStands self.old v → LeavesLogs v self.new }
+        // No message has a limit of retransmissions: only what is past its time is given up.
+        ensures unlimited { (v : EndView) → EndpointStands self.old v → has_association v.phase ≡ true → GivesUpLate (at_moment v now) }
     {
         // law: it is sound
         self.machine.sound();

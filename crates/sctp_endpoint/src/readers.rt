@@ -202,4 +202,12 @@ impl Endpoint {
     {
         self.machine.sound();
     }
+
+    /// No view that it stands for has a pace (RFC 9260, 7.2): no call sets one up.
+    // law
+    pub fn unpaced(&self)
+        ensures { (v : EndView) → EndpointStands self.now v → v.pace ≡ None }
+    {
+        self.machine.unpaced();
+    }
 }

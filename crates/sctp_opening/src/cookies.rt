@@ -1,6 +1,6 @@
 //! A listener reads the State Cookie of a COOKIE ECHO (RFC 9260, 5.1.5 and 5.2.4).
 
-ghost use Rattle.std.specs.Prelude.{◌≡◌, Ok};
+ghost use Rattle.std.specs.Prelude.{◌≡◌, false, Ok};
 ghost use Rattle.sctp_model.specs.end.EndView.{EndView};
 ghost use Rattle.sctp_model.specs.end.Opening.{cookie_read, is_ours};
 ghost use Rattle.sctp_model.specs.end.Sealing.{Sealing};
@@ -50,6 +50,7 @@ pub fn read_cookie(key: &Key, config: &Config, now: u64, tag: u32, cookie: &[u8]
 {
     cookies_are_read();
     cookies_are_sealed();
+    config.leaves_off();
     let ports = ports_of(config);
     match open(key, cookie, now, ports, tag) {
         Ok(body) => CookieReading::Opens(body),
@@ -63,7 +64,7 @@ pub fn read_cookie(key: &Key, config: &Config, now: u64, tag: u32, cookie: &[u8]
 
 /// A cookie older than its lifetime, with the body that it would have had.
 fn late(key: &Key, cookie: &[u8], ports: Ports, tag: u32, microseconds: u32) -> CookieReading
-    requires { open_answer key.now cookie.now 0 ports tag ≡ Ok (body_of cookie.now) }
+    requires { open_answer false key.now cookie.now 0 ports tag ≡ Ok (body_of cookie.now) }
     ensures { IsLate (body_of cookie.now) microseconds result }
 {
     match open(key, cookie, 0, ports, tag) {

@@ -117,6 +117,7 @@ impl Outside {
     fn cookie_body(&self, offer: &Init<'_>) -> CookieBody
         ensures { (e : EndView) → IsAt self.now.config self.now.moment e → body_meaning result ≡ body_for e self.now.draw (init_meaning offer.now) }
     {
+        self.config.leaves_off();
         CookieBody {
             made: self.moment,
             listener_port: self.config.own_port(),

@@ -48,6 +48,7 @@ fn lists_type(kind: u8, parameters: &Parameters<'_>) -> bool
 fn extensions(config: &Config) -> &'static [u8]
     ensures { result.now ≡ own_extensions config.now }
 {
+    config.leaves_off();
     match (config.interleave(), config.partial()) {
         (false, false) => &[],
         (true, false) => &[I_DATA],

@@ -34,6 +34,7 @@ impl Terms {
     pub fn of_init_ack(config: &Config, draw: Draw, offer: &Init<'_>) -> Terms
         ensures { terms_meaning result ≡ terms_of_ack config.now draw (init_meaning offer.now) }
     {
+        config.leaves_off();
         Terms {
             own_tsn: draw.tsn(),
             peer_tsn: offer.tsn,
@@ -62,6 +63,7 @@ impl Terms {
     pub fn alike(config: &Config, own: Draw, peer: Draw) -> Terms
         ensures { terms_meaning result ≡ terms_alike config.now own peer }
     {
+        config.leaves_off();
         let streams = config.outbound().min(config.inbound());
         Terms {
             own_tsn: own.tsn(),

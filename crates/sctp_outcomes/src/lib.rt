@@ -5,9 +5,11 @@
 #![tactic(auto)]
 
 mod examples;
+mod headline;
 mod kept;
 mod outcomes;
 mod receiver_steps;
+mod resetting;
 mod sender_calls;
 mod steps;
 mod views;
@@ -15,6 +17,7 @@ mod views;
 pub use examples::{
     a_message_arrives, a_message_in_part_is_ended, a_message_is_passed_over, the_script_runs,
 };
+pub use headline::{aged_asks_no_more, users_take_what_was_sent};
 pub use kept::{
     calls_note_their_own, new_ends_have_no_logs, no_packet_notes_nothing,
     packets_begin_few_messages, packets_note_their_numbers, tickets_are_told_once,
@@ -25,6 +28,9 @@ pub use receiver_steps::{
     forwards_are_computed, pieces_are_computed, runs_are_computed,
     the_cumulative_index_is_computed, what_is_due_is_computed, wholes_are_computed,
 };
+pub use resetting::{
+    no_request_is_forgotten, ready_streams_are_asked_for, reported_counts_were_so,
+};
 pub use sender_calls::{
     messages_are_cut, next_wishes_are_computed, refusals_are_told, sacks_are_taken,
     shutdowns_are_taken,
@@ -34,5 +40,6 @@ pub use steps::{
     packets_leave_no_trace,
 };
 pub use views::{
-    both_receivers_are_at_rest, both_senders_are_in_order, no_receiver_passes_its_buffer,
+    both_receivers_are_at_rest, both_senders_are_in_order, no_end_gets_a_pace_unasked,
+    no_end_is_held_for_ever, no_end_resets_unasked, no_receiver_passes_its_buffer,
 };

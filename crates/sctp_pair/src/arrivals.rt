@@ -10,7 +10,7 @@ ghost use Rattle.sctp_model.specs.world.World.{World};
 ghost use Rattle.sctp_model.specs.world.Events as meaning;
 ghost use Rattle.sctp_model.specs.world.Steps.{Step, Brings};
 ghost use Rattle.sctp_endpoint.specs.EndpointStands.{EndpointStands};
-ghost use Rattle.sctp_endpoint.specs.Handled.{IsRead};
+ghost use Rattle.sctp_endpoint.specs.Handled.{Handled, IsRead};
 ghost use Rattle.sctp_events.specs.Events.{answer_of};
 ghost use Rattle.sctp_pair.specs.Sides.{SideView, side_of, left, SideStands, ArePackets, IsItem};
 
@@ -48,13 +48,14 @@ pub(crate) fn arrive(
 {
     // law: a packet that was written reads back
     written_packet_reads();
-    // law: the endpoint is sound
+    // laws: the endpoint is sound, and has no pace
     side.end.sound();
+    side.end.unpaced();
     if side.bag.reserve(1).is_err() {
         pass_time(&mut side.end, clock, draw);
         return Err(NoMemory);
     }
-    match side.end.handle_packet(clock, bytes, draw)? {
+    match hear(&mut side.end, clock, bytes, draw)? {
         Verdict::Taken => Ok(Outcome::Taken),
         Verdict::Dropped(reason) => Ok(Outcome::Dropped { reason }),
         Verdict::Answer(packet) => {
@@ -66,6 +67,20 @@ pub(crate) fn arrive(
             })
         }
     }
+}
+
+/// Bytes arrive at an endpoint, which has no pace after it either: it abandons nothing at the packet's end.
+///
+/// # Errors
+/// An allocation failed: the chunks before the failing one have taken effect.
+fn hear(end: &mut Endpoint, clock: u64, bytes: &[u8], draw: Draw) -> Result<Verdict, NoMemory>
+    ensures step { (v : EndView) (p : Option Packet) → EndpointStands end.old v → IsRead bytes.now p → Handled v clock draw p result end.new }
+    ensures unpaced { (t : EndView) → EndpointStands end.new t → t.pace ≡ None }
+{
+    let heard = end.handle_packet(clock, bytes, draw);
+    // law: it has no pace
+    end.unpaced();
+    heard
 }
 
 /// Advances an endpoint's clock and nothing else: by bytes that are no packet, which allocates nothing.

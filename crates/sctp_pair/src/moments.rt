@@ -12,7 +12,7 @@ ghost use Rattle.sctp_endpoint.specs.EndpointStands.{EndpointStands};
 ghost use Rattle.sctp_events.specs.Events.{answer_of};
 ghost use Rattle.sctp_script.specs.ReportText.{ticket_number};
 ghost use Rattle.sctp_pair.specs.Memory.{TakesMemory};
-ghost use Rattle.sctp_pair.specs.Noted.{late_tickets, IsWatched};
+ghost use Rattle.sctp_pair.specs.Noted.{late_tickets};
 ghost use Rattle.sctp_pair.specs.Sides.{SideView, side_of, with_side, ticked_side, SideStands};
 
 use crate::one_side::OneSide;
@@ -21,7 +21,7 @@ use sctp_events::Outcome;
 use sctp_values::{NoMemory, Ticket};
 use std::alloc::Global;
 
-/// Reserves space in the log for what a time abandons. Returns the tickets whose lifetime is over: it abandons no others.
+/// Reserves space in the log for what a time abandons. Returns the tickets whose lifetime is over.
 ///
 /// # Errors
 /// An allocation failed; nothing has changed.
@@ -32,7 +32,7 @@ pub(crate) fn make_room(
     now: u64,
 ) -> Result<Vec<Ticket>, NoMemory>
     ensures same { (v : SideView) → SideStands side.old v → SideStands side.new v }
-    ensures watched { (v : SideView) → SideStands side.old v → v.end.moment ≤ now → IfOk result (λ before. IsWatched v.end now before.items) }
+    ensures late { (v : SideView) → SideStands side.old v → IfOk result (λ before. map ticket_number before.items ≡ late_tickets v.end.sender now) }
     ensures memory { (v : SideView) → SideStands side.old v → OnErr result (has_late v.end.sender now ≡ true) }
     ensures room { IfOk result (λ before. length side.new.abandoned.items + length before.items ≤ vec_capacity side.new.abandoned) }
 {
@@ -65,11 +65,13 @@ fn late(alloc: Global, end: &Endpoint, now: u64) -> Result<Vec<Ticket>, NoMemory
     Ok(tickets)
 }
 
-/// Notifies the endpoint of the time and logs what that abandons, for which space is reserved.
+/// Notifies the endpoint of the time and logs what that abandons, for which space is reserved: of the tickets whose lifetime is over. It abandons no
+/// others, since no message has a limit of retransmissions.
 #[tactic(auto, unfolding(crate::specs::Sides::SideStands))]
 pub(crate) fn tick(side: &mut OneSide, before: &[Ticket], now: u64)
     requires { length side.old.abandoned.items + length before.now ≤ vec_capacity side.old.abandoned }
-    ensures { (v : SideView) → SideStands side.old v → IsWatched v.end now before.now → SideStands side.new (ticked_side v now) }
+    ensures { (v : SideView) → SideStands side.old v → v.end.moment ≤ now → map ticket_number before.now ≡ late_tickets v.end.sender now
+        → SideStands side.new (ticked_side v now) }
 {
     // law: the endpoint is sound
     side.end.sound();

@@ -1,6 +1,6 @@
 //! The readers of a configuration. Each value is within its limits.
 
-ghost use Rattle.std.specs.Prelude.{◌≡◌, ◌≤◌, ◌<◌, ◌+◌};
+ghost use Rattle.std.specs.Prelude.{◌≡◌, ◌≤◌, ◌<◌, ◌+◌, false};
 ghost use Rattle.sctp_model.specs.numbers.Limits.{STREAM_LIMIT, LEAST_PACKET, GREATEST_PACKET, LEAST_FRAGMENT, GREATEST_FRAGMENT, FRAGMENT_OVERHEAD, LEAST_BUFFER, GREATEST_BUFFER};
 ghost use Rattle.sctp_model.specs.wire.Chunk.{padded};
 ghost use Rattle.sctp_model.specs.end.Configured.{IsConfiguration};
@@ -98,5 +98,24 @@ impl Config {
         ensures { result ≡ self.now.standard_closing }
     {
         self.standard_closing
+    }
+
+    /// Whether it asks for the reset of streams (RFC 6525). No configuration can be made with it yet.
+    pub fn reset(&self) -> bool
+        ensures { result ≡ self.now.reset }
+    {
+        // The proof sees the fields where one is read.
+        let _ = &self.own_port;
+        false
+    }
+
+    // law
+    /// What no call of this type sets is off: fast retransmit, congestion control, stream reset.
+    pub fn leaves_off(&self)
+        ensures pace { self.now.fast_retransmit ≡ false }
+        ensures control { self.now.congestion_control ≡ false }
+        ensures reset { self.now.reset ≡ false }
+    {
+        let _ = &self.own_port;
     }
 }

@@ -1,6 +1,6 @@
 //! The sender of an association, in either format (RFC 9260, 6; RFC 3758, 3.5; RFC 8260, 2.2).
 
-ghost use Rattle.std.specs.Prelude.{◌≡◌, ◌<◌, ◌≤◌, nat_lt, false, option_map};
+ghost use Rattle.std.specs.Prelude.{◌≡◌, ◌<◌, ◌≤◌, nat_lt, true, false, None, option_map};
 ghost use Rattle.sctp_model.specs.numbers.Limits.{WINDOW};
 ghost use Rattle.sctp_model.specs.messages.Format.{Format};
 ghost use Rattle.sctp_model.specs.sender.SenderView.{SenderView};
@@ -8,7 +8,7 @@ ghost use Rattle.sctp_model.specs.receiver.ReceiverView.{ReceiverView};
 ghost use Rattle.sctp_model.specs.sender.Reached.{IsReached};
 ghost use Rattle.sctp_model.specs.sender.Readers.{drained, unsettled, point, outstanding, acknowledged, abandoned};
 ghost use Rattle.sctp_model.specs.sender.SackTaken.{sack_fault, sack_after, shutdown_fault, shutdown_after};
-ghost use Rattle.sctp_model.specs.sender.Abandoning.{has_late, expired, timed_out, abandon_answer, abandon_after};
+ghost use Rattle.sctp_model.specs.sender.Abandoning.{has_late, expired, worn, timed_out, abandon_answer, abandon_after};
 ghost use Rattle.sctp_model.specs.end.Clock.{is_point_past};
 ghost use Rattle.sctp_wire.specs.ChunkTree.{sack_meaning};
 ghost use Rattle.sctp_send.specs.SenderAnswers.{reason_meaning, answer_meaning, QueueAnswer, queue_after, lane_for, next_late};
@@ -188,6 +188,18 @@ impl Traffic {
         }
     }
 
+    /// The data timer expired: abandons the messages of what was retransmitted as often as it may be (RFC 7496, 4.2).
+    pub(crate) fn wear(&mut self)
+        ensures step { (f : Format) (s : SenderView) (r : ReceiverView) → TrafficStands self.old f s r → TrafficStands self.new f (worn (λ i. true) s) r }
+        // No message has a limit.
+        ensures unlimited { (f : Format) (s : SenderView) (r : ReceiverView) → TrafficStands self.old f s r → worn (λ i. true) s ≡ s }
+    {
+        match self {
+            Traffic::Plain(directions) => directions.sender.wear(),
+            Traffic::Interleaved(directions) => directions.sender.wear(),
+        }
+    }
+
     /// Abandons the message with this ticket (RFC 3758, 3.5).
     pub(crate) fn abandon(&mut self, ticket: Ticket) -> Abandoned
         ensures answer { (f : Format) (s : SenderView) (r : ReceiverView) → TrafficStands self.old f s r → answer_meaning result ≡ abandon_answer s ticket.0 }
@@ -212,7 +224,7 @@ impl Traffic {
         until: Option<u64>,
     ) -> Result<Ticket, SendFault>
         ensures answer { (f : Format) (s : SenderView) (r : ReceiverView) → TrafficStands self.old f s r → QueueAnswer s stream bytes.items result }
-        ensures step { (f : Format) (s : SenderView) (r : ReceiverView) → TrafficStands self.old f s r → TrafficStands self.new f (queue_after s (lane_for stream ordered) payload_id bytes.items until result) r }
+        ensures step { (f : Format) (s : SenderView) (r : ReceiverView) → TrafficStands self.old f s r → TrafficStands self.new f (queue_after s (lane_for stream ordered) payload_id bytes.items until None result) r }
     {
         match self {
             Traffic::Plain(directions) => directions

@@ -103,6 +103,14 @@ impl Machine {
     }
 
     // law
+    /// No view that it stands for has a pace: no call sets one up.
+    pub fn unpaced(&self)
+        ensures { (v : EndView) → MachineStands self.now v → v.pace ≡ None }
+    {
+        let _ = &self.moment;
+    }
+
+    // law
     /// In no view that it stands for do two messages with TSNs have the same ticket.
     pub fn tickets_are_apart(&self)
         ensures { (v : EndView) → MachineStands self.now v → NoTicketTwice (numbered v) }
