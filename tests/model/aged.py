@@ -8,7 +8,8 @@ assigned fewer than 64 TSNs more than when it was built. The least age at which 
 195 = 2^8 - 2 * 31 + 1, of a fragment or FORWARD.
 
 aged.py N [SEED]: N schedules by chance with all deliveries within the limit, of which none may break a
-promise, or end an association for a fault that nobody has; and N with packets kept beyond it.
+promise, or end an association for a fault that nobody has; and N with packets kept beyond it. In half of
+them the two ends differ.
 aged.py --age K N [SEED]: the first N with another limit. aged.py --stored: the schedules in aged/.
 """
 
@@ -34,7 +35,7 @@ class Schedule(Run):
     def __init__(self, seed, ages):
         """`ages` are those of the packets that come once more."""
         super().__init__()
-        self.random, self.ages = random.Random(seed), ages
+        self.random, self.apart, self.ages = random.Random(seed), random.Random('options %d' % seed), ages
         self.limit = min(ages.stop, WIDTHS.age)
         self.fresh = {'A': [], 'B': []}       # packets that were neither delivered nor lost
         self.loss = self.pick((0, 0.05, 0.2, 0.4))
@@ -68,13 +69,24 @@ class Schedule(Run):
     def start(self):
         self.line('pair', self.pick((576, 600, 1_500)), self.pick((4, 8, 12)), 65_536, self.streams,
                   self.pick(('data', 'data-pr', 'idata', 'idata-pr')), *self.pick(((), ('delay',))))
-        if self.chance(0.5):
-            self.line('open')
+        self.options()
+        if self.chance(0.5) and self.line('open') == 'ok':
             return
         self.line('connect', 7, self.random.randrange(2**WIDTHS.tsn))
         self.line('draw', 9, self.random.randrange(2**WIDTHS.tsn))
         for words in ('build A', 'deliver A 1', 'deliver B 1', 'build A', 'deliver A 2', 'build B', 'deliver B 2'):
             self.line(words)
+
+    def options(self):
+        """In half of the schedules the ends differ, by choices apart from all others."""
+        plain, self.random = self.random, self.apart
+        if self.chance(0.5):
+            for x in self.pick(('A', 'B', 'AB')):
+                words = [('limit', self.pick((576, 600, 1_500))), ('fragment', self.pick((4, 8, 12))), ('buffer', self.pick((65_536, 131_072))),
+                         ('streams', self.pick((1, 2, 3)), self.pick((1, 2, 3))), ('mode', self.pick(('data', 'data-pr', 'idata', 'idata-pr'))),
+                         ('delay',), ('standard-closing',)]
+                self.line('options', x, *[word for option in self.random.sample(words, self.pick((1, 3, 5))) for word in option])
+        self.random = plain
 
     # ---- Acts ----
 

@@ -1,12 +1,13 @@
 #!/usr/bin/env python3
 """Compares `sctp-trace run` with the model on random scripts, or on given ones.
 
-compare.py [--program P] [--keep FOLDER] [--shrink] [--odd | --edges | --forwards] N [SEED]
+compare.py [--program P] [--keep FOLDER] [--shrink] [--odd | --edges | --forwards | --words] N [SEED]
 compare.py [--program P] [--shrink] FILE ..
 
 --odd takes scripts of odd bytes (odd.py), --edges those with every limit at an edge (edges.py), --forwards
-those with abandoned windows (forwards.py). What differs is kept in FOLDER (found/ beside this file); --shrink also writes the smallest script found
-that still differs, by leaving out lines.
+those with abandoned windows (forwards.py), --words those with the words of lines `options` and no such line
+(words.py): the model is then one without these lines. What differs is kept in FOLDER (found/ beside this file);
+--shrink also writes the smallest script found that still differs, by leaving out lines.
 """
 
 import argparse
@@ -19,14 +20,15 @@ import forwards
 import model
 import odd
 import scripts
+import words
 
 HERE = os.path.dirname(os.path.abspath(__file__))
 
 
-def of_model(data):
-    """(output, faults, status) of the model."""
+def of_model(data, options=True):
+    """(output, faults, status) of the model, or of one without lines `options`."""
     out = []
-    fault = model.run(data, out.append)
+    fault = model.run(data, out.append, options)
     faults = b'' if fault is None else b'line %d: %d\n' % fault
     return ''.join(line + '\n' for line in out).encode(), faults, 2 if fault else 0
 
@@ -36,9 +38,9 @@ def of_program(program, data):
     return done.stdout, done.stderr, done.returncode
 
 
-def difference(program, data):
+def difference(program, data, options=True):
     """The first line that differs as (line number, model, program), or None."""
-    ours, theirs = of_model(data), of_program(program, data)
+    ours, theirs = of_model(data, options), of_program(program, data)
     if ours == theirs:
         return None
     pairs = [part[0].split(b'\n') + [part[1], b'status %d' % part[2]] for part in (ours, theirs)]
@@ -48,16 +50,16 @@ def difference(program, data):
     return 0, 'another length', 'another length'
 
 
-def smaller(program, data):
+def smaller(program, data, options=True):
     """Leaves out lines while the two still differ without a line fault of the model."""
     lines, step = data.split(b'\n'), 64
-    faulty = of_model(data)[2]
+    faulty = of_model(data, options)[2]
     while step:
         at = 0
         while at < len(lines):
             less = lines[:at] + lines[at + step:]
             tried = b'\n'.join(less)
-            if of_model(tried)[2] == faulty and difference(program, tried):
+            if of_model(tried, options)[2] == faulty and difference(program, tried, options):
                 lines = less
             else:
                 at += step
@@ -65,15 +67,18 @@ def smaller(program, data):
     return b'\n'.join(lines)
 
 
-def cases(words, kind):
+KINDS = {'seed': lambda n: scripts.script(n).encode(), 'odd': odd.script, 'edges': edges.script, 'forwards': forwards.script,
+         'words': words.script}
+
+
+def cases(asked, kind):
     """(name, script) for each number or file."""
-    made = {'seed': lambda n: scripts.script(n).encode(), 'odd': odd.script, 'edges': edges.script, 'forwards': forwards.script}[kind]
-    if words[0].isdigit():
-        count, seed = int(words[0]), int(words[1]) if len(words) > 1 else 1
+    if asked[0].isdigit():
+        count, seed = int(asked[0]), int(asked[1]) if len(asked) > 1 else 1
         for n in range(seed, seed + count):
-            yield '%s-%d' % (kind, n), made(n)
+            yield '%s-%d' % (kind, n), KINDS[kind](n)
     else:
-        for name in words:
+        for name in asked:
             with open(name, 'rb') as file:
                 yield os.path.basename(name), file.read()
 
@@ -83,23 +88,24 @@ def main():
     parser.add_argument('--program', default=os.path.join(HERE, '..', '..', 'sctp-trace'))
     parser.add_argument('--keep', default=os.path.join(HERE, 'found'))
     parser.add_argument('--shrink', action='store_true')
-    parser.add_argument('--odd', dest='kind', action='store_const', const='odd', default='seed')
-    parser.add_argument('--edges', dest='kind', action='store_const', const='edges')
-    parser.add_argument('--forwards', dest='kind', action='store_const', const='forwards')
+    parser.set_defaults(kind='seed')
+    for kind in ('odd', 'edges', 'forwards', 'words'):
+        parser.add_argument('--' + kind, dest='kind', action='store_const', const=kind)
     parser.add_argument('words', nargs='+')
     asked = parser.parse_args()
     count = lines = differing = 0
+    options = asked.kind != 'words'
     for name, data in cases(asked.words, asked.kind):
         count += 1
         lines += data.count(b'\n')
-        found = difference(asked.program, data)
+        found = difference(asked.program, data, options)
         if found is None:
             continue
         differing += 1
         os.makedirs(asked.keep, exist_ok=True)
         if asked.shrink:
-            data = smaller(asked.program, data)
-            found = difference(asked.program, data)
+            data = smaller(asked.program, data, options)
+            found = difference(asked.program, data, options)
         with open(os.path.join(asked.keep, name), 'wb') as out:
             out.write(data)
         print('%s: line %d of the output: model %r, program %r' % (name, *found), flush=True)

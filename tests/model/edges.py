@@ -1,8 +1,8 @@
 #!/usr/bin/env python3
 """Random scripts with every limit at an edge: `edges.py FOLDER N [SEED]` writes N of them into the folder.
 
-They are made as those of scripts.py are. Packets, fragments, buffers and streams are the least or the greatest, tags and first TSNs stand
-beside 0, 2^31 and 2^32, time begins near the last moment now and then, messages have one byte, 65,536 or one more, and numbers in lines and
+They are made as those of scripts.py are. Packets, fragments, buffers and streams are the least or the greatest, at each end apart in half of
+them; tags and first TSNs stand beside 0, 2^31 and 2^32, time begins near the last moment now and then, messages have one byte, 65,536 or one more, and numbers in lines and
 in packets lie beside where they wrap.
 """
 
@@ -16,16 +16,20 @@ LAST_MOMENT = 2**64 - 1
 class Edges(scripts.Maker):
     """A script whose limits are all at their edges."""
 
+    limits, fragments, buffers, streams = (576, 1500), (4, 544, 1400), (65536, 16777216), (1, 1024)
+
     def start(self):
-        limit = self.pick((576, 1500))
+        limit = self.pick(self.limits)
         most = min(1400, (limit - 32) // 4 * 4)
-        self.line('pair', limit, self.pick((4, most)), self.pick((65536, 16777216)), self.pick((1, 1024)),
-                  self.pick(('data', 'data-pr', 'idata', 'idata-pr')), *self.delay())
+        self.line('pair', limit, self.pick((4, most)), self.pick(self.buffers), self.pick(self.streams), self.pick(self.modes), *self.delay())
+        self.options()
         if self.chance(0.4):
             self.line('at', LAST_MOMENT - self.pick((0, 1, 199, 200, 201, 999, 1000, 1001, 59999, 60000, 60001, 61000, 10**6)))
         way = self.random.random()
         if way < 0.25:
             self.open()
+            if self.outcome == 'refused 1':
+                self.open_by_packets()
         elif way < 0.95:
             self.open_by_packets()
 
@@ -36,8 +40,11 @@ class Edges(scripts.Maker):
         return self.pick((0, 1, 2, 2**31 - 2, 2**31 - 1, 2**31, 2**31 + 1)
                          + tuple(2**32 - n for n in (1, 1, 2, 3, 5, 9, 40, 32767, 32768)))
 
-    def size(self):
-        fragment = self.pair.configs['A'].fragment
+    def fragment_words(self):
+        return (self.pick(self.fragments),)
+
+    def size(self, x):
+        fragment = self.pair.configs[x].fragment
         long = 65536 if fragment >= 64 or self.chance(0.05) else 300 * fragment
         edge = self.pick((0, 65537, long)) if self.chance(0.1) else 1
         return self.pick((1, 1, edge, fragment - 1, fragment, fragment + 1, 2 * fragment, 2 * fragment + 1))
@@ -52,14 +59,14 @@ class Edges(scripts.Maker):
 
     def send(self):
         x = self.side()
-        last = self.pair.configs[x].streams - 1
+        last = self.outbound(x) - 1
         stream = self.pick((0, 0, last, last, last, last + 1 if self.chance(0.3) else 0, 65535 if self.chance(0.3) else last))
         self.line('send', x, stream, self.pick('oou'), self.pick((0, 1, 2**31, 2**32 - 1)), self.until(),
-                  self.bytes(self.size()).hex() or '-')
+                  self.bytes(self.size(x)).hex() or '-')
 
     def take(self):
         x = self.side()
-        last = self.pair.configs[x].streams - 1
+        last = self.inbound(x) - 1
         self.line('take', x, self.pick((0, 0, last, last, last, last + 1, 65535)))
 
     def ticket(self, x):

@@ -28,11 +28,23 @@ SACK_DELAY = 200
 class Config:
     def __init__(self, own_port, peer_port, limit, fragment, buffer, streams, partial, interleave,
                  delay=False, standard_closing=False):
-        """`delay`: a SACK may wait (RFC 9260 section 6.2). `standard_closing`: the timers of a closing
-        go by RFC 9260 sections 6.3.2, 8.1 and 9.2, not by the profile."""
+        """`outbound`: the streams that it asks for; `inbound`: those that it accepts. `delay`: a SACK may
+        wait (RFC 9260 section 6.2). `standard_closing`: the timers of a closing go by RFC 9260 sections
+        6.3.2, 8.1 and 9.2, not by the profile."""
         self.own_port, self.peer_port, self.limit, self.fragment = own_port, peer_port, limit, fragment
-        self.buffer, self.streams, self.partial, self.interleave = buffer, streams, partial, interleave
+        self.buffer, self.outbound, self.inbound = buffer, streams, streams
+        self.partial, self.interleave = partial, interleave
         self.delay, self.standard_closing = delay, standard_closing
+
+    @property
+    def streams_alone(self):
+        """The streams each way of an end that takes its peer to be configured as itself (section 5.1.1)."""
+        return min(self.outbound, self.inbound)
+
+    def would_agree(self, other):
+        """Whether two ends that take each other to be configured alike are right in what both must know."""
+        return ((self.streams_alone, self.partial, self.interleave)
+                == (other.streams_alone, other.partial, other.interleave))
 
     def options(self):
         """The option parameters of INIT and INIT ACK (RFC 3758 3.3, RFC 8260 2.2.1)."""
@@ -127,10 +139,10 @@ class Endpoint:
 
     @classmethod
     def opened(cls, config, own, peer):
-        """Established without packets, both ends taken to have the same configuration."""
+        """Established without packets: its peer is taken to have its own configuration."""
         end = cls(config)
         end.own_tag, end.own_tsn = own
-        end.associate(peer[0], peer[1], config.buffer, config.streams, config.streams,
+        end.associate(peer[0], peer[1], config.buffer, config.streams_alone, config.streams_alone,
                       config.partial, config.interleave)
         end.state = ESTABLISHED
         return end
@@ -264,7 +276,7 @@ class Endpoint:
             more = parameters + [report]
             if padded(20 + len(wire.item_list(more))) <= self.body_limit():
                 parameters = more
-        return chunk(kind, wire.init_value(tag, config.buffer, config.streams, config.streams, tsn, parameters))
+        return chunk(kind, wire.init_value(tag, config.buffer, config.outbound, config.inbound, tsn, parameters))
 
     # ---- Moments ----
 
@@ -420,8 +432,8 @@ class Endpoint:
         config = self.config
         partial, interleave = config.agreed(opening)
         cookie = Cookie(self.now, config.own_port, config.peer_port, draw[0], opening.tag, draw[1],
-                        opening.tsn, opening.rwnd, min(config.streams, opening.inbound),
-                        min(opening.outbound, config.streams), partial + 2 * interleave)
+                        opening.tsn, opening.rwnd, min(config.outbound, opening.inbound),
+                        min(opening.outbound, config.inbound), partial + 2 * interleave)
         reports = [item(wire.UNRECOGNIZED, whole) for whole in opening.reports]
         self.answer(opening.tag, self.opening_chunk(
             wire.INIT_ACK, [item(wire.STATE_COOKIE, cookie.seal(self.key))], draw, reports))
@@ -540,9 +552,8 @@ class Endpoint:
         if padded(4 + len(opening.cookie)) > self.body_limit():
             self.abort_with(item(wire.OUT_OF_RESOURCE), opening.tag)
         partial, interleave = self.config.agreed(opening)
-        streams = self.config.streams
-        self.associate(opening.tag, opening.tsn, opening.rwnd, min(streams, opening.inbound),
-                       min(opening.outbound, streams), partial, interleave)
+        self.associate(opening.tag, opening.tsn, opening.rwnd, min(self.config.outbound, opening.inbound),
+                       min(opening.outbound, self.config.inbound), partial, interleave)
         self.cookie = opening.cookie
         self.enter(COOKIE_ECHOED)
         self.report_parameters(opening.reports)

@@ -3,7 +3,8 @@
 
 ends.py [--program P] N [SEED]: each script opens by packets; what comes to an end is what came to it
 in the model's run. After each line the state, the next moment, the held bytes, those in reassembly and
-the status are asked too. The ends of every third script close by the RFC's timers.
+the status are asked too. The ends of every third script close by the RFC's timers. In half of the scripts
+the two ends differ; with --unlike in all.
 ends.py --write FILE N [SEED] writes the lines of each end and the answers wanted, and runs nothing.
 """
 
@@ -22,8 +23,8 @@ HERE = os.path.dirname(os.path.abspath(__file__))
 class Recorder:
     """The lines for one end and the answers wanted."""
 
-    def __init__(self, words):
-        self.words, self.lines, self.answers = words, [], []
+    def __init__(self):
+        self.lines, self.answers = [], []
 
     def add(self, line, answer):
         self.lines.append(line)
@@ -39,11 +40,16 @@ class RecordedPair(model.Pair):
         super().__init__(limit, fragment, buffer, streams, mode, delay)
         for config in self.configs.values():
             config.standard_closing = self.standard_closing
-        values = [str(value) for value in (limit, fragment, buffer, streams)] + [mode]
-        values += ['delay'] * (delay is not None) + ['standard-closing'] * self.standard_closing
-        self.notes = {'A': Recorder(['caller', *values, '5000', '5001']),
-                      'B': Recorder(['listener', *values, '5001', '5000', model.KEY.hex()])}
+        self.notes = {'A': Recorder(), 'B': Recorder()}
         RecordedPair.last = self
+
+    def words(self, x):
+        """The words of `sctp-end` for this end."""
+        config = self.configs[x]
+        mode = {on: name.decode() for name, on in model.MODES.items()}[config.partial, config.interleave]
+        values = [str(value) for value in (config.limit, config.fragment, config.buffer, config.outbound)] + [mode]
+        values += ['delay'] * config.delay + ['standard-closing'] * config.standard_closing
+        return {'A': ['caller', *values, '5000', '5001'], 'B': ['listener', *values, '5001', '5000', model.KEY.hex()]}[x]
 
     def note(self, x, line, answer):
         self.notes[x].add(line, answer)
@@ -125,28 +131,35 @@ class RecordedPair(model.Pair):
 
 
 class OpensByPackets(scripts.Maker):
-    """A maker of scripts without `open`, which one end alone has no line for."""
+    """A maker of scripts without `open`, which one end alone has no line for, and of ends with as many streams each way."""
+
+    def streams_words(self):
+        return [self.pick(self.streams)] * 2
+
+    def wrong_options(self, named):
+        return self.right_options(named)
 
     def open(self):
         if self.pair is not None and self.pair.may_open:
             self.open_by_packets()
 
 
-def recorders(seed):
-    """What each end of this random script is told and answers."""
-    script, plain = OpensByPackets(seed).make().encode(), model.Pair
+def recorders(seed, share):
+    """The words of each end of this random script, the lines and the answers."""
+    script, plain = OpensByPackets(seed, share).make().encode(), model.Pair
     RecordedPair.last, RecordedPair.standard_closing, model.Pair = None, seed % 3 == 0, RecordedPair
     try:
         model.run(script, lambda line: None)
     finally:
         model.Pair = plain
-    return list(RecordedPair.last.notes.items()) if RecordedPair.last is not None else []
+    pair = RecordedPair.last
+    return [(x, pair.words(x), pair.notes[x]) for x in 'AB'] if pair is not None else []
 
 
-def difference(program, recorder):
+def difference(program, words, recorder):
     """(line, program's answer, model's answer) of the first that differ, or None."""
     told = ''.join(line + '\n' for line in recorder.lines).encode()
-    done = subprocess.run([program, *recorder.words], input=told, capture_output=True, check=False)
+    done = subprocess.run([program, *words], input=told, capture_output=True, check=False)
     answers = done.stdout.decode('latin1').split('\n')[:-1]
     answers += ['(nothing, status %d)' % done.returncode] * (len(recorder.lines) - len(answers))
     for told, theirs, ours in zip(recorder.lines, answers, recorder.answers):
@@ -155,8 +168,8 @@ def difference(program, recorder):
     return None
 
 
-def write(file, name, recorder):
-    file.write('\n= %s\n$ sctp-end %s\n' % (name, ' '.join(recorder.words)))
+def write(file, name, words, recorder):
+    file.write('\n= %s\n$ sctp-end %s\n' % (name, ' '.join(words)))
     file.write(''.join('> %s\n' % line for line in recorder.lines))
     file.write(''.join('< %s\n' % line for line in recorder.answers))
 
@@ -165,19 +178,20 @@ def main():
     parser = argparse.ArgumentParser()
     parser.add_argument('--program', default=os.path.join(HERE, '..', '..', 'sctp-end'))
     parser.add_argument('--write')
+    parser.add_argument('--unlike', action='store_true')
     parser.add_argument('count', type=int)
     parser.add_argument('seed', type=int, nargs='?', default=1)
     asked = parser.parse_args()
     count = differing = 0
     file = open(asked.write, 'w', encoding='ascii') if asked.write else None
     for seed in range(asked.seed, asked.seed + asked.count):
-        for x, recorder in recorders(seed):
+        for x, words, recorder in recorders(seed, 1 if asked.unlike else 0.5):
             count += 1
             name = 'seed-%d %s' % (seed, x)
             if file is not None:
-                write(file, name, recorder)
+                write(file, name, words, recorder)
                 continue
-            found = difference(asked.program, recorder)
+            found = difference(asked.program, words, recorder)
             if found is not None:
                 differing += 1
                 print('%s: %.200s: program %.200s, model %.200s' % (name, *found), flush=True)

@@ -31,11 +31,17 @@ class Forwards(scripts.Maker):
             self.finish()
         return '\n'.join(self.lines) + '\n'
 
+    modes, limits, fragments, buffers = ('data-pr', 'idata-pr'), (576, 577, 600, 1500), (4, 64, 500), (16777216,)
+    streams = (1, 3, 32, 200, 400, 1024)
+
     def start(self):
-        limit = self.pick((576, 577, 600, 1500))
-        fragment = self.pick((4, 64, 500))
-        self.line('pair', limit, fragment, 16777216, self.pick((1, 3, 32, 200, 400, 1024)), self.pick(('data-pr', 'idata-pr')), *self.delay())
+        limit = self.pick(self.limits)
+        fragment = self.pick(self.fragments)
+        self.line('pair', limit, fragment, 16777216, self.pick(self.streams), self.pick(self.modes), *self.delay())
+        self.options()
         self.open() if self.chance(0.7) else self.open_by_packets()
+        if self.outcome == 'refused 1':
+            self.open_by_packets()
 
     def window(self):
         self.messages(self.pick((1, 10, 60, 200, 500)))
@@ -45,7 +51,7 @@ class Forwards(scripts.Maker):
         self.give_up(self.pick((0.5, 0.9, 1)))
 
     def messages(self, count):
-        streams, kinds, fragment = self.pair.configs['A'].streams, self.pick(('o', 'u', 'ou')), self.pair.configs['A'].fragment
+        streams, kinds, fragment = self.outbound('A'), self.pick(('o', 'u', 'ou')), self.pair.configs['A'].fragment
         for _ in range(count):
             until = '-' if self.chance(0.8) else self.pair.clock + self.pick((0, 1, 500, 5000))
             size = self.pick((1, 1, 1, fragment, 2 * fragment + 1))

@@ -86,11 +86,37 @@ COMMANDS = {
 }
 MAY_BE_LEFT_OUT = (DELAY,)
 
+# What a line `options` may set at the ends that it names, with the words of each.
+NAMED_ENDS = {b'A': 'A', b'B': 'B', b'both': 'AB'}
+OPTIONS = {
+    b'limit': (N16,),
+    b'fragment': (N16,),
+    b'buffer': (N32,),
+    b'streams': (N16, N16),       # outbound, inbound
+    b'mode': (MODE,),
+    b'delay': (),
+    b'standard-closing': (),
+}
 
-def in_range(limit, fragment, buffer, streams):
+
+def in_range(limit, fragment, buffer, *streams):
     """Whether an end may have these sizes and streams."""
     return (576 <= limit <= 1500 and 4 <= fragment <= 1400 and 32 + (fragment + 3) // 4 * 4 <= limit
-            and 65_536 <= buffer <= 16_777_216 and 1 <= streams <= 1_024)
+            and 65_536 <= buffer <= 16_777_216 and all(1 <= count <= 1_024 for count in streams))
+
+
+def split_options(words):
+    """The ends that the words of a line `options` name and its options, each with its words; None if it
+    isn't of this form. An option takes its words whatever they are."""
+    named, rest, found = NAMED_ENDS.get(words[0]) if words else None, words[1:], []
+    while rest:
+        name, *rest = rest
+        count = len(OPTIONS.get(name, ()))
+        if name not in OPTIONS or count > len(rest):
+            return None
+        found.append((name, rest[:count]))
+        rest = rest[count:]
+    return (named, found) if named and found else None
 
 
 class Pair:
@@ -108,10 +134,32 @@ class Pair:
         self.clock, self.next_draw = 0, (1, 1)
         self.may_open = True
 
+    # ---- A line `options` ----
+
+    def set_options(self, named, found):
+        """All options of a line act, and then the configuration of each end that it names must be right."""
+        values = [(name.decode(), [read(word) for read, word in zip(OPTIONS[name], words)]) for name, words in found]
+        for config in (self.configs[x] for x in named):
+            for name, words in values:
+                self.set_option(config, name, *words)
+            if not in_range(config.limit, config.fragment, config.buffer, config.outbound, config.inbound):
+                raise LineFault(BAD_VALUE)
+
+    @staticmethod
+    def set_option(config, name, *words):
+        if name == 'streams':
+            config.outbound, config.inbound = words
+        elif name == 'mode':
+            config.partial, config.interleave = MODES[words[0].encode()]
+        elif words:
+            setattr(config, name, *words)
+        else:
+            setattr(config, name.replace('-', '_'), True)
+
     # ---- One method for each command; the outcome line ----
 
     def open(self):
-        if not self.may_open:
+        if not self.may_open or not self.configs['A'].would_agree(self.configs['B']):
             return 'refused 1'
         self.may_open = False
         draws = {'A': (1, 1), 'B': (2, 1)}
@@ -207,10 +255,11 @@ def listing(start, numbers):
 # ---- The script ----
 
 class Script:
-    """Runs line by line; `output` has the lines written so far."""
+    """Runs line by line; `write` is called with each line of output. Without `options` no line is of that form."""
 
-    def __init__(self, write):
-        self.pair, self.write, self.read = None, write, 0
+    def __init__(self, write, options=True):
+        self.pair, self.write, self.read, self.options = None, write, 0, options
+        self.is_behind = False               # no line but `pair` and lines `options` has acted
 
     def line(self, line, size):
         """One line without its LF, and its size with it."""
@@ -220,6 +269,10 @@ class Script:
         if not line or line.startswith(b'#'):
             return
         command, *words = line.split(b' ')
+        options = split_options(words) if command == b'options' and self.is_behind else None
+        if options is not None:
+            self.pair.set_options(*options)
+            return
         if command not in COMMANDS:
             raise LineFault(UNKNOWN_COMMAND)
         readers = COMMANDS[command]
@@ -230,10 +283,11 @@ class Script:
             pair = Pair(*values)
             if self.pair is not None:
                 raise LineFault(PAIR)
-            self.pair = pair
+            self.pair, self.is_behind = pair, self.options
             return
         if self.pair is None:
             raise LineFault(PAIR)
+        self.is_behind = False
         self.write(getattr(self.pair, command.decode())(*values))
 
     def end(self):
@@ -243,9 +297,9 @@ class Script:
             self.write(line)
 
 
-def run(data, write):
+def run(data, write, options=True):
     """Runs a whole script; None, or (line, kind) of the first fault."""
-    script, count = Script(write), 0
+    script, count = Script(write, options), 0
     lines = data.split(b'\n')
     try:
         for count, line in enumerate(lines, 1):

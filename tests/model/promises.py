@@ -24,7 +24,7 @@ class Direction:
         self.numbers, self.ordered = {}, {}   # ordered ones with a number: how many on a stream; their tickets
         self.open = []                        # tickets with a number, neither handed over nor abandoned
         self.handed, self.read = set(), 0     # tickets; how many the receiver had handed over
-        self.last = {}                        # stream: the number that was handed over last
+        self.last = {}                        # stream: the number and the ticket that were handed over last
         self.passed = {}                      # stream: all below was looked at
 
     def accept(self, ticket, *call):
@@ -64,9 +64,12 @@ class Direction:
             return 'message %d was handed over twice' % ticket
         self.handed.add(ticket)
         if message.ordered:
-            if message.number <= self.last.get(message.stream, -1):
-                return 'number %d was handed over behind number %d' % (message.number, self.last[message.stream])
-            self.last[message.stream] = message.number
+            number, earlier = self.last.get(message.stream, (-1, 0))
+            if message.number <= number:
+                return 'number %d was handed over behind number %d' % (message.number, number)
+            if ticket <= earlier:
+                return 'message %d was handed over behind message %d' % (ticket, earlier)
+            self.last[message.stream] = message.number, ticket
             if message.number != self.sent[ticket].number:
                 return 'number %d was handed over as number %d' % (self.sent[ticket].number, message.number)
         return None
@@ -92,9 +95,13 @@ class Direction:
                 return 'message %d is acknowledged whole, and lost' % ticket
         return None
 
-    def missing(self):
-        """Where an end completed its association each message with a number is handed over or abandoned."""
-        return 'message %d is missing, and the association completed' % self.open[0] if self.open else None
+    def missing(self, sender):
+        """Where an end completed its association each accepted message is handed over or given up: none is left in a queue."""
+        for ticket in self.sent:
+            message = sender.messages[ticket - 1]
+            if ticket not in self.handed and not (message.abandoned or message.withdrawn):
+                return 'message %d is missing, and the association completed' % ticket
+        return None
 
 
 def named(message):
@@ -123,7 +130,7 @@ class Promises:
         for x, y in ('AB', 'BA'):
             fault = self.of[x].broken(ends[x].sender, ends[y].receiver)
             if fault is None and COMPLETED in (ends[x].ended, ends[y].ended):
-                fault = self.of[x].missing()
+                fault = self.of[x].missing(ends[x].sender)
             if fault is not None:
                 return 'from %s to %s, %s' % (x, y, fault)
         return None

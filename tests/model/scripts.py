@@ -2,9 +2,11 @@
 """Random scripts over all lines: `scripts.py FOLDER N [SEED]` writes N of them into the folder.
 
 Each script is written beside a run of the model, so that it can name real tickets, packets of the
-bags, tags and moments. The same seed gives the same scripts.
+bags, tags and moments. Half of them have lines `options`, by which the two ends differ. The same seed
+gives the same scripts.
 """
 
+import copy
 import os
 import random
 import struct
@@ -26,8 +28,16 @@ SILENT = (5, 6, 9, 11, 12)
 class Maker:
     """One script: its lines, and the model run beside it."""
 
-    def __init__(self, seed):
-        self.random = random.Random(seed)
+    modes = ('data', 'data-pr', 'idata', 'idata-pr')
+    limits = (576, 577, 580, 600, 1000, 1499, 1500)
+    fragments = (4, 5, 7, 8, 64, 100, 500, 540, 1000, 1400)
+    buffers = (65536, 65537, 70000, 131072, 16777216)
+    streams = (1, 1, 2, 3, 5, 32, 200, 1024)
+
+    def __init__(self, seed, share=0.5):
+        """`share` of the scripts have lines `options`, which are chosen apart from all else."""
+        self.random, self.apart = random.Random(seed), random.Random('options %d' % seed)
+        self.share, self.differs = share, False
         self.lines, self.outcome = [], None
         self.script = model.Script(self.heard)
         self.faulty = False
@@ -101,22 +111,101 @@ class Maker:
     def start(self):
         if self.chance(0.05):
             self.comment()
-        limit = self.pick((576, 577, 580, 600, 1000, 1499, 1500))
+        limit = self.pick(self.limits)
         most = min(1400, (limit - 32) // 4 * 4)
         fragment = self.pick((4, 5, 7, 8, 64, 100, 500, most - 1, most, self.random.randint(4, most)))
-        buffer = self.pick((65536, 65537, 70000, 131072, 16777216))
-        streams = self.pick((1, 1, 2, 3, 5, 32, 200, 1024))
-        self.line('pair', limit, min(fragment, most), buffer, streams, self.pick(('data', 'data-pr', 'idata', 'idata-pr')),
+        self.line('pair', limit, min(fragment, most), self.pick(self.buffers), self.pick(self.streams), self.pick(self.modes),
                   *self.delay())
+        self.options()
         way = self.random.random()
         if way < 0.5:
             self.open()
+            if self.outcome == 'refused 1' and self.apart.random() < 0.9:
+                self.open_by_packets()
         elif way < 0.9:
             self.open_by_packets()
 
     def delay(self):
         """The word of a pair line for SACKs that wait, in a third of them."""
         return ('delay',) if self.chance(1 / 3) else ()
+
+    # ---- Two ends that differ ----
+
+    def options(self):
+        """Some lines `options` behind the pair, or none."""
+        plain, self.random = self.random, self.apart
+        if self.chance(self.share):
+            self.differs = True
+            for _ in range(self.pick((1, 1, 2, 2, 3, 5))):
+                if self.chance(0.1):
+                    self.comment()
+                named = self.pick(('A', 'B', 'both'))
+                self.line('options', *(self.wrong_options(named) if self.chance(0.01) else self.right_options(named)))
+                if self.faulty:
+                    break
+            while not self.faulty and self.is_alike() and self.chance(0.9):
+                self.line('options', *self.right_options(self.pick('AB')))
+        self.random = plain
+
+    def is_alike(self):
+        values = [dict(vars(config), own_port=0, peer_port=0) for config in self.pair.configs.values()]
+        return values[0] == values[1]
+
+    def right_options(self, named):
+        """The words of such a line, by which these ends stay right."""
+        while True:
+            words = [named]
+            for name in self.random.sample(list(model.OPTIONS), self.pick((1, 1, 2, 3, 5))) * self.pick((1, 1, 1, 1, 1, 2)):
+                words += [name.decode(), *getattr(self, name.decode().replace('-', '_') + '_words', tuple)()]
+            trial = copy.copy(self.pair)
+            trial.configs = {x: copy.copy(config) for x, config in trial.configs.items()}
+            try:
+                trial.set_options(*model.split_options([str(word).encode() for word in words]))
+                return words
+            except model.LineFault:
+                pass
+
+    def limit_words(self):
+        return (self.pick(self.limits),)
+
+    def fragment_words(self):
+        return (self.pick((*self.fragments, self.random.randint(4, 1400))),)
+
+    def buffer_words(self):
+        return (self.pick(self.buffers),)
+
+    def streams_words(self):
+        """Often those by which the two would still agree if they are opened without packets."""
+        count = self.pair.configs['A'].streams_alone
+        more = [streams for streams in self.streams if streams >= count] + [count]
+        words = [count, self.pick(more)] if self.chance(0.5) else [self.pick(self.streams), self.pick(self.streams)]
+        self.random.shuffle(words)
+        return words
+
+    def mode_words(self):
+        return (self.pick(self.modes),)
+
+    def wrong_options(self, named):
+        return self.pick((
+            (), (named,), ('C', 'delay'), ('a', 'delay'), (named, 'limt', 600), (named, 'limit'), (named, 'streams', 3),
+            (named, 'limit', 600, 5), (named, '', 'delay'), (named, 'delay', ''), (named, 'Delay'), (named, 'limit', ''),
+            (named, 'limit', '', 'delay'), (named, 'limit', 'delay'), (named, 'limit', '0600'), (named, 'limit', '-1'),
+            (named, 'limit', 575), (named, 'limit', 1501), (named, 'limit', 65536), (named, 'fragment', 3), (named, 'fragment', 1401),
+            (named, 'limit', 576, 'fragment', 545), (named, 'limit', 576, 'fragment', 544), (named, 'buffer', 65535),
+            (named, 'buffer', 16777217), (named, 'buffer', 2**32), (named, 'streams', 0, 1), (named, 'streams', 1, 0),
+            (named, 'streams', 1025, 1), (named, 'streams', 1, 1025), (named, 'mode', 'DATA'), (named, 'mode', 'idata-pr-x'),
+            (named, 'limit', 5, 'limit', 600, 'fragment', 500), (named, 'fragment', 3, 'delay'), (named, 'streams', 3, 7, 'streams', 0, 0),
+            (named, 'delay', 'delay'), (named, 'limit', 600, 'fragment', 568), (named, 'limit', 600, 'fragment', 569),
+        ))
+
+    def outbound(self, x):
+        """How many streams an end has to its peer: as configured, or as agreed on where the two differ."""
+        sender = self.end(x).sender if self.differs else None
+        return sender.streams if sender is not None and sender.streams else self.pair.configs[x].outbound
+
+    def inbound(self, x):
+        receiver = self.end(x).receiver if self.differs else None
+        return receiver.streams if receiver is not None and receiver.streams else self.pair.configs[x].inbound
 
     def tag(self):
         return self.pick((1, 2, 7, 9, 2**31, 2**32 - 1, self.random.randint(1, 2**32 - 1)))
@@ -160,18 +249,18 @@ class Maker:
 
     # ---- Messages ----
 
-    def size(self):
-        fragment = self.pair.configs['A'].fragment
+    def size(self, x):
+        fragment = self.pair.configs[x].fragment
         edges = (1, 1, 1, 2, 3, fragment - 1, fragment, fragment + 1, 2 * fragment, 2 * fragment + 1, 3 * fragment)
         if self.chance(0.02):
-            return self.pick((0, self.long(), 65537))
+            return self.pick((0, self.long(x), 65537))
         if self.chance(0.1):
             return self.random.randint(1, min(6000, 200 * fragment))
         return self.pick(edges)
 
-    def long(self):
+    def long(self, x):
         """A long message, seldom one of very many fragments."""
-        fragment = self.pair.configs['A'].fragment
+        fragment = self.pair.configs[x].fragment
         return 65536 if fragment >= 64 or self.chance(0.02) else 1000 * fragment
 
     def until(self):
@@ -184,10 +273,10 @@ class Maker:
 
     def send(self):
         x = self.side()
-        streams = self.pair.configs[x].streams
+        streams = self.outbound(x)
         stream = self.random.randrange(streams) if self.chance(0.97) else self.pick((streams, 65535))
         payload_id = 0 if self.chance(0.5) else self.number(EDGE_32, 2**32 - 1)
-        self.line('send', x, stream, self.pick('oou'), payload_id, self.until(), self.bytes(self.size()).hex() or '-')
+        self.line('send', x, stream, self.pick('oou'), payload_id, self.until(), self.bytes(self.size(x)).hex() or '-')
 
     def ticket(self, x):
         sender = self.end(x).sender
@@ -204,7 +293,7 @@ class Maker:
     def spread(self):
         """One byte on each of many streams; what went out is often abandoned, as far as it goes."""
         x = self.side()
-        streams, kinds = self.pair.configs[x].streams, self.pick(('o', 'u', 'ou'))
+        streams, kinds = self.outbound(x), self.pick(('o', 'u', 'ou'))
         first = self.ticket(x)
         for n in range(self.pick((20, 150, 300))):
             self.line('send', x, n % streams, self.pick(kinds), 0, '-', '61')
@@ -217,7 +306,7 @@ class Maker:
 
     def take(self):
         x = self.side()
-        streams = self.pair.configs[x].streams
+        streams = self.inbound(x)
         self.line('take', x, self.random.randrange(streams) if self.chance(0.95) else self.pick((streams, 65535)))
 
     # ---- Packets ----
@@ -259,7 +348,7 @@ class Maker:
         y = self.side()
         receiver = self.end(y).receiver
         if receiver is None or self.chance(0.5):
-            self.line('send', y, 0, 'o', 0, '-', self.bytes(self.pick((self.long() // 2, self.long()))).hex())
+            self.line('send', y, 0, 'o', 0, '-', self.bytes(self.pick((self.long(y) // 2, self.long(y)))).hex())
             self.exchange()
             return
         stream, flags = 0, self.pick((0, 1, 2, 3, 4, 6, 7))
@@ -317,7 +406,7 @@ class Maker:
         for x in SIDES:
             receiver = self.end(x).receiver
             waiting = {message.stream for message in receiver.waiting} if receiver else set()
-            for stream in sorted(waiting | {0, self.pair.configs[x].streams - 1}):
+            for stream in sorted(waiting | {0, self.inbound(x) - 1}):
                 while not self.faulty and (self.line('take', x, stream) or 'empty').startswith('message'):
                     pass
 

@@ -25,7 +25,12 @@ def unhex(text):
 
 
 HI = '00030012 00000001 0000 0000 00000000 4869 0000'
-CASES = []
+CASES, FAULTS = [], []
+
+
+def fault(lines, kind):
+    """The last of these lines has a fault of this kind, or none has one."""
+    FAULTS.append(('\n'.join(lines).encode(), None if kind is None else (len(lines), kind)))
 
 
 def case(name, steps, report=None, bags=None, some=None):
@@ -317,6 +322,71 @@ case('a FORWARD of what fits, and then the rest', cut_forward(), None, None,
      [('A', 9, 'c0000234 0000008b 0000 0000'), ('A', 10, 'c00000fc 000000c8 008b 0000')])
 
 
+# ---- Two ends that differ
+
+PAIR = ('pair 1500 1400 65536 1 data', None)
+
+
+def opened(*lengths):
+    """The packets of an opening, by their lengths: INIT, INIT ACK, COOKIE ECHO, COOKIE ACK."""
+    return [('connect 7 100', 'ok'), ('build A', 'sent A 1 %d' % lengths[0]), ('draw 9 500', 'ok'), ('deliver A 1', 'answer B 1 %d' % lengths[1]),
+            ('deliver B 1', 'taken A'), ('build A', 'sent A 2 %d' % lengths[2]), ('deliver A 2', 'taken B'),
+            ('build B', 'sent B 2 %d' % lengths[3]), ('deliver B 2', 'taken A')]
+
+
+case('streams: the lesser of what one end asks for and the other accepts', [
+    PAIR, ('options A streams 3 7', None), ('options B streams 2 9', None), (OPEN, 'refused 1')] + opened(32, 108, 88, 16) + [
+    ('send A 2 o 0 - 61', 'ticket A 1'), ('send A 3 o 0 - 61', 'refused 1'), ('send B 1 o 0 - 62', 'ticket B 1'),
+    ('send B 2 o 0 - 62', 'refused 1'), ('build A', 'sent A 3 32'), ('deliver A 3', 'taken B'), ('take B 2', 'message B 2 o 0 0 61'),
+    ('build B', 'sent B 3 48'), ('deliver B 3', 'taken A'), ('take A 1', 'message A 1 o 0 0 62')],
+     None, {('A', 1): '01000014 00000007 00010000 0003 0007 00000064'}, [('B', 1, '02000060 00000009 00010000 0002 0009 000001f4 0007004c')])
+case('opened without packets where each takes the other to be as itself', [
+    PAIR, ('options A streams 3 7', None), ('', None), ('# three each way', None), ('options B streams 9 3', None), (OPEN, 'ok'), (OPEN, 'refused 1'),
+    ('send A 2 o 0 - 61', 'ticket A 1'), ('send A 3 o 0 - 61', 'refused 1'), ('send B 2 o 0 - 62', 'ticket B 1'), ('send B 3 o 0 - 62', 'refused 1')])
+case('a format and partial reliability where both ask for them', [
+    PAIR, ('options A mode idata-pr', None), ('options B mode data-pr', None), (OPEN, 'refused 1')] + opened(44, 120, 88, 16) + [
+    ('send A 0 o 0 - 61', 'ticket A 1'), ('build A', 'sent A 3 32'), ('abandon A 1', 'fate A 2'), ('build A', 'sent A 4 24')],
+     None, {('A', 1): '0100001f 00000007 00010000 0001 0001 00000064 c0000004 80080007 40c0c2 00', ('A', 4): 'c000000c 00000064 0000 0000'})
+case('I-DATA without partial reliability', [
+    PAIR, ('options both mode idata-pr', None), ('options B mode idata', None), (OPEN, 'refused 1')] + opened(44, 116, 88, 16) + [
+    ('send A 0 o 0 - 61', 'ticket A 1'), ('build A', 'sent A 3 36'), ('abandon A 1', 'fate A 5')])
+case('neither asks for what the pair has', [
+    ('pair 1500 1400 65536 1 idata-pr delay', None), ('options both mode data', None), (OPEN, 'ok'), ('send A 0 o 0 - 61', 'ticket A 1'),
+    ('build A', 'sent A 1 32'), ('deliver A 1', 'taken B'), ('build B', 'quiet B')])
+case('packets and fragments of its own size', [
+    PAIR, ('options A fragment 500 limit 576', None), (OPEN, 'ok'), ('send A 0 o 0 - ' + text(1100), 'ticket A 1'),
+    ('send B 0 o 0 - ' + text(1100), 'ticket B 1'), ('build A', 'sent A 1 528'), ('build A', 'sent A 2 528'), ('build A', 'sent A 3 128'),
+    ('build B', 'sent B 1 1128')])
+case('a buffer of its own', [
+    PAIR, ('options B buffer 131072', None), ('connect 7 100', 'ok'), ('build A', 'sent A 1 32'), ('draw 9 500', 'ok'),
+    ('deliver A 1', 'answer B 1 108'), ('deliver B 1', 'taken A'), ('build A', 'sent A 2 88'), ('deliver A 2', 'taken B'), ('build B', 'sent B 2 16'),
+    ('deliver B 2', 'taken A'), ('send A 0 o 0 - 4869', 'ticket A 1'), ('build A', 'sent A 3 32'), ('deliver A 3', 'taken B'), ('build B', 'sent B 3 28')],
+     None, {('B', 3): '03000010 00000064 0001fffe 0000 0000'}, [('B', 1, '02000060 00000009 00020000')])
+case('SACKs that wait at one end', [
+    PAIR, ('options both delay', None), ('options A limit 600 fragment 500', None), (OPEN, 'ok'), ('send A 0 o 0 - 61', 'ticket A 1'),
+    ('build A', 'sent A 1 32'), ('deliver A 1', 'taken B'), ('build B', 'quiet B'), ('at 200', 'ok'), ('build B', 'sent B 1 28')])
+case('the same at the other end alone', [
+    PAIR, ('options A delay', None), (OPEN, 'ok'), ('send A 0 o 0 - 61', 'ticket A 1'), ('build A', 'sent A 1 32'), ('deliver A 1', 'taken B'),
+    ('build B', 'sent B 1 28'), ('send B 0 o 0 - 62', 'ticket B 1'), ('build B', 'sent B 2 32'), ('deliver B 2', 'taken A'), ('build A', 'quiet A')])
+case('the later of two that set the same', [
+    PAIR, ('options A limit 5 limit 600 fragment 500', None), ('options both fragment 4', None), ('options A fragment 500', None), (OPEN, 'ok'),
+    ('send A 0 o 0 - ' + text(501), 'ticket A 1'), ('build A', 'sent A 1 %d' % (12 + 516 + 20))])
+for lines, kind in (
+        (('options A delay',), 2), ((PAIR[0], 'at 1', 'options A delay'), 2),
+        ((PAIR[0], 'open', 'options A delay'), 2), ((PAIR[0], 'options'), 2), ((PAIR[0], 'options A'), 2), ((PAIR[0], 'options C delay'), 2),
+        ((PAIR[0], 'options a delay'), 2), ((PAIR[0], 'options A limt 600'), 2), ((PAIR[0], 'options A limit'), 2),
+        ((PAIR[0], 'options A streams 3'), 2), ((PAIR[0], 'options A limit 600 5'), 2), ((PAIR[0], 'options A  delay'), 2),
+        ((PAIR[0], 'options A delay '), 2), ((PAIR[0], ' options A delay'), 2), ((PAIR[0], 'options A limit  delay'), 4),
+        ((PAIR[0], 'options A limit delay'), 4), ((PAIR[0], 'options A limit 01500'), 4), ((PAIR[0], 'options A limit 65536'), 4),
+        ((PAIR[0], 'options A buffer 4294967296'), 4), ((PAIR[0], 'options A mode foo'), 4), ((PAIR[0], 'options A limit 600'), 4),
+        ((PAIR[0], 'options both limit 600 fragment 568'), None), ((PAIR[0], 'options both limit 600 fragment 569'), 4),
+        ((PAIR[0], 'options A fragment 500', 'options A limit 600'), None), ((PAIR[0], 'options B streams 1 0'), 4),
+        ((PAIR[0], 'options B streams 1025 1'), 4), ((PAIR[0], 'options A delay delay delay'), None),
+        ((PAIR[0], 'options A delay', PAIR[0]), 5), ((PAIR[0], 'options A fragment 500', 'options both limit 600'), 4),
+        ((PAIR[0], 'options A delay limit 600 ' + '0' * 140000), 1), ((PAIR[0], 'options'.ljust(140001)), 1)):
+    fault(lines, kind)
+
+
 def swapped_pairs(count, buffer, take_each):
     """One-byte messages, each pair delivered the second first, then all again."""
     steps, packet = [('pair 1500 1400 %d 1 data' % buffer, None), (OPEN, 'ok')], 0
@@ -364,7 +434,9 @@ def check(name, steps, report, bags, some):
 
 def main():
     wrong = [line for one in CASES for line in check(*one)]
-    print('\n'.join(wrong + ['%d cases, %d differences' % (len(CASES), len(wrong))]))
+    wrong += ['%s: %s, not %s' % (text[-70:], found, wanted) for text, wanted in FAULTS
+              for found in [model.run(text, lambda line: None)] if found != wanted]
+    print('\n'.join(wrong + ['%d cases, %d differences' % (len(CASES) + len(FAULTS), len(wrong))]))
     return 1 if wrong else 0
 
 

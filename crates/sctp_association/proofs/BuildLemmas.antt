@@ -1,11 +1,9 @@
 -- `build`: a packet that is begun empty, filled by the slots that are due and then with user data, is the specification's next packet, and leaves its view.
-use Rattle.std.proofs.Common.{◌≡◌, ◌∙◌, ℕ, nat_le, ◌≤◌, Bool, true, false, not, List, [], ◌∷◌, ◌++◌, map, Option, Some, None, Result, Ok, Err, IfOk, OnErr, IfSome, MatchOption, length, refl, ap, sym, subst, arith}
-use Rattle.std.specs.Prelude.{unwrap_or}
+use Rattle.std.proofs.Common.{◌≡◌, ◌∙◌, ℕ, ◌≤◌, Bool, true, false, not, List, [], ◌∷◌, ◌++◌, map, Option, Some, None, Result, Ok, Err, IfOk, OnErr, IfSome, MatchOption, length, refl, ap, sym, subst}
+use Rattle.std.specs.Prelude.{◌&&◌, unwrap_or, option_map}
 use Rattle.std.proofs.Math.Seq.{drop-length}
-use Rattle.std.proofs.lemmas.Bool.Decides.{nat_tests}
 use Rattle.std.specs.declared.vec.Vec.{Vec}
 use Rattle.std.specs.declared.alloc.Global.{Global}
-use Rattle.sctp_model.specs.numbers.Numbers.{u16_bytes}
 use Rattle.sctp_model.specs.wire.Chunk.{ChunkMeaning}
 use Rattle.sctp_model.specs.wire.Packet.{size_of_packet}
 use Rattle.sctp_model.specs.sender.SenderView.{SenderView}
@@ -13,21 +11,24 @@ use Rattle.sctp_model.specs.sender.Filling.{newly_numbered, begun_tickets}
 use Rattle.sctp_model.specs.receiver.ReceiverView.{ReceiverView, fresh_receiver}
 use Rattle.sctp_model.specs.receiver.SackMade.{sack_sent}
 use Rattle.sctp_model.specs.end.EndView as model
-use Rattle.sctp_model.specs.end.EndView.{EndView, Configuration, Draw, Alarm, InitAlarm, Timer, has_association, format_of, format_for}
-use Rattle.sctp_model.specs.end.Clock.{started}
+use Rattle.sctp_model.specs.end.EndView.{EndView, Configuration, Draw, Alarm, InitAlarm, ResetAlarm, Timer, has_association, format_of, format_for}
+use Rattle.sctp_model.specs.end.Clock.{started, is_home}
+use Rattle.sctp_model.specs.end.Pacing.{Pace, sent_pace}
+use Rattle.sctp_model.specs.end.Reconfiguring.{asking_now, asking}
+use Rattle.sctp_model.specs.sender.Resetting.{may_ask}
 use Rattle.sctp_model.specs.end.Closing.{with_due}
 use Rattle.sctp_model.specs.end.Opening.{own_init}
 use Rattle.sctp_model.specs.end.UserCalls.{peer_tag}
 use Rattle.sctp_model.specs.end.Building.{Slot, Puts, open_slots, echoing_slots, Builds, Sleeps, Waits, Calls, Echoes, EndsFull, Fills, filled_behind, fragments, sent, tag_to}
 use Rattle.sctp_model.specs.end.Building.{packet_of as end_packet}
-use Rattle.sctp_packet.specs.Draft.{Draft, packet_of, after_try, has_room, with_chunks}
+use Rattle.sctp_packet.specs.Draft.{Draft, packet_of, after_try, with_chunks}
 use Rattle.sctp_packet.specs.PacketBytes.{WritesPacket}
 use Rattle.sctp_values.specs.declared.ticket.Ticket.{Ticket}
 use Rattle.sctp_association.specs.StartsMean.{starts_at, with_start, started_from}
 use Rattle.sctp_association.specs.PhaseMeans.{phase_unjoined, phase_of}
 use Rattle.sctp_association.specs.TrafficStands.{TrafficStands}
 use Rattle.sctp_association.specs.MachineStands.{KeepsMachine, MachineStands}
-use Rattle.sctp_association.specs.Drafted.{receiver_left, delayed_left, due_left, drafted, IsOf, IsEmpty, PutsAt, IsPacked}
+use Rattle.sctp_association.specs.Drafted.{receiver_left, delayed_left, due_left, drafted, IsOf, IsEmpty, PutsAt, IsPacked, IsQuiet}
 use Rattle.sctp_association.specs.FillsBehind.{FillsBehind}
 use Rattle.sctp_association.specs.BuildAnswers.{BuildAnswer}
 use Rattle.sctp_association.specs.declared.state.life.Unjoined.{Unjoined}
@@ -100,23 +101,6 @@ waits e d p tickets phase marked empty none = quiet_packet e p tickets (Waits d 
 
 -- ---- INIT
 
-small : (n l : ℕ) → n ≤ 576 → 576 ≤ l → nat_le n l ≡ true
-small n l few some = grind (arith, nat_tests)
-
-init_small_at : (c : Configuration) (d : Draw) (partial interleave : Bool) → c.partial ≡ partial → c.interleave ≡ interleave → size_of_packet (own_init c d ∷ []) ≤ 576
-unfolding u16_bytes
-init_small_at c d true true partial interleave = rw (partial, interleave) (omega arith)
-init_small_at c d true false partial interleave = rw (partial, interleave) (omega arith)
-init_small_at c d false true partial interleave = rw (partial, interleave) (omega arith)
-init_small_at c d false false partial interleave = rw (partial, interleave) (omega arith)
-
--- the INIT of a configuration has room in an empty packet
-pub init_fits : (c : Configuration) (d : Draw) (w : Draft) → w.chunks ≡ [] → w.limit ≡ c.limit → 576 ≤ c.limit → has_room w (own_init c d) ≡ true
-init_fits c d w none limit some =
-    ap (λ (xs : List ChunkMeaning). nat_le (size_of_packet (xs ++ own_init c d ∷ [])) w.limit) none
-    ∙ ap (λ (l : ℕ). nat_le (size_of_packet (own_init c d ∷ [])) l) limit
-    ∙ small (size_of_packet (own_init c d ∷ [])) c.limit (init_small_at c d c.partial c.interleave refl refl) some
-
 pub calls_packet : (e : EndView) (c : Configuration) (d : Draw) (old : Packing) (new : Draft) (s : Starts) (put : Bool) (tickets : Vec Ticket Global) → e.configuration ≡ c
     → e.phase ≡ model.Calling d → IsEmpty e old → old.marks.init ≡ true → put ≡ true → new ≡ after_try old.writer (own_init c d) put
     → starts_at s ≡ with_start InitAlarm (starts_at old.marks.starts) → tickets.items ≡ []
@@ -152,24 +136,34 @@ echoes_packet e t cookie old new room tickets phase empty puts none = record {
   tickets_are = none_numbered tickets e.sender none;
 }
 
-pub full_packet : (e : EndView) (t : model.Tags) (g : model.Stage) (old new : Packing) (room : Bool) (tickets : Vec Ticket Global) → e.phase ≡ model.Open t g → IsEmpty e old
+-- no request to reset streams is made
+unasked : (e : EndView) → IsQuiet e → asking e ≡ e
+unasked e quiet = ap (λ (b : Bool). asking_now (b && (is_home ResetAlarm e.phase && may_ask e.sender)) e) quiet.reset
+
+from_quiet : (e : EndView) (old : Packing) (zs : List ChunkMeaning) (full : Bool) (x : EndView) → IsQuiet e → IsEmpty e old → Puts open_slots (drafted old.marks e) old.writer.chunks zs full x
+    → Puts open_slots (asking e) [] zs full x
+from_quiet e old zs full x quiet empty puts = subst (λ (y : EndView). Puts open_slots y [] zs full x) (sym (unasked e quiet)) (from_empty e old zs full x open_slots empty puts)
+
+pub full_packet : (e : EndView) (t : model.Tags) (g : model.Stage) (old new : Packing) (room : Bool) (tickets : Vec Ticket Global) → e.phase ≡ model.Open t g → IsQuiet e → IsEmpty e old
     → room ≡ false → PutsAt open_slots e old new room → tickets.items ≡ [] → IsPacked e e.sender new tickets
-full_packet e t g old new room tickets phase empty is puts none =
+full_packet e t g old new room tickets phase quiet empty is puts none =
     let full = subst (PutsAt open_slots e old new) is puts in record {
-      builds = EndsFull t g new.writer.chunks (drafted new.marks e) phase (from_empty e old new.writer.chunks true (drafted new.marks e) open_slots empty full.puts);
+      builds = EndsFull t g new.writer.chunks (drafted new.marks e) phase (from_quiet e old new.writer.chunks true (drafted new.marks e) quiet empty full.puts);
       packet = full.packet;
       tickets_are = none_numbered tickets e.sender none;
     }
 
-filled_packet : (e : EndView) (t : model.Tags) (g : model.Stage) (old mid new : Packing) (traffic : Traffic) (tickets : Vec Ticket Global) → e.phase ≡ model.Open t g → IsEmpty e old
+filled_packet : (e : EndView) (t : model.Tags) (g : model.Stage) (old mid new : Packing) (traffic : Traffic) (tickets : Vec Ticket Global) → e.phase ≡ model.Open t g → IsQuiet e → IsEmpty e old
     → PutsAt open_slots e old mid true → FillsBehind e mid new traffic tickets → IsPacked e (filled_behind (drafted mid.marks e) mid.writer.chunks).view new tickets
-filled_packet e t g old mid new traffic tickets phase empty puts fills =
+filled_packet e t g old mid new traffic tickets phase quiet empty puts fills =
     let x = drafted mid.marks e in
     let zs = mid.writer.chunks in
     let v = (filled_behind x zs).view in
-    let built = Fills t g zs x phase (from_empty e old zs false x open_slots empty puts.puts) in
+    let built = Fills t g zs x phase (from_quiet e old zs false x quiet empty puts.puts) in
+    let paced : (sent x zs).pace ≡ e.pace = ap (option_map (sent_pace x.moment x.sender v (filled_behind x zs).wishes)) quiet.pace ∙ sym quiet.pace in
     let leaves : sent x zs ≡ record (drafted new.marks e) { sender = v } =
-    sym (ap (λ (m : Marks). record (drafted m e) { sender = v }) fills.marks ∙ ap (λ (f : Alarm → Timer). record x { sender = v; timers = f }) fills.timers) in
+    ap (λ (o : Option Pace). record (sent x zs) { pace = o }) paced
+    ∙ sym (ap (λ (m : Marks). record (drafted m e) { sender = v }) fills.marks ∙ ap (λ (f : Alarm → Timer). record x { sender = v; timers = f }) fills.timers) in
     record {
       builds = subst (λ (cs : List ChunkMeaning). Builds e cs (record (drafted new.marks e) { sender = v })) (sym fills.chunks) (subst (λ (y : EndView). Builds e (zs ++ fragments x zs) y) leaves built);
       packet = fills.packet;
@@ -177,11 +171,11 @@ filled_packet e t g old mid new traffic tickets phase empty puts fills =
     }
 
 pub fills_packet : {E : Type 0} (r : Result (Vec Ticket Global) E) (e : EndView) (t : model.Tags) (g : model.Stage) (old mid new : Packing) (room : Bool) (traffic : Traffic)
-    → e.phase ≡ model.Open t g → IsEmpty e old → room ≡ true → PutsAt open_slots e old mid room → IfOk r (λ tickets. FillsBehind e mid new traffic tickets)
+    → e.phase ≡ model.Open t g → IsQuiet e → IsEmpty e old → room ≡ true → PutsAt open_slots e old mid room → IfOk r (λ tickets. FillsBehind e mid new traffic tickets)
     → IfOk r (λ tickets. (s : SenderView) × IsPacked e s new tickets × TrafficStands traffic (format_of e) s e.receiver)
-fills_packet (Ok tickets) e t g old mid new room traffic phase empty is puts fills =
-    (_, filled_packet e t g old mid new traffic tickets phase empty (subst (PutsAt open_slots e old mid) is puts) fills, fills.traffic_stands)
-fills_packet (Err failed) e t g old mid new room traffic phase empty is puts fills = fills
+fills_packet (Ok tickets) e t g old mid new room traffic phase quiet empty is puts fills =
+    (_, filled_packet e t g old mid new traffic tickets phase quiet empty (subst (PutsAt open_slots e old mid) is puts) fills, fills.traffic_stands)
+fills_packet (Err failed) e t g old mid new room traffic phase quiet empty is puts fills = fills
 
 -- ---- the answer
 
@@ -209,7 +203,7 @@ answered e s (Some b) m p tickets packed writes size within same stands = record
 -- ---- what stands for the end meanwhile
 
 pub with_moment : (m : Machine) (v : EndView) (n : ℕ) → KeepsMachine m v → KeepsMachine (record m { moment = n }) (record v { moment = n })
-with_moment m v n k = record { configuration = k.configuration; role = k.role; clock = refl; due = k.due; timers = k.timers; delayed = k.delayed; phase = k.phase; life = k.life; room = k.room }
+with_moment m v n k = record { configuration = k.configuration; role = k.role; clock = refl; due = k.due; timers = k.timers; delayed = k.delayed; phase = k.phase; life = k.life; room = k.room; pace = k.pace }
 
 -- a receiver that nothing came to has no duplicates to tell
 pub told_fresh : (r : ReceiverView) (b : ℕ) → r ≡ fresh_receiver 0 0 b → sack_sent r ≡ r
@@ -237,7 +231,7 @@ with_traffic_kept (Err failed) e p traffic packed stands = packed
 pub on_traffic : (m : Machine) (a b : Association) (v : EndView) (x : SenderView) → m.life ≡ life.Joined a → KeepsMachine m v → b ≡ record a { traffic = b.traffic }
     → TrafficStands b.traffic (format_for v.terms.interleave) x v.receiver → KeepsMachine (record m { life = life.Joined b }) (record v { sender = x })
 on_traffic m a b v x is k kept stands =
-    subst (λ (h : Association). KeepsMachine (record m { life = life.Joined h }) (record v { sender = x })) (sym kept) (with_traffic m a b.traffic v x v.receiver is k stands refl)
+    subst (λ (h : Association). KeepsMachine (record m { life = life.Joined h }) (record v { sender = x })) (sym kept) (with_traffic m a b.traffic v x v.receiver is k stands refl refl)
 
 pub with_sender : {E : Type 0} (r : Result (Vec Ticket Global) E) (e v : EndView) (p : Packing) (m : Machine) (a b : Association) → m.life ≡ life.Joined a → KeepsMachine m v
     → b ≡ record a { traffic = b.traffic } → IfOk r (λ tickets. (x : SenderView) × IsPacked e x p tickets × TrafficStands b.traffic (format_for v.terms.interleave) x v.receiver)

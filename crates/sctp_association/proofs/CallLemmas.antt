@@ -2,16 +2,17 @@
 use Rattle.std.proofs.Common.{◌≡◌, ◌∙◌, ℕ, ◌+◌, nat_lt, nat_le, Bool, true, false, List, [], ◌∷◌, length, refl, ap, sym, arith}
 use Rattle.std.proofs.lemmas.Bool.{false≢true}
 use Rattle.std.proofs.lemmas.Bool.Decides.{nat_tests}
-use Rattle.std.specs.Prelude.{if◌then◌else◌, ◌&&◌, ◌||◌, ◌==◌, zero, suc, Some, None, unwrap_or}
+use Rattle.std.specs.Prelude.{if◌then◌else◌, not, ◌&&◌, ◌||◌, ◌==◌, zero, suc, Some, None, unwrap_or}
 use Rattle.sctp_model.specs.numbers.Limits.{LONGEST_MESSAGE, QUEUE_LIMIT, TICKET_LIMIT, TSN_LIMIT}
 use Rattle.sctp_model.specs.sender.Words.{when, first_there}
 use Rattle.sctp_model.specs.sender.SenderView.{SenderView, fresh_sender}
-use Rattle.sctp_model.specs.sender.Queueing.{NoSuchStream, Empty, TooLong, QueueFull, Spent, refusal, promised, owed_for, cut}
+use Rattle.sctp_model.specs.sender.Queueing.{NoSuchStream, Resetting, Empty, TooLong, QueueFull, Spent, refusal, promised, owed_for, cut}
+use Rattle.sctp_model.specs.sender.Outgoing.{is_sending}
 use Rattle.sctp_model.specs.sender.Abandoning.{abandon_answer, abandon_after, Unknown, Withdrawn}
 use Rattle.sctp_model.specs.receiver.ReceiverView.{ReceiverView, fresh_receiver}
 use Rattle.sctp_model.specs.world.Calls.{Call}
 use Rattle.sctp_model.specs.end.EndView as model
-use Rattle.sctp_model.specs.end.EndView.{EndView, Alarm, Timer}
+use Rattle.sctp_model.specs.end.EndView.{EndView, Alarm, Timer, unused_timer}
 use Rattle.sctp_model.specs.end.Clock.{turned, stopped, replaced, timers_in}
 use Rattle.sctp_model.specs.end.Closing.{hears, rested}
 use Rattle.sctp_model.specs.end.Moments.{after_abandoning}
@@ -127,23 +128,25 @@ called_stands m v draw d s k idle due timers = record {
   phase = refl;
   life = idle_unjoined m.life v.configuration v.terms v.sender v.receiver idle k.life;
   room = k.room;
+  pace = k.pace;
 }
 
 abbrev pub stop_at : Alarm → (Alarm → Timer) → Alarm → Timer
 stop_at a f = replaced a (stopped (f a)) f
 
-called_at : (d : model.Draw) (f : Alarm → Timer) (a : Alarm)
+called_at : (d : model.Draw) (f : Alarm → Timer) (a : Alarm) → f model.ResetAlarm ≡ unused_timer
     → stop_at model.AckAlarm (stop_at model.ShutdownAlarm (stop_at model.DataAlarm (stop_at model.CookieAlarm f))) a ≡ timers_in (model.Calling d) f a
-called_at d f model.InitAlarm = refl
-called_at d f model.CookieAlarm = refl
-called_at d f model.DataAlarm = refl
-called_at d f model.ShutdownAlarm = refl
-called_at d f model.AckAlarm = refl
+called_at d f model.InitAlarm unused = refl
+called_at d f model.CookieAlarm unused = refl
+called_at d f model.DataAlarm unused = refl
+called_at d f model.ShutdownAlarm unused = refl
+called_at d f model.AckAlarm unused = refl
+called_at d f model.ResetAlarm unused = unused ∙ sym (ap stopped unused)
 
-pub called_timers : (d : model.Draw) (f g h k n : Alarm → Timer) → g ≡ stop_at model.CookieAlarm f → h ≡ stop_at model.DataAlarm g → k ≡ stop_at model.ShutdownAlarm h → n ≡ stop_at model.AckAlarm k
+pub called_timers : (d : model.Draw) (f g h k n : Alarm → Timer) → f model.ResetAlarm ≡ unused_timer → g ≡ stop_at model.CookieAlarm f → h ≡ stop_at model.DataAlarm g → k ≡ stop_at model.ShutdownAlarm h → n ≡ stop_at model.AckAlarm k
     → n ≡ timers_in (model.Calling d) f
-called_timers d f g h k n one two three four =
-    four ∙ ap (stop_at model.AckAlarm) (three ∙ ap (stop_at model.ShutdownAlarm) (two ∙ ap (stop_at model.DataAlarm) one)) ∙ (λ i a. called_at d f a i)
+called_timers d f g h k n unused one two three four =
+    four ∙ ap (stop_at model.AckAlarm) (three ∙ ap (stop_at model.ShutdownAlarm) (two ∙ ap (stop_at model.DataAlarm) one)) ∙ (λ i a. called_at d f a unused i)
 
 -- ---- send
 
@@ -152,7 +155,7 @@ zero_le n = grind (arith, nat_tests)
 
 refuses_at : (s : SenderView) (stream : ℕ) (bytes : List ℕ) → nat_le s.streams stream ≡ true → refusal s stream bytes ≡ Some NoSuchStream
 refuses_at s stream bytes w =
-    ap (λ (b : Bool). first_there (when b NoSuchStream ∷ when (length bytes == 0) Empty ∷ when (nat_lt LONGEST_MESSAGE (length bytes)) TooLong
+    ap (λ (b : Bool). first_there (when b NoSuchStream ∷ when (not (is_sending (s.resets.sending stream))) Resetting ∷ when (length bytes == 0) Empty ∷ when (nat_lt LONGEST_MESSAGE (length bytes)) TooLong
     ∷ when (nat_le QUEUE_LIMIT (length s.queue)) QueueFull
     ∷ when (nat_le TICKET_LIMIT s.tickets || nat_lt TSN_LIMIT (promised s + owed_for (length (cut s.fragment bytes)))) Spent ∷ [])) w
 

@@ -16,6 +16,7 @@ use Rattle.sctp_model.specs.end.Reports.{with_causes}
 use Rattle.sctp_model.specs.end.Acting.{piece_causes, heartbeat_heard, shut_timer}
 use Rattle.sctp_values.specs.declared.no_memory.NoMemory.{NoMemory}
 use Rattle.sctp_recv.specs.AnswerOf.{answer_of, forward_answer_of}
+use Rattle.sctp_recv.specs.Laws.{ResetsStay}
 use Rattle.sctp_recv.specs.declared.answer.Answer.{Answer}
 use Rattle.sctp_recv.specs.declared.answer.Answer.TheVariants as answer
 use Rattle.sctp_recv.specs.declared.forward.ForwardAnswer.{ForwardAnswer}
@@ -45,24 +46,26 @@ never_open m x v t g is k phase = not_open x t g (subst (λ h. phase_of h ≡ v.
 
 -- ---- the receiver
 
-pub piece_taken : (m : Machine) (a : Association) (s : Traffic) (v : EndView) (p : PieceMeaning) (r : Result Answer NoMemory) → m.life ≡ life.Joined a → KeepsMachine m v
+pub piece_taken : (m : Machine) (a : Association) (s : Traffic) (v : EndView) (p : PieceMeaning) (r : Result Answer NoMemory) → m.life ≡ life.Joined a → KeepsMachine m v → ResetsStay
     → IfOk r (λ b. (t : ReceiverView) × PieceTaken (format_of v) v.receiver p (answer_of b) t × TrafficStands s (format_of v) v.sender t)
     → IfOk r (λ b. (t : ReceiverView) × PieceTaken (format_of v) v.receiver p (answer_of b) t
     × KeepsMachine (record m { life = life.Joined (record a { traffic = s }) }) (record v { receiver = t }))
-piece_taken m a s v p (Ok b) is k (t, took, stands) = (t, took, with_traffic m a s v v.sender t is k stands (piece_keeps_buffer _ v.receiver p _ t took))
-piece_taken m a s v p (Err why) is k took = tt
+piece_taken m a s v p (Ok b) is k stay (t, took, stands) =
+    (t, took, with_traffic m a s v v.sender t is k stands (piece_keeps_buffer _ v.receiver p _ t took) (stay.piece _ v.receiver p _ t took))
+piece_taken m a s v p (Err why) is k stay took = tt
 
-pub forward_taken : (m : Machine) (a : Association) (s : Traffic) (v : EndView) (p : ForwardMeaning) (r : Result ForwardAnswer NoMemory) → m.life ≡ life.Joined a → KeepsMachine m v
+pub forward_taken : (m : Machine) (a : Association) (s : Traffic) (v : EndView) (p : ForwardMeaning) (r : Result ForwardAnswer NoMemory) → m.life ≡ life.Joined a → KeepsMachine m v → ResetsStay
     → IfOk r (λ b. (t : ReceiverView) × ForwardTaken (format_of v) v.receiver p (forward_answer_of b) t × TrafficStands s (format_of v) v.sender t)
     → IfOk r (λ b. (t : ReceiverView) × ForwardTaken (format_of v) v.receiver p (forward_answer_of b) t
     × KeepsMachine (record m { life = life.Joined (record a { traffic = s }) }) (record v { receiver = t }))
-forward_taken m a s v p (Ok b) is k (t, took, stands) = (t, took, with_traffic m a s v v.sender t is k stands (forward_keeps_buffer _ v.receiver p _ t took))
-forward_taken m a s v p (Err why) is k took = tt
+forward_taken m a s v p (Ok b) is k stay (t, took, stands) =
+    (t, took, with_traffic m a s v v.sender t is k stands (forward_keeps_buffer _ v.receiver p _ t took) (stay.forward _ v.receiver p _ t took))
+forward_taken m a s v p (Err why) is k stay took = tt
 
 pub untaken : {A : Type 0} (m : Machine) (a : Association) (s : Traffic) (v : EndView) (r : Result A NoMemory) → m.life ≡ life.Joined a → KeepsMachine m v
     → OnErr r (TrafficStands s (format_of v) v.sender v.receiver) → OnErr r (KeepsMachine (record m { life = life.Joined (record a { traffic = s }) }) v)
 untaken m a s v (Ok b) is k stands = tt
-untaken m a s v (Err why) is k stands = with_traffic m a s v v.sender v.receiver is k stands refl
+untaken m a s v (Err why) is k stands = with_traffic m a s v v.sender v.receiver is k stands refl refl
 
 -- the causes that wait are those from before the chunk came
 pub causes_came : (v : EndView) (r : ReceiverView) (p : PieceMeaning) (a : taken.PieceAnswer) → piece_causes (record v { receiver = r }) p a ≡ piece_causes v p a
@@ -113,6 +116,7 @@ own_at f model.CookieAlarm = refl
 own_at f DataAlarm = refl
 own_at f model.ShutdownAlarm = refl
 own_at f model.AckAlarm = refl
+own_at f model.ResetAlarm = refl
 
 -- a SHUTDOWN that renews the data timer
 pub shut_renews : (v : EndView) (moved : Bool) → (v.configuration.standard_closing && moved) ≡ true

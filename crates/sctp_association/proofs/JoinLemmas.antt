@@ -1,11 +1,15 @@
 -- `begin`, `echo`, `paired`: an endpoint with the terms, sender and receiver of an association stands for the view that the specification begins with.
-use Rattle.std.proofs.Common.{◌≡◌, ◌∙◌, ℕ, List, refl, ap, subst}
+use Rattle.std.proofs.Common.{◌≡◌, ◌∙◌, ℕ, false, List, refl, sym, ap, subst}
+use Rattle.std.specs.Prelude.{Bool, None, ◌-◌, []}
 use Rattle.sctp_model.specs.sender.SenderView.{fresh_sender}
 use Rattle.sctp_model.specs.receiver.ReceiverView.{fresh_receiver}
-use Rattle.sctp_model.specs.end.EndView.{Alarm, Configuration, EndView, format_for}
+use Rattle.sctp_model.specs.end.EndView.{Alarm, Configuration, EndView, format_for, unused_timer}
 use Rattle.sctp_model.specs.end.EndView as model
-use Rattle.sctp_model.specs.end.Clock.{timers_in, turned}
-use Rattle.sctp_model.specs.end.Opening.{joined}
+use Rattle.sctp_model.specs.end.Clock.{stopped, timers_in, turned}
+use Rattle.sctp_model.specs.wire.Packet.{size_of_packet}
+use Rattle.sctp_model.specs.sender.Words.{when}
+use Rattle.sctp_model.specs.end.Pacing.{fresh_pace}
+use Rattle.sctp_model.specs.end.Opening.{joined, pace_for}
 use Rattle.sctp_opening.specs.Terms.{terms_meaning}
 use Rattle.sctp_association.specs.TimersMean.{timers_meaning}
 use Rattle.sctp_association.specs.PhaseMeans.{phase_in}
@@ -24,11 +28,15 @@ abbrev pub Begins : Association → Configuration → (rwnd : ℕ) → Type 0
 Begins a c rwnd = TrafficStands a.traffic (format_for a.terms.interleave) (fresh_sender a.terms.own_tsn a.terms.outbound c.fragment rwnd a.terms.partial)
     (fresh_receiver a.terms.peer_tsn a.terms.inbound c.buffer)
 
+-- without fast retransmit it has no pace
+pub unpaced : (c : Configuration) (rwnd : ℕ) → c.fast_retransmit ≡ false → pace_for c rwnd ≡ None
+unpaced c rwnd off = ap (λ (b : Bool). when b (fresh_pace c.congestion_control (c.limit - size_of_packet []) rwnd)) off
+
 -- the end joins, in this phase and with this due
 pub joined_there : (m : Machine) (v : EndView) (a : Association) (d : Due) (s : Timers) (x : model.Terms) (rwnd : ℕ) (h : model.Phase) (y : model.Due) → KeepsMachine m v
-    → terms_meaning a.terms ≡ x → phase_in a.tags a.progress ≡ h → DueStands d y → timers_meaning s ≡ timers_in h (timers_meaning m.timers) → Begins a m.config rwnd
+    → m.config.fast_retransmit ≡ false → terms_meaning a.terms ≡ x → phase_in a.tags a.progress ≡ h → DueStands d y → timers_meaning s ≡ timers_in h (timers_meaning m.timers) → Begins a m.config rwnd
     → KeepsMachine (record m { due = d; timers = s; life = life.Joined a }) (record (turned h (joined x rwnd v)) { due = y })
-joined_there m v a d s x rwnd h y k terms phase due timers begins =
+joined_there m v a d s x rwnd h y k off terms phase due timers begins =
     rw (← terms) (record {
       configuration = k.configuration;
       role = k.role;
@@ -37,19 +45,21 @@ joined_there m v a d s x rwnd h y k terms phase due timers begins =
       timers = timers ∙ ap (timers_in h) k.timers;
       delayed = k.delayed;
       phase = phase;
-      life = record { terms = refl; traffic = subst (λ (c : Configuration). Begins a c rwnd) k.configuration begins; buffer = refl };
+      life = record { terms = refl; traffic = subst (λ (c : Configuration). Begins a c rwnd) k.configuration begins; buffer = refl; answers = refl };
       room = k.room;
+      pace = unpaced v.configuration rwnd (sym (ap (λ (c : Configuration). c.fast_retransmit) k.configuration) ∙ off);
     })
 
-echoed_at : (t : model.Tags) (xs : List ℕ) (f : Alarm → model.Timer) (a : Alarm)
+echoed_at : (t : model.Tags) (xs : List ℕ) (f : Alarm → model.Timer) (a : Alarm) → f model.ResetAlarm ≡ unused_timer
     → stop_at model.AckAlarm (stop_at model.ShutdownAlarm (stop_at model.DataAlarm (stop_at model.InitAlarm f))) a ≡ timers_in (model.Echoing t xs) f a
-echoed_at t xs f model.InitAlarm = refl
-echoed_at t xs f model.CookieAlarm = refl
-echoed_at t xs f model.DataAlarm = refl
-echoed_at t xs f model.ShutdownAlarm = refl
-echoed_at t xs f model.AckAlarm = refl
+echoed_at t xs f model.InitAlarm unused = refl
+echoed_at t xs f model.CookieAlarm unused = refl
+echoed_at t xs f model.DataAlarm unused = refl
+echoed_at t xs f model.ShutdownAlarm unused = refl
+echoed_at t xs f model.AckAlarm unused = refl
+echoed_at t xs f model.ResetAlarm unused = unused ∙ sym (ap stopped unused)
 
-pub echoed_timers : (t : model.Tags) (xs : List ℕ) (f g h k n : Alarm → model.Timer) → g ≡ stop_at model.InitAlarm f → h ≡ stop_at model.DataAlarm g
+pub echoed_timers : (t : model.Tags) (xs : List ℕ) (f g h k n : Alarm → model.Timer) → f model.ResetAlarm ≡ unused_timer → g ≡ stop_at model.InitAlarm f → h ≡ stop_at model.DataAlarm g
     → k ≡ stop_at model.ShutdownAlarm h → n ≡ stop_at model.AckAlarm k → n ≡ timers_in (model.Echoing t xs) f
-echoed_timers t xs f g h k n one two three four =
-    four ∙ ap (stop_at model.AckAlarm) (three ∙ ap (stop_at model.ShutdownAlarm) (two ∙ ap (stop_at model.DataAlarm) one)) ∙ (λ i a. echoed_at t xs f a i)
+echoed_timers t xs f g h k n unused one two three four =
+    four ∙ ap (stop_at model.AckAlarm) (three ∙ ap (stop_at model.ShutdownAlarm) (two ∙ ap (stop_at model.DataAlarm) one)) ∙ (λ i a. echoed_at t xs f a unused i)

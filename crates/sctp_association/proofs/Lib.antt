@@ -11,6 +11,7 @@ pub mod FillLemmas
 pub mod StartLemmas
 pub mod RoomLemmas
 pub mod PutLemmas
+pub mod InitLemmas
 pub mod BuildLemmas
 pub mod PlainLemmas
 pub mod AbortLemmas

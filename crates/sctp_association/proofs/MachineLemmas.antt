@@ -1,12 +1,16 @@
 -- An endpoint and a view that it stands for, with the same part of both changed, stand for each other again: clock, due chunks, timers, buffer, traffic, phase.
-use Rattle.std.proofs.Common.{◌≡◌, ◌≤◌, ◌∙◌, ℕ, Bool, false, refl, sym, ap, subst}
-use Rattle.std.specs.Prelude.{max, zero, suc, Option, None, vec_capacity}
+use Rattle.std.proofs.Common.{◌≡◌, ◌≤◌, ◌∙◌, ℕ, Bool, true, false, refl, sym, ap, subst}
+use Rattle.std.specs.Prelude.{◌&&◌, ◌==◌, max, zero, suc, Option, None, vec_capacity}
 use Rattle.std.specs.declared.vec.Vec.{Vec}
 use Rattle.std.specs.declared.alloc.Global.{Global}
 use Rattle.sctp_model.specs.sender.SenderView.{SenderView, fresh_sender}
+use Rattle.sctp_model.specs.receiver.Incoming.{Incoming}
 use Rattle.sctp_model.specs.receiver.ReceiverView.{ReceiverView}
-use Rattle.sctp_model.specs.sender.Abandoning.{expired, timed_out}
-use Rattle.sctp_model.specs.end.EndView.{EndView, Alarm, format_for, nothing_due}
+use Rattle.sctp_model.specs.sender.Abandoning.{expired, worn, timed_out}
+use Rattle.sctp_model.specs.wire.Reconfig.{RECONFIG}
+use Rattle.sctp_model.specs.end.Closing.{hears, takes_data}
+use Rattle.sctp_model.specs.end.Reconfiguring.{takes_reconfig}
+use Rattle.sctp_model.specs.end.EndView.{EndView, Configuration, Alarm, format_for, nothing_due}
 use Rattle.sctp_model.specs.end.EndView as model
 use Rattle.sctp_model.specs.end.Clock.{at_moment, is_home, timers_in, turned, closed}
 use Rattle.sctp_terms.specs.Meanings.{end_meaning}
@@ -16,6 +20,7 @@ use Rattle.sctp_association.specs.StageMeans.{tags_meaning, stage_meaning}
 use Rattle.sctp_association.specs.PhaseMeans.{phase_in, phase_of, phase_unjoined}
 use Rattle.sctp_association.specs.DueStands.{DueStands}
 use Rattle.sctp_association.specs.TrafficStands.{TrafficStands}
+use Rattle.sctp_association.specs.Drafted.{IsQuiet}
 use Rattle.sctp_association.specs.MachineStands.{IsUnjoined, IsJoined, LifeStands, KeepsMachine}
 use Rattle.sctp_association.specs.declared.state.stage.Tags.{Tags}
 use Rattle.sctp_association.specs.declared.state.stage.Stage.{Stage}
@@ -24,6 +29,7 @@ use Rattle.sctp_association.specs.declared.state.life.Unjoined.TheVariants.{Fail
 use Rattle.sctp_association.specs.declared.state.life.Progress.{Progress}
 use Rattle.sctp_association.specs.declared.state.life.Progress.TheVariants.{Echoing, Open, Over}
 use Rattle.sctp_association.specs.declared.state.life.Association.{Association}
+use Rattle.sctp_association.specs.declared.state.life.Life.{Life}
 use Rattle.sctp_association.specs.declared.state.life.Life.TheVariants as life
 use Rattle.sctp_association.specs.declared.traffic.Traffic.{Traffic}
 use Rattle.sctp_association.specs.declared.time.timers.Timers.{Timers}
@@ -37,24 +43,24 @@ at_view m v w same keeps = subst (λ x. KeepsMachine m x) (sym same) keeps
 -- ---- the clock, what is due, the timers
 
 pub with_clock : (m : Machine) (v : EndView) (n now : ℕ) → KeepsMachine m v → n ≡ max m.moment now → KeepsMachine (record m { moment = n }) (at_moment v now)
-with_clock m v n now k is = record { configuration = k.configuration; role = k.role; clock = is ∙ ap (λ (x : ℕ). max x now) k.clock; due = k.due; timers = k.timers; delayed = k.delayed; phase = k.phase; life = k.life; room = k.room }
+with_clock m v n now k is = record { configuration = k.configuration; role = k.role; clock = is ∙ ap (λ (x : ℕ). max x now) k.clock; due = k.due; timers = k.timers; delayed = k.delayed; phase = k.phase; life = k.life; room = k.room; pace = k.pace }
 
 pub with_due : (m : Machine) (v : EndView) (d : Due) (x : model.Due) → KeepsMachine m v → DueStands d x → KeepsMachine (record m { due = d }) (record v { due = x })
-with_due m v d x k due = record { configuration = k.configuration; role = k.role; clock = k.clock; due = due; timers = k.timers; delayed = k.delayed; phase = k.phase; life = k.life; room = k.room }
+with_due m v d x k due = record { configuration = k.configuration; role = k.role; clock = k.clock; due = due; timers = k.timers; delayed = k.delayed; phase = k.phase; life = k.life; room = k.room; pace = k.pace }
 
 pub with_timers : (m : Machine) (v : EndView) (s : Timers) (f : Alarm → model.Timer) → KeepsMachine m v → timers_meaning s ≡ f → KeepsMachine (record m { timers = s }) (record v { timers = f })
-with_timers m v s f k timers = record { configuration = k.configuration; role = k.role; clock = k.clock; due = k.due; timers = timers; delayed = k.delayed; phase = k.phase; life = k.life; room = k.room }
+with_timers m v s f k timers = record { configuration = k.configuration; role = k.role; clock = k.clock; due = k.due; timers = timers; delayed = k.delayed; phase = k.phase; life = k.life; room = k.room; pace = k.pace }
 
 pub with_both : (m : Machine) (v : EndView) (d : Due) (x : model.Due) (s : Timers) (f : Alarm → model.Timer) → KeepsMachine m v → DueStands d x → timers_meaning s ≡ f
     → KeepsMachine (record m { due = d; timers = s }) (record v { due = x; timers = f })
-with_both m v d x s f k due timers = record { configuration = k.configuration; role = k.role; clock = k.clock; due = due; timers = timers; delayed = k.delayed; phase = k.phase; life = k.life; room = k.room }
+with_both m v d x s f k due timers = record { configuration = k.configuration; role = k.role; clock = k.clock; due = due; timers = timers; delayed = k.delayed; phase = k.phase; life = k.life; room = k.room; pace = k.pace }
 
 pub with_delayed : (m : Machine) (v : EndView) (n o : Option ℕ) → KeepsMachine m v → n ≡ o → KeepsMachine (record m { delayed = n }) (record v { delayed = o })
-with_delayed m v n o k is = record { configuration = k.configuration; role = k.role; clock = k.clock; due = k.due; timers = k.timers; delayed = is; phase = k.phase; life = k.life; room = k.room }
+with_delayed m v n o k is = record { configuration = k.configuration; role = k.role; clock = k.clock; due = k.due; timers = k.timers; delayed = is; phase = k.phase; life = k.life; room = k.room; pace = k.pace }
 
 -- the buffer for the next packet is no part of any view
 pub with_room : (m : Machine) (v : EndView) (room : Vec ℕ Global) → KeepsMachine m v → vec_capacity room ≤ v.configuration.limit → KeepsMachine (record m { room = room }) v
-with_room m v room k within = record { configuration = k.configuration; role = k.role; clock = k.clock; due = k.due; timers = k.timers; delayed = k.delayed; phase = k.phase; life = k.life; room = within }
+with_room m v room k within = record { configuration = k.configuration; role = k.role; clock = k.clock; due = k.due; timers = k.timers; delayed = k.delayed; phase = k.phase; life = k.life; room = within; pace = k.pace }
 
 -- ---- terms, sender and receiver
 
@@ -73,9 +79,9 @@ pub phase_joined : (m : Machine) (a : Association) (v : EndView) → m.life ≡ 
 phase_joined m a v is k = subst (λ h. phase_of h ≡ v.phase) is k.phase
 
 pub with_traffic : (m : Machine) (a : Association) (s : Traffic) (v : EndView) (x : SenderView) (y : ReceiverView) → m.life ≡ life.Joined a → KeepsMachine m v
-    → TrafficStands s (format_for v.terms.interleave) x y → y.buffer ≡ v.receiver.buffer
+    → TrafficStands s (format_for v.terms.interleave) x y → y.buffer ≡ v.receiver.buffer → y.resets ≡ v.receiver.resets
     → KeepsMachine (record m { life = life.Joined (record a { traffic = s }) }) (record v { sender = x; receiver = y })
-with_traffic m a s v x y is k stands same = record {
+with_traffic m a s v x y is k stands same unreset = record {
   configuration = k.configuration;
   role = k.role;
   clock = k.clock;
@@ -83,19 +89,23 @@ with_traffic m a s v x y is k stands same = record {
   timers = k.timers;
   delayed = k.delayed;
   phase = phase_joined m a v is k;
-  life = record { terms = (joined m a v is k).terms; traffic = stands; buffer = same ∙ (joined m a v is k).buffer };
+  life = record { terms = (joined m a v is k).terms; traffic = stands; buffer = same ∙ (joined m a v is k).buffer; answers = ap (λ (x : Incoming). x.answers) unreset ∙ (joined m a v is k).answers };
   room = k.room;
+  pace = k.pace;
 }
 
 pub with_expired : (m : Machine) (a : Association) (s : Traffic) (v : EndView) (now : ℕ) → m.life ≡ life.Joined a → KeepsMachine m v → now ≡ v.moment
     → TrafficStands s (format_for v.terms.interleave) (expired v.sender now) v.receiver
     → KeepsMachine (record m { life = life.Joined (record a { traffic = s }) }) (record v { sender = expired v.sender v.moment })
 with_expired m a s v now is k clock stands =
-    with_traffic m a s v (expired v.sender v.moment) v.receiver is k (subst (λ (n : ℕ). TrafficStands s (format_for v.terms.interleave) (expired v.sender n) v.receiver) clock stands) refl
+    with_traffic m a s v (expired v.sender v.moment) v.receiver is k (subst (λ (n : ℕ). TrafficStands s (format_for v.terms.interleave) (expired v.sender n) v.receiver) clock stands) refl refl
 
 -- a sender that was never used stays so
 pub expired_fresh : (s : SenderView) (f now : ℕ) → s ≡ fresh_sender 0 0 f 0 false → expired s now ≡ s
 expired_fresh s f now is = ap (λ (x : SenderView). expired x now) is ∙ sym is
+
+pub worn_fresh : (s : SenderView) (f : ℕ) → s ≡ fresh_sender 0 0 f 0 false → worn (λ i. true) s ≡ s
+worn_fresh s f is = ap (λ (x : SenderView). worn (λ i. true) x) is ∙ sym is
 
 none_marked : (f i : ℕ) → (timed_out (fresh_sender 0 0 f 0 false)).marked i ≡ false
 none_marked f zero = refl
@@ -103,6 +113,27 @@ none_marked f (suc i) = refl
 
 pub timed_out_fresh : (s : SenderView) (f : ℕ) → s ≡ fresh_sender 0 0 f 0 false → timed_out s ≡ s
 timed_out_fresh s f is = ap (λ (x : SenderView). timed_out x) is ∙ ap (λ (m : ℕ → Bool). record (fresh_sender 0 0 f 0 false) { marked = m }) (λ j i. none_marked f i j) ∙ sym is
+
+-- it agreed on no resets, so it takes no RE-CONFIG
+unreset : (h : Life) (c : Configuration) (t : model.Terms) (s : SenderView) (r : ReceiverView) → LifeStands h c t s r → t.reset ≡ false
+unreset (life.Unjoined x) c t s r u = ap (λ (y : model.Terms). y.reset) u.terms
+unreset (life.Joined a) c t s r j = ap (λ (y : model.Terms). y.reset) (sym j.terms)
+
+takes_not : (b c r : Bool) → r ≡ false → (b && (r && c)) ≡ false
+takes_not true c r off = ap (λ (x : Bool). x && c) off
+takes_not false c r off = refl
+
+pub takes_none : (m : Machine) (v : EndView) (kind : ℕ) → KeepsMachine m v → takes_reconfig v kind ≡ false
+takes_none m v kind k = takes_not (kind == RECONFIG) (hears takes_data v.phase) v.terms.reset (unreset m.life v.configuration v.terms v.sender v.receiver k.life)
+
+-- it has no pace and resets no stream, whatever its moment
+pub quiet_at : (m : Machine) (a : Association) (v : EndView) (n : ℕ) → m.life ≡ life.Joined a → KeepsMachine m v → IsQuiet (record v { moment = n })
+quiet_at m a v n is k = record {
+  pace = k.pace;
+  reset = ap (λ (t : model.Terms). t.reset) (sym (joined m a v is k).terms);
+  request = k.due.request;
+  answers = (joined m a v is k).answers;
+}
 
 -- ---- the phase
 
@@ -124,8 +155,9 @@ turned_open m a v t g stage d s is k phase due timers =
       timers = timers ∙ ap (timers_in (model.Open t (stage_meaning stage))) k.timers;
       delayed = k.delayed;
       phase = ap (λ (x : model.Tags). model.Open x (stage_meaning stage)) same;
-      life = record { terms = (joined m a v is k).terms; traffic = (joined m a v is k).traffic; buffer = (joined m a v is k).buffer };
+      life = record { terms = (joined m a v is k).terms; traffic = (joined m a v is k).traffic; buffer = (joined m a v is k).buffer; answers = (joined m a v is k).answers };
       room = k.room;
+      pace = k.pace;
     }
 
 -- no timer is at home where all is over
@@ -135,22 +167,25 @@ rests_at why f model.CookieAlarm = refl
 rests_at why f model.DataAlarm = refl
 rests_at why f model.ShutdownAlarm = refl
 rests_at why f model.AckAlarm = refl
+rests_at why f model.ResetAlarm = refl
 
 all_rest : (why : model.Ended) (f : Alarm → model.Timer) → resting f ≡ timers_in (model.Over why) f
 all_rest why f = λ i a. rests_at why f a i
 
 open_at : (t : model.Tags) (g : model.Stage) (f : Alarm → model.Timer) (a : Alarm)
-    → open_timers (is_home model.ShutdownAlarm (model.Open t g)) (is_home model.AckAlarm (model.Open t g)) f a ≡ timers_in (model.Open t g) f a
+    → open_timers (is_home model.ShutdownAlarm (model.Open t g)) (is_home model.AckAlarm (model.Open t g)) (is_home model.ResetAlarm (model.Open t g)) f a ≡ timers_in (model.Open t g) f a
 open_at t g f model.InitAlarm = refl
 open_at t g f model.CookieAlarm = refl
 open_at t g f model.DataAlarm = refl
 open_at t g f model.ShutdownAlarm = refl
 open_at t g f model.AckAlarm = refl
+open_at t g f model.ResetAlarm = refl
 
-pub open_in : (t : model.Tags) (g : model.Stage) (n f : Alarm → model.Timer) (b c : Bool) → n ≡ open_timers b c f → b ≡ is_home model.ShutdownAlarm (model.Open t g)
+pub open_in : (t : model.Tags) (g : model.Stage) (n f : Alarm → model.Timer) (b c : Bool) → ((d : Bool) → n ≡ open_timers b c d f) → b ≡ is_home model.ShutdownAlarm (model.Open t g)
     → c ≡ is_home model.AckAlarm (model.Open t g) → n ≡ timers_in (model.Open t g) f
 open_in t g n f b c is sent acked =
-    is ∙ ap (λ (x : Bool). open_timers x c f) sent ∙ ap (λ (x : Bool). open_timers (is_home model.ShutdownAlarm (model.Open t g)) x f) acked ∙ (λ i a. open_at t g f a i)
+    let d = is_home model.ResetAlarm (model.Open t g) in
+    is d ∙ ap (λ (x : Bool). open_timers x c d f) sent ∙ ap (λ (x : Bool). open_timers (is_home model.ShutdownAlarm (model.Open t g)) x d f) acked ∙ (λ i a. open_at t g f a i)
 
 pub closed_joined : (m : Machine) (a : Association) (v : EndView) (why : End) (d : Due) (s : Timers) → m.life ≡ life.Joined a → KeepsMachine m v → DueStands d nothing_due
     → timers_meaning s ≡ resting (timers_meaning m.timers)
@@ -163,8 +198,9 @@ closed_joined m a v why d s is k due timers = record {
   timers = timers ∙ ap resting k.timers ∙ all_rest (end_meaning why) v.timers;
   delayed = refl;
   phase = refl;
-  life = record { terms = (joined m a v is k).terms; traffic = (joined m a v is k).traffic; buffer = (joined m a v is k).buffer };
+  life = record { terms = (joined m a v is k).terms; traffic = (joined m a v is k).traffic; buffer = (joined m a v is k).buffer; answers = (joined m a v is k).answers };
   room = k.room;
+  pace = k.pace;
 }
 
 pub closed_unjoined : (m : Machine) (x : Unjoined) (v : EndView) (why : End) (d : Due) (s : Timers) → m.life ≡ life.Unjoined x → KeepsMachine m v → DueStands d nothing_due
@@ -179,4 +215,5 @@ closed_unjoined m x v why d s is k due timers = record {
   phase = refl;
   life = unjoined m x v is k;
   room = k.room;
+  pace = k.pace;
 }

@@ -56,8 +56,9 @@ established_there m a v t xs d s is k phase due timers =
       timers = timers ∙ ap (timers_in (model.Open t model.Established)) k.timers;
       delayed = k.delayed;
       phase = ap (λ (x : model.Tags). model.Open x model.Established) same;
-      life = record { terms = (joined m a v is k).terms; traffic = (joined m a v is k).traffic; buffer = (joined m a v is k).buffer };
+      life = record { terms = (joined m a v is k).terms; traffic = (joined m a v is k).traffic; buffer = (joined m a v is k).buffer; answers = (joined m a v is k).answers };
       room = k.room;
+      pace = k.pace;
     }
 
 -- ---- the seal of an end that listens

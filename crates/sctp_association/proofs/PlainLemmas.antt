@@ -2,9 +2,9 @@
 use Rattle.std.proofs.Common.{◌≡◌, ◌∙◌, ℕ, Bool, true, false, ◌&&◌, [], ◌∷◌, Result, Ok, Err, IfOk, refl, ap, sym, subst}
 use Rattle.sctp_model.specs.sender.SenderView.{SenderView}
 use Rattle.sctp_model.specs.end.EndView as model
-use Rattle.sctp_model.specs.end.EndView.{EndView, Alarm, InitAlarm, CookieAlarm, DataAlarm, ShutdownAlarm, AckAlarm, format_of, format_for}
+use Rattle.sctp_model.specs.end.EndView.{EndView, Alarm, InitAlarm, CookieAlarm, DataAlarm, ShutdownAlarm, AckAlarm, ResetAlarm, format_of, format_for}
 use Rattle.sctp_model.specs.end.Clock.{is_point_past}
-use Rattle.sctp_model.specs.end.Building.{CookieAckSlot, HeartbeatSlot, ErrorSlot, SackSlot, ForwardSlot, ShutdownSlot, ShutdownAckSlot, open_slots}
+use Rattle.sctp_model.specs.end.Building.{CookieAckSlot, HeartbeatSlot, ErrorSlot, SackSlot, ForwardSlot, AnswerSlot, RequestSlot, ShutdownSlot, ShutdownAckSlot, open_slots}
 use Rattle.sctp_packet.specs.Draft.{Draft}
 use Rattle.std.specs.declared.vec.Vec.{Vec}
 use Rattle.std.specs.declared.alloc.Global.{Global}
@@ -15,7 +15,7 @@ use Rattle.sctp_association.specs.DueStands.{DueStands}
 use Rattle.sctp_association.specs.PhaseMeans.{phase_unjoined}
 use Rattle.sctp_association.specs.TrafficStands.{TrafficStands}
 use Rattle.sctp_association.specs.MachineStands.{KeepsMachine}
-use Rattle.sctp_association.specs.Drafted.{due_left, IsFresh, IsOf, IsEmpty, PutsAt, IsPacked}
+use Rattle.sctp_association.specs.Drafted.{due_left, IsFresh, IsOf, IsEmpty, PutsAt, IsPacked, IsQuiet}
 use Rattle.sctp_association.specs.FillsBehind.{FillsBehind}
 use Rattle.sctp_association.specs.PlainPacket.{IsPlain, fragments_alone, plain_marks}
 use Rattle.sctp_association.specs.declared.state.due.Due.{Due}
@@ -27,7 +27,7 @@ use Rattle.sctp_association.specs.declared.traffic.Traffic.{Traffic}
 use Rattle.sctp_association.specs.declared.build.plain.Plain.{Plain}
 use Rattle.sctp_association.specs.declared.build.packing.Packing.{Packing}
 use Rattle.sctp_association.specs.declared.machine.Machine.{Machine}
-use Rattle.sctp_association.proofs.PutLemmas.{not_due, joined, cut}
+use Rattle.sctp_association.proofs.PutLemmas.{not_due, joined, cut, then_quiet}
 use Rattle.sctp_association.proofs.BuildLemmas.{due_same, drafted_same, fills_packet, on_traffic}
 
 -- a plain packet in the making
@@ -36,7 +36,7 @@ plain_at d w sack fragments = record { writer = w; marks = plain_marks d sack fr
 
 -- ---- the places
 
-module _ (e : EndView) (d : Due) (plain : IsPlain d e.due) where
+module _ (e : EndView) (d : Due) (plain : IsPlain d e.due) (quiet : IsQuiet e) where
   front : (w : Draft) (s : Bool) → IsOf e (plain_at d w s false)
       → PutsAt (CookieAckSlot ∷ HeartbeatSlot ∷ ErrorSlot ∷ []) e (plain_at d w s false) (plain_at d w s false) true
   front w s packet =
@@ -45,11 +45,11 @@ module _ (e : EndView) (d : Due) (plain : IsPlain d e.due) where
       (joined (HeartbeatSlot ∷ []) (ErrorSlot ∷ []) e p p p true true refl (not_due HeartbeatSlot e p plain.heartbeat packet) (not_due ErrorSlot e p plain.causes packet))
 
   back : (w : Draft) (s : Bool) → IsOf e (plain_at d w s false)
-      → PutsAt (ForwardSlot ∷ ShutdownSlot ∷ ShutdownAckSlot ∷ []) e (plain_at d w s false) (plain_at d w s false) true
+      → PutsAt (ForwardSlot ∷ AnswerSlot ∷ RequestSlot ∷ ShutdownSlot ∷ ShutdownAckSlot ∷ []) e (plain_at d w s false) (plain_at d w s false) true
   back w s packet =
       let p = plain_at d w s false in
-      joined (ForwardSlot ∷ []) (ShutdownSlot ∷ ShutdownAckSlot ∷ []) e p p p true true refl
-      (not_due ForwardSlot e p (ap (λ (b : Bool). b && is_point_past e.sender) plain.forward) packet)
+      joined (ForwardSlot ∷ AnswerSlot ∷ RequestSlot ∷ []) (ShutdownSlot ∷ ShutdownAckSlot ∷ []) e p p p true true refl
+      (then_quiet ForwardSlot e p p true quiet (not_due ForwardSlot e p (ap (λ (b : Bool). b && is_point_past e.sender) plain.forward) packet))
       (joined (ShutdownSlot ∷ []) (ShutdownAckSlot ∷ []) e p p p true true refl (not_due ShutdownSlot e p plain.shutdown packet) (not_due ShutdownAckSlot e p plain.shutdown_ack packet))
 
   -- what goes in at all places is what goes in at that of the SACK
@@ -58,21 +58,21 @@ module _ (e : EndView) (d : Due) (plain : IsPlain d e.due) where
   all_slots old new s t true packet puts =
       let p = plain_at d old s false in
       let q = plain_at d new t false in
-      joined (CookieAckSlot ∷ HeartbeatSlot ∷ ErrorSlot ∷ []) (SackSlot ∷ ForwardSlot ∷ ShutdownSlot ∷ ShutdownAckSlot ∷ []) e p p q true true refl (front old s packet)
-      (joined (SackSlot ∷ []) (ForwardSlot ∷ ShutdownSlot ∷ ShutdownAckSlot ∷ []) e p q q true true refl puts (back new t puts.packet))
+      joined (CookieAckSlot ∷ HeartbeatSlot ∷ ErrorSlot ∷ []) (SackSlot ∷ ForwardSlot ∷ AnswerSlot ∷ RequestSlot ∷ ShutdownSlot ∷ ShutdownAckSlot ∷ []) e p p q true true refl (front old s packet)
+      (joined (SackSlot ∷ []) (ForwardSlot ∷ AnswerSlot ∷ RequestSlot ∷ ShutdownSlot ∷ ShutdownAckSlot ∷ []) e p q q true true refl puts (back new t puts.packet))
   all_slots old new s t false packet puts =
       let p = plain_at d old s false in
       let q = plain_at d new t false in
-      joined (CookieAckSlot ∷ HeartbeatSlot ∷ ErrorSlot ∷ []) (SackSlot ∷ ForwardSlot ∷ ShutdownSlot ∷ ShutdownAckSlot ∷ []) e p p q true false refl (front old s packet)
-      (cut (SackSlot ∷ []) (ForwardSlot ∷ ShutdownSlot ∷ ShutdownAckSlot ∷ []) e p q false refl puts)
+      joined (CookieAckSlot ∷ HeartbeatSlot ∷ ErrorSlot ∷ []) (SackSlot ∷ ForwardSlot ∷ AnswerSlot ∷ RequestSlot ∷ ShutdownSlot ∷ ShutdownAckSlot ∷ []) e p p q true false refl (front old s packet)
+      (cut (SackSlot ∷ []) (ForwardSlot ∷ AnswerSlot ∷ RequestSlot ∷ ShutdownSlot ∷ ShutdownAckSlot ∷ []) e p q false refl puts)
 
 -- fragments behind the SACK
 pub plain_fills : (e : EndView) (t : model.Tags) (g : model.Stage) (d : Due) (old mid new : Draft) (s some : Bool) (traffic : Traffic) (tickets : Vec Ticket Global) → e.phase ≡ model.Open t g
-    → IsEmpty e (plain_at d old s false) → PutsAt open_slots e (plain_at d old s false) (plain_at d mid false false) true
+    → IsQuiet e → IsEmpty e (plain_at d old s false) → PutsAt open_slots e (plain_at d old s false) (plain_at d mid false false) true
     → FillsBehind e (plain_at d mid false false) (plain_at d new false some) traffic tickets
     → (x : SenderView) × IsPacked e x (plain_at d new false some) tickets × TrafficStands traffic (format_of e) x e.receiver
-plain_fills e t g d old mid new s some traffic tickets phase empty puts fills =
-    fills_packet {E = NoMemory} (Ok tickets) e t g (plain_at d old s false) (plain_at d mid false false) (plain_at d new false some) true traffic phase empty refl puts fills
+plain_fills e t g d old mid new s some traffic tickets phase quiet empty puts fills =
+    fills_packet {E = NoMemory} (Ok tickets) e t g (plain_at d old s false) (plain_at d mid false false) (plain_at d new false some) true traffic phase quiet empty refl puts fills
 
 -- no timer but that of fragments starts
 starts_alone_at : (b : Bool) (a : Alarm) → starts_at (fragments_alone b) a ≡ with_fragments b (starts_at (fragments_alone false)) a
@@ -81,6 +81,7 @@ starts_alone_at true CookieAlarm = refl
 starts_alone_at true DataAlarm = refl
 starts_alone_at true ShutdownAlarm = refl
 starts_alone_at true AckAlarm = refl
+starts_alone_at true ResetAlarm = refl
 starts_alone_at false a = refl
 
 pub starts_alone : (b : Bool) → starts_at (fragments_alone b) ≡ with_fragments b (starts_at (fragments_alone false))
@@ -92,6 +93,7 @@ none_start_at CookieAlarm = refl
 none_start_at DataAlarm = refl
 none_start_at ShutdownAlarm = refl
 none_start_at AckAlarm = refl
+none_start_at ResetAlarm = refl
 
 pub none_start : starts_at (fragments_alone false) ≡ (λ a. false)
 none_start = λ i a. none_start_at a i
@@ -122,6 +124,7 @@ due_plain d n x s f was now = record {
   causes = now.causes;
   sack = now.sack;
   forward = now.forward ∙ sym was.forward;
+  request = now.request;
   shutdown = now.shutdown ∙ sym was.shutdown;
   shutdown_ack = now.shutdown_ack ∙ sym was.shutdown_ack;
 }

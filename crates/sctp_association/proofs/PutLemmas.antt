@@ -1,5 +1,6 @@
 -- A chunk that is put in, doesn't fit or isn't due is a step of the specification's filling order, and so are several one after the other.
-use Rattle.std.proofs.Common.{Result, Ok, Err, IfOk, ◌≡◌, ◌∙◌, ℕ, ◌<◌, nat_le, replicate, length-append, Bool, true, false, not, List, [], ◌∷◌, ◌++◌, Option, None, length, refl, ap, sym, subst, arith}
+use Rattle.std.proofs.Common.{Result, Ok, Err, IfOk, ◌≡◌, ◌∙◌, ℕ, ◌<◌, nat_le, replicate, length-append, Bool, true, false, not, ◌&&◌, List, [], ◌∷◌, ◌++◌, Option, None, length, refl, ap, sym, subst, arith}
+use Rattle.std.specs.Prelude.{is_some}
 use Rattle.sctp_model.specs.wire.Typed.{Typed, typed_bytes, filled, written_typed}
 use Rattle.sctp_model.specs.wire.Chunk.{ChunkMeaning, SackMeaning, Sack, Shutdown, padding_after}
 use Rattle.sctp_model.specs.wire.Packet.{size_of_packet}
@@ -9,11 +10,11 @@ use Rattle.sctp_model.specs.receiver.SackMade.{IsSack, sack_sent}
 use Rattle.sctp_model.specs.end.EndView.{EndView, Alarm, Timer}
 use Rattle.sctp_model.specs.end.Clock.{started}
 use Rattle.sctp_model.specs.end.Reports.{written}
-use Rattle.sctp_model.specs.end.Building.{Slot, SackSlot, ShutdownSlot, is_due, has_some, has_causes, Wants, Acknowledge, SayShutdown, once_built, Puts, NoMore, NotDue, Put, IsFull}
+use Rattle.sctp_model.specs.end.Building.{Slot, SackSlot, AnswerSlot, RequestSlot, ShutdownSlot, is_due, has_some, has_causes, Wants, Acknowledge, SayShutdown, once_built, Puts, NoMore, NotDue, Put, IsFull}
 use Rattle.sctp_model.proofs.TypedLemmas.{length-item}
 use Rattle.sctp_packet.specs.Draft.{Draft, has_room, after_try, with_chunks}
 use Rattle.sctp_association.specs.StartsMean.{starts_at, with_start, started_from}
-use Rattle.sctp_association.specs.Drafted.{value_left, causes_left, receiver_left, delayed_left, drafted, IsOf, PutsAt}
+use Rattle.sctp_association.specs.Drafted.{value_left, causes_left, receiver_left, delayed_left, drafted, IsOf, PutsAt, IsQuiet}
 use Rattle.sctp_association.specs.declared.time.starts.Starts.{Starts}
 use Rattle.sctp_association.specs.declared.build.packing.Marks.{Marks}
 use Rattle.sctp_association.specs.declared.build.packing.Packing.{Packing}
@@ -96,6 +97,23 @@ pub behind : {E : Type 0} (r : Result Bool E) (ss tt : List Slot) (e : EndView) 
     → IfOk r (λ room. PutsAt tt e b c room) → IfOk r (λ room. PutsAt (ss ++ tt) e a c room)
 behind (Ok room) ss tt e a b c full is one other = joined ss tt e a b c full room is one other
 behind (Err failed) ss tt e a b c full is one other = other
+
+-- no answer to a request to reset streams goes in, and no request
+quiet_places : (e : EndView) (p : Packing) → IsQuiet e → IsOf e p → PutsAt (AnswerSlot ∷ RequestSlot ∷ []) e p p true
+quiet_places e p quiet packet =
+    joined (AnswerSlot ∷ []) (RequestSlot ∷ []) e p p p true true refl
+    (not_due AnswerSlot e p (ap has_causes (answers_left e.due.sack p.marks.sack e.receiver ∙ quiet.answers)) packet)
+    (not_due RequestSlot e p (ap (λ (b : Bool). b && is_some e.sender.resets.pending) quiet.request) packet)
+  where
+    answers_left : (was is : Bool) (r : ReceiverView) → (receiver_left was is r).resets.answers ≡ r.resets.answers
+    answers_left true false r = refl
+    answers_left true true r = refl
+    answers_left false is r = refl
+
+-- what goes in at one place goes in there and at those two
+pub then_quiet : (s : Slot) (e : EndView) (a b : Packing) (room : Bool) → IsQuiet e → PutsAt (s ∷ []) e a b room → PutsAt (s ∷ AnswerSlot ∷ RequestSlot ∷ []) e a b room
+then_quiet s e a b true quiet one = joined (s ∷ []) (AnswerSlot ∷ RequestSlot ∷ []) e a b b true true refl one (quiet_places e b quiet one.packet)
+then_quiet s e a b false quiet one = cut (s ∷ []) (AnswerSlot ∷ RequestSlot ∷ []) e a b false refl one
 
 -- ---- what a chunk leaves
 

@@ -102,6 +102,15 @@ pub record IsPacked (e : EndView) (s : SenderView) (p : Packing) (tickets : Vec 
   pub packet : IsOf e p
   pub tickets_are : map (λ t. t.0) tickets.items ≡ newly_numbered e.sender s
 
+-- ---- what this crate leaves out
+
+-- Data goes out by timers and the peer's window alone, and no stream is reset: nothing is due for that.
+pub record IsQuiet (e : EndView) : Type 0 where
+  pub pace : e.pace ≡ None
+  pub reset : e.terms.reset ≡ false
+  pub request : e.due.request ≡ false
+  pub answers : e.receiver.resets.answers ≡ []
+
 -- ---- where the chunks come from
 
 -- All that a packet is made of while the association is open stands for its part of the end.
@@ -109,3 +118,4 @@ pub record IsPartOf (config : Configuration) (traffic : Traffic) (due : Due) (e 
   pub configured : config ≡ e.configuration
   pub due_stands : DueStands due e.due
   pub traffic_stands : TrafficStands traffic (format_of e) e.sender e.receiver
+  pub quiet : IsQuiet e

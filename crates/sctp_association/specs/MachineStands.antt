@@ -1,5 +1,5 @@
 -- Which end stands for which view of an end (RFC 9260, 4).
-use Rattle.std.specs.Prelude.{◌≡◌, ◌≤◌, false, vec_capacity}
+use Rattle.std.specs.Prelude.{◌≡◌, ◌≤◌, false, [], None, vec_capacity}
 use Rattle.sctp_model.specs.sender.SenderView.{SenderView, fresh_sender}
 use Rattle.sctp_model.specs.receiver.ReceiverView.{ReceiverView, fresh_receiver}
 use Rattle.sctp_model.specs.end.Sealing.{Sealing}
@@ -30,18 +30,19 @@ pub record IsUnjoined (c : Configuration) (t : Terms) (s : SenderView) (r : Rece
   pub sender : s ≡ fresh_sender 0 0 c.fragment 0 false
   pub receiver : r ≡ fresh_receiver 0 0 c.buffer
 
--- an association has its terms, and its traffic goes on in the format agreed on, with the receive buffer that the end is set up with
+-- An association has its terms, and its traffic goes on in the format agreed on, with the receive buffer that the end is set up with. No answer to a request to reset streams waits.
 pub record IsJoined (a : Association) (c : Configuration) (t : Terms) (s : SenderView) (r : ReceiverView) : Type 0 where
   pub terms : terms_meaning a.terms ≡ t
   pub traffic : TrafficStands a.traffic (format_for t.interleave) s r
   pub buffer : r.buffer ≡ c.buffer
+  pub answers : r.resets.answers ≡ []
 
 -- What stands for terms, sender and receiver: a relation of these parts, so that a change of the others leaves it as it is.
 abbrev pub LifeStands : Life → Configuration → Terms → SenderView → ReceiverView → Type 0
 LifeStands (Unjoined x) c t s r = IsUnjoined c t s r
 LifeStands (Joined a) c t s r = IsJoined a c t s r
 
--- each part stands for its part; the buffer that is kept for the next packet is part of no view, and no larger than a packet may be
+-- Each part stands for its part, and the view has no pace; the buffer that is kept for the next packet is part of no view, and no larger than a packet may be.
 pub record KeepsMachine (m : Machine) (v : EndView) : Type 0 where
   pub configuration : m.config ≡ v.configuration
   pub role : RoleStands m.role v.role
@@ -52,6 +53,7 @@ pub record KeepsMachine (m : Machine) (v : EndView) : Type 0 where
   pub phase : phase_of m.life ≡ v.phase
   pub life : LifeStands m.life v.configuration v.terms v.sender v.receiver
   pub room : vec_capacity m.room ≤ v.configuration.limit
+  pub pace : v.pace ≡ None
 
 -- Stands for: hidden from the crates above, which know it by the clauses alone.
 unfoldable pub MachineStands : Machine → EndView → Type 0

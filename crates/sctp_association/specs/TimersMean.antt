@@ -1,6 +1,7 @@
 -- What the timers of an end mean (RFC 9260, 6.3).
 use Rattle.std.specs.Prelude.{Bool, if◌then◌else◌}
 use Rattle.sctp_model.specs.end.EndView as model
+use Rattle.sctp_model.specs.end.EndView.{unused_timer}
 use Rattle.sctp_model.specs.end.Clock.{stopped}
 use Rattle.sctp_association.specs.declared.time.timer.Alarm.{Alarm}
 use Rattle.sctp_association.specs.declared.time.timer.Alarm.TheVariants.{Init, Cookie, Fragments, Shutdown, ShutdownAck}
@@ -19,25 +20,27 @@ alarm_meaning ShutdownAck = model.AckAlarm
 abbrev pub timer_meaning : Timer → model.Timer
 timer_meaning t = record { wait = t.wait; repeats = t.repeats; expiry = t.expiry }
 
--- all five, as a function of which
+-- all five, as a function of which; that of a request to reset streams never ran
 abbrev pub timers_meaning : Timers → model.Alarm → model.Timer
 timers_meaning t model.InitAlarm = timer_meaning t.init
 timers_meaning t model.CookieAlarm = timer_meaning t.cookie
 timers_meaning t model.DataAlarm = timer_meaning t.fragments
 timers_meaning t model.ShutdownAlarm = timer_meaning t.shutdown
 timers_meaning t model.AckAlarm = timer_meaning t.shutdown_ack
+timers_meaning t model.ResetAlarm = unused_timer
 
 -- a timer that is wanted goes on, another rests (6.3.2)
 abbrev pub kept_if : Bool → model.Timer → model.Timer
 kept_if wanted t = if wanted then t else stopped t
 
--- the timers of an open association, by whether SHUTDOWN and SHUTDOWN ACK may be repeated in its state (9.2)
-abbrev pub open_timers : (shutdown ack : Bool) → (model.Alarm → model.Timer) → model.Alarm → model.Timer
-open_timers shutdown ack f model.InitAlarm = stopped (f model.InitAlarm)
-open_timers shutdown ack f model.CookieAlarm = stopped (f model.CookieAlarm)
-open_timers shutdown ack f model.DataAlarm = f model.DataAlarm
-open_timers shutdown ack f model.ShutdownAlarm = kept_if shutdown (f model.ShutdownAlarm)
-open_timers shutdown ack f model.AckAlarm = kept_if ack (f model.AckAlarm)
+-- the timers of an open association, by whether SHUTDOWN, SHUTDOWN ACK and a request to reset streams may be retransmitted in its state (9.2; RFC 6525, 5.1.1)
+abbrev pub open_timers : (shutdown ack request : Bool) → (model.Alarm → model.Timer) → model.Alarm → model.Timer
+open_timers shutdown ack request f model.InitAlarm = stopped (f model.InitAlarm)
+open_timers shutdown ack request f model.CookieAlarm = stopped (f model.CookieAlarm)
+open_timers shutdown ack request f model.DataAlarm = f model.DataAlarm
+open_timers shutdown ack request f model.ShutdownAlarm = kept_if shutdown (f model.ShutdownAlarm)
+open_timers shutdown ack request f model.AckAlarm = kept_if ack (f model.AckAlarm)
+open_timers shutdown ack request f model.ResetAlarm = kept_if request (f model.ResetAlarm)
 
 -- all at rest
 abbrev pub resting : (model.Alarm → model.Timer) → model.Alarm → model.Timer

@@ -18,7 +18,9 @@
 //! - **Received chunks.** User data and FORWARD-TSN are processed as the receiver's contract says, an invalid stream is reported (`hear_piece`,
 //!   `hear_forward`). A SACK and the cumulative TSN of a SHUTDOWN are refused for their first fault, or acknowledge, with what that does to the data
 //!   timer and to a FORWARD-TSN that is due (`hear_sack`, `hear_shutdown`). A HEARTBEAT whose value fits a packet, and a SHUTDOWN, are answered (`hear_heartbeat`,
-//!   `answer_shutdown`, `repeat_shutdown_ack`); `abort_with` and `complete` close the endpoint with an ABORT or a SHUTDOWN COMPLETE.
+//!   `answer_shutdown`, `repeat_shutdown_ack`); `abort_with` and `complete` close the endpoint with an ABORT or a SHUTDOWN COMPLETE. A RE-CONFIG acts if
+//!   stream reset was agreed on (`takes_reconfig`, `hear_reconfig`); what a packet's SACKs missed is given up at its end (`missed_below`, `give_up_missed`). No
+//!   endpoint agrees on resets or counts misses yet: these calls have their final contracts, and change nothing.
 //! - **Acknowledging** (RFC 9260, 6.2). After a packet a SACK is due, and in SHUTDOWN-SENT the SHUTDOWN again. An endpoint that delays SACKs delays it by
 //!   200 ms in any other state, if nothing in the packet asks for it at once and none is owed. With standard closing, data in SHUTDOWN-SENT restarts the
 //!   SHUTDOWN's timer and count (`acknowledge`). Whether received TSNs have a gap: `leaves_gap`.

@@ -3,6 +3,8 @@
 pub mod answering;
 pub mod hearing;
 pub mod joining;
+pub mod missing;
 pub mod opening;
 pub mod passing;
+pub mod reconfiguring;
 pub mod reporting;

@@ -2,6 +2,7 @@
 use Rattle.std.specs.Prelude.{◌≡◌, ℕ, ◌<◌, ◌⊎◌, ◌+◌, ◌==◌, ◌&&◌, Bool, true, false, List, [], ◌∷◌, Option, Some, None}
 use Rattle.sctp_model.specs.end.EndView.{Configuration, Draw}
 use Rattle.sctp_model.specs.end.Configured.{ConfigurationFault, configuration_fault}
+use Rattle.sctp_model.specs.numbers.Limits.{LEAST_WAIT}
 use Rattle.sctp_terms.specs.Meanings.{config_code}
 use Rattle.sctp_c.specs.declared.codes.TheConstants.{OK, NO_MEMORY, MISUSE, BAD_RESERVED, BAD_CONFIG}
 use Rattle.sctp_c.specs.declared.crossing.SctpConfig.{SctpConfig}
@@ -21,6 +22,10 @@ asked_by c = record {
   partial = c.partial;
   delay = c.delay;
   standard_closing = c.standard_closing;
+  fast_retransmit = false;
+  least_wait = LEAST_WAIT;
+  congestion_control = false;
+  reset = false;
 }
 
 -- the draw of these numbers: a tag and a first TSN

@@ -37,6 +37,10 @@ abbrev pub shutdown_code : calls.ShutdownAnswer → ℕ
 shutdown_code calls.Shut = OK
 shutdown_code calls.NotShut = NOT_OPEN
 
+-- a message for a stream that is being reset; no call resets one yet
+abbrev pub RESETTING : ℕ
+RESETTING = 14
+
 -- why a message is refused
 abbrev pub refusal_code : queueing.Refusal → ℕ
 refusal_code queueing.NoSuchStream = NO_SUCH_STREAM
@@ -44,6 +48,7 @@ refusal_code queueing.Empty = EMPTY
 refusal_code queueing.TooLong = TOO_LONG
 refusal_code queueing.QueueFull = QUEUE_FULL
 refusal_code queueing.Spent = SPENT
+refusal_code queueing.Resetting = RESETTING
 
 -- why a message is refused, in the code's enum
 abbrev pub fault_code : SendFault → ℕ

@@ -3,9 +3,9 @@ use Rattle.std.specs.Prelude.{ℕ, ◌+◌, List, [], ◌∷◌, ◌++◌, lengt
 use Rattle.byteorder.specs.Endian.{big_bytes, big_number}
 use Rattle.sctp_model.specs.end.Sealing.{Body, COOKIE_SIZE}
 
--- the options in one byte: 1 partial reliability, 2 I-DATA
+-- the options in one byte: 1 partial reliability, 2 I-DATA, 4 stream reset
 abbrev pub options_byte : Body → ℕ
-options_byte body = (if body.partial then 1 else 0) + (if body.interleave then 2 else 0)
+options_byte body = (if body.partial then 1 else 0) + (if body.interleave then 2 else 0) + (if body.reset then 4 else 0)
 
 -- the 40 bytes: each field in its place, numbers high byte first, three zeros at the end
 unfoldable pub body_bytes : Body → List ℕ
@@ -29,10 +29,11 @@ body_of bytes = record {
   from_caller = big_number 2 (drop 34 bytes);
   partial = not (bit_and (slice_index bytes 36) 1 == 0);
   interleave = not (bit_and (slice_index bytes 36) 2 == 0);
+  reset = not (bit_and (slice_index bytes 36) 4 == 0);
 }
 
--- a cookie has this form: its size, the options at most 3, then three zeros
-unfoldable pub has_form : List ℕ → Bool
-has_form bytes =
-    length bytes == COOKIE_SIZE && nat_le (slice_index bytes 36) 3
+-- a cookie has this form: its size, the options at most 7, or at most 3 without stream reset, then three zeros
+unfoldable pub has_form : (resets : Bool) → List ℕ → Bool
+has_form resets bytes =
+    length bytes == COOKIE_SIZE && nat_le (slice_index bytes 36) (if resets then 7 else 3)
     && slice_index bytes 37 == 0 && slice_index bytes 38 == 0 && slice_index bytes 39 == 0

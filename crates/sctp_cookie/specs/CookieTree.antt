@@ -1,10 +1,10 @@
 -- What the types of this crate say.
-use Rattle.std.specs.Prelude.{Result, Ok, Err}
+use Rattle.std.specs.Prelude.{false, Result, Ok, Err}
 use Rattle.sctp_model.specs.end.Sealing.{Body}
 use Rattle.sctp_cookie.specs.declared.body.CookieBody.{CookieBody}
 use Rattle.sctp_cookie.specs.declared.sealing.CookieFault.{CookieFault}
 
--- a cookie's body
+-- a cookie's body: one without stream reset
 abbrev pub body_meaning : CookieBody → Body
 body_meaning b = record {
   made = b.made;
@@ -15,6 +15,7 @@ body_meaning b = record {
   from_caller = b.streams_from_caller;
   partial = b.partial_reliability;
   interleave = b.interleaving;
+  reset = false;
 }
 
 -- what opening a cookie answers

@@ -1,5 +1,5 @@
 -- A state cookie: a body and the MAC of it (RFC 9260, 5.1.3), and when a listener takes it back (5.1.5).
-use Rattle.std.specs.Prelude.{◌≡◌, ◌≢◌, ℕ, ◌<◌, ◌≤◌, List, ◌++◌, length, take, drop, Bool, not, ◌&&◌, ◌==◌, nat_lt, if◌then◌else◌, Result, Ok, Err}
+use Rattle.std.specs.Prelude.{◌≡◌, ◌≢◌, ℕ, ◌<◌, ◌≤◌, List, ◌++◌, length, take, drop, Bool, true, not, ◌&&◌, ◌||◌, ◌==◌, nat_lt, if◌then◌else◌, Result, Ok, Err}
 use Rattle.std.specs.Str.{bytes_eq}
 use Rattle.sctp_model.specs.numbers.Limits.{COOKIE_LIFE}
 use Rattle.sctp_model.specs.end.Sealing.{Body, IsInRange}
@@ -28,10 +28,10 @@ has_mac key bytes = bytes_eq (hmac key (take 40 bytes)) (drop 40 bytes)
 unfoldable pub has_ports : Ports → Body → Bool
 has_ports ports body = body.listener.port == ports.listener && body.caller.port == ports.caller
 
--- the first check that fails, or the body
-unfoldable pub open_answer : List ℕ → List ℕ → ℕ → Ports → ℕ → Result Body CookieFault
-open_answer key bytes now ports tag =
-    if not (has_form bytes) then Err fault.Form
+-- the first check that fails at a listener with stream reset, or without, or the body
+unfoldable pub open_answer : (resets : Bool) → List ℕ → List ℕ → ℕ → Ports → ℕ → Result Body CookieFault
+open_answer resets key bytes now ports tag =
+    if not (has_form resets bytes) then Err fault.Form
     else if not (has_mac key bytes) then Err fault.Mac
     else if not (has_ports ports (body_of bytes)) then Err fault.Ports
     else if not ((body_of bytes).listener.tag == tag) then Err fault.Tag
@@ -40,9 +40,14 @@ open_answer key bytes now ports tag =
 
 -- ---- the answer, in the words of the layout
 
--- these bytes are a body of the layout and 32 bytes more
-pub record IsLaidOut (bytes : List ℕ) (body : Body) : Type 0 where
+-- A listener makes such a body: one that is set up without stream reset makes none that says it, and takes none.
+abbrev pub is_made : (resets : Bool) → Body → Bool
+is_made resets body = resets || not body.reset
+
+-- these bytes are a body of the layout, which such a listener makes, and 32 bytes more
+pub record IsLaidOut (resets : Bool) (bytes : List ℕ) (body : Body) : Type 0 where
   pub in_range : IsInRange body
+  pub made : is_made resets body ≡ true
   pub mac : List ℕ
   pub mac_length : length mac ≡ 32
   pub layout : bytes ≡ body_bytes body ++ mac
@@ -52,19 +57,24 @@ pub record IsCookie (key bytes : List ℕ) (body : Body) : Type 0 where
   pub in_range : IsInRange body
   pub is_sealed : bytes ≡ sealed key body
 
--- .. and the body is of these ports and this tag
-pub record Belongs (key bytes : List ℕ) (ports : Ports) (tag : ℕ) (body : Body) : Type 0 where
+-- .. which such a listener makes
+pub record IsOwn (resets : Bool) (key bytes : List ℕ) (body : Body) : Type 0 where
   pub cookie : IsCookie key bytes body
+  pub made : is_made resets body ≡ true
+
+-- .. and the body is of these ports and this tag
+pub record Belongs (resets : Bool) (key bytes : List ℕ) (ports : Ports) (tag : ℕ) (body : Body) : Type 0 where
+  pub own : IsOwn resets key bytes body
   pub same_ports : ports_of body ≡ ports
   pub same_tag : body.listener.tag ≡ tag
 
--- what opening answers, each fault where the checks before it hold
-abbrev pub Opened : List ℕ → List ℕ → ℕ → Ports → ℕ → Result Body CookieFault → Type 0
-Opened key bytes now ports tag (Ok body) = Belongs key bytes ports tag body × (age now body ≤ COOKIE_LIFE)
-Opened key bytes now ports tag (Err fault.Form) = (body : Body) → ¬ IsLaidOut bytes body
-Opened key bytes now ports tag (Err fault.Mac) = (body : Body) × IsLaidOut bytes body × (bytes ≢ sealed key body)
-Opened key bytes now ports tag (Err fault.Ports) = (body : Body) × IsCookie key bytes body × (ports_of body ≢ ports)
-Opened key bytes now ports tag (Err fault.Tag) =
-    (body : Body) × IsCookie key bytes body × (ports_of body ≡ ports) × (body.listener.tag ≢ tag)
-Opened key bytes now ports tag (Err (fault.Stale microseconds)) =
-    (body : Body) × Belongs key bytes ports tag body × (COOKIE_LIFE < age now body) × (microseconds ≡ staleness now body)
+-- what opening answers at such a listener, each fault if the checks before it hold
+abbrev pub Opened : (resets : Bool) → List ℕ → List ℕ → ℕ → Ports → ℕ → Result Body CookieFault → Type 0
+Opened resets key bytes now ports tag (Ok body) = Belongs resets key bytes ports tag body × (age now body ≤ COOKIE_LIFE)
+Opened resets key bytes now ports tag (Err fault.Form) = (body : Body) → ¬ IsLaidOut resets bytes body
+Opened resets key bytes now ports tag (Err fault.Mac) = (body : Body) × IsLaidOut resets bytes body × (bytes ≢ sealed key body)
+Opened resets key bytes now ports tag (Err fault.Ports) = (body : Body) × IsOwn resets key bytes body × (ports_of body ≢ ports)
+Opened resets key bytes now ports tag (Err fault.Tag) =
+    (body : Body) × IsOwn resets key bytes body × (ports_of body ≡ ports) × (body.listener.tag ≢ tag)
+Opened resets key bytes now ports tag (Err (fault.Stale microseconds)) =
+    (body : Body) × Belongs resets key bytes ports tag body × (COOKIE_LIFE < age now body) × (microseconds ≡ staleness now body)

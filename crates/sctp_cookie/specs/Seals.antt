@@ -13,12 +13,12 @@ use Rattle.sctp_cookie.specs.declared.sealing.CookieFault.TheVariants as fault
 
 -- the body in bytes that have a cookie's form and the right MAC
 abbrev pub opened : List ℕ → List ℕ → Option Body
-opened key bytes = if has_form bytes && has_mac key bytes then Some (body_of bytes) else None
+opened key bytes = if has_form true bytes && has_mac key bytes then Some (body_of bytes) else None
 
 -- what a key seals has a cookie's size and form and the right MAC
 pub record IsSealedWell (key : List ℕ) (body : Body) : Type 0 where
   pub size : length (sealed key body) ≡ COOKIE_SIZE
-  pub form : has_form (sealed key body) ≡ true
+  pub form : has_form true (sealed key body) ≡ true
   pub mac : has_mac key (sealed key body) ≡ true
   -- .. and holds the body, where each number has room in its field
   pub holds : IsInRange body → body_of (sealed key body) ≡ body
@@ -52,6 +52,7 @@ read_by held (Err fault.Mac) = Strange
 read_by held (Err fault.Ports) = Strange
 read_by held (Err fault.Tag) = Strange
 
--- A listener with this key reads in these bytes, under this tag, what opening them at its moment and its ports is answered.
+-- A listener with this key reads in these bytes, under this tag, what opening them is answered: with stream reset or without, as it is set up, at its moment and
+-- between its ports.
 abbrev pub IsReadAsOpened : (key bytes : List ℕ) (tag : ℕ) → Sealing → EndView → Type 0
-IsReadAsOpened key bytes tag s e = cookie_read s e tag bytes ≡ read_by (body_of bytes) (open_answer key bytes e.moment (ports_at e) tag)
+IsReadAsOpened key bytes tag s e = cookie_read s e tag bytes ≡ read_by (body_of bytes) (open_answer e.configuration.reset key bytes e.moment (ports_at e) tag)

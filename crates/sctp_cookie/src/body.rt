@@ -12,7 +12,7 @@
 //! | 28 | 4 | caller's a_rwnd |
 //! | 32 | 2 | streams to the caller |
 //! | 34 | 2 | streams from the caller |
-//! | 36 | 1 | options: 1 partial reliability, 2 I-DATA |
+//! | 36 | 1 | options: 1 partial reliability, 2 I-DATA, 4 stream reset, which no [`CookieBody`] says |
 //! | 37 | 3 | zero |
 //!
 //! Numbers are in network byte order.
@@ -110,11 +110,11 @@ fn options_byte(body: &CookieBody) -> u8
     partial_reliability + interleaving
 }
 
-/// The body in the first 40 bytes of a cookie. None if these aren't 72 bytes of the layout: the
-/// options are above 3, or a byte that must be zero isn't.
+/// The body in the first 40 bytes of a cookie. None if these aren't 72 bytes of the layout without
+/// stream reset: the options are above 3, or a byte that must be zero isn't.
 #[tactic(auto, unfolding(crate::specs::CookieBody::has_form))]
 pub(crate) fn read_body(bytes: &[u8]) -> Option<CookieBody>
-    ensures { MatchOption result (has_form bytes.now ≡ false) (λ body. (has_form bytes.now ≡ true) × (body_meaning body ≡ body_of bytes.now)) }
+    ensures { MatchOption result (has_form false bytes.now ≡ false) (λ body. (has_form false bytes.now ≡ true) × (body_meaning body ≡ body_of bytes.now)) }
 {
     if has_form(bytes) {
         Some(body_of(bytes))
@@ -123,10 +123,10 @@ pub(crate) fn read_body(bytes: &[u8]) -> Option<CookieBody>
     }
 }
 
-// Whether these are 72 bytes whose options and zeros are as the layout has them.
+// Whether these are 72 bytes whose options and zeros are as the layout has them without stream reset.
 #[tactic(auto, unfolding(crate::specs::CookieBody::has_form))]
 fn has_form(bytes: &[u8]) -> bool
-    ensures { result ≡ has_form bytes.now }
+    ensures { result ≡ has_form false bytes.now }
 {
     bytes.len() == COOKIE_LENGTH
         && bytes[OPTIONS_AT] <= PARTIAL_RELIABILITY + INTERLEAVING
@@ -138,7 +138,8 @@ fn has_form(bytes: &[u8]) -> bool
 // The body whose fields are in these bytes.
 #[tactic(auto, unfolding(crate::specs::CookieBody::body_of))]
 fn body_of(bytes: &[u8]) -> CookieBody
-    requires { length bytes.now ≡ 72 }
+    requires size { length bytes.now ≡ 72 }
+    requires form { has_form false bytes.now ≡ true }
     ensures { body_meaning result ≡ body_of bytes.now }
 {
     let options = bytes[OPTIONS_AT];

@@ -1,6 +1,6 @@
 //! Cookies: a body and its MAC, made by [`seal`] and checked by [`open`].
 
-ghost use Rattle.std.specs.Prelude.{◌≡◌, ◌+◌, ◌≤◌, ℕ, Result, Some, None, Ok, length, nat_lt, if◌then◌else◌};
+ghost use Rattle.std.specs.Prelude.{◌≡◌, ◌+◌, ◌≤◌, ℕ, Bool, false, Result, Some, None, Ok, length, nat_lt, if◌then◌else◌};
 ghost use Rattle.std.specs.Str.{bytes_eq};
 ghost use Rattle.sctp_model.specs.numbers.Limits.{COOKIE_LIFE};
 ghost use Rattle.sctp_model.specs.end.Sealing.{Body, IsInRange};
@@ -18,8 +18,8 @@ use thiserror::Error;
 /// Why a cookie isn't valid: the first check that fails, in this order.
 #[derive(Clone, Copy, Debug, PartialEq, Eq, Error)]
 pub enum CookieFault {
-    /// These aren't 72 bytes of the layout: the options are above 3, or a byte that must be zero
-    /// isn't.
+    /// These aren't 72 bytes of the layout without stream reset: the options are above 3, or a byte
+    /// that must be zero isn't.
     #[error("these bytes don't have the layout of a cookie")]
     Form,
     /// The last 32 bytes aren't the MAC of the first 40 under the key.
@@ -42,9 +42,9 @@ pub enum CookieFault {
 pub fn seal(key: &Key, body: &CookieBody) -> [u8; COOKIE_LENGTH]
     ensures sealed { result ≡ sealed key.now (body_meaning body.now) }
 
-    // It opens to this body until its lifetime ends.
-    ensures opens { (now : ℕ) → now ≤ body.now.made + COOKIE_LIFE
-        → open_answer key.now result now (ports_of (body_meaning body.now)) body.now.listener_tag ≡ Ok (body_meaning body.now) }
+    // It opens to this body until its lifetime ends, at a listener with stream reset and at one without.
+    ensures opens { (resets : Bool) (now : ℕ) → now ≤ body.now.made + COOKIE_LIFE
+        → open_answer resets key.now result now (ports_of (body_meaning body.now)) body.now.listener_tag ≡ Ok (body_meaning body.now) }
 
     // No other body has this sealing.
     ensures one { (other : Body) → IsInRange other → result ≡ sealed key.now other → other ≡ body_meaning body.now }
@@ -59,7 +59,7 @@ pub fn seal(key: &Key, body: &CookieBody) -> [u8; COOKIE_LENGTH]
 /// The body of a cookie that was received in a COOKIE ECHO (RFC 9260, 5.1.5) at the time `now`, in
 /// milliseconds of the clock by which it was made, in a packet between `ports` with the
 /// verification tag `tag`. The packet's source is the caller's port and its destination the
-/// listener's.
+/// listener's, which is set up without stream reset.
 ///
 /// # Errors
 ///
@@ -72,19 +72,19 @@ pub fn open(
     tag: u32,
 ) -> Result<CookieBody, CookieFault>
     // The first check that fails, or the body.
-    ensures answer { opened_meaning result ≡ open_answer key.now bytes.now now ports tag }
+    ensures answer { opened_meaning result ≡ open_answer false key.now bytes.now now ports tag }
 
     // It opens if the bytes are a body of the layout and its MAC, and the packet and the time
     // are right; each fault is returned if its check fails and those before it pass.
-    ensures meaning { Opened key.now bytes.now now ports tag (opened_meaning result) }
+    ensures meaning { Opened false key.now bytes.now now ports tag (opened_meaning result) }
 
     // There is no other answer with that meaning.
-    ensures only { (outcome : Result Body CookieFault) → Opened key.now bytes.now now ports tag outcome
+    ensures only { (outcome : Result Body CookieFault) → Opened false key.now bytes.now now ports tag outcome
         → opened_meaning result ≡ outcome }
 
     // A stale cookie's body is what is returned at time 0.
     ensures stale { (microseconds : ℕ) → result ≡ Err (CookieFault.Stale microseconds)
-        → open_answer key.now bytes.now 0 ports tag ≡ Ok (body_of bytes.now) }
+        → open_answer false key.now bytes.now 0 ports tag ≡ Ok (body_of bytes.now) }
 {
     checked_body(key, bytes, now, ports, tag)
 }
@@ -98,7 +98,7 @@ fn checked_body(
     ports: Ports,
     tag: u32,
 ) -> Result<CookieBody, CookieFault>
-    ensures { opened_meaning result ≡ open_answer key.now bytes.now now ports tag }
+    ensures { opened_meaning result ≡ open_answer false key.now bytes.now now ports tag }
 {
     let Some(body) = read_body(bytes) else {
         return Err(CookieFault::Form);

@@ -1,5 +1,5 @@
 -- What the endpoint's calls make of a session.
-use Rattle.std.proofs.Common.{◌≡◌, ◌∙◌, ℕ, Bool, true, false, List, [], ◌∷◌, ◌⊎◌, inl, inr, refl, sym, subst}
+use Rattle.std.proofs.Common.{◌≡◌, ◌∙◌, ℕ, Bool, true, false, List, [], ◌∷◌, ◌⊎◌, inl, inr, None, refl, sym, subst}
 use Rattle.std.specs.Prelude.{not, Option, Some, None, Result, Ok, Err, slice_get}
 use Rattle.std.specs.declared.vec.Vec.{Vec}
 use Rattle.std.specs.declared.alloc.Global.{Global}
@@ -56,6 +56,7 @@ same_message stream kind payload until bytes items b flag is = λ i. record {
   payload = payload;
   bytes = is i;
   until = until;
+  limit = None;
 }
 
 -- the first of the messages that wait

@@ -28,7 +28,7 @@ use Rattle.sctp_end.specs.Telling.{IsStatus}
 use Rattle.sctp_end.specs.declared.status.Status.{Status}
 use Rattle.sctp_end.specs.declared.call.Call.{Call}
 use Rattle.sctp_end.specs.declared.call.Call.TheVariants as call
-use Rattle.sctp_end.specs.declared.reply.Refusal.TheVariants.{NotIdle, NoSuchStream, Empty, TooLong, QueueFull, Spent, NotEstablished, NotOpen, NoPeer, ReasonTooLong}
+use Rattle.sctp_end.specs.declared.reply.Refusal.TheVariants.{NotIdle, NoSuchStream, Empty, TooLong, QueueFull, Spent, Resetting, NotEstablished, NotOpen, NoPeer, ReasonTooLong}
 use Rattle.sctp_end.specs.declared.reply.Reply.{Reply}
 use Rattle.sctp_end.specs.declared.reply.Reply.TheVariants as reply
 
@@ -64,12 +64,13 @@ send_reply (model.Refused queueing.Empty) = reply.Refused Empty
 send_reply (model.Refused queueing.TooLong) = reply.Refused TooLong
 send_reply (model.Refused queueing.QueueFull) = reply.Refused QueueFull
 send_reply (model.Refused queueing.Spent) = reply.Refused Spent
+send_reply (model.Refused queueing.Resetting) = reply.Refused Resetting
 send_reply model.NotOpen = reply.Refused NotEstablished
 
 -- a message as the definitions have it
 abbrev pub message_of : (stream : ℕ) → Kind → (payload : ℕ) → (until : Option ℕ) → List ℕ → Message
 message_of stream kind payload until bytes =
-    record { lane = record { stream = stream; kind = kind_meaning kind }; payload = payload; bytes = bytes; until = until }
+    record { lane = record { stream = stream; kind = kind_meaning kind }; payload = payload; bytes = bytes; until = until; limit = None }
 
 -- of a message that the user takes
 abbrev pub TellsMessage : (stream : ℕ) → Handed → Reply → Type 0

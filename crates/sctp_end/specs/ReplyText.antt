@@ -4,7 +4,7 @@ use Rattle.sctp_send.specs.SenderAnswers.{answer_code}
 use Rattle.sctp_terms.specs.Meanings.{reason_code, state_meaning, end_meaning}
 use Rattle.sctp_values.specs.Meanings.{kind_meaning}
 use Rattle.sctp_end.specs.declared.reply.Refusal.{Refusal}
-use Rattle.sctp_end.specs.declared.reply.Refusal.TheVariants.{NotIdle, NoSuchStream, Empty, TooLong, QueueFull, Spent, NotEstablished, NotOpen, NoPeer, ReasonTooLong}
+use Rattle.sctp_end.specs.declared.reply.Refusal.TheVariants.{NotIdle, NoSuchStream, Empty, TooLong, QueueFull, Spent, Resetting, NotEstablished, NotOpen, NoPeer, ReasonTooLong}
 use Rattle.sctp_end.specs.StatusText.{status_words}
 use Rattle.sctp_end.specs.declared.reply.Reply.{Reply}
 use Rattle.sctp_end.specs.declared.reply.Reply.TheVariants as reply
@@ -22,6 +22,7 @@ refusal_code Empty = 2
 refusal_code TooLong = 3
 refusal_code QueueFull = 4
 refusal_code Spent = 5
+refusal_code Resetting = 8
 refusal_code NotEstablished = 7
 refusal_code NotOpen = 1
 refusal_code NoPeer = 1

@@ -22,6 +22,8 @@ pub enum Refusal {
     QueueFull,
     /// 5 of `send`: no ticket or TSN is left in this association.
     Spent,
+    /// 8 of `send`: the stream is being reset. No call resets one yet.
+    Resetting,
     /// 7 of `send`: the association isn't established.
     NotEstablished,
     /// 1 of `shutdown`: no association is open.
@@ -101,6 +103,7 @@ impl Refusal {
             Refusal::TooLong => 3,
             Refusal::QueueFull => 4,
             Refusal::Spent => 5,
+            Refusal::Resetting => 8,
             Refusal::NotEstablished => 7,
             Refusal::NotOpen => 1,
             Refusal::NoPeer => 1,

@@ -5,6 +5,7 @@ pub mod UnknownLemmas
 pub mod ChunksInTurn
 pub mod TagLemmas
 pub mod PassingLemmas
+pub mod WearingLemmas
 pub mod ArrivingLemmas
 pub mod HandlingLemmas
 pub mod LogLemmas

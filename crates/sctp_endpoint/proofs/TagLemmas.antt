@@ -13,7 +13,7 @@ use Rattle.sctp_model.specs.end.Reports.{with_causes}
 use Rattle.sctp_model.specs.end.Closing.{rested}
 use Rattle.sctp_model.specs.end.PeerFaults.{FAULT, PORTS, TAG, STATE, COOKIE, Unnoted, After, GoesOn, Ends, PassedOver, Replies, Drops}
 use Rattle.sctp_model.specs.end.Opening.{begun, InitAckActs, NotCalling, NoTag, RefusedAck, AcceptedAck, EchoActs, NotHere, EchoedAgain, IsStrange, CookieAckActs, NotEchoing, CookieAcked}
-use Rattle.sctp_model.specs.end.Acting.{Acts, PieceActs, PieceNotHeard, PieceEmpty, WrongFormat, PieceComes, ForwardActs, ForwardNotHeard, WrongKind, IsBad, IsOld, ForwardComes, SackActs, SackNotHeard, SackStale, SackWrong, SackCounts, HeartbeatActs, HeartbeatNotHeard, HeartbeatCounts, ErrorActs, Closes, SaysNothing, ShutdownActs, ShutdownNotOpen, ShutdownWrong, ShutdownStale, ShutdownCounts, Crosses, Again, ShutdownAckActs, AckNotAwaited, AckCompletes, CompleteActs, CompleteNotAwaited, CompleteCompleted, unknown_leaves, unknown_causes, unknown_acts}
+use Rattle.sctp_model.specs.end.Acting.{Acts, PieceActs, PieceNotHeard, PieceEmpty, WrongFormat, PieceComes, ForwardActs, ForwardNotHeard, WrongKind, IsBad, IsOld, ForwardComes, SackActs, SackNotHeard, SackStale, SackWrong, SackCounts, HeartbeatActs, HeartbeatNotHeard, HeartbeatCounts, ErrorActs, Closes, SaysNothing, ShutdownActs, ShutdownNotOpen, ShutdownWrong, ShutdownStale, ShutdownCounts, Crosses, Again, ShutdownAckActs, AckNotAwaited, AckCompletes, CompleteActs, CompleteNotAwaited, CompleteCompleted, unknown_leaves, unknown_causes, unknown_acts, OtherActs, ReconfigComes, IsUnknown}
 use Rattle.sctp_model.specs.end.Passing.{has_ports, passes}
 use Rattle.sctp_model.specs.end.Strays.{Verdict, Taken, Dropped, Answer, opened_by, stray_verdict}
 use Rattle.sctp_model.specs.end.Arriving.{AllAct, NoneLeft, Next, Passes, Last, EndsAnswered, Stopped, Arrives, Elsewhere, NotOurs, Stray, CookieBegins, Heard, Notes, noted, no_notes, verdict_of, is_answer, Receives, ReadAs, WantsNoMemory}
@@ -143,6 +143,11 @@ late_cookie_ack e a (CookieAcked _ _ _) = tt
 late_as : (a b : After) → a ≡ b → LeavesLate b → LeavesLate a
 late_as a b is late = subst LeavesLate (sym is) late
 
+late_other : (e : EndView) (kind flags : ℕ) (value : List ℕ) (a : After) → OtherActs e kind flags value a → LeavesLate a
+late_other e kind flags value a (ReconfigComes _ _ _) = tt
+late_other e kind flags value a (IsUnknown _ _ is) =
+    late_as a (unknown_acts e kind flags value) is (late_unknown (chunk_rule kind).stop (with_causes (unknown_causes e kind flags value) e))
+
 pub late_chunk : (e : EndView) (tag : ℕ) (m : ChunkMeaning) (a : After) → HasTag m → Acts e tag m a → LeavesLate a
 late_chunk e tag (Data p) a tagged acts = late_piece Plain e p a acts
 late_chunk e tag (IData p) a tagged acts = late_piece Interleaved e p a acts
@@ -160,8 +165,7 @@ late_chunk e tag CookieAck a tagged acts = late_cookie_ack e a acts
 late_chunk e tag (ShutdownComplete t) a tagged acts = late_complete e a acts
 late_chunk e tag (ForwardTsn m) a tagged acts = late_forward Plain e m a acts
 late_chunk e tag (IForwardTsn m) a tagged acts = late_forward Interleaved e m a acts
-late_chunk e tag (Unknown kind flags value) a tagged acts =
-    late_as a (unknown_acts e kind flags value) acts (late_unknown (chunk_rule kind).stop (with_causes (unknown_causes e kind flags value) e))
+late_chunk e tag (Unknown kind flags value) a tagged acts = late_other e kind flags value a acts
 
 -- ---- why chunks drop their packet
 

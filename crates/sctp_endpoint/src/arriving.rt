@@ -11,7 +11,7 @@ ghost use Rattle.sctp_endpoint.specs.EndpointStands.{EndpointStands};
 ghost use Rattle.sctp_endpoint.specs.Logs.{LeavesLogs};
 ghost use Rattle.sctp_endpoint.specs.Handled.{IsRead, Handled, IsAnsweredWithin};
 ghost use Rattle.sctp_endpoint.specs.inner.Acted.{notes_meaning};
-ghost use Rattle.sctp_endpoint.specs.inner.Arrived.{Arrived, HearsAll, IsFor};
+ghost use Rattle.sctp_endpoint.specs.inner.Arrived.{Arrived, HearsAll, IsFor, worn_from};
 
 use crate::acting::act_all;
 use crate::after::{Notes, Strayed, Verdict};
@@ -73,7 +73,14 @@ pub(crate) fn arrive(
         return Ok(Verdict::Dropped(Reason::Tag));
     }
     if machine.has_association() {
-        return hear(machine, packet.tag, Notes::none(), packet.chunks);
+        let from = machine.missed_below();
+        return hear(
+            machine,
+            packet.tag,
+            Notes::none(),
+            Some(from),
+            packet.chunks,
+        );
     }
     arrive_outside(machine, packet, draw)
 }
@@ -97,6 +104,7 @@ fn arrive_outside(
             machine,
             packet.tag,
             Notes::of_cookie(),
+            None,
             behind_first(packet.chunks),
         ),
     }
@@ -113,7 +121,7 @@ fn behind_first(chunks: Chunks<'_>) -> Chunks<'_>
     }
 }
 
-/// Handles all chunks; what they ask for together, as a SACK, is then due once (RFC 9260, 6.2).
+/// Handles all chunks; then what they missed from an index on is given up, and what they ask for together, as a SACK, is due once (RFC 9260, 6.2).
 ///
 /// # Errors
 /// `NoMemory` if an allocation failed: the chunks before the failing one took effect.
@@ -122,23 +130,37 @@ fn hear(
     machine: &mut Machine,
     tag: u32,
     notes: Notes,
+    from: Option<u64>,
     chunks: Chunks<'_>,
 ) -> Result<Verdict, NoMemory>
-    ensures { (v : EndView) → MachineStands machine.old v → HearsAll tag v (notes_meaning notes) chunks.entry result machine.new }
+    ensures { (v : EndView) → MachineStands machine.old v → HearsAll from tag v (notes_meaning notes) chunks.entry result machine.new }
 {
     let mut notes = notes;
     let told = act_all(machine, tag, &mut notes, chunks);
-    end_packet(machine, notes);
+    end_packet(machine, notes, from);
     told
 }
 
-/// After the last chunk of a packet that is handled: its SACK is due, at once if the packet left a gap (RFC 9260, 6.2).
-fn end_packet(machine: &mut Machine, notes: Notes)
+/// After the last chunk of a packet that is handled: what was missed from an index on is given up; its SACK is due, at once if the packet left a gap
+/// (RFC 9260, 6.2; RFC 7496, 3.1).
+fn end_packet(machine: &mut Machine, notes: Notes, from: Option<u64>)
     ensures { (v : EndView) → MachineStands machine.old v
-        → (gap : Bool) × LeavesGap v gap × MachineStands machine.new (packet_ended (urged gap (notes_meaning notes)) v) }
+        → (gap : Bool) × LeavesGap v gap × MachineStands machine.new (packet_ended (urged gap (notes_meaning notes)) (worn_from from v)) }
 {
     let gap = machine.leaves_gap();
+    give_up(machine, from);
     if notes.acknowledges {
         machine.acknowledge(notes.is_urged(gap), notes.brings_data);
+    }
+}
+
+/// What was missed from this index on, and may not be retransmitted again, is given up (RFC 7496, 3.1).
+#[inline(always)]
+fn give_up(machine: &mut Machine, from: Option<u64>)
+    ensures { (v : EndView) → MachineStands machine.old v → MachineStands machine.new (worn_from from v) }
+{
+    match from {
+        None => {}
+        Some(from) => machine.give_up_missed(from),
     }
 }

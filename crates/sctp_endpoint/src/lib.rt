@@ -55,9 +55,9 @@ pub use packets::{AbortCause, PacketHeader, abort_cause, peek_packet};
 pub use sctp_association::{Agreed, Refused};
 pub use sctp_cookie::Key;
 pub use sctp_recv::Message;
-pub use sctp_send::{Abandoned, SendFault};
+pub use sctp_send::{Abandoned, Limits, SendFault};
 pub use sctp_terms::{
-    AbortFault, Config, ConfigFault, ConnectFault, Draw, End, Reason, ShutdownFault, State,
+    AbortFault, Config, ConfigFault, ConnectFault, Draw, End, Pace, Reason, ShutdownFault, State,
 };
 pub use sctp_values::{Kind, NoMemory, Ticket};
 pub use transmit::Sent;

@@ -1,11 +1,12 @@
 //! What is known of an endpoint. None of these calls changes anything or allocates memory.
 
-ghost use Rattle.std.specs.Prelude.{◌≡◌, ◌≤◌, ◌*◌, Some, None, MatchOption, option_map, slice_get, length};
+ghost use Rattle.std.specs.Prelude.{◌≡◌, ℕ, ◌≤◌, ◌*◌, Some, None, MatchOption, option_map, slice_get, length};
 ghost use Rattle.sctp_model.specs.sender.Readers.{outstanding, acknowledged, abandoned};
 ghost use Rattle.sctp_model.specs.numbers.Limits.{WINDOW, QUEUE_LIMIT, LONGEST_MESSAGE};
 ghost use Rattle.sctp_model.specs.sender.Abandoning.{has_late};
 ghost use Rattle.sctp_model.specs.receiver.ReceiverView.{held_bytes, size_of_pieces};
 ghost use Rattle.sctp_model.specs.end.EndView.{EndView, state_of, ended_of};
+ghost use Rattle.sctp_model.specs.end.Clock.{at_moment};
 ghost use Rattle.sctp_model.specs.end.Moments.{next_moment};
 ghost use Rattle.sctp_terms.specs.Meanings.{end_meaning, state_meaning};
 ghost use Rattle.sctp_send.specs.SenderAnswers.{next_late};
@@ -13,13 +14,15 @@ ghost use Rattle.sctp_send.specs.Waiting.{queued_bytes};
 ghost use Rattle.sctp_recv.specs.HandedOf.{handed_of};
 ghost use Rattle.sctp_recv.specs.Readable.{ReadableAnswer};
 ghost use Rattle.sctp_association.specs.Agreeing.{AgreedAnswer};
+ghost use Rattle.sctp_association.specs.GivenUp.{GivesUpLate};
 ghost use Rattle.sctp_outcomes.specs.Kept.{IsSound};
 ghost use Rattle.sctp_endpoint.specs.EndpointStands.{EndpointStands};
 
 use crate::endpoint::Endpoint;
 use sctp_association::Agreed;
 use sctp_recv::Message;
-use sctp_terms::{Config, End, State};
+use sctp_send::Limits;
+use sctp_terms::{Config, End, Pace, State};
 use sctp_values::Ticket;
 
 #[tactic(auto, unfolding(crate::specs::EndpointStands::EndpointStands))]
@@ -201,5 +204,20 @@ impl Endpoint {
         ensures { (v : EndView) → EndpointStands self.now v → IsSound v }
     {
         self.machine.sound();
+    }
+
+    /// What it measures round trips and paces its user data by (RFC 9260, 6.3.1 and 7.2); None if it doesn't. No call sets it up.
+    pub fn pace(&self) -> Option<Pace>
+        ensures { (v : EndView) → EndpointStands self.now v → MatchOption result (v.pace ≡ None) (λ pace. v.pace ≡ None → ⊥) }
+    {
+        self.machine.pace()
+    }
+
+    /// Whether messages with a limit of retransmissions may be held (RFC 7496, 3.1). None if none is: then `on_moment` abandons only messages that are
+    /// past their lifetime. `send` accepts none.
+    pub fn limits(&self) -> Option<Limits>
+        ensures { (v : EndView) → EndpointStands self.now v → MatchOption result ((now : ℕ) → GivesUpLate (at_moment v now)) (λ limits. Unit {0}) }
+    {
+        self.machine.limits()
     }
 }

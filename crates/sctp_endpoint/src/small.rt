@@ -28,8 +28,8 @@ pub(crate) fn on_heartbeat(machine: &mut Machine, info: &[u8]) -> Result<After, 
     Ok(After::GoesOn)
 }
 
-/// A chunk of an unrecognized type: the two highest bits of its type say whether it is reported to the peer, and whether the chunks after it are handled
-/// (RFC 9260, 3.2).
+/// A chunk of a type without a case of its own: a RE-CONFIG acts by its parameters if that was agreed on (RFC 6525, 5.2). Any other type is
+/// unrecognized: its two highest bits say whether it is reported to the peer, and whether the chunks after it are handled (RFC 9260, 3.2).
 ///
 /// # Errors
 /// `NoMemory` if the allocation for the report failed; nothing changed then.
@@ -42,6 +42,10 @@ pub(crate) fn on_unknown(
     ensures step { (v : EndView) (tag : ℕ) → MachineStands machine.old v → IfOk result (λ a. Left a v (Acts v tag (Unknown kind flags value.now)) machine.new) }
     ensures refused { (v : EndView) → MachineStands machine.old v → OnErr result (MachineStands machine.new v) }
 {
+    if machine.takes_reconfig(kind) {
+        machine.hear_reconfig(value)?;
+        return Ok(After::GoesOn);
+    }
     let rule = unknown_chunk(kind);
     report(machine, rule.report, kind, flags, value)?;
     if rule.stop {

@@ -39,7 +39,7 @@ event_meaning (Build x) = Happens (meaning.Build (side_meaning x))
 event_meaning (Deliver x number) = Happens (meaning.Deliver (side_meaning x) number)
 event_meaning (Foreign x bytes) = BringsBytes (side_meaning x) bytes.items
 event_meaning (Send x stream ordered payload bytes until) =
-    Happens (meaning.Send (side_meaning x) (record { lane = lane_for stream ordered; payload = payload; bytes = bytes.items; until = until }))
+    Happens (meaning.Send (side_meaning x) (record { lane = lane_for stream ordered; payload = payload; bytes = bytes.items; until = until; limit = None }))
 event_meaning (Abandon x ticket) = Happens (meaning.Abandon (side_meaning x) ticket.0)
 event_meaning (Take x stream) = Happens (meaning.Take (side_meaning x) stream)
 event_meaning (Shutdown x) = Happens (meaning.Shutdown (side_meaning x))

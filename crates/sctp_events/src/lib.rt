@@ -13,6 +13,8 @@
 //! - `PairConfig::with_delay` and `with_standard_closing` set the option of both endpoints, and nothing else: delayed SACKs (RFC 9260, 6.2),
 //!   and closing by the RFC's timers (RFC 9260, 9.2).
 //! - `PairConfig::caller` is A's configuration, `listener` the same with the two ports exchanged.
+//! - `TwoConfigs::of` takes the configurations of two endpoints that need not be alike, exactly if the port of each is the port of the other's
+//!   peer; `TwoConfigs::alike` those of a pair. `caller` and `listener` are its two.
 //! - `Side::other` is the other endpoint.
 //!
 //! `specs/Setups` says how a pair is set up at the start of the model's runs. `Event`, `Outcome` and `Refusal` are plain data.
@@ -21,7 +23,9 @@
 mod config;
 mod event;
 mod outcome;
+mod two_configs;
 
 pub use config::PairConfig;
 pub use event::{Event, Side};
 pub use outcome::{Outcome, Refusal};
+pub use two_configs::TwoConfigs;

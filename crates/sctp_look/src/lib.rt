@@ -2,7 +2,7 @@
 //! its packets for a program that reads captures.
 //!
 //! Events of a pair leave rows (`recording`, `rows`, `lives`, and `waits` for delayed SACKs), which are drawn as text (`ladder`), as SVG
-//! (`svg`) and as a hex dump (`capture`). The crate depends on public calls alone: `sctp_script::read_line`; `Pair::new`, `step`, `end`,
+//! (`svg`) and as a hex dump (`capture`). The crate depends on public calls alone: `sctp_script::read_line_at`; `Pair::of_two`, `step`, `end`,
 //! `packet` and `clock`; an endpoint's `state` and `ended`; `sctp_packet::read_packet`; and the words for states of sctp_words.
 //!
 //! # Promises

@@ -4,7 +4,7 @@ use crate::lives::Lives;
 use crate::row::{Arrow, Call, Deed, Packet, Row, Taken};
 use crate::rows::Rows;
 use crate::waits::Waits;
-use sctp_pair::{Event, Outcome, Pair, PairConfig, Side, Ticket};
+use sctp_pair::{Event, Outcome, Pair, Side, Ticket, TwoConfigs};
 use std::alloc::{AllocError, Global};
 
 /// A pair and the rows of its events.
@@ -24,14 +24,14 @@ impl Recording {
     ///
     /// # Errors
     /// An allocation failed.
-    pub(crate) fn new(alloc: Global, config: PairConfig) -> Result<Recording, AllocError> {
-        let pair = Pair::new(alloc, config).map_err(|_| AllocError)?;
+    pub(crate) fn new(alloc: Global, configs: TwoConfigs) -> Result<Recording, AllocError> {
+        let pair = Pair::of_two(alloc, configs).map_err(|_| AllocError)?;
         Ok(Recording {
             alloc,
             pair,
             rows: Rows::new(alloc),
             lives: Lives::new(alloc),
-            waits: Waits::new(config.caller().delay()),
+            waits: Waits::new(configs.caller().delay(), configs.listener().delay()),
             strange: Vec::new(alloc),
         })
     }

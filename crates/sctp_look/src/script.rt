@@ -5,17 +5,20 @@ ghost use Rattle.sctp_text.specs.declared.limits.TheConstants.{LONGEST_TEXT};
 
 use crate::fault::LookFault;
 use crate::recording::Recording;
-use sctp_script::{Acting, read_line};
+use sctp_pair::TwoConfigs;
+use sctp_script::{Place, Placed, read_line_at};
 use sctp_text::{LineReader, NextLine, ReadFault, Source};
 use sctp_words::{LineError, LineFault};
 use std::alloc::Global;
 
-/// The state of reading a script: the recorded pair, once there is one, and the number of the next line.
+/// The state of reading a script: the recorded pair, once there is one, its configurations until a line asks something of it, and the number of the
+/// next line.
 #[derive(Drop)]
 pub(crate) struct Reading {
     alloc: Global,
     lines: LineReader,
     run: Option<Recording>,
+    fresh: Option<TwoConfigs>,
     number: u64,
 }
 
@@ -26,6 +29,7 @@ impl Reading {
             alloc,
             lines: LineReader::new(alloc),
             run: None,
+            fresh: None,
             number: 1,
         }
     }
@@ -86,22 +90,31 @@ impl Reading {
 
     /// Makes the event of a line.
     fn happen(&mut self, line: &[u8]) -> Result<(), LookFault> {
-        match read_line(self.alloc, line, self.run.is_some()) {
+        let place = Place::of(self.run.is_some(), self.fresh);
+        match read_line_at(self.alloc, line, place) {
             Ok(None) => Ok(()),
-            Ok(Some(Acting::Pair(config))) => {
-                let run = Recording::new(self.alloc, config)?;
-                drop(self.run.replace(run));
-                self.begin()
-            }
-            Ok(Some(Acting::Event(event))) => match &mut self.run {
-                Some(run) => {
-                    run.record(&event)?;
-                    Ok(())
+            Ok(Some(Placed::Pair(config))) => self.set_up(&TwoConfigs::alike(config)),
+            Ok(Some(Placed::Options(configs))) => self.set_up(&configs),
+            Ok(Some(Placed::Event(event))) => {
+                self.fresh = None;
+                match &mut self.run {
+                    Some(run) => {
+                        run.record(&event)?;
+                        Ok(())
+                    }
+                    None => Ok(()),
                 }
-                None => Ok(()),
-            },
+            }
             Err(LineError::Fault(fault)) => Err(LookFault::Line(self.number, fault)),
             Err(LineError::NoMemory) => Err(LookFault::NoMemory),
         }
+    }
+
+    /// Makes the pair with these configurations, in place of the one that is there.
+    fn set_up(&mut self, configs: &TwoConfigs) -> Result<(), LookFault> {
+        let run = Recording::new(self.alloc, *configs)?;
+        drop(self.run.replace(run));
+        self.fresh = Some(*configs);
+        self.begin()
     }
 }

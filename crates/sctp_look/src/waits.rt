@@ -4,19 +4,21 @@ use sctp_packet::read_packet;
 use sctp_pair::Side;
 use sctp_wire::Chunk;
 
-/// Since when each endpoint of a pair owes a SACK, in milliseconds. Nothing is noted in a pair without delayed SACKs.
+/// Since when each endpoint of a pair owes a SACK, in milliseconds. Nothing is noted of an endpoint without delayed SACKs.
 #[derive(Clone, Copy)]
 pub(crate) struct Waits {
-    noted: bool,
+    noted_at_a: bool,
+    noted_at_b: bool,
     at_a: Option<u64>,
     at_b: Option<u64>,
 }
 
 impl Waits {
-    /// Neither endpoint owes a SACK.
-    pub(crate) fn new(noted: bool) -> Waits {
+    /// Neither endpoint owes a SACK. Each flag says whether that endpoint delays its SACKs.
+    pub(crate) fn new(noted_at_a: bool, noted_at_b: bool) -> Waits {
         Waits {
-            noted,
+            noted_at_a,
+            noted_at_b,
             at_a: None,
             at_b: None,
         }
@@ -24,7 +26,7 @@ impl Waits {
 
     /// Notes that a packet has arrived at an endpoint and wasn't dropped.
     pub(crate) fn came(&mut self, to: Side, packet: &[u8], moment: u64) {
-        if self.noted && holds(packet, Sought::Acknowledged) {
+        if self.is_noted(to) && holds(packet, Sought::Acknowledged) {
             let since = self.since(to);
             *since = since.or(Some(moment));
         }
@@ -40,6 +42,14 @@ impl Waits {
             Some(moment - since)
         } else {
             None
+        }
+    }
+
+    /// Whether this endpoint delays its SACKs.
+    fn is_noted(&self, side: Side) -> bool {
+        match side {
+            Side::A => self.noted_at_a,
+            Side::B => self.noted_at_b,
         }
     }
 

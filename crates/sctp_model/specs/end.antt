@@ -1,4 +1,8 @@
 pub mod Sealing
+pub mod Trips
+pub mod Misses
+pub mod Control
+pub mod Pacing
 pub mod EndView
 pub mod Clock
 pub mod Reports
@@ -6,11 +10,13 @@ pub mod Options
 pub mod PeerFaults
 pub mod Closing
 pub mod Opening
+pub mod Reconfiguring
 pub mod Acting
 pub mod Passing
 pub mod Strays
+pub mod Moments
+pub mod Wearing
 pub mod Arriving
 pub mod Building
-pub mod Moments
 pub mod UserCalls
 pub mod Configured

@@ -1,3 +1,4 @@
+pub mod Incoming
 pub mod ReceiverView
 pub mod Receiving
 pub mod Rows
@@ -8,4 +9,5 @@ pub mod DueInWords
 pub mod PieceTaken
 pub mod ForwardTaken
 pub mod SackMade
+pub mod ResetTaken
 pub mod Laws

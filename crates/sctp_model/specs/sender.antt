@@ -1,3 +1,4 @@
+pub mod Outgoing
 pub mod SenderView
 pub mod Words
 pub mod Entries
@@ -8,6 +9,7 @@ pub mod Abandoning
 pub mod Readers
 pub mod PieceSaid
 pub mod Filling
+pub mod Resetting
 pub mod Forwarding
 pub mod Reached
 pub mod SentChunks

@@ -3,3 +3,4 @@ pub mod Typed
 pub mod Places
 pub mod Unknown
 pub mod Packet
+pub mod Reconfig

@@ -1,5 +1,5 @@
 -- A listener's reply to an INIT: the bytes written are the INIT ACK of the definitions, and which verdict that is.
-use Rattle.std.proofs.Common.{◌≡◌, ℕ, ◌+◌, ◌≤◌, true, false, Some, List, [], ◌∷◌, ◌++◌, length, refl, ap, sym, ◌∙◌, nat_le}
+use Rattle.std.proofs.Common.{◌≡◌, ℕ, ◌+◌, true, false, Some, List, [], ◌∷◌, ◌++◌, length, refl, ap, sym, ◌∙◌, nat_le}
 use Rattle.sctp_model.specs.wire.Chunk.{InitMeaning, ChunkMeaning, InitAck}
 use Rattle.sctp_model.specs.wire.Typed.{Typed, typed_in, written_typed}
 use Rattle.sctp_model.specs.wire.Unknown.{parameters_reported}

@@ -4,6 +4,7 @@ use Rattle.std.specs.Prelude.{◌&&◌}
 use Rattle.sctp_model.specs.wire.Chunk.{InitMeaning, Init, InitAck, Abort, padded}
 use Rattle.sctp_model.specs.wire.Typed.{Typed, WritesTyped, are_typed, AreAsWritten, written_typed, typed_bytes, filled}
 use Rattle.sctp_model.specs.end.EndView.{Configuration}
+use Rattle.sctp_model.specs.wire.Reconfig.{RECONFIG}
 use Rattle.sctp_model.specs.end.Options.{STATE_COOKIE, SUPPORTED_EXTENSIONS, FORWARD_TSN_SUPPORTED, own_extensions, unless_empty, own_options}
 use Rattle.sctp_model.specs.end.Reports.{item}
 use Rattle.sctp_model.proofs.TypedLemmas.{length-item, typed_of-reads}
@@ -73,14 +74,18 @@ some_bytes x [] = omega (arith, length-item x)
 some_bytes x (y ∷ ys) =
     omega (arith, length-append (filled (typed_bytes x)) (written_typed (y ∷ ys)), length-filled (typed_bytes x), length-item x)
 
-extensions_short : (partial interleave : Bool)
-    → length {A = ℕ} (cond interleave (64 ∷ []) [] ++ cond partial (192 ∷ []) [] ++ cond (interleave && partial) (194 ∷ []) []) ≤ 3
-extensions_short true true = omega arith
-extensions_short true false = omega arith
-extensions_short false true = omega arith
-extensions_short false false = omega arith
+extensions_short : (partial interleave reset : Bool)
+    → length {A = ℕ} (cond interleave (64 ∷ []) [] ++ cond reset (RECONFIG ∷ []) [] ++ cond partial (192 ∷ []) [] ++ cond (interleave && partial) (194 ∷ []) []) ≤ 4
+extensions_short true true true = omega arith
+extensions_short true true false = omega arith
+extensions_short true false true = omega arith
+extensions_short true false false = omega arith
+extensions_short false true true = omega arith
+extensions_short false true false = omega arith
+extensions_short false false true = omega arith
+extensions_short false false false = omega arith
 
-listed_short : (xs : List ℕ) → length xs ≤ 3 → length (written_typed (unless_empty xs)) ≤ 8
+listed_short : (xs : List ℕ) → length xs ≤ 4 → length (written_typed (unless_empty xs)) ≤ 8
 listed_short [] short = omega arith
 listed_short (x ∷ xs) short = let size = one_more (item SUPPORTED_EXTENSIONS (x ∷ xs)) [] in omega arith
 
@@ -92,7 +97,7 @@ behind_partial false xs = omega arith
 -- an end's options
 pub options_short : (c : Configuration) → length (written_typed (own_options c)) ≤ 12
 options_short c =
-    let list = listed_short (own_extensions c) (extensions_short c.partial c.interleave) in
+    let list = listed_short (own_extensions c) (extensions_short c.partial c.interleave c.reset) in
     let whole = behind_partial c.partial (unless_empty (own_extensions c)) in
     omega arith
 

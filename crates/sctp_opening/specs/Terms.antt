@@ -1,8 +1,9 @@
 -- What the terms of an association say.
+use Rattle.std.specs.Prelude.{false}
 use Rattle.sctp_model.specs.end.EndView as model
 use Rattle.sctp_opening.specs.declared.terms.Terms.{Terms}
 
--- these terms
+-- these terms, in which no stream is reset
 abbrev pub terms_meaning : Terms → model.Terms
 terms_meaning x = record {
   own_tsn = x.own_tsn;
@@ -11,4 +12,5 @@ terms_meaning x = record {
   inbound = x.inbound;
   interleave = x.interleave;
   partial = x.partial;
+  reset = false;
 }

@@ -1,6 +1,6 @@
 //! A listener reads the State Cookie of a COOKIE ECHO (RFC 9260, 5.1.5 and 5.2.4).
 
-ghost use Rattle.std.specs.Prelude.{◌≡◌, Ok};
+ghost use Rattle.std.specs.Prelude.{◌≡◌, false, Ok};
 ghost use Rattle.sctp_model.specs.end.EndView.{EndView};
 ghost use Rattle.sctp_model.specs.end.Opening.{cookie_read, is_ours};
 ghost use Rattle.sctp_model.specs.end.Sealing.{Sealing};
@@ -9,6 +9,7 @@ ghost use Rattle.sctp_cookie.specs.Opens.{open_answer};
 ghost use Rattle.sctp_cookie.specs.Seals.{IsUnder};
 ghost use Rattle.sctp_opening.specs.Cookies.{IsAt, IsLate, TellsStaleness, ports_in, reading_meaning};
 
+use crate::options::without_reset;
 use sctp_cookie::{
     CookieBody, CookieFault, Key, Ports, cookies_are_read, cookies_are_sealed, open,
 };
@@ -50,6 +51,7 @@ pub fn read_cookie(key: &Key, config: &Config, now: u64, tag: u32, cookie: &[u8]
 {
     cookies_are_read();
     cookies_are_sealed();
+    without_reset(config);
     let ports = ports_of(config);
     match open(key, cookie, now, ports, tag) {
         Ok(body) => CookieReading::Opens(body),
@@ -63,7 +65,7 @@ pub fn read_cookie(key: &Key, config: &Config, now: u64, tag: u32, cookie: &[u8]
 
 /// A cookie older than its lifetime, with the body that it would have had.
 fn late(key: &Key, cookie: &[u8], ports: Ports, tag: u32, microseconds: u32) -> CookieReading
-    requires { open_answer key.now cookie.now 0 ports tag ≡ Ok (body_of cookie.now) }
+    requires { open_answer false key.now cookie.now 0 ports tag ≡ Ok (body_of cookie.now) }
     ensures { IsLate (body_of cookie.now) microseconds result }
 {
     match open(key, cookie, 0, ports, tag) {

@@ -18,7 +18,9 @@ ghost use Rattle.sctp_opening.specs.Told.{IsAnswer, IsTold, IsToldWithin};
 ghost use Rattle.sctp_opening.specs.inner.Fitting.{IsList};
 
 use crate::cookies::{CookieReading, read_cookie};
-use crate::options::{agreed_interleave, agreed_partial, has_no_stream, introduction, put_options};
+use crate::options::{
+    agreed_interleave, agreed_partial, has_no_stream, introduction, put_options, without_reset,
+};
 use crate::outside::{Outside, Stray};
 use crate::packets::{abort_packet, bare_abort, lone_packet, room_behind, stale_cookie_packet};
 use crate::parameters::put_reports;
@@ -117,6 +119,7 @@ impl Outside {
     fn cookie_body(&self, offer: &Init<'_>) -> CookieBody
         ensures { (e : EndView) → IsAt self.now.config self.now.moment e → body_meaning result ≡ body_for e self.now.draw (init_meaning offer.now) }
     {
+        without_reset(&self.config);
         CookieBody {
             made: self.moment,
             listener_port: self.config.own_port(),

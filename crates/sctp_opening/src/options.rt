@@ -1,7 +1,7 @@
 //! What an endpoint offers in INIT and in INIT ACK, and which extensions are used (RFC 9260, 3.3.2 and 3.3.3; RFC 3758, 3.1 and 3.3;
 //! RFC 8260, 2.2.1 and 2.3.1).
 
-ghost use Rattle.std.specs.Prelude.{◌≡◌, List, ◌++◌, true, IfOk, OnOk, OnErr};
+ghost use Rattle.std.specs.Prelude.{◌≡◌, List, ◌++◌, true, false, IfOk, OnOk, OnErr};
 ghost use Rattle.sctp_model.specs.wire.Typed.{Typed, WritesTyped, are_typed};
 ghost use Rattle.sctp_model.specs.end.Options.{own_extensions, own_options, agreed_interleave, agreed_partial, lists_type, value_of};
 ghost use Rattle.sctp_model.specs.end.Opening.{has_no_stream, introduction, own_init};
@@ -44,10 +44,20 @@ fn lists_type(kind: u8, parameters: &Parameters<'_>) -> bool
     }
 }
 
+/// It doesn't ask for the reset of streams: no call of [`Config`] sets that (RFC 6525).
+pub(crate) fn without_reset(config: &Config)
+    ensures { config.now.reset ≡ false }
+{
+    if let Some(reset) = config.reset() {
+        match reset {}
+    }
+}
+
 /// The chunk types of this endpoint's extensions, in ascending order (RFC 5061, 4.2.7).
 fn extensions(config: &Config) -> &'static [u8]
     ensures { result.now ≡ own_extensions config.now }
 {
+    without_reset(config);
     match (config.interleave(), config.partial()) {
         (false, false) => &[],
         (true, false) => &[I_DATA],

@@ -6,7 +6,7 @@ ghost use Rattle.sctp_wire.specs.ChunkTree.{init_meaning};
 ghost use Rattle.sctp_cookie.specs.CookieTree.{body_meaning};
 ghost use Rattle.sctp_opening.specs.Terms.{terms_meaning};
 
-use crate::options::{agreed_interleave, agreed_partial};
+use crate::options::{agreed_interleave, agreed_partial, without_reset};
 use sctp_cookie::CookieBody;
 use sctp_terms::{Config, Draw};
 use sctp_wire::Init;
@@ -34,6 +34,7 @@ impl Terms {
     pub fn of_init_ack(config: &Config, draw: Draw, offer: &Init<'_>) -> Terms
         ensures { terms_meaning result ≡ terms_of_ack config.now draw (init_meaning offer.now) }
     {
+        without_reset(config);
         Terms {
             own_tsn: draw.tsn(),
             peer_tsn: offer.tsn,
@@ -62,6 +63,7 @@ impl Terms {
     pub fn alike(config: &Config, own: Draw, peer: Draw) -> Terms
         ensures { terms_meaning result ≡ terms_alike config.now own peer }
     {
+        without_reset(config);
         let streams = config.outbound().min(config.inbound());
         Terms {
             own_tsn: own.tsn(),

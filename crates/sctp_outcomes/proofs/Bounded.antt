@@ -60,6 +60,7 @@ bounded_law = record {
   forward = λ f n r m a t b came. by_forward f r came.c m a t b came.leaves;
   sent = λ f n r b. same_seen f f r (sack_sent r) refl b;
   taken = λ f n r s h t b takes. by_taken f r s h t b takes;
+  reset = λ f n r x b. same_seen f f r (record r { resets = x }) refl b;
 }
   where
     by_taken : (f : Format) (r : ReceiverView) (s : ℕ) (h : Option Handed) (t : ReceiverView) → IsBounded f r → TakeLeaves r s h t → IsBounded f t

@@ -66,4 +66,5 @@ buffer_law = record {
   forward = λ f b r m a t o came. record { same = forward_keeps_buffer f r m a t came ∙ o.same; fits = forward_fits f r m a t o.fits came };
   sent = λ f b r o. record { same = o.same; fits = sent_fits r o.fits };
   taken = λ f b r s h t o takes. record { same = take_keeps_buffer r s h t takes ∙ o.same; fits = take_fits r s h t o.fits takes };
+  reset = λ f b r x o. record { same = o.same; fits = o.fits };
 }

@@ -1,7 +1,7 @@
 -- Both receivers are at rest and within their buffers; both plans are orderly, and both senders as their calls leave them.
 use Rattle.std.proofs.Common.{◌≡◌, ◌<◌, List, [], refl, sym, subst, arith, ◌∙◌}
 use Rattle.sctp_model.specs.receiver.Laws.{IsAtRest}
-use Rattle.sctp_model.proofs.receiver.AtRest.{fresh_at_rest, piece_at_rest, sent_at_rest, take_at_rest}
+use Rattle.sctp_model.proofs.receiver.AtRest.{fresh_at_rest, piece_at_rest, sent_at_rest, take_at_rest, reset_at_rest}
 use Rattle.sctp_model.proofs.receiver.ForwardAtRest.{forward_at_rest}
 use Rattle.sctp_model.specs.end.EndView.{Configuration, format_of}
 use Rattle.sctp_model.specs.world.World.{Side, A, B, World, end_of, Setup, configuration_of, start}
@@ -24,6 +24,7 @@ rest_law = record {
   forward = λ f b r m a t o came. forward_at_rest f r m a t o came;
   sent = λ f b r o. sent_at_rest f r o;
   taken = λ f b r s h t o takes. take_at_rest f r s h t o takes;
+  reset = λ f b r x o. reset_at_rest f r x o;
 }
 
 pub receivers_are_at_rest : ReceiversAreAtRest

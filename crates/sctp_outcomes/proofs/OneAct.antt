@@ -1,20 +1,21 @@
 -- What a chunk leaves is one: no two rows of the state table hold at once, and each leaves one end.
 use Rattle.std.proofs.Common.{◌≡◌, ℕ, Bool, true, false, List, Some, None, inl, inr, refl, sym, subst, ap, arith, ◌∙◌}
-use Rattle.sctp_model.specs.wire.Typed.{Typed}
+use Rattle.sctp_model.specs.wire.Typed.{Typed, typed_in}
 use Rattle.sctp_model.specs.messages.Format.{Format, Plain, Interleaved}
 use Rattle.sctp_model.specs.wire.Chunk.{PieceMeaning, SackMeaning, ForwardMeaning, InitMeaning, ChunkMeaning, Data, IData, Init, InitAck, Sack, Heartbeat, HeartbeatAck, Abort, Shutdown, ShutdownAck, Error, CookieEcho, CookieAck, ShutdownComplete, ForwardTsn, IForwardTsn, Unknown}
 use Rattle.sctp_model.specs.receiver.ReceiverView.{ReceiverView}
 use Rattle.sctp_model.specs.receiver.PieceTaken.{PieceAnswer}
 use Rattle.sctp_model.specs.receiver.Laws.{IsOrdinary}
-use Rattle.sctp_model.proofs.receiver.OneStep.{piece_only, forward_only}
+use Rattle.sctp_model.proofs.receiver.OneStep.{piece_only, forward_only, cumulative_only}
 use Rattle.sctp_model.specs.end.Sealing.{Sealing}
-use Rattle.sctp_model.specs.end.EndView.{Tags, Draw, Stage, Established, ShutdownSent, ShutdownReceived, ShutdownAckSent, AbortedHere, Completed, Phase, Calling, Echoing, Open, EndView, format_of}
+use Rattle.sctp_model.specs.end.EndView.{Tags, Draw, Stage, ShutdownSent, ShutdownReceived, ShutdownAckSent, AbortedHere, Completed, Phase, Calling, Echoing, Open, EndView, format_of}
 use Rattle.sctp_model.specs.end.Clock.{turned, closed}
 use Rattle.sctp_model.specs.end.Closing.{answers_shutdown, hears, takes_data, takes_acknowledgements, takes_cookies, awaits_ack}
 use Rattle.sctp_model.specs.end.Reports.{with_causes}
 use Rattle.sctp_model.specs.end.PeerFaults.{Unnoted, ToAcknowledge, After, GoesOn, Replies, packet_to, abort_for, at_fault, no_user_data, violation}
-use Rattle.sctp_model.specs.end.Opening.{ack_fault, is_calling, echoing, InitAckActs, NotCalling, NoTag, RefusedAck, AcceptedAck, seal_in, is_ours, cookie_read, EchoActs, NotHere, EchoedAgain, IsStrange, is_echoing, CookieAckActs, NotEchoing, CookieAcked}
-use Rattle.sctp_model.specs.end.Acting.{asks_at_once, piece_causes, PieceActs, ForwardNotHeard, HeartbeatNotHeard, PieceNotHeard, SackNotHeard, PieceEmpty, WrongFormat, ForwardComes, PieceComes, ForwardActs, WrongKind, IsBad, IsOld, SackActs, SackStale, ShutdownStale, SackWrong, ShutdownWrong, HeartbeatCounts, SackCounts, ShutdownCounts, HeartbeatActs, ErrorActs, Closes, SaysNothing, shutdown_heard, ShutdownActs, ShutdownNotOpen, Crosses, Again, ShutdownAckActs, AckNotAwaited, CompleteNotAwaited, AckCompletes, CompleteCompleted, CompleteActs, Acts}
+use Rattle.sctp_model.specs.end.Opening.{ack_fault, is_calling, echoing, InitAckActs, NotCalling, NoTag, RefusedAck, AcceptedAck, seal_in, is_ours, cookie_read, EchoActs, NotHere, EchoedAgain, IsStrange, is_echoing, acknowledged_echo, CookieAckActs, NotEchoing, CookieAcked}
+use Rattle.sctp_model.specs.end.Acting.{asks_at_once, piece_causes, PieceActs, ForwardNotHeard, HeartbeatNotHeard, PieceNotHeard, SackNotHeard, PieceEmpty, WrongFormat, ForwardComes, PieceComes, ForwardActs, WrongKind, IsBad, IsOld, SackActs, SackStale, ShutdownStale, SackWrong, ShutdownWrong, HeartbeatCounts, SackCounts, ShutdownCounts, HeartbeatActs, ErrorActs, Closes, SaysNothing, shutdown_heard, ShutdownActs, ShutdownNotOpen, Crosses, Again, ShutdownAckActs, AckNotAwaited, CompleteNotAwaited, AckCompletes, CompleteCompleted, CompleteActs, Acts, ReconfigComes, IsUnknown}
+use Rattle.sctp_model.specs.end.Reconfiguring.{parameters_heard}
 
 -- ---- what can't hold at once
 
@@ -224,7 +225,7 @@ module _ (e : EndView) (o : IsOrdinary (format_of e) e.receiver) where
   one_cookie_ack x y (CookieAcked t xs i) (CookieAcked u ys j) =
       let both : Echoing t xs ≡ Echoing u ys = sym i ∙ j in
       let tags : t ≡ u = cc in
-      ap (λ (v : Tags). GoesOn Unnoted (turned (Open v Established) e)) tags
+      ap (λ (v : Tags). GoesOn Unnoted (acknowledged_echo v e)) tags
 
   pub one_after : (tag : ℕ) (c : ChunkMeaning) (x y : After) → Acts e tag c x → Acts e tag c y → x ≡ y
   one_after tag (Data p) x y a b = one_piece Plain p x y a b
@@ -243,4 +244,7 @@ module _ (e : EndView) (o : IsOrdinary (format_of e) e.receiver) where
   one_after tag (ShutdownComplete t) x y a b = one_complete x y a b
   one_after tag (ForwardTsn m) x y a b = one_forward Plain m x y a b
   one_after tag (IForwardTsn m) x y a b = one_forward Interleaved m x y a b
-  one_after tag (Unknown k f v) x y a b = a ∙ sym b
+  one_after tag (Unknown k f v) x y (ReconfigComes c _ p) (ReconfigComes d _ q) = ap (λ (n : ℕ). GoesOn Unnoted (parameters_heard n e (typed_in v))) (cumulative_only e.receiver c d p q)
+  one_after tag (Unknown k f v) x y (ReconfigComes _ on _) (IsUnknown _ off _) = absurd (clash on off)
+  one_after tag (Unknown k f v) x y (IsUnknown _ off _) (ReconfigComes _ on _) = absurd (clash on off)
+  one_after tag (Unknown k f v) x y (IsUnknown _ _ a) (IsUnknown _ _ b) = a ∙ sym b

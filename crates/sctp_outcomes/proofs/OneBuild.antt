@@ -6,9 +6,13 @@ use Rattle.sctp_model.proofs.receiver.OneStep.{cumulative_only}
 use Rattle.sctp_model.proofs.receiver.OneSack.{sack_only}
 use Rattle.sctp_model.specs.end.EndView.{Tags, Draw, Stage, Phase, Calling, Echoing, Open, EndView, has_association}
 use Rattle.sctp_model.specs.end.Opening.{own_init}
-use Rattle.sctp_model.specs.end.Building.{Slot, Wants, EchoCookie, AckCookie, AckHeartbeat, ReportCauses, Acknowledge, PassOn, SayShutdown, AnswerShutdown, has_room, Puts, NoMore, NotDue, Put, IsFull, echoing_slots, open_slots, Builds, Sleeps, Waits, Calls, Echoes, Fills, sent, fragments, once_built}
+use Rattle.sctp_model.specs.end.Building.{Slot, Wants, EchoCookie, AckCookie, AckHeartbeat, ReportCauses, Acknowledge, PassOn, SayShutdown, AnswerShutdown, has_room, Puts, NoMore, NotDue, Put, IsFull, echoing_slots, open_slots, Builds, Sleeps, Waits, Calls, Echoes, Fills, sent, fragments, once_built, AnswerReset, AskReset}
 use Rattle.sctp_model.specs.end.Building.{EndsFull}
 use Rattle.sctp_outcomes.proofs.OneAct.{clash}
+use Rattle.sctp_model.specs.end.Reconfiguring.{asking}
+use Rattle.sctp_model.specs.sender.Outgoing.{Request}
+use Rattle.sctp_model.specs.wire.Reconfig.{reconfig_chunk, reset_item}
+use Rattle.sctp_model.specs.sender.Resetting.{request_said}
 
 -- the chunk of a place
 one_wanted : (e : EndView) (s : Slot) (x y : ChunkMeaning) → Wants e s x → Wants e s y → x ≡ y
@@ -24,6 +28,11 @@ one_wanted e s x y (AckHeartbeat i p) (AckHeartbeat j q) =
 one_wanted e s x y ReportCauses ReportCauses = refl
 one_wanted e s x y (Acknowledge a p) (Acknowledge b q) = ap (λ (z : SackMeaning). Sack z) (sack_only e.receiver a b p q)
 one_wanted e s x y PassOn PassOn = refl
+one_wanted e s x y AnswerReset AnswerReset = refl
+one_wanted e s x y (AskReset q i) (AskReset r j) =
+    let both : Some q ≡ Some r = sym i ∙ j in
+    let request : q ≡ r = cc in
+    ap (λ (z : Request). reconfig_chunk (reset_item (tsn e.receiver.initial e.receiver.resets.taken) (request_said e.sender z) ∷ [])) request
 one_wanted e s x y (SayShutdown c p) (SayShutdown d q) = ap (λ (z : ℕ). Shutdown (tsn e.receiver.initial z)) (cumulative_only e.receiver c d p q)
 one_wanted e s x y AnswerShutdown AnswerShutdown = refl
 
@@ -59,8 +68,8 @@ call_open h d t g a b = let q : Calling d ≡ Open t g = sym a ∙ b in absurd (
 echo_open : (h : Phase) (u : Tags) (xs : List ℕ) (t : Tags) (g : Stage) → h ≡ Echoing u xs → h ≡ Open t g → ⊥
 echo_open h u xs t g a b = let q : Echoing u xs ≡ Open t g = sym a ∙ b in absurd (cc)
 
-full_not : (e x y : EndView) (zs ys : List ChunkMeaning) → Puts open_slots e [] zs true x → Puts open_slots e [] ys false y → ⊥
-full_not e x y zs ys one other = let q : true ≡ false = (one_put open_slots e [] zs ys true false x y one other).1 in absurd (cc)
+full_not : (e x y : EndView) (zs ys : List ChunkMeaning) → Puts open_slots (asking e) [] zs true x → Puts open_slots (asking e) [] ys false y → ⊥
+full_not e x y zs ys one other = let q : true ≡ false = (one_put open_slots (asking e) [] zs ys true false x y one other).1 in absurd (cc)
 
 pub one_built : (e : EndView) (zs ys : List ChunkMeaning) (t u : EndView) → Builds e zs t → Builds e ys u → (zs ≡ ys) × (t ≡ u)
 one_built e zs ys t u (Sleeps _) (Sleeps _) = (refl, refl)
@@ -94,7 +103,7 @@ one_built e zs ys t u (EndsFull a g _ _ i _) (Sleeps n) = absurd (sleeps_not e (
 one_built e zs ys t u (EndsFull a g _ _ i _) (Waits d j _) = absurd (call_open e.phase d a g j i)
 one_built e zs ys t u (EndsFull a g _ _ i _) (Calls d j _) = absurd (call_open e.phase d a g j i)
 one_built e zs ys t u (EndsFull a g _ _ i _) (Echoes b c _ _ _ j _) = absurd (echo_open e.phase b c a g j i)
-one_built e zs ys t u (EndsFull _ _ _ _ _ one) (EndsFull _ _ _ _ _ other) = let r = one_put open_slots e [] zs ys true true t u one other in (r.0, r.2)
+one_built e zs ys t u (EndsFull _ _ _ _ _ one) (EndsFull _ _ _ _ _ other) = let r = one_put open_slots (asking e) [] zs ys true true t u one other in (r.0, r.2)
 one_built e zs ys t u (EndsFull _ _ _ _ _ one) (Fills _ _ ws y _ other) = absurd (full_not e t y zs ws one other)
 one_built e zs ys t u (Fills a g _ _ i _) (Sleeps n) = absurd (sleeps_not e (Open a g) n i refl)
 one_built e zs ys t u (Fills a g _ _ i _) (Waits d j _) = absurd (call_open e.phase d a g j i)
@@ -102,5 +111,5 @@ one_built e zs ys t u (Fills a g _ _ i _) (Calls d j _) = absurd (call_open e.ph
 one_built e zs ys t u (Fills a g _ _ i _) (Echoes b c _ _ _ j _) = absurd (echo_open e.phase b c a g j i)
 one_built e zs ys t u (Fills _ _ ws y _ other) (EndsFull _ _ _ _ _ one) = absurd (full_not e u y ys ws one other)
 one_built e zs ys t u (Fills _ _ ws x _ one) (Fills _ _ vs y _ other) =
-    let r = one_put open_slots e [] ws vs false false x y one other in
+    let r = one_put open_slots (asking e) [] ws vs false false x y one other in
     (ap (λ (cs : List ChunkMeaning). cs ++ fragments x cs) r.0 ∙ ap (λ (z : EndView). vs ++ fragments z vs) r.2, ap (λ (cs : List ChunkMeaning). sent x cs) r.0 ∙ ap (λ (z : EndView). sent z vs) r.2)

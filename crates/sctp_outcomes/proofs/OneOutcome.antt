@@ -1,5 +1,6 @@
 -- In every world of every run an event has one outcome, and leaves one world.
-use Rattle.std.proofs.Common.{◌≡◌, ℕ, List, [], ◌∷◌, Option, Some, None, refl, sym, subst, ap, ◌∙◌}
+use Rattle.std.proofs.Common.{◌≡◌, ℕ, Bool, true, false, List, [], ◌∷◌, Option, Some, None, refl, sym, subst, ap, ◌∙◌}
+use Rattle.std.specs.Prelude.{◌&&◌}
 use Rattle.sctp_model.specs.numbers.Lists.{item_at}
 use Rattle.sctp_model.specs.wire.Chunk.{ChunkMeaning}
 use Rattle.sctp_model.specs.wire.Packet.{Packet, size_of_packet}
@@ -11,13 +12,12 @@ use Rattle.sctp_model.specs.end.Strays.{Verdict}
 use Rattle.sctp_model.specs.end.Arriving.{Receives}
 use Rattle.sctp_model.specs.end.Building.{packet_of}
 use Rattle.sctp_model.specs.end.UserCalls.{Called, NotIdle}
-use Rattle.sctp_model.specs.world.World.{Side, other, World, end_of, bag_of, with_end, with_packet, end_now, came}
+use Rattle.sctp_model.specs.world.World.{Side, other, are_alike, World, end_of, bag_of, with_end, with_packet, end_now, came}
 use Rattle.sctp_model.specs.world.Events.{Event, Deliver, Outcome, Sent, next_number, told, with_verdict, message_told}
-use Rattle.sctp_model.specs.world.Steps.{FromBag, FromStranger, Brings, Step, OpensBoth, OpenRefused, TimePasses, Draws, Connects, ConnectRefused, BuildsOne, BuildsNone, PacketComes, IsAbsent, Sends, AbandonsOne, TakesOne, ShutsDown, AbortsIt, NoPacket}
+use Rattle.sctp_model.specs.world.Steps.{FromBag, FromStranger, Brings, Step, OpensBoth, OpenRefused, TimePasses, Draws, Connects, ConnectRefused, BuildsOne, BuildsNone, PacketComes, IsAbsent, Sends, AbandonsOne, TakesOne, ShutsDown, AbortsIt, NoPacket, ResetsOne, TellsReset}
 use Rattle.sctp_outcomes.specs.Outcomes.{OutcomesAreOne}
 use Rattle.sctp_outcomes.proofs.Receivers.{Whatever, HoldsIn, holds_always}
 use Rattle.sctp_outcomes.proofs.Ordinary.{ordinary_law}
-use Rattle.sctp_outcomes.proofs.OneAct.{clash}
 use Rattle.sctp_outcomes.proofs.OnePacket.{one_received}
 use Rattle.sctp_outcomes.proofs.OneBuild.{one_built}
 
@@ -43,14 +43,21 @@ one_taken r s (Some h) (Some k) t u (xs, a, b) (ys, c, d) =
     let tail : xs ≡ ys = cc in
     (ap (λ (z : Handed). Some z) head, b ∙ ap (λ (z : Handed). first_taken r s z xs) head ∙ ap (first_taken r s k) tail ∙ sym d)
 
+-- ---- ends opened without packets
+
+both_off : (a b : Bool) → a ≡ true → b ≡ true → (a && b) ≡ false → ⊥
+both_off false b on also off = absurd (cc)
+both_off true false on also off = absurd (cc)
+both_off true true on also off = absurd (cc)
+
 -- ---- every event
 
 one_step : (w : World) → HoldsIn (Whatever IsOrdinary) ordinary_law w → (e : Event) (o p : Outcome) (v u : World) → Step w e (Some o) v → Step w e (Some p) u → (o ≡ p) × (v ≡ u)
-one_step w ordinary e o p v u (OpensBoth _ _ _ _ _) (OpensBoth _ _ _ _ _) = (refl, refl)
-one_step w ordinary e o p v u (OpensBoth _ _ may _ _) (OpenRefused _ _ off) = absurd (clash may off)
-one_step w ordinary e o p v u (OpensBoth _ _ _ _ _) (PacketComes _ _ _ _ _ brings _) = elim brings [ ]
-one_step w ordinary e o p v u (PacketComes _ _ _ _ _ brings _) (OpensBoth _ _ _ _ _) = elim brings [ ]
-one_step w ordinary e o p v u (OpenRefused _ _ off) (OpensBoth _ _ may _ _) = absurd (clash may off)
+one_step w ordinary e o p v u (OpensBoth _ _ _ _ _ _) (OpensBoth _ _ _ _ _ _) = (refl, refl)
+one_step w ordinary e o p v u (OpensBoth _ _ like may _ _) (OpenRefused _ _ off) = absurd (both_off w.openable (are_alike w.a.configuration w.b.configuration) may like off)
+one_step w ordinary e o p v u (OpensBoth _ _ _ _ _ _) (PacketComes _ _ _ _ _ brings _) = elim brings [ ]
+one_step w ordinary e o p v u (PacketComes _ _ _ _ _ brings _) (OpensBoth _ _ _ _ _ _) = elim brings [ ]
+one_step w ordinary e o p v u (OpenRefused _ _ off) (OpensBoth _ _ like may _ _) = absurd (both_off w.openable (are_alike w.a.configuration w.b.configuration) may like off)
 one_step w ordinary e o p v u (OpenRefused _ _ _) (OpenRefused _ _ _) = (refl, refl)
 one_step w ordinary e o p v u (OpenRefused _ _ _) (PacketComes _ _ _ _ _ brings _) = elim brings [ ]
 one_step w ordinary e o p v u (PacketComes _ _ _ _ _ brings _) (OpenRefused _ _ _) = elim brings [ ]
@@ -96,6 +103,12 @@ one_step w ordinary e o p v u (TakesOne s n h t a) (TakesOne _ _ k r b) =
     (ap message_told q.0, ap (with_end w s) same)
 one_step w ordinary e o p v u (TakesOne _ _ _ _ _) (PacketComes _ _ _ _ _ brings _) = elim brings [ ]
 one_step w ordinary e o p v u (PacketComes _ _ _ _ _ brings _) (TakesOne _ _ _ _ _) = elim brings [ ]
+one_step w ordinary e o p v u (ResetsOne _ _) (ResetsOne _ _) = (refl, refl)
+one_step w ordinary e o p v u (ResetsOne _ _) (PacketComes _ _ _ _ _ brings _) = elim brings [ ]
+one_step w ordinary e o p v u (PacketComes _ _ _ _ _ brings _) (ResetsOne _ _) = elim brings [ ]
+one_step w ordinary e o p v u (TellsReset _) (TellsReset _) = (refl, refl)
+one_step w ordinary e o p v u (TellsReset _) (PacketComes _ _ _ _ _ brings _) = elim brings [ ]
+one_step w ordinary e o p v u (PacketComes _ _ _ _ _ brings _) (TellsReset _) = elim brings [ ]
 one_step w ordinary e o p v u (ShutsDown _) (ShutsDown _) = (refl, refl)
 one_step w ordinary e o p v u (ShutsDown _) (PacketComes _ _ _ _ _ brings _) = elim brings [ ]
 one_step w ordinary e o p v u (PacketComes _ _ _ _ _ brings _) (ShutsDown _) = elim brings [ ]

@@ -3,15 +3,18 @@ use Rattle.std.proofs.Common.{◌≡◌, ℕ, Bool, List, [], ◌∷◌, drop, O
 use Rattle.sctp_model.specs.wire.Chunk.{ChunkMeaning}
 use Rattle.sctp_model.specs.wire.Packet.{Packet}
 use Rattle.sctp_model.specs.receiver.Laws.{IsOrdinary}
+use Rattle.sctp_model.specs.receiver.ReceiverView.{ReceiverView}
 use Rattle.sctp_model.specs.end.Sealing.{Body}
-use Rattle.sctp_model.specs.end.EndView.{Draw, EndView, format_of}
+use Rattle.sctp_model.specs.end.EndView.{Configuration, Draw, EndView, format_of}
 use Rattle.sctp_model.specs.end.Clock.{at_moment}
 use Rattle.sctp_model.specs.end.Closing.{rested}
 use Rattle.sctp_model.specs.end.Opening.{begun}
 use Rattle.sctp_model.specs.end.PeerFaults.{After, GoesOn, Ends, PassedOver, Replies, Drops, Note, Unnoted}
 use Rattle.sctp_model.specs.end.Acting.{Acts}
 use Rattle.sctp_model.specs.end.Strays.{Verdict, Taken, Dropped, Answer, opened_by}
-use Rattle.sctp_model.specs.end.Arriving.{AllAct, NoneLeft, Next, Last, EndsAnswered, Stopped, Arrives, Elsewhere, NotOurs, Stray, CookieBegins, Heard, verdict_of, Receives, DroppedUnread, ReadAs, Notes, no_notes, noted, urged, packet_ended, LeavesGap}
+use Rattle.sctp_model.specs.end.Wearing.{missed_below, wearing}
+use Rattle.sctp_outcomes.proofs.Unheard.{unheard_worn}
+use Rattle.sctp_model.specs.end.Arriving.{AllAct, NoneLeft, Next, Last, EndsAnswered, Stopped, Arrives, Elsewhere, NotOurs, Stray, CookieBegins, Heard, verdict_of, Receives, DroppedUnread, ReadAs, Notes, no_notes, noted, urged, packet_ended, TellsGap, LeavesGap}
 use Rattle.sctp_model.specs.end.Arriving.{Passes}
 use Rattle.sctp_outcomes.proofs.Receivers.{Whatever, holds_goes, holds_rested}
 use Rattle.sctp_outcomes.proofs.Ordinary.{ordinary_law}
@@ -76,6 +79,12 @@ ended_one t u m n a b v w left there one = (
   one.2,
 )
 
+-- what is given up there leaves no other gap
+gap_worn : (from : ℕ) (e : EndView) (gap : Bool) → LeavesGap e gap → LeavesGap (wearing from e) gap
+gap_worn from e gap left =
+    let u = unheard_worn from e in
+    λ on. subst (λ (r : ReceiverView). TellsGap gap r) (sym u.receiver) (left (sym (ap (λ (c : Configuration). c.delay) u.configuration) ∙ on))
+
 -- ---- the whole packet
 
 none_some : (e : EndView) (p : Packet) (b : Body) → opened_by e p ≡ None → opened_by e p ≡ Some b → ⊥
@@ -110,7 +119,10 @@ one_arrives e d p t u v w o (Heard _ _ _ c _ _ _ _ _) (Elsewhere a) = absurd (cl
 one_arrives e d p t u v w o (Heard _ _ _ _ c _ _ _ _) (NotOurs _ a) = absurd (clash c a)
 one_arrives e d p t u v w o (Heard _ _ _ _ _ c _ _ _) (Stray _ _ a _) = absurd (clash c a)
 one_arrives e d p t u v w o (Heard _ _ _ _ _ c _ _ _) (CookieBegins _ _ _ _ _ _ a _ _ _ _) = absurd (clash c a)
-one_arrives e d p t u v w o (Heard i m _ _ _ _ one gap left) (Heard j n _ _ _ _ other hole there) = ended_one i j m n gap hole v w left there (one_all p.tag e no_notes p.chunks i j m n v w o one other)
+one_arrives e d p t u v w o (Heard i m _ _ _ _ one gap left) (Heard j n _ _ _ _ other hole there) =
+    let k = missed_below e.pace in
+    let both = one_all p.tag e no_notes p.chunks i j m n v w o one other in
+    ended_one (wearing k i) (wearing k j) m n gap hole v w (gap_worn k i gap left) (gap_worn k j hole there) (ap (wearing k) both.0, both.1, both.2)
 
 pub one_received : (e : EndView) (now : ℕ) (d : Draw) (p : Option Packet) (t u : EndView) (v w : Verdict) → IsOrdinary (format_of e) e.receiver →
     Receives e now d p t v → Receives e now d p u w → (t ≡ u) × (v ≡ w)

@@ -20,4 +20,5 @@ ordinary_law = record {
   forward = λ f b r m a t o came. forward_ordinary f r m a t o came;
   sent = λ f b r o. record { apart = o.apart; recorded = o.recorded };
   taken = λ f b r s h t o takes. by_taking f r s h t o takes;
+  reset = λ f b r x o. record { apart = o.apart; recorded = o.recorded };
 }

@@ -3,12 +3,12 @@ use Rattle.std.proofs.Common.{max, List, [], ◌∷◌, Option, None, refl, sym,
 use Rattle.sctp_model.specs.wire.Packet.{Packet}
 use Rattle.sctp_model.specs.end.EndView.{EndView}
 use Rattle.sctp_model.specs.end.Arriving.{DroppedUnread, ReadAs, CutFirst, CutLater}
-use Rattle.sctp_model.specs.end.UserCalls.{shut, abort_answer, abort_leaves}
+use Rattle.sctp_model.specs.end.UserCalls.{shut, abort_answer, abort_leaves, reset_call, reset_leaves, reset_there, told_leaves}
 use Rattle.sctp_model.specs.world.World.{Side, A, B, World, end_of, end_now, start, Setup}
 use Rattle.sctp_model.specs.world.Events.{Event, Outcome}
-use Rattle.sctp_model.specs.world.Steps.{Step, OpensBoth, OpenRefused, TimePasses, Draws, Connects, ConnectRefused, BuildsOne, BuildsNone, PacketComes, IsAbsent, Sends, AbandonsOne, TakesOne, ShutsDown, AbortsIt, NoMemory, Run, Rest, Then, PacketCut}
+use Rattle.sctp_model.specs.world.Steps.{Step, OpensBoth, OpenRefused, TimePasses, Draws, Connects, ConnectRefused, BuildsOne, BuildsNone, PacketComes, IsAbsent, Sends, AbandonsOne, TakesOne, ShutsDown, AbortsIt, NoMemory, Run, Rest, Then, PacketCut, ResetsOne, TellsReset}
 use Rattle.sctp_safety.proofs.machine.OneEnd.{IsAt, at_end, at_log, at_packet, at_came, answer_of, at_verdict, abort_of, at_abort, both_ends}
-use Rattle.sctp_outcomes.proofs.ReachedEnds.{IsReachedAt, reached_anew, reached_arrives, reached_builds, reached_ticked, reached_sent, reached_abandoned, reached_shut, reached_aborted}
+use Rattle.sctp_outcomes.proofs.ReachedEnds.{IsReachedAt, reached_anew, reached_arrives, reached_builds, reached_ticked, reached_sent, reached_abandoned, reached_shut, reached_aborted, reached_reset, reached_told}
 
 -- both ends' senders are
 abbrev pub AreReached : World → Type 0
@@ -21,8 +21,8 @@ at_both : (v : World) → IsReachedAt v.a → IsReachedAt v.b → AreReached v
 at_both v a b A = a
 at_both v a b B = b
 
-reached_step : (w : World) (e : Event) (o : Option Outcome) (v : World) → AreReached w → Step w e o v → AreReached v
-reached_step w e o v r (OpensBoth x y may dx dy) = at_both v (reached_anew v.a _ _ _ _ refl) (reached_anew v.b _ _ _ _ refl)
+pub reached_step : (w : World) (e : Event) (o : Option Outcome) (v : World) → AreReached w → Step w e o v → AreReached v
+reached_step w e o v r (OpensBoth x y like may dx dy) = at_both v (reached_anew v.a _ _ _ _ refl) (reached_anew v.b _ _ _ _ refl)
 reached_step w e o v r (OpenRefused x y closed) = r
 reached_step w e o v r (TimePasses m small) = at_both v (reached_ticked w.a (max w.clock m) (r A)) (reached_ticked w.b (max w.clock m) (r B))
 reached_step w e o v r (Draws d dd) = at_both v (r A) (r B)
@@ -40,6 +40,8 @@ reached_step w e o v r (IsAbsent x n none) = r
 reached_step w e o v r (Sends x c) = at_one_end w v x _ None (at_log w x _ _) r (reached_sent (end_of w x) c (r x))
 reached_step w e o v r (AbandonsOne x n) = at_one_end w v x _ None (at_log w x _ _) r (reached_abandoned (end_of w x) n (r x))
 reached_step w e o v r (TakesOne x n h t takes) = at_one_end w v x t None (at_end w x t) r (subst IsReachedAt (sym takes.leaves) (r x))
+reached_step w e o v r (ResetsOne x n) = at_one_end w v x (reset_leaves (reset_call (end_of w x) n) (end_of w x) n) None (at_end w x _) r (reached_reset (end_of w x) (reset_call (end_of w x) n) n (r x))
+reached_step w e o v r (TellsReset x) = at_one_end w v x (told_leaves (reset_there (end_of w x)) (end_of w x)) None (at_end w x _) r (reached_told (end_of w x) (reset_there (end_of w x)) (r x))
 reached_step w e o v r (ShutsDown x) = at_one_end w v x (shut (end_of w x)) None (at_end w x _) r (reached_shut (end_of w x) (r x))
 reached_step w e o v r (AbortsIt x why) =
     let a = abort_answer (end_of w x) why in

@@ -1,5 +1,5 @@
 -- What each of a receiver's calls keeps holds of both receivers in every world of every run: nothing else in the world changes a receiver.
-use Rattle.std.proofs.Common.{◌≡◌, ℕ, max, Bool, true, false, List, [], ◌∷◌, ◌++◌, Option, None, sym, subst}
+use Rattle.std.proofs.Common.{◌≡◌, ℕ, max, Bool, true, false, List, [], ◌∷◌, ◌++◌, Option, None, sym, subst, Some}
 use Rattle.sctp_model.specs.wire.Packet.{Packet}
 use Rattle.sctp_model.specs.wire.Chunk.{PieceMeaning, ForwardMeaning, ChunkMeaning, Data, IData, Init, InitAck, Sack, Heartbeat, HeartbeatAck, Abort, Shutdown, ShutdownAck, Error, CookieEcho, CookieAck, ShutdownComplete, ForwardTsn, IForwardTsn, Unknown}
 use Rattle.sctp_model.specs.messages.Format.{Format}
@@ -12,21 +12,27 @@ use Rattle.sctp_model.specs.end.Clock.{closed}
 use Rattle.sctp_model.specs.end.Closing.{rested}
 use Rattle.sctp_model.specs.end.PeerFaults.{GoesOn, Ends, Replies, Note, Unnoted}
 use Rattle.sctp_model.specs.end.Opening.{AcceptedAck, RefusedAck, EchoedAgain, CookieAcked, begun}
-use Rattle.sctp_model.specs.end.Acting.{Acts, ForwardComes, PieceComes, IsOld, SackStale, ShutdownStale, HeartbeatCounts, SackCounts, ShutdownCounts, Closes, SaysNothing, Crosses, Again, AckCompletes, CompleteCompleted, PieceEmpty, WrongFormat, SackWrong, ShutdownWrong, WrongKind, IsBad}
+use Rattle.sctp_model.specs.end.Acting.{Acts, ForwardComes, PieceComes, IsOld, SackStale, ShutdownStale, HeartbeatCounts, SackCounts, ShutdownCounts, Closes, SaysNothing, Crosses, Again, AckCompletes, CompleteCompleted, PieceEmpty, WrongFormat, SackWrong, ShutdownWrong, WrongKind, IsBad, ReconfigComes, IsUnknown}
+use Rattle.sctp_model.specs.end.Wearing.{missed_below, wearing}
 use Rattle.sctp_model.specs.end.Arriving.{AllAct, NoneLeft, Next, Last, EndsAnswered, Stopped, Arrives, Elsewhere, NotOurs, Stray, CookieBegins, Heard, DroppedUnread, ReadAs, CutFirst, CutLater, Notes, no_notes, noted, urged, packet_ended}
 use Rattle.sctp_model.specs.end.Arriving.{Passes}
 use Rattle.sctp_model.specs.end.Strays.{Verdict}
-use Rattle.sctp_model.specs.end.Building.{Slot, Puts, NoMore, NotDue, Put, IsFull, Builds, Sleeps, Waits, Calls, Echoes, Fills, EchoSlot, CookieAckSlot, HeartbeatSlot, ErrorSlot, SackSlot, ForwardSlot, ShutdownSlot, ShutdownAckSlot, once_built}
+use Rattle.sctp_model.specs.end.Building.{Slot, Puts, NoMore, NotDue, Put, IsFull, Builds, Sleeps, Waits, Calls, Echoes, Fills, EchoSlot, CookieAckSlot, HeartbeatSlot, ErrorSlot, SackSlot, ForwardSlot, ShutdownSlot, ShutdownAckSlot, once_built, AnswerSlot, RequestSlot}
 use Rattle.sctp_model.specs.end.Building.{EndsFull}
 use Rattle.sctp_model.specs.end.Moments.{ticked}
-use Rattle.sctp_model.specs.end.UserCalls.{send_answer, shut, abort_answer, abort_leaves}
+use Rattle.sctp_model.specs.end.UserCalls.{send_answer, shut, abort_answer, abort_leaves, ResetCall, Begun, NotAgreed, NoStream, reset_call, reset_leaves, reset_there, told_leaves}
 use Rattle.sctp_model.specs.world.World.{Side, A, B, World, end_of, end_now, start, Setup}
 use Rattle.sctp_model.specs.world.Events.{Event, Outcome}
-use Rattle.sctp_model.specs.world.Steps.{Step, OpensBoth, OpenRefused, TimePasses, Draws, Connects, ConnectRefused, BuildsOne, BuildsNone, PacketComes, IsAbsent, Sends, AbandonsOne, TakesOne, ShutsDown, AbortsIt, NoMemory, Run, Rest, Then, PacketCut}
+use Rattle.sctp_model.specs.world.Steps.{Step, OpensBoth, OpenRefused, TimePasses, Draws, Connects, ConnectRefused, BuildsOne, BuildsNone, PacketComes, IsAbsent, Sends, AbandonsOne, TakesOne, ShutsDown, AbortsIt, NoMemory, Run, Rest, Then, PacketCut, ResetsOne, TellsReset}
 use Rattle.sctp_safety.proofs.machine.EndWords.{ended_cases}
 use Rattle.sctp_safety.proofs.machine.Sides.{unknown_goes, unknown_ends, unknown_never_replies}
-use Rattle.sctp_outcomes.proofs.Unheard.{IsUnheard, unheard_rested, unheard_ticked, unheard_sent, unheard_abandoned, unheard_shut, unheard_aborted}
+use Rattle.sctp_outcomes.proofs.Unheard.{IsUnheard, unheard_rested, unheard_worn, unheard_ticked, unheard_sent, unheard_abandoned, unheard_shut, unheard_aborted}
 use Rattle.sctp_safety.proofs.machine.OneEnd.{IsAt, at_end, at_log, at_packet, at_came, answer_of, at_verdict, abort_of, at_abort, both_ends}
+use Rattle.sctp_model.specs.receiver.ResetTaken.{told_of}
+use Rattle.sctp_model.specs.receiver.Incoming.{Incoming}
+use Rattle.sctp_model.specs.end.Reconfiguring.{asking}
+use Rattle.sctp_model.specs.wire.Typed.{typed_in}
+use Rattle.sctp_safety.proofs.machine.Reconfigured.{IsReconfigured, parameters_same, asking_same}
 
 -- What holds of a new receiver with so large a buffer, and is kept by each of its calls.
 pub record IsReceiverLaw (P : Format → (buffer : ℕ) → ReceiverView → Type 0) : Type 0 where
@@ -35,6 +41,7 @@ pub record IsReceiverLaw (P : Format → (buffer : ℕ) → ReceiverView → Typ
   pub forward : (f : Format) (b : ℕ) (r : ReceiverView) (m : ForwardMeaning) (a : ForwardAnswer) (t : ReceiverView) → P f b r → ForwardTaken f r m a t → P f b t
   pub sent : (f : Format) (b : ℕ) (r : ReceiverView) → P f b r → P f b (sack_sent r)
   pub taken : (f : Format) (b : ℕ) (r : ReceiverView) (s : ℕ) (h : Option Handed) (t : ReceiverView) → P f b r → TakeLeaves r s h t → P f b t
+  pub reset : (f : Format) (b : ℕ) (r : ReceiverView) (x : Incoming) → P f b r → P f b (record r { resets = x })
 
 -- it holds whatever the buffer
 abbrev pub Whatever : (Format → ReceiverView → Type 0) → Format → (buffer : ℕ) → ReceiverView → Type 0
@@ -51,6 +58,15 @@ module _ (P : Format → ℕ → ReceiverView → Type 0) (law : IsReceiverLaw P
       subst (λ (x : Terms). P (format_for x.interleave) t.configuration.buffer t.receiver) (sym u.terms)
       (subst (λ (c : Configuration). P (format_of e) c.buffer t.receiver) (sym u.configuration)
       (subst (λ (r : ReceiverView). P (format_of e) e.configuration.buffer r) (sym u.receiver) h))
+
+  holds_reconfigured : (e t : EndView) → IsReconfigured e t → Holds e → Holds t
+  holds_reconfigured e t u h =
+      subst (λ (x : Terms). P (format_for x.interleave) t.configuration.buffer t.receiver) (sym u.terms)
+      (subst (λ (c : Configuration). P (format_of e) c.buffer t.receiver) (sym u.configuration)
+      (subst (λ (r : ReceiverView). P (format_of e) e.configuration.buffer r) (sym u.receiver.1) (law.reset (format_of e) e.configuration.buffer e.receiver u.receiver.0 h)))
+
+  pub holds_asking : (e : EndView) → Holds e → Holds (asking e)
+  holds_asking e h = holds_reconfigured e (asking e) (asking_same e) h
 
   -- a chunk after which the packet goes on
   pub holds_goes : (e : EndView) (tag : ℕ) (x : ChunkMeaning) (y : Note) (t : EndView) → Holds e → Acts e tag x (GoesOn y t) → Holds t
@@ -76,7 +92,8 @@ module _ (P : Format → ℕ → ReceiverView → Type 0) (law : IsReceiverLaw P
   holds_goes e tag (ForwardTsn m) y t k (ForwardComes _ _ r _ _ _ came) = law.forward (format_of e) e.configuration.buffer e.receiver m _ r k came
   holds_goes e tag (IForwardTsn m) y t k (IsOld _ _ r _ _ _ came) = law.forward (format_of e) e.configuration.buffer e.receiver m _ r k came
   holds_goes e tag (IForwardTsn m) y t k (ForwardComes _ _ r _ _ _ came) = law.forward (format_of e) e.configuration.buffer e.receiver m _ r k came
-  holds_goes e tag (Unknown n f v) y t k h = let u = unknown_goes e y t n f v h in subst Holds (sym u.same) k
+  holds_goes e tag (Unknown n f v) y t k (ReconfigComes c _ _) = holds_reconfigured e t (parameters_same c e (typed_in v)) k
+  holds_goes e tag (Unknown n f v) y t k (IsUnknown _ _ h) = let u = unknown_goes e y t n f v h in subst Holds (sym u.same) k
 
   -- one that ends it
   holds_ends : (e : EndView) (tag : ℕ) (x : ChunkMeaning) (t : EndView) → Holds e → Acts e tag x (Ends t) → Holds t
@@ -96,7 +113,7 @@ module _ (P : Format → ℕ → ReceiverView → Type 0) (law : IsReceiverLaw P
   holds_ends e tag (ShutdownComplete b) t k (CompleteCompleted _) = k
   holds_ends e tag (ForwardTsn m) t k h = elim h [ ]
   holds_ends e tag (IForwardTsn m) t k h = elim h [ ]
-  holds_ends e tag (Unknown n f v) t k h = let u = unknown_ends e t n f v h in subst Holds (sym u.same) k
+  holds_ends e tag (Unknown n f v) t k (IsUnknown _ _ h) = let u = unknown_ends e t n f v h in subst Holds (sym u.same) k
 
   -- one that is answered
   holds_replies : (e : EndView) (tag : ℕ) (x : ChunkMeaning) (t : EndView) (p : Packet) → Holds e → Acts e tag x (Replies t p) → Holds t
@@ -120,7 +137,7 @@ module _ (P : Format → ℕ → ReceiverView → Type 0) (law : IsReceiverLaw P
   holds_replies e tag (ForwardTsn m) t p k (IsBad _ _ _ _ _ _ _) = k
   holds_replies e tag (IForwardTsn m) t p k (WrongKind _ _ _ _ _) = k
   holds_replies e tag (IForwardTsn m) t p k (IsBad _ _ _ _ _ _ _) = k
-  holds_replies e tag (Unknown n f v) t p k h = absurd (unknown_never_replies e t p n f v h)
+  holds_replies e tag (Unknown n f v) t p k (IsUnknown _ _ h) = absurd (unknown_never_replies e t p n f v h)
 
   pub holds_rested : (e : EndView) → Holds e → Holds (rested e)
   holds_rested e k = holds_same e (rested e) (unheard_rested e) k
@@ -136,12 +153,16 @@ module _ (P : Format → ℕ → ReceiverView → Type 0) (law : IsReceiverLaw P
   holds_ended : (n : Notes) (e : EndView) → Holds e → Holds (packet_ended n e)
   holds_ended n e k = ended_cases Holds n e k (λ t g is. k) (λ t g is. k) (λ x h. h)
 
+  holds_worn : (from : ℕ) (e : EndView) → Holds e → Holds (wearing from e)
+  holds_worn from e k = holds_same e (wearing from e) (unheard_worn from e) k
+
   pub holds_arrives : (e : EndView) (d : Draw) (p : Packet) (t : EndView) (v : Verdict) → Holds e → Arrives e d p t v → Holds t
   holds_arrives e d p t v k (Elsewhere _) = k
   holds_arrives e d p t v k (NotOurs _ _) = k
   holds_arrives e d p t v k (Stray _ _ _ _) = k
   holds_arrives e d p t v k (CookieBegins b u n _ _ _ _ _ acts gap _) = holds_ended (urged gap n) u (holds_acts p.tag (begun b e) (noted Unnoted no_notes) _ u n v (law.fresh _ _ _ _) acts)
-  holds_arrives e d p t v k (Heard u n _ _ _ _ acts gap _) = holds_ended (urged gap n) u (holds_acts p.tag e no_notes p.chunks u n v k acts)
+  holds_arrives e d p t v k (Heard u n _ _ _ _ acts gap _) =
+      holds_ended (urged gap n) (wearing (missed_below e.pace) u) (holds_worn (missed_below e.pace) u (holds_acts p.tag e no_notes p.chunks u n v k acts))
 
   -- ---- a packet that is built
 
@@ -152,6 +173,8 @@ module _ (P : Format → ℕ → ReceiverView → Type 0) (law : IsReceiverLaw P
   holds_built ErrorSlot e k = k
   holds_built SackSlot e k = law.sent (format_of e) e.configuration.buffer e.receiver k
   holds_built ForwardSlot e k = k
+  holds_built AnswerSlot e k = law.reset (format_of e) e.configuration.buffer e.receiver (record e.receiver.resets { answers = [] }) k
+  holds_built RequestSlot e k = k
   holds_built ShutdownSlot e k = k
   holds_built ShutdownAckSlot e k = k
 
@@ -166,8 +189,17 @@ module _ (P : Format → ℕ → ReceiverView → Type 0) (law : IsReceiverLaw P
   holds_builds e zs t k (Waits _ _ _) = k
   holds_builds e zs t k (Calls _ _ _) = k
   holds_builds e zs t k (Echoes _ _ _ full _ is puts) = holds_puts _ e [] zs full t k puts
-  holds_builds e zs t k (EndsFull _ _ _ _ is puts) = holds_puts _ e [] zs true t k puts
-  holds_builds e zs t k (Fills _ _ ys x is puts) = holds_puts _ e [] ys false x k puts
+  holds_builds e zs t k (EndsFull _ _ _ _ is puts) = holds_puts _ (asking e) [] zs true t (holds_asking e k) puts
+  holds_builds e zs t k (Fills _ _ ys x is puts) = holds_puts _ (asking e) [] ys false x (holds_asking e k) puts
+
+  holds_reset : (e : EndView) (a : ResetCall) (n : ℕ) → Holds e → Holds (reset_leaves a e n)
+  holds_reset e Begun n k = k
+  holds_reset e NotAgreed n k = k
+  holds_reset e NoStream n k = k
+
+  holds_told : (e : EndView) (o : Option ℕ) → Holds e → Holds (told_leaves o e)
+  holds_told e None k = k
+  holds_told e (Some n) k = law.reset (format_of e) e.configuration.buffer e.receiver (told_of e.receiver n).resets k
 
   -- ---- a world
 
@@ -178,7 +210,7 @@ module _ (P : Format → ℕ → ReceiverView → Type 0) (law : IsReceiverLaw P
   holds_at w v x t given at all new = both_ends (λ (y : Side) (e : EndView). Holds e) w v x t given at all new
 
   pub holds_step : (w : World) (e : Event) (o : Option Outcome) (v : World) → HoldsIn w → Step w e o v → HoldsIn v
-  holds_step w e o v k (OpensBoth x y may dx dy) = both
+  holds_step w e o v k (OpensBoth x y like may dx dy) = both
     where
       both : HoldsIn v
       both A = law.fresh _ _ _ _
@@ -209,6 +241,8 @@ module _ (P : Format → ℕ → ReceiverView → Type 0) (law : IsReceiverLaw P
   holds_step w e o v k (AbandonsOne x n) = holds_at w v x _ None (at_log w x _ _) k (holds_same (end_of w x) _ (unheard_abandoned (end_of w x) n) (k x))
   holds_step w e o v k (TakesOne x n h t takes) =
       holds_at w v x t None (at_end w x t) k (subst Holds (sym takes.leaves) (law.taken (format_of (end_of w x)) (end_of w x).configuration.buffer (end_of w x).receiver n h takes.receiver (k x) takes.takes))
+  holds_step w e o v k (ResetsOne x n) = holds_at w v x (reset_leaves (reset_call (end_of w x) n) (end_of w x) n) None (at_end w x _) k (holds_reset (end_of w x) (reset_call (end_of w x) n) n (k x))
+  holds_step w e o v k (TellsReset x) = holds_at w v x (told_leaves (reset_there (end_of w x)) (end_of w x)) None (at_end w x _) k (holds_told (end_of w x) (reset_there (end_of w x)) (k x))
   holds_step w e o v k (ShutsDown x) = holds_at w v x (shut (end_of w x)) None (at_end w x _) k (holds_same (end_of w x) _ (unheard_shut (end_of w x)) (k x))
   holds_step w e o v k (AbortsIt x r) =
       holds_at w v x (abort_leaves (abort_answer (end_of w x) r) (end_of w x)) (abort_of (abort_answer (end_of w x) r)) (at_abort w x _ _) k

@@ -1,13 +1,11 @@
 -- No chunk changes how an end is set up, so no packet does.
-use Rattle.std.proofs.Common.{◌≡◌, ℕ, List, refl, ◌∙◌}
+use Rattle.std.proofs.Common.{◌≡◌, ℕ, refl, ◌∙◌}
 use Rattle.sctp_model.specs.wire.Packet.{Packet}
 use Rattle.sctp_model.specs.wire.Chunk.{ChunkMeaning, Data, IData, Init, InitAck, Sack, Heartbeat, HeartbeatAck, Abort, Shutdown, ShutdownAck, Error, CookieEcho, CookieAck, ShutdownComplete, ForwardTsn, IForwardTsn, Unknown}
 use Rattle.sctp_model.specs.end.EndView.{EndView}
-use Rattle.sctp_model.specs.end.Closing.{rested}
-use Rattle.sctp_model.specs.end.PeerFaults.{Replies, Note}
+use Rattle.sctp_model.specs.end.PeerFaults.{Replies}
 use Rattle.sctp_model.specs.end.Opening.{RefusedAck}
-use Rattle.sctp_model.specs.end.Acting.{Acts, AckCompletes, PieceEmpty, WrongFormat, SackWrong, ShutdownWrong, WrongKind, IsBad}
-use Rattle.sctp_model.specs.end.Strays.{Verdict}
+use Rattle.sctp_model.specs.end.Acting.{Acts, AckCompletes, PieceEmpty, WrongFormat, SackWrong, ShutdownWrong, WrongKind, IsBad, IsUnknown}
 use Rattle.sctp_model.specs.end.Arriving.{DroppedUnread, ReadAs, CutFirst, CutLater}
 use Rattle.sctp_safety.proofs.machine.EndWords.{Keeps, all_act_keeps}
 use Rattle.sctp_safety.proofs.machine.Sides.{goes_same, ends_same, same_rested, unknown_never_replies}
@@ -36,7 +34,7 @@ replies_leave e tag (ForwardTsn m) t p (WrongKind _ _ _ _ _) = refl
 replies_leave e tag (ForwardTsn m) t p (IsBad _ _ _ _ _ _ _) = refl
 replies_leave e tag (IForwardTsn m) t p (WrongKind _ _ _ _ _) = refl
 replies_leave e tag (IForwardTsn m) t p (IsBad _ _ _ _ _ _ _) = refl
-replies_leave e tag (Unknown k f v) t p h = absurd (unknown_never_replies e t p k f v h)
+replies_leave e tag (Unknown k f v) t p (IsUnknown _ _ h) = absurd (unknown_never_replies e t p k f v h)
 
 -- an end that is set up as this one
 abbrev IsSetUpAs : EndView → EndView → Type 0

@@ -1,17 +1,17 @@
 -- Over every run an end's tickets are told behind those told before, and none twice: each step notes what its own law says, and senders are reached.
-use Rattle.std.proofs.Common.{◌≡◌, ℕ, ◌<◌, max, true, false, List, [], ◌∷◌, ◌++◌, Option, Some, None, inl, inr, refl, sym, subst, ap, ◌∙◌}
+use Rattle.std.proofs.Common.{◌≡◌, ℕ, ◌<◌, max, true, List, [], ◌∷◌, ◌++◌, Option, Some, None, inl, inr, refl, sym, subst, ap, ◌∙◌}
 use Rattle.std.proofs.lemmas.List.{append-nil, append_assoc}
-use Rattle.sctp_model.specs.numbers.Lists.{Has, AreInOrder}
+use Rattle.sctp_model.specs.numbers.Lists.{Has}
 use Rattle.sctp_model.specs.wire.Packet.{Packet}
 use Rattle.sctp_model.specs.sender.SenderView.{SenderView}
 use Rattle.sctp_model.specs.sender.Filling.{begun_tickets}
 use Rattle.sctp_model.specs.receiver.ReceiverView.{Handed}
 use Rattle.sctp_model.specs.end.EndView.{Configuration, Draw, Phase, Role, EndView, fresh_end, format_of}
 use Rattle.sctp_model.specs.end.Opening.{opened}
-use Rattle.sctp_model.specs.end.UserCalls.{SendAnswer, Ticket, Refused, NotOpen, send_answer, abort_answer, abort_leaves, shut}
+use Rattle.sctp_model.specs.end.UserCalls.{SendAnswer, Ticket, Refused, NotOpen, send_answer, abort_answer, abort_leaves, shut, reset_call, reset_leaves, reset_there, told_leaves}
 use Rattle.sctp_model.specs.world.World.{Side, A, B, World, end_of, end_now, start, Setup}
 use Rattle.sctp_model.specs.world.Events.{Event, Outcome}
-use Rattle.sctp_model.specs.world.Steps.{Step, OpensBoth, OpenRefused, TimePasses, Draws, Connects, ConnectRefused, BuildsOne, BuildsNone, PacketComes, IsAbsent, Sends, AbandonsOne, TakesOne, ShutsDown, AbortsIt, NoMemory, Run, Rest, Then, PacketCut}
+use Rattle.sctp_model.specs.world.Steps.{Step, OpensBoth, OpenRefused, TimePasses, Draws, Connects, ConnectRefused, BuildsOne, BuildsNone, PacketComes, IsAbsent, Sends, AbandonsOne, TakesOne, ShutsDown, AbortsIt, NoMemory, Run, Rest, Then, PacketCut, ResetsOne, TellsReset}
 use Rattle.sctp_safety.proofs.machine.OneEnd.{IsAt, at_end, at_log, at_packet, at_came, answer_of, at_verdict, abort_of, at_abort, both_ends}
 use Rattle.sctp_safety.proofs.machine.Turns.{builds_plain}
 use Rattle.sctp_safety.proofs.machine.DiagramRuns.{IsFresh, step_onward, ends_follow_the_diagram}
@@ -21,7 +21,7 @@ use Rattle.sctp_outcomes.proofs.ReachedEnds.{IsReachedAt, reached_builds}
 use Rattle.sctp_outcomes.proofs.Reaching.{senders_reached, reached_run}
 use Rattle.sctp_outcomes.proofs.ToldOnce.{tickets_once}
 use Rattle.sctp_outcomes.proofs.logs.Built.{builds_add_numbers}
-use Rattle.sctp_outcomes.proofs.logs.Called.{connect_keeps_logs, shutdown_keeps_logs, abort_keeps_logs, abandon_keeps_logs, send_gives_tickets, take_takes_one}
+use Rattle.sctp_outcomes.proofs.logs.Called.{connect_keeps_logs, shutdown_keeps_logs, abort_keeps_logs, abandon_keeps_logs, send_gives_tickets, take_takes_one, reset_keeps_logs, told_keeps_logs}
 use Rattle.sctp_outcomes.proofs.logs.Heard.{packets_keep_logs, cut_packets_keep_logs}
 use Rattle.sctp_outcomes.proofs.logs.Passed.{moments_keep_logs}
 
@@ -91,7 +91,7 @@ at_both w v a b A = a
 at_both w v a b B = b
 
 step_goes_on : (w : World) (e : Event) (o : Option Outcome) (v : World) → IsFresh w → AreSound w → Step w e o v → GoOn w v
-step_goes_on w e o v f s (OpensBoth x y may dx dy) =
+step_goes_on w e o v f s (OpensBoth x y like may dx dy) =
     at_both w v (by_opening w.a x y (ap is_before (f may).0) (s A)) (by_opening w.b y x (ap is_before (f may).1) (s B))
 step_goes_on w e o v f s (OpenRefused x y closed) = at_both w w (by_itself w.a (s A)) (by_itself w.b (s B))
 step_goes_on w e o v f s (TimePasses m small) =
@@ -111,6 +111,8 @@ step_goes_on w e o v f s (Sends x c) =
     at_one w v x _ None (at_log w x _ _) s (by_send (send_answer (end_of w x) c) (end_of w x) _ (send_gives_tickets (end_of w x) c (s x)))
 step_goes_on w e o v f s (AbandonsOne x n) = at_one w v x _ None (at_log w x _ _) s (by_logs (end_of w x) _ (abandon_keeps_logs (end_of w x) n (s x)))
 step_goes_on w e o v f s (TakesOne x n h t takes) = at_one w v x t None (at_end w x t) s (by_take h n (end_of w x) t (take_takes_one (end_of w x) n h t (s x) takes))
+step_goes_on w e o v f s (ResetsOne x n) = at_one w v x (reset_leaves (reset_call (end_of w x) n) (end_of w x) n) None (at_end w x _) s (by_logs (end_of w x) _ (reset_keeps_logs (end_of w x) n (s x)))
+step_goes_on w e o v f s (TellsReset x) = at_one w v x (told_leaves (reset_there (end_of w x)) (end_of w x)) None (at_end w x _) s (by_logs (end_of w x) _ (told_keeps_logs (end_of w x) (s x)))
 step_goes_on w e o v f s (ShutsDown x) = at_one w v x (shut (end_of w x)) None (at_end w x _) s (by_logs (end_of w x) _ (shutdown_keeps_logs (end_of w x) (s x)))
 step_goes_on w e o v f s (AbortsIt x why) =
     let a = abort_answer (end_of w x) why in

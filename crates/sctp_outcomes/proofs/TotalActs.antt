@@ -14,10 +14,11 @@ use Rattle.sctp_model.specs.end.Closing.{hears, takes_data, takes_acknowledgemen
 use Rattle.sctp_model.specs.end.PeerFaults.{After, GoesOn, PassedOver, Unnoted}
 use Rattle.sctp_model.specs.end.Options.{STATE_COOKIE, value_of}
 use Rattle.sctp_model.specs.end.Opening.{ack_fault, InitAckActs, NotCalling, NoTag, RefusedAck, AcceptedAck, seal_in, is_ours, cookie_read, EchoActs, NotHere, EchoedAgain, IsStrange, CookieAckActs, NotEchoing, CookieAcked}
-use Rattle.sctp_model.specs.end.Acting.{same_format, PieceActs, ForwardNotHeard, HeartbeatNotHeard, PieceNotHeard, SackNotHeard, PieceEmpty, WrongFormat, ForwardComes, PieceComes, may_forward, ForwardActs, WrongKind, IsBad, IsOld, SackActs, SackStale, ShutdownStale, SackWrong, ShutdownWrong, HeartbeatCounts, SackCounts, ShutdownCounts, HeartbeatActs, is_stale_cookie, ErrorActs, Closes, SaysNothing, ShutdownActs, ShutdownNotOpen, Crosses, Again, ShutdownAckActs, AckNotAwaited, CompleteNotAwaited, AckCompletes, CompleteCompleted, CompleteActs, Acts}
+use Rattle.sctp_model.specs.end.Acting.{same_format, PieceActs, ForwardNotHeard, HeartbeatNotHeard, PieceNotHeard, SackNotHeard, PieceEmpty, WrongFormat, ForwardComes, PieceComes, may_forward, ForwardActs, WrongKind, IsBad, IsOld, SackActs, SackStale, ShutdownStale, SackWrong, ShutdownWrong, HeartbeatCounts, SackCounts, ShutdownCounts, HeartbeatActs, is_stale_cookie, ErrorActs, Closes, SaysNothing, ShutdownActs, ShutdownNotOpen, Crosses, Again, ShutdownAckActs, AckNotAwaited, CompleteNotAwaited, AckCompletes, CompleteCompleted, CompleteActs, Acts, OtherActs, ReconfigComes, IsUnknown}
 use Rattle.sctp_outcomes.specs.receiver.Steps.{cumulative, forward_step}
 use Rattle.sctp_outcomes.proofs.receiver.StepsLemmas.{cumulative_is, piece_steps, forward_steps}
 use Rattle.sctp_outcomes.proofs.Bounded.{IsBounded}
+use Rattle.sctp_model.specs.end.Reconfiguring.{takes_reconfig}
 
 -- ---- where a chunk is heard
 
@@ -210,6 +211,13 @@ module _ (e : EndView) (tag : ℕ) (b : IsBounded (format_of e) e.receiver) wher
       by true q = (_, CompleteCompleted q)
       by false q = (_, CompleteNotAwaited q)
 
+  other : (kind flags : ℕ) (value : List ℕ) → (a : After) × OtherActs e kind flags value a
+  other kind flags value = by (takes_reconfig e kind) refl
+    where
+      by : (r : Bool) → takes_reconfig e kind ≡ r → (a : After) × OtherActs e kind flags value a
+      by true on = (_, ReconfigComes (cumulative e.receiver b.bound) on (cumulative_is e.receiver b.bound b.within))
+      by false off = (_, IsUnknown _ off refl)
+
   pub acted : (x : ChunkMeaning) → Acted e tag x
   acted (Data p) = let a = piece Plain p in record { after = a.0; acts = a.1 }
   acted (IData p) = let a = piece Interleaved p in record { after = a.0; acts = a.1 }
@@ -227,4 +235,4 @@ module _ (e : EndView) (tag : ℕ) (b : IsBounded (format_of e) e.receiver) wher
   acted (ShutdownComplete shown) = let a = complete in record { after = a.0; acts = a.1 }
   acted (ForwardTsn m) = let a = forward Plain m in record { after = a.0; acts = a.1 }
   acted (IForwardTsn m) = let a = forward Interleaved m in record { after = a.0; acts = a.1 }
-  acted (Unknown kind flags value) = record { after = _; acts = refl }
+  acted (Unknown kind flags value) = let a = other kind flags value in record { after = a.0; acts = a.1 }

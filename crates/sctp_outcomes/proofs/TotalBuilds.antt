@@ -5,14 +5,18 @@ use Rattle.sctp_model.specs.wire.Chunk.{SackMeaning, ChunkMeaning}
 use Rattle.sctp_model.specs.receiver.ReceiverView.{ReceiverView}
 use Rattle.sctp_model.specs.receiver.SackMade.{IsSack, sack_of}
 use Rattle.sctp_model.specs.end.EndView.{Tags, Draw, Stage, Phase, Idle, Listening, Calling, Echoing, Open, Over, EndView, format_of}
-use Rattle.sctp_model.specs.end.Building.{Slot, EchoSlot, CookieAckSlot, HeartbeatSlot, ErrorSlot, SackSlot, ForwardSlot, ShutdownSlot, ShutdownAckSlot, echoing_slots, open_slots, has_some, is_due, Wants, EchoCookie, AckCookie, AckHeartbeat, ReportCauses, Acknowledge, PassOn, SayShutdown, AnswerShutdown, has_room, Puts, NoMore, NotDue, Put, IsFull, Builds, Sleeps, Waits, Calls, Echoes, Fills, sent, fragments, once_built}
+use Rattle.sctp_model.specs.end.Building.{Slot, EchoSlot, CookieAckSlot, HeartbeatSlot, ErrorSlot, SackSlot, ForwardSlot, ShutdownSlot, ShutdownAckSlot, echoing_slots, open_slots, has_some, is_due, Wants, EchoCookie, AckCookie, AckHeartbeat, ReportCauses, Acknowledge, PassOn, SayShutdown, AnswerShutdown, has_room, Puts, NoMore, NotDue, Put, IsFull, Builds, Sleeps, Waits, Calls, Echoes, Fills, sent, fragments, once_built, AnswerSlot, RequestSlot, AnswerReset, AskReset}
 use Rattle.sctp_model.specs.end.Building.{EndsFull}
 use Rattle.sctp_outcomes.specs.receiver.Steps.{cumulative}
 use Rattle.sctp_outcomes.specs.receiver.Runs.{all_runs}
 use Rattle.sctp_outcomes.proofs.receiver.StepsLemmas.{cumulative_is}
 use Rattle.sctp_outcomes.proofs.receiver.RunsLemmas.{runs_are}
-use Rattle.sctp_outcomes.proofs.Receivers.{Whatever, holds_built}
+use Rattle.sctp_outcomes.proofs.Receivers.{Whatever, holds_built, holds_asking}
 use Rattle.sctp_outcomes.proofs.Bounded.{IsBounded, bounded_law}
+use Rattle.sctp_model.specs.end.Reconfiguring.{asking}
+use Rattle.sctp_model.specs.sender.Outgoing.{Request}
+use Rattle.std.specs.Prelude.{is_some}
+use Rattle.std.proofs.lemmas.Bool.{and_parts}
 
 -- a view has a SACK
 sack_there : (f : _) (r : ReceiverView) → IsBounded f r → (s : SackMeaning) × IsSack r s
@@ -42,6 +46,12 @@ wanted e HeartbeatSlot b quiet due = by e.due.heartbeat refl due
 wanted e ErrorSlot b quiet due = record { chunk = _; wants = ReportCauses }
 wanted e SackSlot b quiet due = let s = sack_there (format_of e) e.receiver b in record { chunk = _; wants = Acknowledge s.0 s.1 }
 wanted e ForwardSlot b quiet due = record { chunk = _; wants = PassOn }
+wanted e AnswerSlot b quiet due = record { chunk = _; wants = AnswerReset }
+wanted e RequestSlot b quiet due = by e.sender.resets.pending refl (and_parts e.due.request (is_some e.sender.resets.pending) due).1
+  where
+    by : (o : Option Request) → e.sender.resets.pending ≡ o → is_some o ≡ true → Wanted e RequestSlot
+    by None q h = absurd (cc)
+    by (Some r) q h = record { chunk = _; wants = AskReset r q }
 wanted e ShutdownSlot b quiet due = record { chunk = _; wants = SayShutdown (cumulative e.receiver b.bound) (cumulative_is e.receiver b.bound b.within) }
 wanted e ShutdownAckSlot b quiet due = record { chunk = _; wants = AnswerShutdown }
 
@@ -77,7 +87,9 @@ no_echo_open s (inr (inr (inr (inl e)))) = subst (λ (r : Slot). is_echo r ≡ f
 no_echo_open s (inr (inr (inr (inr (inl e))))) = subst (λ (r : Slot). is_echo r ≡ false) e refl
 no_echo_open s (inr (inr (inr (inr (inr (inl e)))))) = subst (λ (r : Slot). is_echo r ≡ false) e refl
 no_echo_open s (inr (inr (inr (inr (inr (inr (inl e))))))) = subst (λ (r : Slot). is_echo r ≡ false) e refl
-no_echo_open s (inr (inr (inr (inr (inr (inr (inr none))))))) = elim none [ ]
+no_echo_open s (inr (inr (inr (inr (inr (inr (inr (inl e)))))))) = subst (λ (r : Slot). is_echo r ≡ false) e refl
+no_echo_open s (inr (inr (inr (inr (inr (inr (inr (inr (inl e))))))))) = subst (λ (r : Slot). is_echo r ≡ false) e refl
+no_echo_open s (inr (inr (inr (inr (inr (inr (inr (inr (inr none))))))))) = elim none [ ]
 
 no_echo_error : (s : Slot) → Has (ErrorSlot ∷ []) s → is_echo s ≡ false
 no_echo_error s (inl e) = subst (λ (r : Slot). is_echo r ≡ false) e refl
@@ -104,7 +116,7 @@ built e b = by e.phase refl
         let w : Wanted e EchoSlot = record { chunk = _; wants = EchoCookie t xs is } in
         put_one EchoSlot (ErrorSlot ∷ []) e [] due w (has_put (ErrorSlot ∷ []) (once_built EchoSlot e) ([] ++ w.chunk ∷ []) no_echo_error b)
 
-    open_end : (t : Tags) (g : Stage) → e.phase ≡ Open t g → (zs : List ChunkMeaning) (full : Bool) (x : EndView) → Puts open_slots e [] zs full x → Built e
+    open_end : (t : Tags) (g : Stage) → e.phase ≡ Open t g → (zs : List ChunkMeaning) (full : Bool) (x : EndView) → Puts open_slots (asking e) [] zs full x → Built e
     open_end t g is zs true x puts = record { chunks = zs; left = x; builds = EndsFull t g zs x is puts }
     open_end t g is zs false x puts = record { chunks = zs ++ fragments x zs; left = sent x zs; builds = Fills t g zs x is puts }
 
@@ -114,4 +126,4 @@ built e b = by e.phase refl
     by (Over why) is = record { chunks = []; left = e; builds = Sleeps (rw is refl) }
     by (Calling d) is = calling d is e.due.init refl
     by (Echoing t xs) is = let m = echoing t xs is (is_due EchoSlot e) refl in record { chunks = m.chunks; left = m.left; builds = Echoes t xs m.chunks m.full m.left is m.puts }
-    by (Open t g) is = let m = has_put open_slots e [] no_echo_open b in open_end t g is m.chunks m.full m.left m.puts
+    by (Open t g) is = let m = has_put open_slots (asking e) [] no_echo_open (holds_asking (Whatever IsBounded) bounded_law e b) in open_end t g is m.chunks m.full m.left m.puts

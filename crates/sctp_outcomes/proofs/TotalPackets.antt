@@ -10,6 +10,7 @@ use Rattle.sctp_model.specs.end.Opening.{begun}
 use Rattle.sctp_model.specs.end.Acting.{Acts}
 use Rattle.sctp_model.specs.end.Passing.{has_ports, passes}
 use Rattle.sctp_model.specs.end.Strays.{Verdict, Taken, opened_by, stray_verdict}
+use Rattle.sctp_model.specs.end.Wearing.{missed_below, wearing}
 use Rattle.sctp_model.specs.end.Arriving.{AllAct, NoneLeft, Next, Last, EndsAnswered, Stopped, Arrives, Elsewhere, NotOurs, Stray, CookieBegins, Heard, verdict_of, Notes, no_notes, noted, urged, packet_ended, TellsGap}
 use Rattle.sctp_model.specs.end.Arriving.{Passes}
 use Rattle.sctp_outcomes.proofs.Receivers.{Whatever, holds_goes, holds_rested, holds_acts}
@@ -60,7 +61,7 @@ arrived e d p bound = ports (has_ports e.configuration p) refl
     joined a t true has =
         let r = all_acted p.tag e no_notes p.chunks bound in
         let g = gap_left p.tag e no_notes p.chunks bound r in
-        record { last = packet_ended (urged g.0 r.notes) r.last; verdict = r.verdict; arrives = Heard r.last r.notes r.verdict a t has r.acts g.0 (λ on. g.1) }
+        record { last = packet_ended (urged g.0 r.notes) (wearing (missed_below e.pace) r.last); verdict = r.verdict; arrives = Heard r.last r.notes r.verdict a t has r.acts g.0 (λ on. g.1) }
     joined a t false none = opened a t none (opened_by e p) refl
 
     tagged : has_ports e.configuration p ≡ true → (r : Bool) → passes e.phase p ≡ r → Arrived e d p

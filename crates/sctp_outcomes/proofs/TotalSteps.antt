@@ -1,5 +1,6 @@
 -- In every world of every run each event has an outcome.
-use Rattle.std.proofs.Common.{◌≡◌, ℕ, Bool, true, false, List, [], ◌∷◌, Option, Some, None, refl}
+use Rattle.std.proofs.Common.{◌≡◌, ℕ, Bool, true, false, List, [], ◌∷◌, Option, Some, None, refl, ap, ◌∙◌}
+use Rattle.std.specs.Prelude.{◌&&◌}
 use Rattle.sctp_model.specs.numbers.Lists.{item_at}
 use Rattle.sctp_model.specs.wire.Chunk.{ChunkMeaning}
 use Rattle.sctp_model.specs.wire.Packet.{Packet}
@@ -8,9 +9,9 @@ use Rattle.sctp_model.specs.end.EndView.{Draw, EndView, IsDraw}
 use Rattle.sctp_model.specs.end.Building.{Builds}
 use Rattle.sctp_model.specs.end.UserCalls.{ConnectAnswer, Called, NotIdle, connect_answer}
 use Rattle.sctp_model.specs.end.Arriving.{ReadAs, DroppedUnread}
-use Rattle.sctp_model.specs.world.World.{Side, other, World, end_of, bag_of, end_now}
-use Rattle.sctp_model.specs.world.Events.{Event, OpenBoth, At, Drawing, Connect, Build, Deliver, Foreign, Send, Abandon, Take, Shutdown, Abort}
-use Rattle.sctp_model.specs.world.Steps.{FromBag, FromStranger, Brings, OpensBoth, OpenRefused, TimePasses, Draws, Connects, ConnectRefused, BuildsOne, BuildsNone, PacketComes, IsAbsent, Sends, AbandonsOne, TakesOne, ShutsDown, AbortsIt, NoPacket}
+use Rattle.sctp_model.specs.world.World.{Side, other, are_alike, World, end_of, bag_of, end_now}
+use Rattle.sctp_model.specs.world.Events.{Event, OpenBoth, At, Drawing, Connect, Build, Deliver, Foreign, Send, Abandon, Take, Shutdown, Abort, Reset, WasReset}
+use Rattle.sctp_model.specs.world.Steps.{FromBag, FromStranger, Brings, OpensBoth, OpenRefused, TimePasses, Draws, Connects, ConnectRefused, BuildsOne, BuildsNone, PacketComes, IsAbsent, Sends, AbandonsOne, TakesOne, ShutsDown, AbortsIt, NoPacket, ResetsOne, TellsReset}
 use Rattle.sctp_outcomes.specs.Outcomes.{CanHappen, HasOutcome, EventsHaveOutcomes}
 use Rattle.sctp_outcomes.proofs.Receivers.{Whatever, HoldsIn, holds_always}
 use Rattle.sctp_outcomes.proofs.Bounded.{IsBounded, bounded_law}
@@ -19,11 +20,12 @@ use Rattle.sctp_outcomes.proofs.TotalBuilds.{built}
 
 module _ (w : World) (bounded : HoldsIn (Whatever IsBounded) bounded_law w) where
   opening : (x y : Draw) → IsDraw x → IsDraw y → HasOutcome w (OpenBoth x y)
-  opening x y dx dy = go w.openable refl
+  opening x y dx dy = go w.openable (are_alike w.a.configuration w.b.configuration) refl refl
     where
-      go : (b : Bool) → w.openable ≡ b → HasOutcome w (OpenBoth x y)
-      go true may = (_, _, OpensBoth x y may dx dy)
-      go false may = (_, _, OpenRefused x y may)
+      go : (b c : Bool) → w.openable ≡ b → are_alike w.a.configuration w.b.configuration ≡ c → HasOutcome w (OpenBoth x y)
+      go true true may like = (_, _, OpensBoth x y like may dx dy)
+      go true false may like = (_, _, OpenRefused x y (ap (λ (d : Bool). d && are_alike w.a.configuration w.b.configuration) may ∙ like))
+      go false c may like = (_, _, OpenRefused x y (ap (λ (d : Bool). d && are_alike w.a.configuration w.b.configuration) may))
 
   connecting : (d : Draw) → IsDraw d → HasOutcome w (Connect d)
   connecting d dd = go (connect_answer w.a.phase) refl
@@ -56,7 +58,7 @@ module _ (w : World) (bounded : HoldsIn (Whatever IsBounded) bounded_law w) wher
       go [] q = (_, _, TakesOne x n None (end_of w x) (record { receiver = (end_of w x).receiver; takes = (q, refl); leaves = refl }))
       go (h ∷ hs) q = (_, _, TakesOne x n (Some h) _ (record { receiver = _; takes = (hs, q, refl); leaves = refl }))
 
-  has_outcome : (e : Event) → CanHappen e → HasOutcome w e
+  has_outcome : (e : Event) → CanHappen w e → HasOutcome w e
   has_outcome (OpenBoth x y) (dx, dy) = opening x y dx dy
   has_outcome (At m) small = (_, _, TimePasses m small)
   has_outcome (Drawing d) dd = (_, _, Draws d dd)
@@ -68,6 +70,8 @@ module _ (w : World) (bounded : HoldsIn (Whatever IsBounded) bounded_law w) wher
   has_outcome (Send x c) can = (_, _, Sends x c)
   has_outcome (Abandon x k) can = (_, _, AbandonsOne x k)
   has_outcome (Take x n) can = taking x n
+  has_outcome (Reset x n) can = (_, _, ResetsOne x n)
+  has_outcome (WasReset x) can = (_, _, TellsReset x)
   has_outcome (Shutdown x) can = (_, _, ShutsDown x)
   has_outcome (Abort x r) can = (_, _, AbortsIt x r)
 

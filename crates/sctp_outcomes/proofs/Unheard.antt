@@ -4,13 +4,14 @@ use Rattle.std.specs.Prelude.{if◌then◌else◌, nat_lt}
 use Rattle.sctp_model.specs.world.Calls.{Call}
 use Rattle.sctp_model.specs.sender.SenderView.{SenderView}
 use Rattle.sctp_model.specs.sender.Readers.{point}
-use Rattle.sctp_model.specs.sender.Abandoning.{abandon_after}
-use Rattle.sctp_model.specs.sender.Abandoning.{expired as expired_messages}
-use Rattle.sctp_model.specs.end.EndView.{TimedOut, Phase, Idle, Listening, Calling, Echoing, Open, Over, Established, ShutdownPending, ShutdownSent, ShutdownReceived, ShutdownAckSent, Alarm, InitAlarm, CookieAlarm, DataAlarm, ShutdownAlarm, AckAlarm, EndView, has_association}
+use Rattle.sctp_model.specs.sender.Abandoning.{abandon_after, worn}
+use Rattle.sctp_model.specs.end.EndView.{TimedOut, Phase, Idle, Listening, Calling, Echoing, Open, Over, Established, ShutdownPending, ShutdownSent, ShutdownReceived, ShutdownAckSent, Alarm, InitAlarm, CookieAlarm, DataAlarm, ShutdownAlarm, AckAlarm, EndView, has_association, ResetAlarm}
 use Rattle.sctp_model.specs.end.Clock.{at_moment, closed, settled, turned, with_timer, is_over_at, repeats_of}
 use Rattle.sctp_model.specs.end.Clock.{expired_timer}
 use Rattle.sctp_model.specs.end.Closing.{rested}
-use Rattle.sctp_model.specs.end.Moments.{after_abandoning, due_again, rung, ring, rung_all, all_alarms, waited_in, waited, passed, ticked}
+use Rattle.sctp_model.specs.end.Moments.{after_abandoning, is_data_due, given_up, due_again, rung, ring, rung_all, all_alarms, waited_in, waited, passed, ticked}
+use Rattle.sctp_model.specs.end.Wearing.{wearing}
+use Rattle.sctp_model.proofs.PacedEnds.{worn_cases}
 use Rattle.sctp_model.specs.end.UserCalls.{SendAnswer, Ticket, Refused, NotOpen, send_leaves, is_open, abandoned_at, shut_in, shut, AbortAnswer, Aborts, NoPeer, TooLong, abort_leaves}
 use Rattle.sctp_safety.proofs.machine.EndWords.{rested_cases}
 
@@ -36,12 +37,17 @@ unheard_after_abandoning e v =
     let mid = settled (record e { sender = v; due = record e.due { forward = e.due.forward || not (point v == point e.sender) } }) in
     unheard_on e mid (after_abandoning e v) (record { receiver = refl; terms = refl; configuration = refl }) (unheard_rested mid)
 
+-- at the end of a packet
+pub unheard_worn : (from : ℕ) (e : EndView) → IsUnheard e (wearing from e)
+unheard_worn from e = worn_cases (IsUnheard e) from e (unheard e) (λ test on. unheard_after_abandoning e (worn test e.sender))
+
 pub unheard_again : (a : Alarm) (e : EndView) → IsUnheard e (due_again a e)
 unheard_again InitAlarm e = record { receiver = refl; terms = refl; configuration = refl }
 unheard_again CookieAlarm e = record { receiver = refl; terms = refl; configuration = refl }
 unheard_again DataAlarm e = record { receiver = refl; terms = refl; configuration = refl }
 unheard_again ShutdownAlarm e = record { receiver = refl; terms = refl; configuration = refl }
 unheard_again AckAlarm e = record { receiver = refl; terms = refl; configuration = refl }
+unheard_again ResetAlarm e = record { receiver = refl; terms = refl; configuration = refl }
 
 pub unheard_rung : (b : Bool) (a : Alarm) (e : EndView) → IsUnheard e (rung b a e)
 unheard_rung false a e = unheard e
@@ -68,9 +74,9 @@ unheard_ticked e now = go (has_association e.phase)
     go false = record { receiver = refl; terms = refl; configuration = refl }
     go true =
         let m = at_moment e now in
-        let u = after_abandoning m (expired_messages m.sender m.moment) in
+        let u = after_abandoning m (given_up (is_data_due m) m.sender m.moment) in
         let r = rung_all all_alarms u in
-        let abandoned = unheard_on e m u (record { receiver = refl; terms = refl; configuration = refl }) (unheard_after_abandoning m (expired_messages m.sender m.moment)) in
+        let abandoned = unheard_on e m u (record { receiver = refl; terms = refl; configuration = refl }) (unheard_after_abandoning m (given_up (is_data_due m) m.sender m.moment)) in
         unheard_on e r (waited r) (unheard_on e u r abandoned (unheard_all all_alarms u)) (unheard_waited (is_over_at r.moment r.delayed) r)
 
 -- ---- the user

@@ -1,23 +1,28 @@
 -- What is dropped changed nothing: no chunk of it was listed, or the end still waits for an INIT ACK, or its first chunk was a COOKIE ECHO that doesn't open.
 use Rattle.std.proofs.Common.{◌≡◌, ℕ, ◌+◌, ◌⊎◌, Bool, true, false, List, [], ◌∷◌, drop, Option, Some, None, inl, inr, refl, sym, subst, ap, ◌∙◌}
-use Rattle.std.specs.Prelude.{◌&&◌, if◌then◌else◌}
-use Rattle.sctp_model.specs.wire.Typed.{Typed}
+use Rattle.std.specs.Prelude.{◌&&◌, if◌then◌else◌, ◌==◌}
+use Rattle.sctp_model.specs.wire.Typed.{Typed, typed_in}
 use Rattle.sctp_model.specs.wire.Packet.{Packet}
 use Rattle.sctp_model.specs.wire.Places.{stands_alone, never_follows, misplaced_behind, ArePlaced}
 use Rattle.sctp_model.specs.wire.Unknown.{chunk_rule}
 use Rattle.sctp_model.specs.wire.Chunk.{ChunkMeaning, Data, IData, Init, InitAck, Sack, Heartbeat, HeartbeatAck, Abort, Shutdown, ShutdownAck, Error, CookieEcho, CookieAck, ShutdownComplete, ForwardTsn, IForwardTsn, Unknown, size_of_chunk}
 use Rattle.sctp_model.specs.end.EndView.{Draw, Stage, Phase, Idle, Listening, Calling, Echoing, Open, Over, EndView, has_association}
 use Rattle.sctp_model.specs.end.Clock.{at_moment}
-use Rattle.sctp_model.specs.end.Closing.{takes_acknowledgements, hears, rested}
+use Rattle.sctp_model.specs.end.Closing.{takes_acknowledgements, hears, rested, takes_data}
 use Rattle.sctp_model.specs.end.Reports.{with_causes, causes_with}
 use Rattle.sctp_model.specs.end.PeerFaults.{COOKIE, Note, Unnoted, ToAcknowledge, GoesOn, Drops}
 use Rattle.sctp_model.specs.end.Opening.{is_calling, NoTag, AcceptedAck, EchoedAgain, IsStrange, CookieAcked, begun}
-use Rattle.sctp_model.specs.end.Acting.{Acts, PieceComes, IsOld, ForwardComes, SackStale, SackCounts, HeartbeatCounts, SaysNothing, ShutdownStale, ShutdownCounts, Crosses, Again, may_report, unknown_item, unknown_causes, unknown_leaves}
+use Rattle.sctp_model.specs.end.Acting.{Acts, PieceComes, IsOld, ForwardComes, SackStale, SackCounts, HeartbeatCounts, SaysNothing, ShutdownStale, ShutdownCounts, Crosses, Again, may_report, unknown_item, unknown_causes, unknown_leaves, ReconfigComes, IsUnknown}
 use Rattle.sctp_model.specs.end.Strays.{Verdict, Dropped, opened_by}
+use Rattle.sctp_model.specs.end.Wearing.{missed_below, wearing}
+use Rattle.sctp_model.proofs.PacedEnds.{nothing_missed}
 use Rattle.sctp_model.specs.end.Arriving.{Notes, no_notes, noted, urged, acknowledges_in, packet_ended, verdict_of, AllAct, NoneLeft, Next, Passes, Last, EndsAnswered, Stopped, Arrives, Elsewhere, NotOurs, Stray, CookieBegins, Heard, Receives, DroppedUnread, ReadAs}
 use Rattle.sctp_safety.proofs.machine.EndWords.{rested_cases}
 use Rattle.sctp_safety.proofs.machine.Sides.{unknown_goes}
 use Rattle.sctp_outcomes.specs.Untouched.{StraysChangeNothing, AreChunksPlaced, DropsChangeNothing}
+use Rattle.sctp_model.specs.wire.Reconfig.{RECONFIG}
+use Rattle.sctp_safety.proofs.machine.Reconfigured.{parameters_same}
+use Rattle.std.proofs.lemmas.Bool.{and_parts}
 
 -- ---- an end that waits for an INIT ACK
 
@@ -70,7 +75,10 @@ still_calling e tag (ForwardTsn m) y t (IsOld u g r is _ _ came) on = not_open e
 still_calling e tag (ForwardTsn m) y t (ForwardComes u g r is _ _ came) on = not_open e.phase (Open u g) refl is on
 still_calling e tag (IForwardTsn m) y t (IsOld u g r is _ _ came) on = not_open e.phase (Open u g) refl is on
 still_calling e tag (IForwardTsn m) y t (ForwardComes u g r is _ _ came) on = not_open e.phase (Open u g) refl is on
-still_calling e tag (Unknown n f v) y t h on =
+still_calling e tag (Unknown n f v) y t (ReconfigComes c takes _) on =
+    let heard = (and_parts e.terms.reset (hears takes_data e.phase) (and_parts (n == RECONFIG) (e.terms.reset && hears takes_data e.phase) takes).1).1 in
+    not_heard takes_data e.phase heard (ap is_calling (sym (parameters_same c e (typed_in v)).phase) ∙ on)
+still_calling e tag (Unknown n f v) y t (IsUnknown _ _ h) on =
     let u = unknown_goes e y t n f v h in
     let same : is_calling e.phase ≡ true = subst (λ (x : EndView). is_calling x.phase ≡ true) u.same on in
     u.same ∙ ap (λ (xs : List Typed). with_causes xs e) (reports_nothing e n f v same)
@@ -119,7 +127,7 @@ chunk_drops e tag CookieAck r behind h = elim h [ ]
 chunk_drops e tag (ShutdownComplete b) r behind h = elim h [ ]
 chunk_drops e tag (ForwardTsn m) r behind h = elim h [ ]
 chunk_drops e tag (IForwardTsn m) r behind h = elim h [ ]
-chunk_drops e tag (Unknown n f v) r behind h = absurd (go (chunk_rule n).stop h)
+chunk_drops e tag (Unknown n f v) r behind (IsUnknown _ _ h) = absurd (go (chunk_rule n).stop h)
   where
     go : (b : Bool) → Drops r ≡ unknown_leaves b (with_causes (unknown_causes e n f v) e) → ⊥
     go true q = absurd (cc)
@@ -182,9 +190,13 @@ ended_calling n t on = go n.acknowledges t.phase on
     go true (Open u g) is = absurd (cc)
     go true (Over why) is = absurd (cc)
 
-ended_left : (e t : EndView) (m : Notes) (gap : Bool) → IsLeftSo e no_notes t m → packet_ended (urged gap m) t ≡ e
-ended_left e t m gap (same, inl calling) = ended_calling (urged gap m) t calling ∙ same
-ended_left e t m gap (same, inr (notes, off)) = ap (λ (k : Notes). packet_ended (urged gap k) t) notes ∙ same
+-- an end that stays has missed nothing
+missed_not : (e t : EndView) → t ≡ e → wearing (missed_below e.pace) t ≡ t
+missed_not e t same = ap (wearing (missed_below e.pace)) same ∙ nothing_missed e ∙ sym same
+
+ended_left : (e t : EndView) (m : Notes) (gap : Bool) → IsLeftSo e no_notes t m → packet_ended (urged gap m) (wearing (missed_below e.pace) t) ≡ e
+ended_left e t m gap (same, inl calling) = ap (packet_ended (urged gap m)) (missed_not e t same) ∙ ended_calling (urged gap m) t calling ∙ same
+ended_left e t m gap (same, inr (notes, off)) = ap (λ (k : Notes). packet_ended (urged gap k) (wearing (missed_below e.pace) t)) notes ∙ missed_not e t same ∙ same
 
 -- an end that a cookie opened doesn't wait for an INIT ACK, and has a note
 never_left : {X : Type 0} (e t : EndView) (n m : Notes) → is_calling e.phase ≡ false → n.listed ≡ true → IsLeftSo e n t m → X

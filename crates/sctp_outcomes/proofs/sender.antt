@@ -1,6 +1,9 @@
 pub mod Makers
 pub mod FillExamples
 pub mod SackExamples
+pub mod PaceExamples
+pub mod EndExamples
+pub mod ResetExamples
 pub mod AbandonExamples
 pub mod QueueExamples
 pub mod WindowExamples

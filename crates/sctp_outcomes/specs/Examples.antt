@@ -1,4 +1,4 @@
--- Runs of two ends, from the start and by themselves alone, that show that the promises over every run aren't empty.
+-- Runs of two endpoints, from the start and without third parties, that show that the promises over every run aren't empty.
 use Rattle.std.specs.Prelude.{◌≡◌, true, List, [], ◌∷◌, Some}
 use Rattle.sctp_model.specs.numbers.Lists.{Has}
 use Rattle.sctp_model.specs.messages.Format.{Plain, Interleaved, ordered_lane}

@@ -1,5 +1,5 @@
--- What each call of an end leaves of all that its user notes of it: the tickets that were given, the tickets numbered, and the messages taken.
-use Rattle.std.specs.Prelude.{◌≡◌, ℕ, suc, ◌<◌, Bool, true, false, List, [], ◌∷◌, ◌++◌, length, Option, Some, None}
+-- What each call of an endpoint leaves of all that its user notes of it: the tickets that were given, the tickets numbered, and the messages taken.
+use Rattle.std.specs.Prelude.{◌≡◌, ℕ, suc, ◌<◌, ◌≤◌, Bool, true, false, List, [], ◌∷◌, ◌++◌, length, Option, Some, None}
 use Rattle.sctp_model.specs.numbers.Lists.{Has, at}
 use Rattle.sctp_model.specs.wire.Chunk.{ChunkMeaning}
 use Rattle.sctp_model.specs.wire.Packet.{Packet}
@@ -16,7 +16,7 @@ use Rattle.sctp_model.specs.end.Strays.{Verdict}
 use Rattle.sctp_model.specs.end.Arriving.{Receives, IsCutShort}
 use Rattle.sctp_model.specs.end.Building.{Builds}
 use Rattle.sctp_model.specs.end.Moments.{ticked}
-use Rattle.sctp_model.specs.end.UserCalls.{Called, connect_answer, called, SendAnswer, Ticket, Refused, NotOpen, send_answer, send_leaves, abandoned_at, UserTakes, shut, AbortAnswer, abort_leaves}
+use Rattle.sctp_model.specs.end.UserCalls.{Called, connect_answer, called, SendAnswer, Ticket, Refused, NotOpen, send_answer, send_leaves, abandoned_at, UserTakes, shut, AbortAnswer, abort_leaves, reset_call, reset_leaves, reset_there, told_leaves}
 
 -- ---- what every end is that calls lead to
 
@@ -64,6 +64,7 @@ pub record HasNoLogs (e : EndView) : Type 0 where
 -- All that is noted of the one is noted of the other, and nothing else.
 pub record KeepsLogs (e t : EndView) : Type 0 where
   pub sound : IsSound t
+  pub grown : length e.sender.plan.entries ≤ length t.sender.plan.entries
   pub numbers : numbered t ≡ numbered e
   pub tickets : t.sender.tickets ≡ e.sender.tickets
   pub taken : t.receiver.taken ≡ e.receiver.taken
@@ -71,6 +72,7 @@ pub record KeepsLogs (e t : EndView) : Type 0 where
 -- The messages numbered on the way are noted, and nothing else.
 pub record AddsNumbers (e t : EndView) : Type 0 where
   pub sound : IsSound t
+  pub grown : length e.sender.plan.entries ≤ length t.sender.plan.entries
   pub numbers : numbered t ≡ numbered e ++ newly_numbered e.sender t.sender
   pub tickets : t.sender.tickets ≡ e.sender.tickets
   pub taken : t.receiver.taken ≡ e.receiver.taken
@@ -78,6 +80,7 @@ pub record AddsNumbers (e t : EndView) : Type 0 where
 -- One ticket was given, and nothing else is noted.
 pub record AddsTicket (e t : EndView) : Type 0 where
   pub sound : IsSound t
+  pub grown : length e.sender.plan.entries ≤ length t.sender.plan.entries
   pub numbers : numbered t ≡ numbered e
   pub tickets : t.sender.tickets ≡ suc e.sender.tickets
   pub taken : t.receiver.taken ≡ e.receiver.taken
@@ -85,6 +88,7 @@ pub record AddsTicket (e t : EndView) : Type 0 where
 -- This message was taken from this stream, and nothing else is noted.
 pub record AddsTaken (e : EndView) (stream : ℕ) (h : Handed) (t : EndView) : Type 0 where
   pub sound : IsSound t
+  pub grown : length e.sender.plan.entries ≤ length t.sender.plan.entries
   pub numbers : numbered t ≡ numbered e
   pub tickets : t.sender.tickets ≡ e.sender.tickets
   pub taken : t.receiver.taken ≡ at e.receiver.taken stream (e.receiver.taken stream ++ h ∷ [])
@@ -115,13 +119,21 @@ MomentsKeepLogs = (e : EndView) (now : ℕ) → IsSound e → KeepsLogs e (ticke
 
 -- ---- what the user calls
 
--- connect, where it is taken (RFC 9260, 11.1.2)
+-- connect, if it is taken (RFC 9260, 11.1.2)
 abbrev pub ConnectKeepsLogs : Type 0
 ConnectKeepsLogs = (e : EndView) (now : ℕ) (d : Draw) → IsSound e → connect_answer e.phase ≡ Called → KeepsLogs e (called (at_moment e now) d)
 
 -- shutdown (11.1.3)
 abbrev pub ShutdownKeepsLogs : Type 0
 ShutdownKeepsLogs = (e : EndView) → IsSound e → KeepsLogs e (shut e)
+
+-- the reset of a stream (RFC 6525, 5.1)
+abbrev pub ResetKeepsLogs : Type 0
+ResetKeepsLogs = (e : EndView) (stream : ℕ) → IsSound e → KeepsLogs e (reset_leaves (reset_call e stream) e stream)
+
+-- and the report of the peer's (5.2)
+abbrev pub ToldKeepsLogs : Type 0
+ToldKeepsLogs = (e : EndView) → IsSound e → KeepsLogs e (told_leaves (reset_there e) e)
 
 -- abort (11.1.4), whatever it answers
 abbrev pub AbortKeepsLogs : Type 0
@@ -156,6 +168,6 @@ TakeTakesOne = (e : EndView) (stream : ℕ) (h : Option Handed) (t : EndView) �
 abbrev pub BuildsAddNumbers : Type 0
 BuildsAddNumbers = (e : EndView) (now : ℕ) (xs : List ChunkMeaning) (t : EndView) → IsSound e → Builds (at_moment e now) xs t → AddsNumbers e t
 
--- Where there is no next packet nothing is numbered.
+-- If there is no next packet nothing is numbered.
 abbrev pub EmptyBuildsKeepLogs : Type 0
 EmptyBuildsKeepLogs = (e : EndView) (now : ℕ) (t : EndView) → IsSound e → Builds (at_moment e now) [] t → KeepsLogs e t

@@ -5,8 +5,13 @@ pub mod OneEnd
 pub mod Examples
 pub mod Script
 pub mod Views
+pub mod NeverHeld
+pub mod NeverReset
+pub mod Resets
 pub mod Kept
 pub mod Untouched
 pub mod SetUp
 pub mod ToldOnce
 pub mod Few
+pub mod AgedSinceBuilt
+pub mod Users

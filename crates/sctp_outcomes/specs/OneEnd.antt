@@ -1,4 +1,4 @@
--- The steps of an end alone, whatever it is and whoever its peer: each packet that comes and each packet that is built leaves one end and one answer.
+-- The steps of one endpoint, whatever it is and whoever its peer: each packet that arrives and each packet that is built leaves one endpoint and one answer.
 use Rattle.std.specs.Prelude.{◌≡◌, ℕ, List}
 use Rattle.sctp_model.specs.wire.Chunk.{ChunkMeaning}
 use Rattle.sctp_model.specs.wire.Packet.{Packet}

@@ -1,4 +1,4 @@
--- In every world of every run, whatever strangers know, each event has an outcome, and one only.
+-- In every world of every run, whatever third parties know, each event has an outcome, and one only.
 use Rattle.std.specs.Prelude.{◌≡◌, ◌^◌, ◌<◌, List, Option, Some}
 use Rattle.sctp_model.specs.wire.Places.{ArePlaced}
 use Rattle.sctp_model.specs.world.World.{World, Setup, start}
@@ -7,13 +7,13 @@ use Rattle.sctp_model.specs.end.EndView.{IsDraw}
 use Rattle.sctp_model.specs.world.Steps.{Step, Run}
 
 -- What may happen: chance hands in draws, a moment has 64 bits, and in a foreign packet that reads each chunk stands where it may.
-abbrev pub CanHappen : Event → Type 0
-CanHappen (OpenBoth x y) = IsDraw x × IsDraw y
-CanHappen (At m) = m < 2 ^ 64
-CanHappen (Drawing d) = IsDraw d
-CanHappen (Connect d) = IsDraw d
-CanHappen (Foreign x (Some p)) = ArePlaced p.chunks
-CanHappen e = Unit {0}
+abbrev pub CanHappen : World → Event → Type 0
+CanHappen w (OpenBoth x y) = IsDraw x × IsDraw y
+CanHappen w (At m) = m < 2 ^ 64
+CanHappen w (Drawing d) = IsDraw d
+CanHappen w (Connect d) = IsDraw d
+CanHappen w (Foreign x (Some p)) = ArePlaced p.chunks
+CanHappen w e = Unit {0}
 
 -- the event has an outcome that isn't want of memory, and leaves a world
 abbrev pub HasOutcome : World → Event → Type 0
@@ -22,7 +22,7 @@ HasOutcome w e = (o : Outcome) × (v : World) × Step w e (Some o) v
 -- Every event that may happen has one, in every world that events lead to from the start.
 abbrev pub EventsHaveOutcomes : Type 0
 EventsHaveOutcomes = (s : Setup) (events : List Event) (answers : List (Option Outcome)) (w : World) → Run (start s) events answers w →
-    (e : Event) → CanHappen e → HasOutcome w e
+    (e : Event) → CanHappen w e → HasOutcome w e
 
 -- And no event has two: what is answered, unless memory is wanted, and the world that is left are one.
 abbrev pub OutcomesAreOne : Type 0

@@ -1,4 +1,4 @@
--- A script from first to last: two ends open by packets, a message goes over, and they close. Every packet that is delivered comes twice, as networks may do.
+-- A script from first to last: two endpoints open by packets, a message is sent, and they close. Every packet that is delivered arrives twice, as networks may do.
 use Rattle.std.specs.Prelude.{◌≡◌, false, List, [], ◌∷◌, Option, Some, None}
 use Rattle.sctp_model.specs.messages.Format.{ordered_lane}
 use Rattle.sctp_model.specs.world.Calls.{Call}
@@ -10,11 +10,12 @@ use Rattle.sctp_model.specs.end.UserCalls.{Ticket}
 use Rattle.sctp_model.specs.world.World.{A, B, World, Setup, start}
 use Rattle.sctp_model.specs.world.Events.{Event, Drawing, Connect, Build, Deliver, Send, Take, Shutdown, Outcome, Done, Sent, Acted, Answered, NotActed, Told, Message}
 use Rattle.sctp_model.specs.world.Steps.{Run}
+use Rattle.sctp_model.specs.numbers.Limits.{LEAST_WAIT}
 
 -- packets of at most 1,500 bytes, fragments of 1,400, room for 65,536, one stream each way, DATA without partial reliability
 abbrev pub script_setup : Sealing → Setup
 script_setup sealing = record {
-  alike = record {
+  of_a = record {
     own_port = 0;
     peer_port = 0;
     limit = 1500;
@@ -26,6 +27,27 @@ script_setup sealing = record {
     partial = false;
     delay = false;
     standard_closing = false;
+    fast_retransmit = false;
+    least_wait = LEAST_WAIT;
+    congestion_control = false;
+    reset = false;
+  };
+  of_b = record {
+    own_port = 0;
+    peer_port = 0;
+    limit = 1500;
+    fragment = 1400;
+    buffer = 65536;
+    outbound = 1;
+    inbound = 1;
+    interleave = false;
+    partial = false;
+    delay = false;
+    standard_closing = false;
+    fast_retransmit = false;
+    least_wait = LEAST_WAIT;
+    congestion_control = false;
+    reset = false;
   };
   a_port = 5000;
   b_port = 5001;
@@ -34,7 +56,7 @@ script_setup sealing = record {
 
 -- "Hi"
 abbrev pub greeting : Call
-greeting = record { lane = ordered_lane 0; payload = 0; bytes = 72 ∷ 105 ∷ []; until = None }
+greeting = record { lane = ordered_lane 0; payload = 0; bytes = 72 ∷ 105 ∷ []; until = None; limit = None }
 
 -- it, as B's user takes it: the first fragment is index 1, the first number of its stream 0 (RFC 9260, 6.5)
 abbrev pub arrived : Handed

@@ -1,4 +1,4 @@
--- Whatever comes, an end stays set up as it is: packets of its limit, from its ports (RFC 9260, 4).
+-- Whatever arrives, an endpoint stays set up as it is: packets of its limit, from its ports (RFC 9260, 4).
 use Rattle.std.specs.Prelude.{◌≡◌, ℕ, List, Option}
 use Rattle.sctp_model.specs.wire.Chunk.{ChunkMeaning}
 use Rattle.sctp_model.specs.wire.Packet.{Packet}

@@ -1,4 +1,4 @@
--- The user of an end is told each ticket once in its life, with the packet that gives the message its first TSN (RFC 9260, 6.9).
+-- Each ticket is reported to the user once, with the packet that gives the message its first TSN (RFC 9260, 6.9).
 use Rattle.std.specs.Prelude.{◌≡◌, ℕ, ◌<◌, List, ◌++◌, Option}
 use Rattle.sctp_model.specs.numbers.Lists.{Has, AreInOrder}
 use Rattle.sctp_model.specs.wire.Chunk.{ChunkMeaning}

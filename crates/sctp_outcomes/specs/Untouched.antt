@@ -1,4 +1,4 @@
--- Packets that change nothing at an end but its moment (RFC 9260, 5.1, 8.4 and 8.5).
+-- Packets that change nothing at an endpoint but its time (RFC 9260, 5.1, 8.4 and 8.5).
 use Rattle.std.specs.Prelude.{◌≡◌, ℕ, false, Option, Some, None}
 use Rattle.sctp_model.specs.wire.Places.{ArePlaced}
 use Rattle.sctp_model.specs.wire.Packet.{Packet}

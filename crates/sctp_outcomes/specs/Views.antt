@@ -1,4 +1,4 @@
--- What holds of the senders and the receivers of both ends in every world, whatever their peers are told.
+-- What holds of the senders and the receivers of both endpoints in every world, whatever their peers send.
 use Rattle.std.specs.Prelude.{◌≡◌, ◌<◌, List, Option}
 use Rattle.sctp_model.specs.messages.Orderly.{Orderly}
 use Rattle.sctp_model.specs.sender.Reached.{IsReached}

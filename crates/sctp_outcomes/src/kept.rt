@@ -3,7 +3,7 @@
 //! No function here does anything: each carries laws as its contract.
 
 ghost use Rattle.sctp_outcomes.specs.Few.{BuildsBeginFew};
-ghost use Rattle.sctp_outcomes.specs.Kept.{AbandonKeepsLogs, AbortKeepsLogs, BuildsAddNumbers, ConnectKeepsLogs, CutPacketsKeepLogs, EmptyBuildsKeepLogs, FreshHasNoLogs, MomentsKeepLogs, OpenedHasNoLogs, PacketsKeepLogs, SendGivesTickets, ShutdownKeepsLogs, TakeTakesOne};
+ghost use Rattle.sctp_outcomes.specs.Kept.{AbandonKeepsLogs, AbortKeepsLogs, BuildsAddNumbers, ConnectKeepsLogs, CutPacketsKeepLogs, EmptyBuildsKeepLogs, FreshHasNoLogs, MomentsKeepLogs, OpenedHasNoLogs, PacketsKeepLogs, ResetKeepsLogs, SendGivesTickets, ShutdownKeepsLogs, TakeTakesOne, ToldKeepsLogs};
 ghost use Rattle.sctp_outcomes.specs.ToldOnce.{BuildsTellAnew, RunsTellAnew};
 
 /// Of an end that is made, or opened without packets, nothing is noted: no ticket, no number, no message taken.
@@ -19,10 +19,12 @@ pub fn what_comes_keeps_logs()
     ensures moments { MomentsKeepLogs }
 {}
 
-/// Nor do connect, shutdown, abort and abandon; send notes a ticket exactly where it answers one, and take a message exactly where it answers one
-/// (RFC 9260, 11.1; RFC 3758, 3.5).
+/// Nor do connect, reset, shutdown, abort and abandon, and what is told of the peer's resets; send notes a ticket exactly where it answers one, and take a
+/// message exactly where it answers one (RFC 9260, 11.1; RFC 3758, 3.5; RFC 6525, 5).
 pub fn calls_note_their_own()
     ensures connect { ConnectKeepsLogs }
+    ensures reset { ResetKeepsLogs }
+    ensures told { ToldKeepsLogs }
     ensures shutdown { ShutdownKeepsLogs }
     ensures abort { AbortKeepsLogs }
     ensures abandon { AbandonKeepsLogs }

@@ -12,7 +12,7 @@ use Rattle.sctp_model.specs.end.EndView.{Draw, Configuration, EndView}
 use Rattle.sctp_model.specs.end.Reports.{item, INVALID_PARAMETER}
 use Rattle.sctp_model.specs.end.PeerFaults.{Replies, packet_to, abort_for}
 use Rattle.sctp_model.specs.end.Opening.{RefusedAck, CookieRead, CookieOpens, CookieLate, Strange, cookie_read, has_no_stream, init_ack}
-use Rattle.sctp_model.specs.end.Acting.{Acts, PieceEmpty, WrongFormat, SackWrong, ShutdownWrong, AckCompletes, WrongKind, IsBad}
+use Rattle.sctp_model.specs.end.Acting.{Acts, PieceEmpty, WrongFormat, SackWrong, ShutdownWrong, AckCompletes, WrongKind, IsBad, IsUnknown}
 use Rattle.sctp_model.specs.end.Strays.{Verdict, Dropped, Answer, holds_abort, listens, init_verdict, cookie_verdict, echo_verdict, first_verdict, chunks_verdict, stray_verdict}
 use Rattle.sctp_model.specs.end.Arriving.{AllAct, NoneLeft, Next, Last, EndsAnswered, Stopped, Notes, noted, verdict_of, Arrives, Elsewhere, NotOurs, Stray, CookieBegins, Heard, Receives, ReadAs}
 use Rattle.sctp_model.specs.end.Arriving.{Passes}
@@ -65,7 +65,7 @@ replies_plain e tag (ForwardTsn m) t p (WrongKind u _ _ _ _) = one_chunk e.confi
 replies_plain e tag (ForwardTsn m) t p (IsBad u _ _ _ _ _ _) = one_chunk e.configuration u.peer _ (AnAbort false _)
 replies_plain e tag (IForwardTsn m) t p (WrongKind u _ _ _ _) = one_chunk e.configuration u.peer _ (AnAbort false _)
 replies_plain e tag (IForwardTsn m) t p (IsBad u _ _ _ _ _ _) = one_chunk e.configuration u.peer _ (AnAbort false _)
-replies_plain e tag (Unknown k f v) t p h = absurd (unknown_never_replies e t p k f v h)
+replies_plain e tag (Unknown k f v) t p (IsUnknown _ _ q) = absurd (unknown_never_replies e t p k f v q)
 
 no_answer : (b : Bool) (p : Packet) → verdict_of b ≡ Answer p → ⊥
 no_answer true p q = absurd (cc)

@@ -7,7 +7,8 @@ use Rattle.sctp_model.specs.sender.SenderView.{SenderView}
 use Rattle.sctp_model.specs.sender.Filling.{Wish, chunk_of}
 use Rattle.sctp_model.specs.sender.SentChunks.{forward_chunk_of}
 use Rattle.sctp_model.specs.end.EndView.{EndView, format_of}
-use Rattle.sctp_model.specs.end.Building.{Slot, EchoSlot, ErrorSlot, open_slots, echoing_slots, Wants, EchoCookie, AckCookie, AckHeartbeat, ReportCauses, Acknowledge, PassOn, SayShutdown, AnswerShutdown, once_built, Puts, NoMore, NotDue, Put, IsFull, fragments, filled_behind, Builds, Sleeps, Waits, Calls, Echoes, EndsFull, Fills}
+use Rattle.sctp_model.specs.end.Reconfiguring.{asking}
+use Rattle.sctp_model.specs.end.Building.{Slot, EchoSlot, ErrorSlot, open_slots, echoing_slots, Wants, EchoCookie, AckCookie, AckHeartbeat, ReportCauses, Acknowledge, PassOn, AnswerReset, AskReset, SayShutdown, AnswerShutdown, once_built, Puts, NoMore, NotDue, Put, IsFull, fragments, filled_behind, Builds, Sleeps, Waits, Calls, Echoes, EndsFull, Fills}
 
 -- a chunk that may stand anywhere
 abbrev IsFree : ChunkMeaning → Type 0
@@ -108,6 +109,8 @@ wants_free e s x other (AckHeartbeat info is) = tt
 wants_free e s x other ReportCauses = tt
 wants_free e s x other (Acknowledge t is) = tt
 wants_free e s x other PassOn = forward_free (format_of e) e.configuration.limit e.sender
+wants_free e s x other AnswerReset = tt
+wants_free e s x other (AskReset q is) = tt
 wants_free e s x other (SayShutdown c is) = tt
 wants_free e s x other AnswerShutdown = tt
 
@@ -128,7 +131,7 @@ puts_echo e zs full t (Put _ _ _ x _ _ _ _ due wants room rest) =
 puts_echo e zs full t (IsFull _ _ _ _ _ due wants room) = tt
 
 no_echo : AreOther open_slots
-no_echo = (tt, (tt, (tt, (tt, (tt, (tt, (tt, tt)))))))
+no_echo = (tt, (tt, (tt, (tt, (tt, (tt, (tt, (tt, (tt, tt)))))))))
 
 -- ---- fragments
 
@@ -148,6 +151,6 @@ built_is_placed e zs x (Sleeps off) = refl
 built_is_placed e zs x (Waits d calling off) = refl
 built_is_placed e zs x (Calls d calling due) = refl
 built_is_placed e zs x (Echoes t cookie _ full _ echoing puts) = placed zs (puts_echo e zs full x puts)
-built_is_placed e zs x (EndsFull t g _ _ is puts) = placed zs (puts_others open_slots e [] zs true x no_echo tt puts)
+built_is_placed e zs x (EndsFull t g _ _ is puts) = placed zs (puts_others open_slots (asking e) [] zs true x no_echo tt puts)
 built_is_placed e zs x (Fills t g ys y is puts) =
-    placed _ (begins_append ys (fragments y ys) (puts_others open_slots e [] ys false y no_echo tt puts) (fragments_free (format_of y) (filled_behind y ys).wishes))
+    placed _ (begins_append ys (fragments y ys) (puts_others open_slots (asking e) [] ys false y no_echo tt puts) (fragments_free (format_of y) (filled_behind y ys).wishes))

@@ -4,12 +4,12 @@ use Rattle.sctp_model.specs.wire.Packet.{Packet}
 use Rattle.sctp_model.specs.end.EndView.{EndView}
 use Rattle.sctp_model.specs.end.Arriving.{DroppedUnread, ReadAs, CutFirst, CutLater}
 use Rattle.sctp_model.specs.end.Moments.{ticked}
-use Rattle.sctp_model.specs.end.UserCalls.{send_answer, shut, abort_answer, abort_leaves}
+use Rattle.sctp_model.specs.end.UserCalls.{send_answer, reset_call, reset_there, shut, abort_answer, abort_leaves}
 use Rattle.sctp_model.specs.world.World.{Side, A, B, World, end_of, end_now}
 use Rattle.sctp_model.specs.world.Events.{Event, Outcome}
-use Rattle.sctp_model.specs.world.Steps.{Step, OpensBoth, OpenRefused, TimePasses, Draws, Connects, ConnectRefused, BuildsOne, BuildsNone, PacketComes, IsAbsent, Sends, AbandonsOne, TakesOne, ShutsDown, AbortsIt, NoMemory, PacketCut}
+use Rattle.sctp_model.specs.world.Steps.{Step, OpensBoth, OpenRefused, TimePasses, Draws, Connects, ConnectRefused, BuildsOne, BuildsNone, PacketComes, IsAbsent, Sends, AbandonsOne, TakesOne, ResetsOne, TellsReset, ShutsDown, AbortsIt, NoMemory, PacketCut}
 use Rattle.sctp_safety.proofs.machine.Turns.{builds_plain}
-use Rattle.sctp_safety.proofs.machine.TurnsOfTime.{plain_ticked, plain_sent, plain_abandoned, plain_taken, plain_shut, plain_aborted}
+use Rattle.sctp_safety.proofs.machine.TurnsOfTime.{plain_ticked, plain_sent, plain_abandoned, plain_taken, plain_reset, plain_told, plain_shut, plain_aborted}
 use Rattle.sctp_safety.proofs.machine.Ground.{arrives_same}
 use Rattle.sctp_safety.proofs.machine.OneEnd.{IsAt, at_end, at_log, at_packet, at_came, at_verdict, at_abort, answer_of, abort_of, both_ends}
 use Rattle.sctp_pair.specs.PairStands.{IsOnTime}
@@ -31,7 +31,7 @@ at_the_clock w v x t given on at same =
     one_end w v x t given on at (omega (arith, same, before))
 
 pub on_time : (w : World) (e : Event) (o : Option Outcome) (v : World) → IsOnTime w → Step w e o v → IsOnTime v
-on_time w e o v on (OpensBoth x y may dx dy) = ends
+on_time w e o v on (OpensBoth x y like may dx dy) = ends
   where
     ends : (x : Side) → (end_of v x).moment ≤ v.clock
     ends A = omega arith
@@ -65,6 +65,8 @@ on_time w e o v on (IsAbsent x n none) = on
 on_time w e o v on (Sends x c) = at_its_own w v x _ None on (at_log w x _ _) (plain_sent (end_of w x) c (send_answer (end_of w x) c)).moment
 on_time w e o v on (AbandonsOne x k) = at_its_own w v x _ None on (at_log w x _ _) (plain_abandoned (end_of w x) k).moment
 on_time w e o v on (TakesOne x n h t takes) = at_its_own w v x t None on (at_end w x t) (plain_taken (end_of w x) n h t takes).moment
+on_time w e o v on (ResetsOne x n) = at_its_own w v x _ None on (at_end w x _) (plain_reset (end_of w x) (reset_call (end_of w x) n) n).moment
+on_time w e o v on (TellsReset x) = at_its_own w v x _ None on (at_end w x _) (plain_told (end_of w x) (reset_there (end_of w x))).moment
 on_time w e o v on (ShutsDown x) = at_its_own w v x (shut (end_of w x)) None on (at_end w x _) (plain_shut (end_of w x)).moment
 on_time w e o v on (AbortsIt x r) =
     at_its_own w v x (abort_leaves (abort_answer (end_of w x) r) (end_of w x)) (abort_of (abort_answer (end_of w x) r)) on (at_abort w x _ _) (plain_aborted (end_of w x) r).moment

@@ -5,7 +5,7 @@ use Rattle.sctp_model.specs.numbers.Lists.{Has}
 use Rattle.sctp_model.specs.wire.Chunk.{ChunkMeaning, Data, IData, Init, InitAck, Sack, Heartbeat, HeartbeatAck, Abort, Shutdown, ShutdownAck, Error, CookieEcho, CookieAck, ShutdownComplete, ForwardTsn, IForwardTsn, Unknown, chunk_length, kind_of}
 use Rattle.sctp_model.specs.wire.Packet.{Packet}
 use Rattle.sctp_model.specs.end.Sealing.{Sealing}
-use Rattle.sctp_model.specs.world.Premises.{drawn_in, IsTheirs, IsStranger, Premises}
+use Rattle.sctp_model.specs.world.Premises.{drawn_in, IsTheirs, IsStranger, FreshAndUnforged}
 use Rattle.sctp_cookie.specs.Seals.{IsUnder, OpensTheSealed}
 use Rattle.sctp_packet.specs.PacketBytes.{header_bytes}
 use Rattle.sctp_packet.specs.Checksum.{crc32c}
@@ -45,7 +45,7 @@ without_key key tags s p opens stranger = record {
 
 pub premises_of_key : ((key : List ℕ) (s : Sealing) → IsUnder key s → OpensTheSealed key s) → PremisesAreTheKeys
 premises_of_key seals key s es under = record {
-  in_words_of_the_key = λ (all : Premises s es). λ x p here. without_key key (drawn_in es) s p (seals key s under) (all x p here);
+  in_words_of_the_key = λ (all : FreshAndUnforged s es). λ x p here. without_key key (drawn_in es) s p (seals key s under) (all x p here);
   in_words_of_the_seal = λ (bytes : HaveByteCookies es) (all : KeyPremises key es). λ x p here. record {
     untagged = (all x p here).untagged;
     chunks = theirs_not key (drawn_in es) s p (seals key s under) (bytes x p here) (all x p here);

@@ -1,5 +1,5 @@
 -- What a pair answers to events, and what is promised of the worlds that they lead through.
-use Rattle.std.specs.Prelude.{◌≡◌, ◌<◌, ◌⊎◌, List, [], ◌∷◌, ◌++◌, length, map, Option, Some, None, Result, Ok, Err}
+use Rattle.std.specs.Prelude.{◌≡◌, ℕ, ◌<◌, ◌⊎◌, List, [], ◌∷◌, ◌++◌, length, map, Option, Some, None, Result, Ok, Err}
 use Rattle.std.specs.declared.vec.Vec.{Vec}
 use Rattle.std.specs.declared.alloc.Global.{Global}
 use Rattle.sctp_model.specs.end.Configured.{IsConfiguration}
@@ -8,8 +8,9 @@ use Rattle.sctp_model.specs.world.World.{World, Setup, configuration_of, start}
 use Rattle.sctp_model.specs.world.Events as meaning
 use Rattle.sctp_model.specs.world.Steps.{PassesThrough, last_of}
 use Rattle.sctp_model.specs.world.Aged.{Aged}
-use Rattle.sctp_model.specs.world.Premises.{Premises}
-use Rattle.sctp_safety.specs.Runs.{AreAllSafe}
+use Rattle.sctp_model.specs.world.Premises.{FreshAndUnforged}
+use Rattle.sctp_safety.specs.Runs.{KeepBothPromises}
+use Rattle.sctp_outcomes.specs.Users.{exchange, IsFaithful}
 use Rattle.sctp_values.specs.declared.no_memory.NoMemory.{NoMemory}
 use Rattle.sctp_events.specs.Events.{outcome_meaning}
 use Rattle.sctp_pair.specs.Happens.{Means}
@@ -82,14 +83,20 @@ pub record IsRunTo (s : Setup) (before : Course) (w : World) : Type 0 where
 
 -- FRESH and UNFORGED, and AGED, of a course from the start
 pub record MeetsPremises (s : Setup) (c : Course) : Type 0 where
-  pub strangers : Premises s.sealing c.events
+  pub strangers : FreshAndUnforged s.sealing c.events
   pub aged : Aged (start s) c.events c.worlds
 
+-- What the users of both endpoints see of a course from the start is what was sent, on each stream in each direction: `IsFaithful`.
+abbrev pub AreFaithful : Setup → Course → Type 0
+AreFaithful s c = (x : world.Side) (n : ℕ) → IsFaithful (exchange x n c.events c.answers (last_of (start s) c.worlds))
+
 -- What holds of a course that goes on from a world: with the one before it is one course, from which a further call may go on; and if that one meets the
--- premises, both directions are safe in each of its worlds from there on, and once an endpoint has completed its association nothing is missing there.
+-- premises, both directions are safe in each of its worlds from there on, and once an endpoint has completed its association nothing is missing there; and
+-- what the users of both endpoints see of that course is what was sent, on each stream in each direction.
 pub record Promises (s : Setup) (before : Course) (w : World) (c : Course) : Type 0 where
   pub whole : IsRunTo s (followed_by before c) (last_of w c.worlds)
-  pub safe : MeetsPremises s (followed_by before c) → AreAllSafe (w ∷ c.worlds)
+  pub safe : MeetsPremises s (followed_by before c) → KeepBothPromises (w ∷ c.worlds)
+  pub users : MeetsPremises s (followed_by before c) → AreFaithful s (followed_by before c)
 
 -- the promise, whatever course led to the world
 abbrev pub Promised : World → Course → Type 0

@@ -7,7 +7,7 @@ use Rattle.sctp_model.specs.wire.Packet.{Packet}
 use Rattle.sctp_model.specs.end.Sealing.{Sealing}
 use Rattle.sctp_model.specs.world.World.{Side}
 use Rattle.sctp_model.specs.world.Events.{Event, Foreign}
-use Rattle.sctp_model.specs.world.Premises.{drawn_in, Premises}
+use Rattle.sctp_model.specs.world.Premises.{drawn_in, FreshAndUnforged}
 use Rattle.sctp_cookie.specs.Seals.{IsUnder, IsSealed}
 use Rattle.sctp_packet.specs.PacketBytes.{ReadsPacket}
 
@@ -32,8 +32,8 @@ HaveByteCookies es = (x : Side) (p : Packet) → Has es (Foreign x (Some p)) →
 
 -- Under the key's seal the premises say the same in both words, if cookies are bytes.
 pub record PremisesOfKey (key : List ℕ) (s : Sealing) (es : List Event) : Type 0 where
-  pub in_words_of_the_key : Premises s es → KeyPremises key es
-  pub in_words_of_the_seal : HaveByteCookies es → KeyPremises key es → Premises s es
+  pub in_words_of_the_key : FreshAndUnforged s es → KeyPremises key es
+  pub in_words_of_the_seal : HaveByteCookies es → KeyPremises key es → FreshAndUnforged s es
 
 -- So it is for each key.
 abbrev pub PremisesAreTheKeys : Type 0

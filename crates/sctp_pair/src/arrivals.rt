@@ -10,7 +10,7 @@ ghost use Rattle.sctp_model.specs.world.World.{World};
 ghost use Rattle.sctp_model.specs.world.Events as meaning;
 ghost use Rattle.sctp_model.specs.world.Steps.{Step, Brings};
 ghost use Rattle.sctp_endpoint.specs.EndpointStands.{EndpointStands};
-ghost use Rattle.sctp_endpoint.specs.Handled.{IsRead};
+ghost use Rattle.sctp_endpoint.specs.Handled.{Handled, IsRead};
 ghost use Rattle.sctp_events.specs.Events.{answer_of};
 ghost use Rattle.sctp_pair.specs.Sides.{SideView, side_of, left, SideStands, ArePackets, IsItem};
 
@@ -50,11 +50,12 @@ pub(crate) fn arrive(
     written_packet_reads();
     // law: the endpoint is sound
     side.end.sound();
+    unpaced(&side.end);
     if side.bag.reserve(1).is_err() {
         pass_time(&mut side.end, clock, draw);
         return Err(NoMemory);
     }
-    match side.end.handle_packet(clock, bytes, draw)? {
+    match hear(&mut side.end, clock, bytes, draw)? {
         Verdict::Taken => Ok(Outcome::Taken),
         Verdict::Dropped(reason) => Ok(Outcome::Dropped { reason }),
         Verdict::Answer(packet) => {
@@ -65,6 +66,28 @@ pub(crate) fn arrive(
                 length,
             })
         }
+    }
+}
+
+/// Bytes arrive at an endpoint, which has no pace after it either: it abandons nothing at the packet's end.
+///
+/// # Errors
+/// An allocation failed: the chunks before the failing one have taken effect.
+fn hear(end: &mut Endpoint, clock: u64, bytes: &[u8], draw: Draw) -> Result<Verdict, NoMemory>
+    ensures step { (v : EndView) (p : Option Packet) → EndpointStands end.old v → IsRead bytes.now p → Handled v clock draw p result end.new }
+    ensures unpaced { (t : EndView) → EndpointStands end.new t → t.pace ≡ None }
+{
+    let heard = end.handle_packet(clock, bytes, draw);
+    unpaced(end);
+    heard
+}
+
+/// It has no pace: no call of an endpoint sets one up.
+fn unpaced(end: &Endpoint)
+    ensures { (v : EndView) → EndpointStands end.now v → v.pace ≡ None }
+{
+    if let Some(pace) = end.pace() {
+        match pace {}
     }
 }
 

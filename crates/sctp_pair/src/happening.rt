@@ -1,8 +1,8 @@
 //! The step of each kind of event.
 
-ghost use Rattle.std.specs.Prelude.{Option, Some, OnErr};
+ghost use Rattle.std.specs.Prelude.{◌≡◌, ◌&&◌, Option, Some, OnErr};
 ghost use Rattle.sctp_model.specs.wire.Packet.{Packet};
-ghost use Rattle.sctp_model.specs.world.World.{World};
+ghost use Rattle.sctp_model.specs.world.World.{World, are_alike};
 ghost use Rattle.sctp_model.specs.world.Events as meaning;
 ghost use Rattle.sctp_model.specs.world.Steps.{Step};
 ghost use Rattle.sctp_endpoint.specs.Handled.{IsRead};
@@ -10,6 +10,7 @@ ghost use Rattle.sctp_events.specs.Events.{side_meaning, outcome_meaning, answer
 ghost use Rattle.sctp_pair.specs.Memory.{TakesMemory};
 ghost use Rattle.sctp_pair.specs.PairStands.{PairStands};
 
+use crate::alike::are_alike;
 use crate::arrivals::{arrive, packet_at};
 use crate::moments::{make_room, tick};
 use crate::one_side::{build_at, refused};
@@ -22,8 +23,8 @@ use sctp_values::NoMemory;
 
 #[tactic(auto, unfolding(crate::specs::PairStands::PairStands))]
 impl Pair {
-    /// Opens both endpoints without a packet, unless A has called or something has arrived at one of them. Both are made before either is
-    /// replaced.
+    /// Opens both endpoints without a packet, unless A has called or something has arrived at one of them, or they wouldn't agree. Both are made
+    /// before either is replaced.
     ///
     /// # Errors
     /// An allocation failed; nothing has changed.
@@ -34,7 +35,7 @@ impl Pair {
     {
         // law: the logs of an endpoint that is opened are empty
         new_ends_have_no_logs();
-        if !self.openable {
+        if !self.may_open() {
             return refused(Refusal::State);
         }
         let _tags = (a.tag(), b.tag());
@@ -49,6 +50,13 @@ impl Pair {
         self.a.put_in(self.alloc, at_a);
         self.openable = false;
         Ok(Outcome::Done)
+    }
+
+    /// Whether both endpoints may be opened without packets: A hasn't called, nothing has arrived, and they would agree.
+    fn may_open(&self) -> bool
+        ensures { (w : World) → PairStands self.now w → result ≡ (w.openable && are_alike w.a.configuration w.b.configuration) }
+    {
+        self.openable && are_alike(self.a.end.config(), self.b.end.config())
     }
 
     /// Advances the clock and notifies both endpoints; messages whose lifetime ends are logged as abandoned. A time before the clock counts as

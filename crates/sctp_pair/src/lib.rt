@@ -10,6 +10,8 @@
 //!
 //! - `Pair::new` and `Pair::with_key` make a caller A and a listener B, whose cookies are sealed with the key of bytes 0 to 31, or with the
 //!   given key.
+//! - `Pair::of_two` and `Pair::of_two_with_key` make the same of two endpoints with configurations of their own. `open` between endpoints that
+//!   wouldn't agree is refused and changes nothing; `connect` opens them by packets.
 //! - `Pair::step` makes one step of the world and returns what that step answers: both endpoints opened without packets, time, random values,
 //!   a call, a packet built, one of a bag delivered, a third party's packet, a message sent, abandoned or taken, shutdown, abort. If an
 //!   allocation fails, an arriving packet has taken effect up to the failing chunk, and any other event has changed nothing; only events
@@ -29,6 +31,7 @@
 //! `docs/proofs/sctp_pair.md` has these promises in full, how they are proved, and what a body may still get away with.
 #![tactic(auto)]
 
+mod alike;
 mod arrivals;
 mod happening;
 mod laws;
@@ -44,5 +47,5 @@ pub use pair::Pair;
 pub use sctp_endpoint::{
     Abandoned, ConfigFault, Draw, Endpoint, Key, Message, NoMemory, Reason, Ticket,
 };
-pub use sctp_events::{Event, Outcome, PairConfig, Refusal, Side};
+pub use sctp_events::{Event, Outcome, PairConfig, Refusal, Side, TwoConfigs};
 pub use sctp_terms::Mode;

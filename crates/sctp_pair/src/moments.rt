@@ -1,18 +1,20 @@
 //! Time and `abandon` at an endpoint, and the log of the messages that they abandon.
 
-ghost use Rattle.std.specs.Prelude.{◌≡◌, ◌+◌, ◌≤◌, ◌++◌, true, length, map, filter, vec_capacity, IfOk, OnErr};
+ghost use Rattle.std.specs.Prelude.{◌≡◌, ℕ, ◌+◌, ◌≤◌, ◌++◌, true, length, map, filter, vec_capacity, IfOk, OnErr};
 ghost use Rattle.sctp_model.specs.sender.Abandoning.{has_late};
 ghost use Rattle.sctp_model.specs.sender.Readers.{abandoned};
 ghost use Rattle.sctp_model.specs.end.EndView.{EndView};
+ghost use Rattle.sctp_model.specs.end.Clock.{at_moment};
 ghost use Rattle.sctp_model.specs.world.World as world;
 ghost use Rattle.sctp_model.specs.world.World.{World};
 ghost use Rattle.sctp_model.specs.world.Events as meaning;
 ghost use Rattle.sctp_model.specs.world.Steps.{Step};
+ghost use Rattle.sctp_association.specs.GivenUp.{GivesUpLate};
 ghost use Rattle.sctp_endpoint.specs.EndpointStands.{EndpointStands};
 ghost use Rattle.sctp_events.specs.Events.{answer_of};
 ghost use Rattle.sctp_script.specs.ReportText.{ticket_number};
 ghost use Rattle.sctp_pair.specs.Memory.{TakesMemory};
-ghost use Rattle.sctp_pair.specs.Noted.{late_tickets, IsWatched};
+ghost use Rattle.sctp_pair.specs.Noted.{late_tickets};
 ghost use Rattle.sctp_pair.specs.Sides.{SideView, side_of, with_side, ticked_side, SideStands};
 
 use crate::one_side::OneSide;
@@ -21,7 +23,7 @@ use sctp_events::Outcome;
 use sctp_values::{NoMemory, Ticket};
 use std::alloc::Global;
 
-/// Reserves space in the log for what a time abandons. Returns the tickets whose lifetime is over: it abandons no others.
+/// Reserves space in the log for what a time abandons. Returns the tickets whose lifetime is over.
 ///
 /// # Errors
 /// An allocation failed; nothing has changed.
@@ -32,7 +34,7 @@ pub(crate) fn make_room(
     now: u64,
 ) -> Result<Vec<Ticket>, NoMemory>
     ensures same { (v : SideView) → SideStands side.old v → SideStands side.new v }
-    ensures watched { (v : SideView) → SideStands side.old v → v.end.moment ≤ now → IfOk result (λ before. IsWatched v.end now before.items) }
+    ensures late { (v : SideView) → SideStands side.old v → IfOk result (λ before. map ticket_number before.items ≡ late_tickets v.end.sender now) }
     ensures memory { (v : SideView) → SideStands side.old v → OnErr result (has_late v.end.sender now ≡ true) }
     ensures room { IfOk result (λ before. length side.new.abandoned.items + length before.items ≤ vec_capacity side.new.abandoned) }
 {
@@ -65,16 +67,28 @@ fn late(alloc: Global, end: &Endpoint, now: u64) -> Result<Vec<Ticket>, NoMemory
     Ok(tickets)
 }
 
-/// Notifies the endpoint of the time and logs what that abandons, for which space is reserved.
+/// Notifies the endpoint of the time and logs what that abandons, for which space is reserved: of the tickets whose lifetime is over. It abandons no
+/// others, since no message has a limit of retransmissions.
 #[tactic(auto, unfolding(crate::specs::Sides::SideStands))]
 pub(crate) fn tick(side: &mut OneSide, before: &[Ticket], now: u64)
     requires { length side.old.abandoned.items + length before.now ≤ vec_capacity side.old.abandoned }
-    ensures { (v : SideView) → SideStands side.old v → IsWatched v.end now before.now → SideStands side.new (ticked_side v now) }
+    ensures { (v : SideView) → SideStands side.old v → v.end.moment ≤ now → map ticket_number before.now ≡ late_tickets v.end.sender now
+        → SideStands side.new (ticked_side v now) }
 {
     // law: the endpoint is sound
     side.end.sound();
+    unlimited(&side.end);
     side.end.on_moment(now);
     note(&side.end, &mut side.abandoned, before);
+}
+
+/// No message has a limit of retransmissions, so each moment gives up only what is past its time: no call of an endpoint accepts one.
+fn unlimited(end: &Endpoint)
+    ensures { (v : EndView) → EndpointStands end.now v → (now : ℕ) → GivesUpLate (at_moment v now) }
+{
+    if let Some(limits) = end.limits() {
+        match limits {}
+    }
 }
 
 /// Logs which of these tickets are abandoned now; space for all of them is reserved.

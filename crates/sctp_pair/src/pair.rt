@@ -9,7 +9,7 @@ ghost use Rattle.sctp_model.specs.world.Steps.{Step, last_of};
 ghost use Rattle.sctp_cookie.specs.Seals.{IsUnder};
 ghost use Rattle.sctp_endpoint.specs.EndpointStands.{EndpointStands};
 ghost use Rattle.sctp_script.specs.ReportText.{report};
-ghost use Rattle.sctp_events.specs.Setups.{setup_of};
+ghost use Rattle.sctp_events.specs.Setups.{setup_of, setup_of_two};
 ghost use Rattle.sctp_events.specs.Events.{side_meaning, answer_of};
 ghost use Rattle.sctp_pair.specs.Happens.{Means};
 ghost use Rattle.sctp_pair.specs.Memory.{TakesMemory};
@@ -23,8 +23,8 @@ use crate::one_side::OneSide;
 use crate::reporting::put_side;
 use sctp_cookie::Key;
 use sctp_endpoint::Endpoint;
-use sctp_events::{Event, Outcome, PairConfig, Side};
-use sctp_outcomes::new_ends_have_no_logs;
+use sctp_events::{Event, Outcome, PairConfig, Side, TwoConfigs};
+use sctp_outcomes::{new_ends_have_no_logs, users_take_what_was_sent};
 use sctp_safety::{a_run_passes_its_worlds, each_world_on_the_way_is_safe};
 use sctp_terms::Draw;
 use sctp_values::NoMemory;
@@ -63,17 +63,37 @@ impl Pair {
     ///
     /// # Errors
     /// An allocation failed.
-    #[tactic(auto, unfolding(crate::specs::PairStands::PairStands, crate::specs::Sides::SideStands))]
     pub fn with_key(alloc: Global, config: PairConfig, key: Key) -> Result<Pair, NoMemory>
         ensures { (s : Sealing) → IsUnder key s → IfOk result (λ pair. PairStands pair (start (setup_of config s))) }
+    {
+        Pair::of_two_with_key(alloc, TwoConfigs::alike(config), key)
+    }
+
+    /// A new pair whose endpoints have configurations of their own. B seals its cookies with the key of bytes 0 to 31.
+    ///
+    /// # Errors
+    /// An allocation failed.
+    pub fn of_two(alloc: Global, configs: TwoConfigs) -> Result<Pair, NoMemory>
+        ensures { (s : Sealing) → IsUnder specs.PAIR_KEY s → IfOk result (λ pair. PairStands pair (start (setup_of_two configs s))) }
+    {
+        Pair::of_two_with_key(alloc, configs, Key::new(PAIR_KEY))
+    }
+
+    /// A new pair whose endpoints have configurations of their own, and whose listener B seals its cookies with this key.
+    ///
+    /// # Errors
+    /// An allocation failed.
+    #[tactic(auto, unfolding(crate::specs::PairStands::PairStands, crate::specs::Sides::SideStands))]
+    pub fn of_two_with_key(alloc: Global, configs: TwoConfigs, key: Key) -> Result<Pair, NoMemory>
+        ensures { (s : Sealing) → IsUnder key s → IfOk result (λ pair. PairStands pair (start (setup_of_two configs s))) }
     {
         // law: the logs of a new endpoint are empty
         new_ends_have_no_logs();
         let Some(draw) = Draw::new(1, 1) else {
             unreachable!()
         };
-        let a = OneSide::new(alloc, Endpoint::caller(alloc, config.caller()))?;
-        match OneSide::new(alloc, Endpoint::listener(alloc, config.listener(), key)) {
+        let a = OneSide::new(alloc, Endpoint::caller(alloc, configs.caller()))?;
+        match OneSide::new(alloc, Endpoint::listener(alloc, configs.listener(), key)) {
             Ok(b) => Ok(Pair {
                 alloc,
                 a,
@@ -113,6 +133,7 @@ impl Pair {
         // laws: the theorems that the promise cites
         a_run_passes_its_worlds();
         each_world_on_the_way_is_safe();
+        users_take_what_was_sent();
         match event {
             Event::Open { a, b } => self.open(*a, *b),
             Event::At { moment } => self.pass_time(*moment),
@@ -150,6 +171,7 @@ impl Pair {
         // laws: the theorems that the promise cites
         a_run_passes_its_worlds();
         each_world_on_the_way_is_safe();
+        users_take_what_was_sent();
         let mut outcomes = Vec::with_capacity(self.alloc, events.len()).map_err(|_| NoMemory)?;
         for event in events {
             let outcome = self.step(event)?;

@@ -20,6 +20,7 @@ use Rattle.sctp_chains.specs.Cells.{counted}
 use Rattle.sctp_recv.specs.ReceiverKept.{ReceiverKept, stream_at, near_of, lowest_of, is_below_or_none}
 use Rattle.sctp_recv.specs.StandsFor.{KeepsView}
 use Rattle.sctp_recv.specs.inner.Rows.{offset_from, IsAbove, IsNewIndex, answer_at}
+use Rattle.sctp_recv.proofs.UnresetLemmas.{number_unreset}
 
 -- ---- the table, its tests told
 
@@ -121,7 +122,7 @@ module _ (f : Format) (k : ReceiverKept) (v : ReceiverView) (p : PieceMeaning) (
   near_same false = ap (λ (m : ℕ). number_near f Ordered p.number m) (sym (w.next p.stream))
 
   pub number_same : number_near f (lane_kind p.unordered) p.number (near_of (stream_at k.streams p.stream) (lane_kind p.unordered)) ≡ (piece_at f v k.seen.cumulative p).number
-  number_same = near_same p.unordered
+  number_same = near_same p.unordered ∙ sym (number_unreset f v (lane_of p.stream p.unordered) p.number w.resets)
 
   pub passed_late : (n : Option ℕ) → n ≡ (piece_at f v k.seen.cumulative p).number →
       (is_numbered f (lane_kind p.unordered) && is_below_or_none (lowest_of (stream_at k.streams p.stream) (lane_kind p.unordered)) n) ≡ true → is_passed f v (piece_at f v k.seen.cumulative p) ≡ true

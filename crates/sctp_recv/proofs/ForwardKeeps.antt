@@ -34,6 +34,7 @@ use Rattle.sctp_recv.specs.inner.Forwarding.{one_past, most_skipped, lowest_afte
 use Rattle.sctp_recv.proofs.AnswerLemmas.{near_reads}
 use Rattle.sctp_recv.proofs.FiledLemmas.{got_below}
 use Rattle.sctp_recv.proofs.StreamLemmas.{past_streams, got_stream}
+use Rattle.sctp_recv.proofs.UnresetLemmas.{all_resets}
 use Rattle.sctp_recv.proofs.ForwardSkips.{unordered_read, ordered_read}
 
 -- ---- what is read near one count or another
@@ -99,14 +100,14 @@ module _ (f : Format) (k : ReceiverKept) (v : ReceiverView) (x : ForwardMeaning)
 
     skip_now : (q : ℕ) (z : Stream F) → slice_get streams q ≡ Some z → passed.skip (unordered_lane q) ≡ skip_after f q (stream_of z) x.skips
     skip_now q z got =
-        unordered_read f v q x.skips
+        unordered_read f v q x.skips h.resets
         ∙ lowest_near f q (top v q) (near_of (stream_of z) Unordered) (v.skip (unordered_lane q)) x.skips (near_is q z got)
         ∙ ap (λ (n : ℕ). lowest_after f (unordered_lane q) (near_of (stream_of z) Unordered) n x.skips) (h.skip q ∙ ap (λ (a : StreamKept). a.skip) (stream_is q z got))
 
     -- what is let go had lower numbers than those that are skipped
     top_passed : (q : ℕ) → f ≡ Interleaved → top left q ≡ max (top v q) (passed.skip (unordered_lane q) - 1)
     top_passed q idata =
-        let more : v.skip (unordered_lane q) ≤ passed.skip (unordered_lane q) = let read = unordered_read f v q x.skips in omega (arith, read) in
+        let more : v.skip (unordered_lane q) ≤ passed.skip (unordered_lane q) = let read = unordered_read f v q x.skips h.resets in omega (arith, read) in
         ap (λ (g : Format). top (let_go g passed) q) idata ∙ top_let_go passed q ∙ top_skips v passed.jump passed.skip q more
 
     top_now : (q : ℕ) (z : Stream F) → slice_get streams q ≡ Some z → f ≡ Interleaved → top left q ≡ max (skip_after f q (stream_of z) x.skips - 1) (stream_of z).largest
@@ -136,7 +137,7 @@ module _ (f : Format) (k : ReceiverKept) (v : ReceiverView) (x : ForwardMeaning)
       skip = skip_now;
       top = top_now;
       floor = λ q z got. subst (λ (n : ℕ). max n (passed.skip (ordered_lane q)) ≡ lowest_after f (ordered_lane q) n n x.skips) (h.next q ∙ ap (λ (a : StreamKept). a.next) (stream_is q z got))
-          (ordered_read f v q x.skips (h.skipped q));
+          (ordered_read f v q x.skips h.resets (h.skipped q));
       next = refl;
       waiting = refl;
       held = h.held ∙ ap (λ (n : ℕ). size_of_pieces v.kept + size_of_waiting v.waiting n) (h.streams ∙ count);
@@ -216,6 +217,7 @@ module _ (f : Format) (k : ReceiverKept) (v : ReceiverView) (x : ForwardMeaning)
         streams = streams_now ∙ sym (length-map news stream_of);
         few_streams = let few = h.few_streams in let n = count in let m = length-map news stream_of in omega (arith, few, n, m, size);
         duplicates = (gives_rest f (length streams) left t gives).1 ∙ h.duplicates;
+        resets = all_resets f (length streams) left t gives ∙ h.resets;
         held = p.held ∙ ap (λ (n : ℕ). size_of_pieces t.kept + size_of_waiting t.waiting n) (sym streams_now);
         room = under;
         small = h.small;

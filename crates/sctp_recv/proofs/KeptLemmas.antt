@@ -91,6 +91,7 @@ module _ (f : Format) (k : ReceiverKept) (v : ReceiverView) (x : Piece) (seen : 
     streams = h.keeps.streams ∙ sym (length_set k.streams s b);
     few_streams = let few = h.keeps.few_streams in let same = length_set k.streams s b in omega arith;
     duplicates = h.keeps.duplicates;
+    resets = h.keeps.resets;
     held = held_now;
     room = let fits = h.fits in omega (arith, counts, size, fits);
     small = h.keeps.small;

@@ -1,4 +1,5 @@
 mod ResultLemmas
+mod UnresetLemmas
 mod AnswerLemmas
 mod RecordedLemmas
 mod ForwardSkips

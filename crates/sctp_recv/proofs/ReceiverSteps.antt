@@ -43,6 +43,7 @@ keeps_fresh f seen ss initial n buffer s e few fits = record {
   streams = sym (ap (λ (xs : List StreamKept). length xs) e ∙ length_fresh n);
   few_streams = let count = ap (λ (xs : List StreamKept). length xs) e ∙ length_fresh n in omega arith;
   duplicates = refl;
+  resets = refl;
   held = let none = no_waiting n in omega arith;
   room = omega arith;
   small = fits;
@@ -90,6 +91,7 @@ keeps_taken f k v s held h rest x w l at_s left less = record {
   streams = w.streams ∙ sym (length_set k.streams s x);
   few_streams = let few = w.few_streams in let same = length_set k.streams s x in omega arith;
   duplicates = w.duplicates;
+  resets = w.resets;
   held =
       let waits : v.waiting s ≡ h ∷ rest = w.waiting s ∙ ap (λ (y : StreamKept). y.waiting) at_s in
       let sizes = waiting_set v.waiting s v.streams rest (omega (arith, w.streams)) in

@@ -269,6 +269,7 @@ module _ (f : Format) (k : ReceiverKept) (v : ReceiverView) (x : Piece) (seen : 
             streams = h.keeps.streams ∙ sym (length_set k.streams s (inbound_of new));
             few_streams = let few = h.keeps.few_streams in let size = length_set k.streams s (inbound_of new) in omega (arith, few, size);
             duplicates = h.keeps.duplicates;
+            resets = h.keeps.resets;
             held = let was : k.held ≡ size_of_pieces v.kept + size_of_waiting v.waiting v.streams = h.keeps.held in let all = total in omega (arith, was, all);
             room = let fits = h.fits in let all = total in omega (arith, fits, all);
             small = h.keeps.small;

@@ -1,5 +1,5 @@
 -- What the laws of the receiver's steps say, and those of the views that receivers stand for.
-use Rattle.std.specs.Prelude.{◌≡◌, ℕ, suc, ◌<◌, true, List}
+use Rattle.std.specs.Prelude.{◌≡◌, ℕ, suc, ◌<◌, true, List, Option}
 use Rattle.sctp_model.specs.numbers.Serial.{COUNTS}
 use Rattle.sctp_model.specs.messages.Format.{Format}
 use Rattle.sctp_model.specs.wire.Chunk.{PieceMeaning, ForwardMeaning}
@@ -8,6 +8,7 @@ use Rattle.sctp_model.specs.receiver.Receiving.{IsDue, GivesAll}
 use Rattle.sctp_model.specs.receiver.DueInWords.{IsDueInWords}
 use Rattle.sctp_model.specs.receiver.PieceTaken.{PieceAnswer, PieceTaken}
 use Rattle.sctp_model.specs.receiver.ForwardTaken.{ForwardAnswer, ForwardTaken}
+use Rattle.sctp_model.specs.receiver.SackMade.{TakeLeaves}
 use Rattle.sctp_model.specs.receiver.Laws.{IsFilledOnce, IsOrdinary, IsIdle, IsSettled}
 use Rattle.sctp_recv.specs.declared.receiver.Receiver.{Receiver}
 use Rattle.sctp_recv.specs.StandsFor.{StandsFor}
@@ -37,6 +38,12 @@ WordsAreOne = (f : Format) (r : ReceiverView) (s n : ℕ) (ms os : List Handed) 
 -- where nothing is due, and no ordered chunk lies behind, giving changes nothing
 abbrev pub NothingIsGiven : Type 0
 NothingIsGiven = (f : Format) (n : ℕ) (r t : ReceiverView) → IsFilledOnce f r.kept → IsIdle f r → IsSettled r → GivesAll f n r t → t ≡ r
+
+-- a chunk with data, a FORWARD, and a message that the user takes leave what is known of resets as it was
+pub record ResetsStay : Type 0 where
+  pub piece : (f : Format) (r : ReceiverView) (p : PieceMeaning) (a : PieceAnswer) (t : ReceiverView) → PieceTaken f r p a t → t.resets ≡ r.resets
+  pub forward : (f : Format) (r : ReceiverView) (x : ForwardMeaning) (a : ForwardAnswer) (t : ReceiverView) → ForwardTaken f r x a t → t.resets ≡ r.resets
+  pub take : (r : ReceiverView) (s : ℕ) (h : Option Handed) (t : ReceiverView) → TakeLeaves r s h t → t.resets ≡ r.resets
 
 -- receivers of a format stand for ordinary views alone: each place is filled once, and by a chunk whose index was recorded
 abbrev pub StandForOrdinary : (F : Type 0) → Format → Type 0

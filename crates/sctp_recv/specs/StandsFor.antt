@@ -5,6 +5,7 @@ use Rattle.sctp_model.specs.numbers.Serial.{COUNTS}
 use Rattle.sctp_model.specs.messages.Format.{Format, Plain, Interleaved, Unordered, is_numbered, ordered_lane, unordered_lane}
 use Rattle.sctp_model.specs.messages.Framing.{is_skipped}
 use Rattle.sctp_model.specs.messages.Pieces.{Piece}
+use Rattle.sctp_model.specs.receiver.Incoming.{no_incoming}
 use Rattle.sctp_model.specs.receiver.ReceiverView.{ReceiverView, held_bytes}
 use Rattle.sctp_model.specs.receiver.Laws.{IsFilledOnce, IsAtRest}
 use Rattle.sctp_model.specs.receiver.Top.{top}
@@ -19,7 +20,7 @@ use Rattle.sctp_recv.specs.declared.receiver.Receiver.{Receiver}
 
 -- What is kept says the view, up to what the receiver has let go: the indexes at or below the cumulative one, the messages taken, and the
 -- skipped ordered numbers, of which none is past the next; of unordered ones the largest, where they are numbered. The chunks kept are apart, each was recorded, and all that is held fits the buffer;
--- a stream's number has 16 bits.
+-- a stream's number has 16 bits; the peer has reset no stream.
 pub record KeepsView (f : Format) (k : ReceiverKept) (v : ReceiverView) : Type 0 where
   pub seen : SeenStands k.seen v.seen v.jump
   pub counts : (i : ℕ) → v.seen i ≡ true → suc i < COUNTS
@@ -34,6 +35,7 @@ pub record KeepsView (f : Format) (k : ReceiverKept) (v : ReceiverView) : Type 0
   pub streams : v.streams ≡ length k.streams
   pub few_streams : length k.streams < 2 ^ 16
   pub duplicates : v.duplicates ≡ k.duplicates
+  pub resets : v.resets ≡ no_incoming
   pub held : k.held ≡ held_bytes v
   pub room : k.held ≤ k.buffer
   pub small : k.buffer < 2 ^ 32

@@ -1,8 +1,8 @@
 //! Laws of the receiver's steps, as contracts of functions that do nothing: each step has one result, and what is due is what the definition in
-//! words says; and of the views that receivers represent. The proofs of the first six are in `sctp_model/proofs/receiver`, and speak of the
-//! definitions alone; the last two say of `StandsFor`, which crates above don't unfold, what they need of it.
+//! words says; and of the views that receivers represent. The first seven speak of the definitions alone (the proofs of six are in
+//! `sctp_model/proofs/receiver`); the last two say of `StandsFor`, which crates above don't unfold, what they need of it.
 
-ghost use Rattle.sctp_recv.specs.Laws.{CumulativeIsOne, PieceIsOne, ForwardIsOne, DueIsInWords, WordsAreOne, NothingIsGiven, StandForOrdinary, StandForBounded};
+ghost use Rattle.sctp_recv.specs.Laws.{CumulativeIsOne, PieceIsOne, ForwardIsOne, DueIsInWords, WordsAreOne, NothingIsGiven, ResetsStay, StandForOrdinary, StandForBounded};
 
 use sctp_framing::Framing;
 
@@ -36,6 +36,11 @@ pub fn words_are_one()
 /// nothing.
 pub fn nothing_is_given()
     ensures { NothingIsGiven }
+{}
+
+/// A chunk with data, a FORWARD, and a message that the user takes leave what a view knows of resets as it was.
+pub fn resets_stay()
+    ensures { ResetsStay }
 {}
 
 /// A receiver represents a view only if each place is filled once, by a chunk whose index was recorded.

@@ -33,7 +33,8 @@
 //! Only `new`, `on_data`, `on_forward`, `sack` and `copy_to` allocate. Everything that allocates is done first: a call that fails has changed
 //! capacity alone, and under DATA a bound (`lows.rt`).
 //! Laws of the steps, for crates above: [`cumulative_is_one`], [`piece_is_one`] and [`forward_is_one`] (each step has one result),
-//! [`due_is_in_words`] and [`words_are_one`] (which messages are due), [`nothing_is_given`], [`stands_for_ordinary`], [`stands_for_bounded`].
+//! [`due_is_in_words`] and [`words_are_one`] (which messages are due), [`nothing_is_given`], [`resets_stay`],
+//! [`stands_for_ordinary`], [`stands_for_bounded`].
 //!
 //! How it works is at the head of `pieces.rt` (a data chunk), `forward.rt` (a FORWARD), `lows.rt`, `seen.rt` (indexes) and `ready.rt`
 //! (streams with messages); costs, which no contract states, are there too. Tried beside the proof, by the rows of `sctp_call_rows`
@@ -69,7 +70,7 @@ pub use answer::Answer;
 pub use forward::ForwardAnswer;
 pub use laws::{
     cumulative_is_one, due_is_in_words, forward_is_one, nothing_is_given, piece_is_one,
-    stands_for_bounded, stands_for_ordinary, words_are_one,
+    resets_stay, stands_for_bounded, stands_for_ordinary, words_are_one,
 };
 pub use message::Message;
 pub use receiver::Receiver;

@@ -1,5 +1,7 @@
+pub mod Alike
 pub mod EndWords
 pub mod Written
+pub mod Reconfigured
 pub mod Sides
 pub mod Strangers
 pub mod Turns

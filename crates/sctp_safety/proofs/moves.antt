@@ -2,6 +2,7 @@ pub mod Facts
 pub mod GoodStart
 pub mod SafeWhenGood
 pub mod Always
+pub mod PlacedAlways
 pub mod Later
 pub mod MovesBySide
 pub mod BagMoves

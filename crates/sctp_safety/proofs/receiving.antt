@@ -1,6 +1,7 @@
 pub mod NearReads
 pub mod ReadBounds
 pub mod TopReads
+pub mod CountReads
 pub mod NumberReads
 pub mod PieceAnswers
 pub mod PieceReads

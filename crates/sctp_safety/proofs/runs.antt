@@ -1,10 +1,16 @@
 mod Grown
+mod StillStreams
+mod ResetFacts
+mod ReachesLast
 pub mod Dates
 mod PastCum
 pub mod Direction
 mod Nearness
 pub mod Sending
 mod Passing
+mod Asking
+mod Renumbering
+mod ResetsBuilt
 mod Hearing
 pub mod Pair
 mod Acted
@@ -24,6 +30,7 @@ pub mod ApartWorld
 mod ApartSteps
 pub mod Safety
 pub mod Courses
+pub mod Directions
 mod Arrived
 mod Drained
 mod Homes
@@ -32,3 +39,5 @@ mod EndingActs
 mod EndingBuilds
 mod EndingTimes
 pub mod Pairs
+pub mod Unlimited
+pub mod UnlimitedRuns

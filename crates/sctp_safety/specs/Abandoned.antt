@@ -8,13 +8,13 @@ use Rattle.sctp_model.specs.sender.Abandoning.{is_past, abandon_after, expired}
 use Rattle.sctp_model.specs.sender.Reached.{IsReached}
 use Rattle.sctp_safety.specs.Told.{HasNumber, WasAbandoned, WasAcknowledged}
 
--- the message that waits with this ticket, where there is one, waits no longer; the others stay in their order
+-- the message that waits with this ticket, if there is one, waits no longer; the others stay in their order
 pub data IsWithdrawn (t : ℕ) : (before after : List Queued) → Type 0 where
   Leaves_queue : (ahead behind : List Queued) (q : Queued) → q.message.ticket ≡ t → ((x : Queued) → Has ahead x → x.message.ticket ≡ t → ⊥)
       → IsWithdrawn t (ahead ++ q ∷ behind) (ahead ++ behind)
   Waits_not : (queue : List Queued) → ((x : Queued) → Has queue x → x.message.ticket ≡ t → ⊥) → IsWithdrawn t queue queue
 
--- A message is given up: it counts as abandoned beside those that did; none of its entries is to be repeated; where it is in part, one index more is
+-- A message is given up: it counts as abandoned beside those that did; none of its entries is to be repeated; if it is in part, one index more is
 -- assigned, to its end mark; and nothing else changes.
 pub record BecomesAbandoned (v u : SenderView) (l : Lane) (n : ℕ) : Type 0 where
   pub abandoned : (k : Lane) (m : ℕ) → (u.abandoned k m ≡ true) ↔ (((k ≡ l) × (m ≡ n)) ⊎ (v.abandoned k m ≡ true))
@@ -23,7 +23,7 @@ pub record BecomesAbandoned (v u : SenderView) (l : Lane) (n : ℕ) : Type 0 whe
   pub whole : (IsInPart v.plan l n → ⊥) → u.plan ≡ v.plan
   pub others : u ≡ record v { plan = u.plan; abandoned = u.abandoned; marked = u.marked }
 
--- Without a number the message is withdrawn. With one it is given up; but nothing changes where it was abandoned or acknowledged, or where that isn't allowed.
+-- Without a number the message is withdrawn. With one it is given up; but nothing changes if it was abandoned or acknowledged, or if that isn't allowed.
 pub data AbandonLeaves (v : SenderView) (t : ℕ) : SenderView → Type 0 where
   Withdraws : (queue : List Queued) → (HasNumber v t → ⊥) → IsWithdrawn t v.queue queue → AbandonLeaves v t (record v { queue = queue })
   Lets_be : HasNumber v t → WasAbandoned v t ⊎ (WasAcknowledged v t ⊎ (v.partial ≡ false)) → AbandonLeaves v t v
@@ -35,7 +35,7 @@ AbandonIsTaken = (f : Format) (v : SenderView) (t : ℕ) → IsReached f v → A
 
 -- ---- what is past its time
 
--- Nothing is left to expire: no message that waits is past its time; and one with a number that is was abandoned or acknowledged, where abandoning is allowed.
+-- Nothing is left to expire: no message that waits is past its time; and one with a number that is was abandoned or acknowledged, if abandoning is allowed.
 pub record HasNoneToExpire (v : SenderView) (now : ℕ) : Type 0 where
   pub queue : (q : Queued) → Has v.queue q → is_past now q.message ≡ false
   pub plan : (l : Lane) (n : ℕ) (m : Message) → message_at v.plan l n ≡ Some m → is_past now m ≡ true → v.partial ≡ true

@@ -1,4 +1,4 @@
--- What the opening gives, whichever way two ends are opened: once both have an association they agree on everything that it stands on (RFC 9260, 5.1).
+-- What the opening gives, whichever way two endpoints are opened: once both have an association they agree on all of its terms (RFC 9260, 5.1).
 use Rattle.std.specs.Prelude.{◌≡◌, ℕ, ◌<◌, ◌⊎◌, Bool, true, false, List, Some}
 use Rattle.sctp_model.specs.numbers.Lists.{Has}
 use Rattle.sctp_model.specs.wire.Chunk.{CookieEcho}
@@ -22,9 +22,10 @@ pub record AreAgreed (x y : Terms) : Type 0 where
   pub streams_back : y.outbound ≡ x.inbound
   pub interleave : y.interleave ≡ x.interleave
   pub partial : y.partial ≡ x.partial
+  pub reset : y.reset ≡ x.reset
   pub some_streams : (0 < x.outbound) × (0 < x.inbound)
 
--- Where both ends go by tags, each puts on its packets the tag that the other looks for (RFC 9260, 8.5).
+-- If both ends go by tags, each puts on its packets the tag that the other looks for (RFC 9260, 8.5).
 abbrev pub AreEachOthers : Phase → Phase → Type 0
 AreEachOthers (Open t g) (Open u h) = (u.own ≡ t.peer) × (u.peer ≡ t.own)
 AreEachOthers (Echoing t cookie) (Open u h) = (u.own ≡ t.peer) × (u.peer ≡ t.own)

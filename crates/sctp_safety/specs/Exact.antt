@@ -1,4 +1,4 @@
--- What the two ends really build and take are things that the moves allow.
+-- What the two endpoints build and take are things that the moves allow.
 use Rattle.std.specs.Prelude.{◌≡◌, ℕ, ◌≤◌, ◌⊎◌, false, List, ◌∷◌}
 use Rattle.sctp_model.specs.numbers.Lists.{Has}
 use Rattle.sctp_model.specs.messages.Pieces.{Piece}
@@ -26,7 +26,7 @@ SackIsAllowed = (w : Way) (x : Acknowledgement) → IsAcknowledgement w.receiver
 abbrev pub ShutdownIsAllowed : Type 0
 ShutdownIsAllowed = (w : Way) (c : ℕ) → IsCumulative w.receiver c → Step w (Put_shutdown c) (record w { shutdowns = c ∷ w.shutdowns })
 
--- A chunk that came for the first time may be recorded and its data dropped, where it is no longer wanted or its stream isn't there.
+-- A chunk that came for the first time may be recorded and its data dropped, if it is no longer wanted or its stream isn't there.
 abbrev pub PassingIsMoves : Type 0
 PassingIsMoves = (w : Way) (x : Piece) → Has w.pieces x → w.receiver.seen x.index ≡ false →
     IsPassed w.format w.receiver x ⊎ (w.streams ≤ x.lane.stream) → Leads w (with_receiver w (recorded w.receiver x))

@@ -1,4 +1,4 @@
--- The machine opens: a run by packets alone at whose end both ends are established, with each other's tags.
+-- An association opens: a run by packets alone after which both endpoints are established, with each other's tags.
 use Rattle.std.specs.Prelude.{◌≡◌, ℕ, List, Option, Some}
 use Rattle.sctp_model.specs.numbers.Lists.{Has}
 use Rattle.sctp_model.specs.end.EndView.{format_of, Draw, Tags, Established, Echoing, Open, Completed, Over}

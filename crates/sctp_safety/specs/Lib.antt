@@ -1,6 +1,7 @@
 pub mod Way
 pub mod Exact
 pub mod Always
+pub mod Placed
 pub mod SenderLaws
 pub mod SenderCalls
 pub mod Told
@@ -12,3 +13,4 @@ pub mod States
 pub mod Handshake
 pub mod Agreement
 pub mod Runs
+pub mod Unlimited

@@ -37,7 +37,7 @@ SentLeavesRest = (f : Format) (r : ReceiverView) → IsAtRest f r → IsAtRest f
 abbrev pub NewFits : Type 0
 NewFits = (initial streams buffer : ℕ) → FitsBuffer (fresh_receiver initial streams buffer)
 
--- a chunk is taken where it fits, and handing over needs no room
+-- a chunk is taken if it fits, and handing over needs no room
 abbrev pub PieceFits : Type 0
 PieceFits = (f : Format) (r : ReceiverView) (p : PieceMeaning) (a : PieceAnswer) (t : ReceiverView) → FitsBuffer r → PieceTaken f r p a t → FitsBuffer t
 

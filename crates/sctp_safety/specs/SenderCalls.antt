@@ -1,20 +1,22 @@
 -- Laws of a sender's calls, whatever its peer says: the plan stays orderly, nothing is abandoned unasked, and each call has one result.
-use Rattle.std.specs.Prelude.{◌≡◌, ℕ, ◌<◌, ◌≤◌, ◌⊎◌, true, false, List, Some, Option}
+use Rattle.std.specs.Prelude.{◌≡◌, ℕ, ◌<◌, ◌≤◌, ◌⊎◌, true, false, List, Some, Option, Bool}
 use Rattle.sctp_model.specs.messages.Format.{Format, Lane}
 use Rattle.sctp_model.specs.wire.Chunk.{SackMeaning}
-use Rattle.sctp_model.specs.messages.Plan.{Message, Plan, message_at}
+use Rattle.sctp_model.specs.messages.Plan.{Message, Entry, Plan, entry_at, message_at}
 use Rattle.sctp_model.specs.messages.Orderly.{Orderly}
 use Rattle.sctp_model.specs.messages.Forward.{Forward, IsForward}
 use Rattle.sctp_model.specs.sender.SenderView.{SenderView, IsDrained, IsPoint}
+use Rattle.sctp_model.specs.sender.Entries.{entry_message}
 use Rattle.sctp_model.specs.sender.Queueing.{queued}
 use Rattle.sctp_model.specs.sender.Filling.{Wish, IsFill, fill}
 use Rattle.sctp_model.specs.sender.SackTaken.{sack_after, shutdown_after}
-use Rattle.sctp_model.specs.sender.Abandoning.{has_ticket, abandon_after, is_past, expired, timed_out}
+use Rattle.sctp_model.specs.sender.Abandoning.{has_ticket, abandon_after, is_past, expired, marking, worn}
 use Rattle.sctp_model.specs.sender.Readers.{point, drained}
 use Rattle.sctp_model.specs.sender.Forwarding.{forward_to}
 use Rattle.sctp_model.specs.sender.SentChunks.{fits_forward, forward_end}
 use Rattle.sctp_model.specs.sender.Reached.{IsReached}
 use Rattle.sctp_model.specs.world.World.{if_newly_abandoned, newly_abandoned}
+use Rattle.sctp_model.specs.world.Safe.{WasRepeated}
 
 -- ---- the plan
 
@@ -37,15 +39,21 @@ abbrev pub OnlyPastTime : SenderView → (now : ℕ) → SenderView → Type 0
 OnlyPastTime v now u =
     (l : Lane) (n : ℕ) → u.abandoned l n ≡ true → (v.abandoned l n ≡ true) ⊎ ((m : Message) × (message_at v.plan l n ≡ Some m) × (is_past now m ≡ true))
 
--- A message is abandoned by a call that names its ticket, or where its time is past, and by nothing else.
+-- what is abandoned afterwards was so before, or is a message of which a fragment was retransmitted as often as its limit allows
+abbrev pub OnlyRepeated : SenderView → SenderView → Type 0
+OnlyRepeated v u = (l : Lane) (n : ℕ) → u.abandoned l n ≡ true →
+    (v.abandoned l n ≡ true) ⊎ ((m : Message) × (message_at v.plan l n ≡ Some m) × ((k : ℕ) × (m.limit ≡ Some k) × WasRepeated v l n k))
+
+-- A message is abandoned by a call that names its ticket, if its lifetime is over, or if it was retransmitted as often as it may be, and by nothing else.
 pub record AbandonsAlone (f : Format) (v : SenderView) : Type 0 where
-  pub queueing : (l : Lane) (payload : ℕ) (bytes : List ℕ) (until : Option ℕ) → SameAbandoned v (queued v l payload bytes until)
+  pub queueing : (l : Lane) (payload : ℕ) (bytes : List ℕ) (until limit : Option ℕ) → SameAbandoned v (queued v l payload bytes until limit)
   pub filling : (room : ℕ) → SameAbandoned v (fill f room v).view
   pub sack : (x : SackMeaning) → SameAbandoned v (sack_after v x)
   pub shutdown : (wire : ℕ) → SameAbandoned v (shutdown_after v wire)
-  pub timer : SameAbandoned v (timed_out v)
+  pub marks : (test : ℕ → Bool) → SameAbandoned v (marking v test)
   pub abandoning : (t : ℕ) → OnlyOfTicket v t (abandon_after v t)
   pub expiring : (now : ℕ) → OnlyPastTime v now (expired v now)
+  pub wearing : (test : ℕ → Bool) → OnlyRepeated v (worn test v)
 
 -- So it is of every view that calls reach (RFC 3758, 3.5).
 abbrev pub AbandonedOnlyAsked : Type 0
@@ -55,6 +63,11 @@ AbandonedOnlyAsked = (f : Format) (v : SenderView) → IsReached f v → Abandon
 abbrev pub AbandonsItsOwnAlone : Type 0
 AbandonsItsOwnAlone = (f : Format) (v : SenderView) (t : ℕ) → IsReached f v →
     newly_abandoned v (abandon_after v t) (abandon_after v t).tickets ≡ if_newly_abandoned v (abandon_after v t) t
+
+-- If messages may be abandoned, no fragment is retransmitted more often than its message's limit says (RFC 7496, 3.1).
+abbrev pub NoneGoesTooOften : Type 0
+NoneGoesTooOften = (f : Format) (v : SenderView) (i k : ℕ) (e : Entry) (m : Message) → IsReached f v → v.partial ≡ true →
+    entry_at v.plan i ≡ Some e → entry_message v.plan e ≡ Some m → m.limit ≡ Some k → v.repeats i ≤ k
 
 -- ---- one result
 

@@ -1,5 +1,5 @@
 -- Each call of a sender is a list of moves of its direction: what a packet is filled with, abandoning, time, the data timer, a SACK, a SHUTDOWN.
-use Rattle.std.specs.Prelude.{◌≡◌, ℕ, ◌<◌, ◌≤◌, true, List, [], ◌∷◌, ◌++◌, length, None, Some}
+use Rattle.std.specs.Prelude.{◌≡◌, ℕ, ◌<◌, ◌≤◌, true, List, [], ◌∷◌, ◌++◌, length, None, Some, Bool}
 use Rattle.sctp_model.specs.numbers.Lists.{Has, at}
 use Rattle.sctp_model.specs.numbers.Serial.{IsWithinHalf, tsn}
 use Rattle.sctp_model.specs.wire.Chunk.{SackMeaning}
@@ -12,7 +12,7 @@ use Rattle.sctp_model.specs.world.Calls.{Call}
 use Rattle.sctp_model.specs.sender.Queueing.{refusal, queued}
 use Rattle.sctp_model.specs.sender.Filling.{Wish, IsFill}
 use Rattle.sctp_model.specs.sender.SackTaken.{sack_fault, sack_taken, shutdown_fault, shutdown_taken}
-use Rattle.sctp_model.specs.sender.Abandoning.{abandon_after, expired, timed_out}
+use Rattle.sctp_model.specs.sender.Abandoning.{abandon_after, expired, worn, marking}
 use Rattle.sctp_safety.specs.Way.{Way, with_sender, IsStart}
 use Rattle.sctp_safety.specs.Exact.{Leads}
 
@@ -77,7 +77,7 @@ FillIsMoves = (w : Way) (room : ℕ) (xs : List Wish) (u : SenderView) → IsUsu
 -- A message that is accepted is the move of a call.
 abbrev pub QueueIsMoves : Type 0
 QueueIsMoves = (w : Way) (c : Call) → IsUsual w → 0 < w.sender.fragment → w.sender.streams ≡ w.streams → refusal w.sender c.lane.stream c.bytes ≡ None →
-    IsMoved w (record w { sender = queued w.sender c.lane c.payload c.bytes c.until; asked = record w.asked { calls = w.asked.calls ++ c ∷ [] } })
+    IsMoved w (record w { sender = queued w.sender c.lane c.payload c.bytes c.until c.limit; asked = record w.asked { calls = w.asked.calls ++ c ∷ [] } })
 
 -- A ticket that is abandoned is named, and its message withdrawn or given up.
 abbrev pub AbandonIsMoves : Type 0
@@ -88,9 +88,13 @@ AbandonIsMoves = (w : Way) (t : ℕ) → IsUsual w →
 abbrev pub ExpireIsMoves : Type 0
 ExpireIsMoves = (w : Way) (now : ℕ) → IsUsual w → now ≤ w.asked.clock → IsMoved w (with_sender w (expired w.sender now))
 
--- The data timer marks by a move.
-abbrev pub TimeoutIsMoves : Type 0
-TimeoutIsMoves = (w : Way) → IsUsual w → IsMoved w (with_sender w (timed_out w.sender))
+-- Messages that were retransmitted as often as they may be are abandoned by moves, whichever indexes pass.
+abbrev pub WearIsMoves : Type 0
+WearIsMoves = (w : Way) (test : ℕ → Bool) → IsUsual w → IsMoved w (with_sender w (worn test w.sender))
+
+-- Indexes are marked for retransmission by a move, when the data timer expires and when they were missed.
+abbrev pub MarkingIsMoves : Type 0
+MarkingIsMoves = (w : Way) (test : ℕ → Bool) → IsUsual w → IsMoved w (with_sender w (marking w.sender test))
 
 -- ---- what acknowledges
 

@@ -1,4 +1,4 @@
--- The life of an end: over every run it goes along the diagram of states (RFC 9260, 4), and what was agreed on stays.
+-- The states of an endpoint: over every run it goes along the diagram of states (RFC 9260, 4), and what was agreed on stays.
 use Rattle.std.specs.Prelude.{◌≡◌, ℕ, Bool, true, false, List, Option}
 use Rattle.sctp_model.specs.end.EndView.{Draw, Tags, Stage, Established, ShutdownPending, ShutdownSent, ShutdownReceived, ShutdownAckSent, Ended, Phase, Idle, Listening, Calling, Echoing, Open, Over, EndView, has_association}
 use Rattle.sctp_model.specs.world.World.{Side, World, end_of, Setup, start}

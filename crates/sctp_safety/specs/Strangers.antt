@@ -1,4 +1,4 @@
--- What a stranger can do to an end: nothing (RFC 9260, 5.1.3, 8.4 and 8.5).
+-- What the packets of a third party do at an endpoint: nothing (RFC 9260, 5.1.3, 8.4 and 8.5).
 use Rattle.std.specs.Prelude.{◌≡◌, ℕ, List, [], ◌∷◌}
 use Rattle.sctp_model.specs.numbers.Lists.{IsWithin}
 use Rattle.sctp_model.specs.wire.Packet.{Packet}

@@ -1,4 +1,4 @@
--- What a sender tells of a message by its ticket, as relations on its plan: that it was acknowledged or abandoned, and what `abandon` answers
+-- What a sender reports of a message by its ticket, as relations on its plan: that it was acknowledged or abandoned, and what `abandon` answers
 -- (RFC 9260, 6.2.1; RFC 3758, 3.5).
 use Rattle.std.specs.Prelude.{◌≡◌, ◌↔◌, ℕ, ◌<◌, ◌≤◌, true, false, Some}
 use Rattle.sctp_model.specs.messages.Format.{Format, Lane}
@@ -40,11 +40,11 @@ pub data IsAnswered (v : SenderView) (t : ℕ) : AbandonAnswer → Type 0 where
 
 -- ---- of every view that calls reach
 
--- acknowledged is told exactly where it was
+-- acknowledged is told exactly if it was
 abbrev pub AcknowledgedIsTold : Type 0
 AcknowledgedIsTold = (f : Format) (v : SenderView) (t : ℕ) → IsReached f v → (acknowledged v t ≡ true) ↔ WasAcknowledged v t
 
--- and abandoned exactly where it was
+-- and abandoned exactly if it was
 abbrev pub AbandonedIsTold : Type 0
 AbandonedIsTold = (f : Format) (v : SenderView) (t : ℕ) → IsReached f v → (abandoned v t ≡ true) ↔ WasAbandoned v t
 

@@ -12,6 +12,7 @@ use Rattle.sctp_model.specs.receiver.ReceiverView.{Handed, ReceiverView, Reaches
 use Rattle.sctp_model.specs.messages.Acknowledgement.{Acknowledgement, covers}
 use Rattle.sctp_model.specs.receiver.Receiving.{IsWholeNumber, HasNoWhole, without_below, handed_unordered, message_of, recorded, IsPassed, LetsGo}
 use Rattle.sctp_model.specs.world.Calls.{Call, Asked}
+use Rattle.sctp_model.specs.world.Safe.{IsGivenUp}
 
 -- A sender, the receiver at its peer, what its user asked for, and every chunk that was ever built for it: chunks with data and FORWARDs
 -- one way, SACKs and the cumulative indexes of SHUTDOWNs the other. Nothing is ever taken out: a loss is a chunk that never comes.
@@ -57,6 +58,7 @@ pub data Move : Type 0 where
   Drop_below_next : (stream : ℕ) → Move
   Let_go : ReceiverView → Move
   Take : (stream : ℕ) (message : Handed) (rest : List Handed) → Move
+  -- duplicates for its next SACK, and what it knows of resets
   Note_duplicates : ReceiverView → Move
 
 -- only the sender changed
@@ -97,6 +99,7 @@ pub record IsSameBesideSending (a b : SenderView) : Type 0 where
   pub cum : b.cum ≡ a.cum
   pub covered : b.covered ≡ a.covered
   pub abandoned : b.abandoned ≡ a.abandoned
+  pub repeats : (i : ℕ) → a.repeats i ≤ b.repeats i
 
 -- What a receiver skips after a FORWARD: no less than before, no more than is listed, and each number that is listed, but for an ordered one
 -- below the next, which is done with.
@@ -105,7 +108,11 @@ pub record IsSkippedBy (r : ReceiverView) (xs : List Skip) (skip : Lane → ℕ)
   pub within : (l : Lane) → skip l ≤ skipped r.skip xs l
   pub counts : (y : Skip) → Has xs y → (y.number < skip y.lane) ⊎ ((y.lane.kind ≡ Ordered) × (y.number < r.next y.lane.stream))
 
--- `Step w e v`: where the move may happen in w, it leads to v.
+-- The user gave up a message that waits for its number: its ticket was named, or its lifetime is over.
+abbrev pub IsLetGo : Asked → Message → Type 0
+IsLetGo u m = (u.named m.ticket ≡ true) ⊎ ((t : ℕ) × (m.until ≡ Some t) × (t ≤ u.clock))
+
+-- `Step w e v`: if the move may happen in w, it leads to v.
 abbrev pub Step : Way → Move → Way → Type 0
 -- The user sends a message on a stream that there is. Its fragments, none empty, are its bytes.
 Step w (Send call fragments) v =
@@ -118,7 +125,7 @@ Step w (Send call fragments) v =
     })
   where
     sent : Call → List (List ℕ) → Message
-    sent c xs = record { ticket = suc (length w.asked.calls); payload = c.payload; fragments = xs; until = c.until }
+    sent c xs = record { ticket = suc (length w.asked.calls); payload = c.payload; fragments = xs; until = c.until; limit = c.limit }
 Step w (Name t) v = v ≡ record w { asked = record w.asked { named = at w.asked.named t true } }
 Step w (Time_passes t) v = v ≡ record w { asked = record w.asked { clock = max w.asked.clock t } }
 -- The first message of its stream takes its number, and its first indexes: under DATA all of them.
@@ -132,12 +139,12 @@ Step w (Continue l n k count) v =
     × IsAssigned w.sender.plan l n k × (IsAssigned w.sender.plan l n (suc k) → ⊥) × (HasEnd w.sender.plan l n → ⊥)
     × (suc k + count ≤ length m.fragments)
     × (v ≡ with_sender w (record w.sender { plan = continued w.sender.plan l n (suc k) count }))
+-- A message without a number leaves the queue only if it is given up.
 Step w (Withdraw before q rest) v =
-    (w.sender.queue ≡ before ++ q ∷ rest) × (v ≡ with_sender w (record w.sender { queue = before ++ rest }))
--- A message whose ticket was named, or whose time is past, is abandoned.
+    (w.sender.queue ≡ before ++ q ∷ rest) × IsLetGo w.asked q.message × (v ≡ with_sender w (record w.sender { queue = before ++ rest }))
+-- A message is abandoned whose ticket was named, whose lifetime is over, or that was retransmitted as often as it may be.
 Step w (Abandon l n) v =
-    (m : Message) × (message_at w.sender.plan l n ≡ Some m)
-    × ((w.asked.named m.ticket ≡ true) ⊎ ((t : ℕ) × (m.until ≡ Some t) × (t ≤ w.asked.clock)))
+    (m : Message) × (message_at w.sender.plan l n ≡ Some m) × IsGivenUp w.sender w.asked l n m
     × (v ≡ with_sender w (record w.sender { abandoned = at_lane w.sender.abandoned l (at (w.sender.abandoned l) n true) }))
 -- An abandoned message in part takes one index more, for its end mark.
 Step w (Mark l n) v =
@@ -166,7 +173,7 @@ Step w (Keep_piece x) v =
 Step w (Drop_piece x) v =
     Has w.pieces x × (w.receiver.seen x.index ≡ false) × (IsPassed w.format w.receiver x ⊎ (w.streams ≤ x.lane.stream))
     × (v ≡ with_receiver w (recorded w.receiver x))
--- A FORWARD counts where some index up to its point is not reached yet.
+-- A FORWARD counts if some index up to its point is not reached yet.
 Step w (Forward_comes x skip) v =
     Has w.forwards x × ((i : ℕ) × (i ≤ x.point) × (Reaches w.receiver i → ⊥)) × IsSkippedBy w.receiver x.skips skip
     × (v ≡ with_receiver w (record w.receiver { jump = max w.receiver.jump x.point; skip = skip }))
@@ -178,14 +185,14 @@ Step w (Hand_over s x xs) v =
 Step w (Hand_unordered x xs) v =
     (x.lane.kind ≡ Unordered) × IsWhole w.format (x ∷ xs) × IsWithin (x ∷ xs) w.receiver.kept
     × (v ≡ with_receiver w (handed_unordered w.format w.receiver x xs))
--- A number is passed over where it is skipped and its message isn't whole.
+-- A number is passed over if it is skipped and its message isn't whole.
 Step w (Pass_over s) v =
     (w.receiver.next s < w.receiver.skip (ordered_lane s))
     × HasNoWhole w.format w.receiver.kept (ordered_lane s) (w.receiver.next s)
     × (v ≡ with_receiver w (past w.receiver s))
 Step w (Drop_below_next s) v =
     v ≡ with_receiver w (record w.receiver { kept = without_below w.receiver.kept s (w.receiver.next s) })
--- Unordered chunks that a FORWARD left behind go, where they are of no whole message.
+-- Unordered chunks that a FORWARD left behind go, if they are of no whole message.
 Step w (Let_go t) v = LetsGo w.format w.receiver t × (v ≡ with_receiver w t)
 Step w (Take s h rest) v =
     (w.receiver.waiting s ≡ h ∷ rest)
@@ -194,7 +201,7 @@ Step w (Take s h rest) v =
       waiting = at w.receiver.waiting s rest;
     }))
 Step w (Note_duplicates t) v =
-    (t ≡ record w.receiver { duplicates = t.duplicates }) × (v ≡ with_receiver w t)
+    (t ≡ record w.receiver { duplicates = t.duplicates; resets = t.resets }) × (v ≡ with_receiver w t)
 
 -- The moves may lead from the one to the other. The beginning of a run is a run, so what holds after each run holds in each of its worlds.
 abbrev pub Run : Way → List Move → Way → Type 0

@@ -2,7 +2,7 @@
 
 ghost use Rattle.sctp_safety.specs.Exact.{ForwardIsAllowed, ForwardIsMoves, PassingIsMoves, SackIsAllowed, ShutdownIsAllowed, TakingIsMoves};
 ghost use Rattle.sctp_safety.specs.ReceiverLaws.{ForwardTakenIsMoves, PieceTakenIsMoves, SackMadeIsMoves, TakeIsMoves};
-ghost use Rattle.sctp_safety.specs.SenderLaws.{AbandonIsMoves, ExpireIsMoves, FillIsMoves, QueueIsMoves, SackIsMoves, ShutdownIsMoves, TimeoutIsMoves};
+ghost use Rattle.sctp_safety.specs.SenderLaws.{AbandonIsMoves, ExpireIsMoves, FillIsMoves, QueueIsMoves, SackIsMoves, ShutdownIsMoves, MarkingIsMoves};
 
 /// A FORWARD up to any index from CUM to the point, with the largest number of each stream and kind there, may be built (RFC 3758, 3.5).
 pub fn forward_is_allowed()
@@ -44,7 +44,7 @@ pub fn queue_is_moves()
     ensures { QueueIsMoves }
 {}
 
-/// Abandoning by ticket is moves: the message is withdrawn, or given up with its end mark where it is in part (RFC 3758, 3.5; RFC 8260, 2.3.1).
+/// Abandoning by ticket is moves: the message is withdrawn, or given up with its end mark if it is in part (RFC 3758, 3.5; RFC 8260, 2.3.1).
 pub fn abandon_is_moves()
     ensures { AbandonIsMoves }
 {}
@@ -54,9 +54,9 @@ pub fn expire_is_moves()
     ensures { ExpireIsMoves }
 {}
 
-/// The data timer marks fragments alone, and that is a move (RFC 9260, 6.3.3).
-pub fn timeout_is_moves()
-    ensures { TimeoutIsMoves }
+/// Only fragments are marked for retransmission, and marking them is a move, when the data timer expires and when they were missed (RFC 9260, 6.3.3 and 7.2.4).
+pub fn marking_is_moves()
+    ensures { MarkingIsMoves }
 {}
 
 /// A SACK that lies between the ends, and is taken, is moves, as long as its index lies less than half the space from CUM (RFC 9260, 6.2.1).

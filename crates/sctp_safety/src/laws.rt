@@ -3,7 +3,7 @@
 ghost use Rattle.sctp_model.specs.messages.Format.{Format};
 ghost use Rattle.sctp_model.specs.messages.FormatLaws.{SkipLaw, WholeLaw};
 
-/// Under both formats, chunks of a sender are a whole message exactly where they are, in order, all fragments of one message (RFC 9260, 6.9; RFC 8260, 2.2.3).
+/// Under both formats, chunks of a sender are a whole message exactly if they are, in order, all fragments of one message (RFC 9260, 6.9; RFC 8260, 2.2.3).
 pub fn whole_law()
     ensures { (f : Format) → WholeLaw f }
 {}

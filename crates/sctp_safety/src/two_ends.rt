@@ -1,6 +1,7 @@
 //! What holds of two ends in every world of every run.
 
-ghost use Rattle.sctp_safety.specs.Runs.{BeginningsAreAged, BeginningsAreRuns, BeginningsMeetThePremises, EachWorldIsSafe, NothingIsMissing, PassingGoesOn, PassingIsARun, RunsGoOn, RunsHaveWorlds, ShortRunsAreAged, ShortRunsAreSafe, TwoEndsAreSafe};
+ghost use Rattle.sctp_safety.specs.Unlimited.{UnlimitedRunsAreSafe};
+ghost use Rattle.sctp_safety.specs.Runs.{BeginningsAreAged, BeginningsAreRuns, BeginningsMeetThePremises, EachWorldIsSafe, NothingIsMissing, NothingWaits, PassingGoesOn, PassingIsARun, RunsGoOn, RunsHaveWorlds, ShortRunsAreAged, ShortRunsAreSafe, TwoEndsAreSafe};
 
 /// The headline. Whatever two users call, whatever packets are lost, repeated, reordered, cut for want of memory or sent by strangers that carry
 /// neither a drawn tag nor a cookie of the listener's, as long as no packet comes so late that either end has assigned 2^31 - 65,536 TSNs since it
@@ -17,7 +18,7 @@ pub fn nothing_is_missing_once_completed()
     ensures { NothingIsMissing }
 {}
 
-/// Where a run goes on from a world that a run led to, and the premises hold of both as one run, both promises hold in each world on the way.
+/// If a run goes on from a world that a run led to, and the premises hold of both as one run, both promises hold in each world on the way.
 pub fn each_world_on_the_way_is_safe()
     ensures { EachWorldIsSafe }
 {}
@@ -47,8 +48,18 @@ pub fn a_short_run_is_aged()
     ensures { ShortRunsAreAged }
 {}
 
-/// Where neither end assigns 2^31 TSNs in the whole run, half of all that there are, both promises hold in each of its worlds however late packets
+/// If neither end assigns 2^31 TSNs in the whole run, half of all that there are, both promises hold in each of its worlds however late packets
 /// come: what is asked of tags and cookies is all that is asked (RFC 9260, 2.6).
 pub fn a_run_of_half_the_tsns_is_safe()
     ensures { ShortRunsAreSafe }
+{}
+
+/// And no message waits to be sent there, at either endpoint.
+pub fn nothing_waits_once_completed()
+    ensures { NothingWaits }
+{}
+
+/// If no message of a run has a limit of retransmissions, the promises are those of endpoints without such limits.
+pub fn a_run_without_limits_is_safe()
+    ensures { UnlimitedRunsAreSafe }
 {}

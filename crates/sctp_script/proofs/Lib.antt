@@ -5,3 +5,10 @@ mod SpellLemmas
 mod LineLemmas
 mod OneMeaning
 mod EachLineSays
+mod OptionNames
+mod OptionWords
+mod OptionsLeave
+mod OptionsDecided
+mod PlacedLemmas
+mod ConfigurationLemmas
+mod PlaceLemmas

@@ -125,8 +125,8 @@ kind_again false k is = is
 
 -- a message of this kind and these bytes is the one that is sent
 pub sends : (x : Side) (stream payload : ℕ) (until : Option ℕ) (b : Bool) (k : Kind) (bs cs : List ℕ) → lane_kind b ≡ k → bs ≡ cs
-    → Acts (Happens (Send x (record { lane = lane_for stream (not b); payload = payload; bytes = bs; until = until })))
-    ≡ Acts (Happens (Send x (record { lane = record { stream = stream; kind = k }; payload = payload; bytes = cs; until = until })))
+    → Acts (Happens (Send x (record { lane = lane_for stream (not b); payload = payload; bytes = bs; until = until; limit = None })))
+    ≡ Acts (Happens (Send x (record { lane = record { stream = stream; kind = k }; payload = payload; bytes = cs; until = until; limit = None })))
 sends x stream payload until b k bs cs kind bytes =
-    let call = λ (l : Kind) (ds : List ℕ). Acts (Happens (Send x (record { lane = record { stream = stream; kind = l }; payload = payload; bytes = ds; until = until }))) in
+    let call = λ (l : Kind) (ds : List ℕ). Acts (Happens (Send x (record { lane = record { stream = stream; kind = l }; payload = payload; bytes = ds; until = until; limit = None }))) in
     ap (λ (l : Kind). call l bs) (kind_again b k kind) ∙ ap (λ (ds : List ℕ). call k ds) bytes

@@ -20,3 +20,14 @@ pub record IsOfPair (c : Configuration) : Type 0 where
   pub own_port : c.own_port ≡ PORT_A
   pub peer_port : c.peer_port ≡ PORT_B
   pub faultless : configuration_fault c ≡ None
+
+-- the same of B's configuration, whose ports are the other way round
+pub record IsOfListener (c : Configuration) : Type 0 where
+  pub own_port : c.own_port ≡ PORT_B
+  pub peer_port : c.peer_port ≡ PORT_A
+  pub faultless : configuration_fault c ≡ None
+
+-- and of both
+pub record AreOfPair (a b : Configuration) : Type 0 where
+  pub of_a : IsOfPair a
+  pub of_b : IsOfListener b

@@ -46,7 +46,7 @@ meaning_of command.Build (x, rest) = Acts (Happens (Build x))
 meaning_of command.Deliver (x, (number, rest)) = Acts (Happens (Deliver x number))
 meaning_of command.Foreign (x, (bytes, rest)) = Acts (BringsBytes x bytes)
 meaning_of command.Send (x, (stream, (kind, (payload, (until, (bytes, rest)))))) =
-    Acts (Happens (Send x (record { lane = record { stream = stream; kind = kind }; payload = payload; bytes = bytes; until = until })))
+    Acts (Happens (Send x (record { lane = record { stream = stream; kind = kind }; payload = payload; bytes = bytes; until = until; limit = None })))
 meaning_of command.Abandon (x, (ticket, rest)) = Acts (Happens (Abandon x ticket))
 meaning_of command.Take (x, (stream, rest)) = Acts (Happens (Take x stream))
 meaning_of command.Shutdown (x, rest) = Acts (Happens (Shutdown x))

@@ -6,3 +6,10 @@ pub mod Fields
 pub mod Commands
 pub mod Grammar
 pub mod ReadLineAnswer
+pub mod Ends
+pub mod Options
+pub mod OptionLines
+pub mod OptionsAnswer
+pub mod Places
+pub mod PlacedAnswer
+pub mod inner

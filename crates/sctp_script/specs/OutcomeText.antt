@@ -5,7 +5,7 @@ use Rattle.sctp_model.specs.sender.Abandoning as fate
 use Rattle.sctp_model.specs.sender.Abandoning.{AbandonAnswer}
 use Rattle.sctp_model.specs.end.UserCalls.{SendAnswer, Ticket, Refused, NotOpen}
 use Rattle.sctp_model.specs.world.World.{Side, A, B, other}
-use Rattle.sctp_model.specs.world.Events.{Build, Deliver, Send, Abandon, Take, Shutdown, Abort, Outcome, Done, RefusedState, Sent, Quiet, Acted, Absent, Answered, NotActed, Told, Fate, Message, NoMessage, AbortTooLong}
+use Rattle.sctp_model.specs.world.Events.{Build, Deliver, Send, Abandon, Take, Reset, WasReset, Shutdown, Abort, Outcome, Done, RefusedState, Sent, Quiet, Acted, Absent, Answered, NotActed, Told, Fate, Message, NoMessage, NoSuchReset, ResetThere, NoReset, AbortTooLong}
 use Rattle.sctp_events.specs.Events.{Wanted, Happens, BringsBytes}
 use Rattle.sctp_words.specs.Fields.{kind_word}
 use Rattle.sctp_words.specs.Names.{number_word}
@@ -26,6 +26,8 @@ end_named (Happens (Deliver x n)) = other x
 end_named (Happens (Send x c)) = x
 end_named (Happens (Abandon x k)) = x
 end_named (Happens (Take x s)) = x
+end_named (Happens (Reset x s)) = x
+end_named (Happens (WasReset x)) = x
 end_named (Happens (Shutdown x)) = x
 end_named (Happens (Abort x r)) = x
 end_named (Happens e) = A
@@ -45,6 +47,7 @@ refusal_code message.Empty = 2
 refusal_code message.TooLong = 3
 refusal_code message.QueueFull = 4
 refusal_code message.Spent = 5
+refusal_code message.Resetting = 8
 
 -- the codes of what became of a message to be abandoned
 abbrev pub fate_code : AbandonAnswer → ℕ
@@ -65,6 +68,7 @@ abbrev pub outcome_words : Side → ℕ → Outcome → List (List ℕ)
 outcome_words x s Done = codes "ok" ∷ []
 outcome_words x s RefusedState = codes "refused" ∷ decimal 1 ∷ []
 outcome_words x s AbortTooLong = codes "refused" ∷ decimal 2 ∷ []
+outcome_words x s NoSuchReset = codes "refused" ∷ decimal 2 ∷ []
 outcome_words x s (Sent number length) = codes "sent" ∷ side_word x ∷ decimal number ∷ decimal length ∷ []
 outcome_words x s Quiet = codes "quiet" ∷ side_word x ∷ []
 outcome_words x s Acted = codes "taken" ∷ side_word x ∷ []
@@ -76,6 +80,8 @@ outcome_words x s (Fate answer) = codes "fate" ∷ side_word x ∷ decimal (fate
 outcome_words x s (Message h) =
     codes "message" ∷ side_word x ∷ decimal s ∷ kind_word h.lane.kind ∷ number_word h.number ∷ decimal h.payload ∷ hex_word h.bytes ∷ []
 outcome_words x s NoMessage = codes "empty" ∷ side_word x ∷ decimal s ∷ []
+outcome_words x s (ResetThere stream before) = codes "reset" ∷ side_word x ∷ decimal stream ∷ decimal before ∷ []
+outcome_words x s NoReset = codes "no-reset" ∷ side_word x ∷ []
 
 -- the line of what was answered to what was wanted
 abbrev pub outcome_line : Wanted → Outcome → List ℕ

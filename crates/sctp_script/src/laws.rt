@@ -4,8 +4,10 @@ ghost use Rattle.std.specs.Prelude.{◌≡◌, ℕ, Bool, true, false, List};
 ghost use Rattle.sctp_model.specs.end.EndView.{Configuration};
 ghost use Rattle.sctp_events.specs.Events.{Wanted};
 ghost use Rattle.sctp_script.specs.CanBe.{CanBe};
-ghost use Rattle.sctp_script.specs.Configuration.{IsOfPair};
+ghost use Rattle.sctp_events.specs.Alike.{turned_round};
+ghost use Rattle.sctp_script.specs.Configuration.{IsOfPair, AreOfPair};
 ghost use Rattle.sctp_script.specs.Grammar.{Pairs, Acts, Says, SaysOneThing};
+ghost use Rattle.sctp_script.specs.Places.{Place, Behind, Plain, Configures, SaysAt, SaysOneThingAt};
 
 use sctp_text::words_say_one_value;
 
@@ -16,6 +18,21 @@ pub fn one_meaning()
 {
     words_say_one_value();
 }
+
+// law
+/// At its place in a script each line says exactly one thing.
+pub fn one_meaning_at()
+    ensures { (place : Place) (line : List ℕ) → SaysOneThingAt place line }
+{
+    words_say_one_value();
+}
+
+// law
+/// What the `pair` line and lines of options after it say of both endpoints is right: the pair's ports, and configurations without a fault.
+pub fn configurations_are_right()
+    ensures pair { (place : Place) (line : List ℕ) (c : Configuration) → SaysAt place line (Plain (Pairs c)) → AreOfPair c (turned_round c) }
+    ensures options { (line : List ℕ) (a b c d : Configuration) → AreOfPair a b → SaysAt (Behind a b) line (Configures c d) → AreOfPair c d }
+{}
 
 // law
 /// A line makes a pair only if none was made before it, and its configuration is without a fault.

@@ -3,19 +3,25 @@
 //! Events, outcomes and the pair's configuration are those of sctp_events; numbers, tags and TSNs, modes, names and line faults those of
 //! sctp_words. `specs/Commands` has the fourteen commands and the fields of each (their names are thirteen: `pair` has two forms, distinguished
 //! by the number of words), `specs/Fields` the values of a field, `specs/Grammar` what a line says, which faults it has and which of
-//! them counts. `specs/OutcomeText` has the line of each outcome, `specs/ReportText` the report.
+//! them counts. After the `pair` line there may be lines of options, which set the configurations of both endpoints: `specs/Options` has the
+//! options, their fields and what each sets, `specs/OptionLines` which lines are such lines and what they leave, `specs/Places` what a line says
+//! at its place in a script. In a script without such a line every line says what `specs/Grammar` says. `specs/OutcomeText` has the line of each outcome, `specs/ReportText` the report.
 //!
 //! # Promises
 //!
 //! - `read_line` returns what the grammar says of the line: the event with its values, or nothing for an empty line or a comment. Otherwise
 //!   it returns the fault with the smallest kind, and only if the line has it. `NoMemory` is possible only for a line of `foreign`, `send`
 //!   or `abort` with its number of words.
+//! - `read_line_at` returns what a line says at its place: before the `pair` line, after it until a line asks something of the pair, or after
+//!   that. Right after the `pair` line a line of options gives the configurations that it leaves; if it leaves none its fault is `BadValue`. Every other
+//!   line is read as by `read_line`.
 //! - `put_outcome` appends exactly the line of the outcome; endpoint and stream in it are those of the event that it answers.
 //! - `put_end` appends `end X STATE WHY`; `put_numbered`, `put_abandoned`, `put_handed` and `put_count` append the line with all tickets or
 //!   numbers in order, or the count, and nothing if there is none.
 //! - If an allocation fails, none of these appends anything.
 //!
-//! Laws, over all lines: `one_meaning` (a line says exactly one thing), `the_pair_comes_first` (a line makes a pair only if none was made
+//! Laws, over all lines: `one_meaning` (a line says exactly one thing), `one_meaning_at` (at its place too), `configurations_are_right` (the
+//! configurations that the `pair` line and lines of options say have the pair's ports and no fault), `the_pair_comes_first` (a line makes a pair only if none was made
 //! before, and its configuration has the pair's ports and no fault), `events_follow_the_pair` (a line asks for an event only after a
 //! `pair` line), `events_can_happen` (tags aren't 0, times have 64 bits, a third party's bytes are bytes).
 //!
@@ -36,7 +42,9 @@
 //! command (`same_command`) follows from it and `formed_again`; what is said of all names follows from the list (`each_passes`). Words are
 //! decided field by field and a line by the list of its fields (`proofs/FieldLemmas`), so a further command with known fields needs no new
 //! lemma; that a word spells one value or none is the law `words_say_one_value` of sctp_text, which `one_meaning` and the reader of `pair`
-//! call. What the words of each command say is in `proofs/SpellLemmas`. `put_outcome` and `side_named` need no answer file: their cases
+//! call. What the words of each command say is in `proofs/SpellLemmas`. A further option with known fields needs a row in `specs/Options` (three
+//! functions), in `src/option_name.rt` and `src/options.rt` (`set`), in `proofs/OptionNames` and in `set_ports` of `proofs/OptionsLeave`; that words
+//! are options in one way (`proofs/OptionWords`) and that this is decided (`proofs/OptionsDecided`) is proved for all of them. `put_outcome` and `side_named` need no answer file: their cases
 //! compute. `Command::named`, here and in sctp_end, closes by search, also at half of the search's limits
 //! (`rt check --only Command::named --margin`).
 #![tactic(auto)]
@@ -45,13 +53,20 @@ mod command;
 mod command_words;
 mod laws;
 mod line;
+mod option_name;
+mod options;
 mod outcome_line;
 mod pair_words;
+mod placed;
 mod report;
 mod side_word;
 mod ticket_line;
 
-pub use laws::{events_can_happen, events_follow_the_pair, one_meaning, the_pair_comes_first};
+pub use laws::{
+    configurations_are_right, events_can_happen, events_follow_the_pair, one_meaning,
+    one_meaning_at, the_pair_comes_first,
+};
 pub use line::{Acting, read_line};
 pub use outcome_line::put_outcome;
+pub use placed::{Place, Placed, read_line_at};
 pub use report::{put_abandoned, put_count, put_end, put_handed, put_numbered};

@@ -3,6 +3,8 @@ pub mod HeldLemmas
 pub mod OverLemmas
 pub mod DueLemmas
 pub mod KeepLemmas
+pub mod UnresetLemmas
+pub mod LimitLemmas
 pub mod TimerLemmas
 pub mod QueueLemmas
 pub mod ReaderLemmas

@@ -34,6 +34,7 @@ use Rattle.sctp_send.proofs.OverLemmas.{not_waiting_more}
 use Rattle.sctp_send.proofs.DueLemmas.{late_queue_more, late_before}
 use Rattle.sctp_send.proofs.kept.MomentLemmas.{due_push}
 use Rattle.sctp_send.proofs.KeepLemmas.{kept_length}
+use Rattle.sctp_send.proofs.UnresetLemmas.{takes_messages}
 
 -- ---- fragments
 
@@ -96,11 +97,11 @@ promised_is f s v k =
 -- ---- a message more
 
 pub keeps_queued : (f : Format) (s : Kept) (v : SenderView) (lane : Lane) (payload ticket : ℕ) (bytes : List ℕ) (until : Option ℕ) → Keeps f s v → refusal v lane.stream bytes ≡ None → ticket ≡ suc v.tickets → unwrap_or until LAST_MOMENT < 2 ^ 64
-    → Keeps f (record s { queue = s.queue ++ record { lane = lane; message = record { ticket = ticket; payload = payload; fragments = cut s.fragment bytes; until = until } } ∷ []; fates = s.fates ++ StillQueued ∷ []; moments = s.moments ++ unwrap_or until LAST_MOMENT ∷ [] })
-    (queued v lane payload bytes until)
+    → Keeps f (record s { queue = s.queue ++ record { lane = lane; message = record { ticket = ticket; payload = payload; fragments = cut s.fragment bytes; until = until; limit = None } } ∷ []; fates = s.fates ++ StillQueued ∷ []; moments = s.moments ++ unwrap_or until LAST_MOMENT ∷ [] })
+    (queued v lane payload bytes until None)
 keeps_queued f s v lane payload ticket bytes until k free given small =
-    let u = queued v lane payload bytes until in
-    let q : Queued = record { lane = lane; message = record { ticket = suc v.tickets; payload = payload; fragments = cut v.fragment bytes; until = until } } in
+    let u = queued v lane payload bytes until None in
+    let q : Queued = record { lane = lane; message = record { ticket = suc v.tickets; payload = payload; fragments = cut v.fragment bytes; until = until; limit = None } } in
     let last : fate_here u (1 + v.tickets) ≡ StillQueued =
     let one : 1 + v.tickets ≡ suc v.tickets = omega arith in
     let here : (suc v.tickets == suc v.tickets) ≡ true = grind (arith, nat_tests) in
@@ -138,13 +139,14 @@ keeps_queued f s v lane payload ticket bytes until k free given small =
             let i = k.due.each t now more.0 in
             let held = k.due.many in
             record {
-              queue = late_queue_more now t s.queue _ i.queue (late_before now t (record { ticket = ticket; payload = payload; fragments = cut s.fragment bytes; until = until }) (λ same. more.1 (omega (arith, held, given, same))));
+              queue = late_queue_more now t s.queue _ i.queue (late_before now t (record { ticket = ticket; payload = payload; fragments = cut s.fragment bytes; until = until; limit = None }) (λ same. more.1 (omega (arith, held, given, same))));
               items = i.items;
               tracks = i.tracks;
             };
       };
       forward = k.forward;
-      reached = Queues v lane payload bytes until k.reached free;
+      unreset = k.unreset;
+      reached = Queues v lane payload bytes until None k.reached free;
     }
   where
     or_true : (b : Bool) → (b || true) ≡ true
@@ -188,7 +190,8 @@ only_spent f s v stream bytes k fit =
     let b : (length bytes == 0) ≡ false = grind (arith, nat_tests) in
     let c : nat_lt LONGEST_MESSAGE (length bytes) ≡ false = grind (arith, nat_tests) in
     let d : nat_le QUEUE_LIMIT (length v.queue) ≡ false = grind (arith, nat_tests) in
-    rw (a, b, c, d) (by_test (nat_le TICKET_LIMIT v.tickets || nat_lt TSN_LIMIT (promised v + owed_for (length (cut v.fragment bytes)))))
+    let e = takes_messages f s v stream k in
+    rw (a, b, c, d, e) (by_test (nat_le TICKET_LIMIT v.tickets || nat_lt TSN_LIMIT (promised v + owed_for (length (cut v.fragment bytes)))))
   where
     by_test : (x : Bool) → first_there (when x Spent ∷ []) ≡ (if x then Some Spent else None)
     by_test true = refl

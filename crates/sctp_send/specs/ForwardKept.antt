@@ -6,6 +6,7 @@ use Rattle.sctp_model.specs.sender.Forwarding.{skips_below}
 use Rattle.sctp_model.specs.sender.SentChunks.{skip_said}
 use Rattle.sctp_wire.specs.Skips.{skip_size, skips_in}
 use Rattle.sctp_framing.specs.SkipForms.{skip_form}
+use Rattle.sctp_send.specs.OutstandingFields.{no_base}
 use Rattle.sctp_send.specs.declared.kept.last_forward.LastForward.{LastForward}
 
 -- It lists the streams of the first of these entries, of as many as fit its packet limit with their list.
@@ -13,7 +14,7 @@ pub record IsBuilt (f : Format) (streams : ℕ) (es : List Entry) (l : LastForwa
   pub least : 20 ≤ l.limit
   pub some : 0 < l.passed
   pub within : l.passed ≤ l.run
-  pub skips : skips_in (skip_form f) l.list.items ≡ map (skip_said f) (skips_below f (take l.passed es) streams)
+  pub skips : skips_in (skip_form f) l.list.items ≡ map (skip_said f no_base) (skips_below f (take l.passed es) streams)
   pub few : length (skips_below f (take l.passed es) streams) ≤ (l.limit - 20) / skip_size (skip_form f)
   pub last : l.passed < l.run → (l.limit - 20) / skip_size (skip_form f) < length (skips_below f (take (suc l.passed) es) streams)
 

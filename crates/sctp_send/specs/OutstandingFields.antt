@@ -1,5 +1,5 @@
 -- What an entry above CUM says: its message, what its index has, how far it came.
-use Rattle.std.specs.Prelude.{ℕ, Bool, true, false, List, map, Some}
+use Rattle.std.specs.Prelude.{ℕ, Bool, true, false, List, map, None, Some}
 use Rattle.sctp_model.specs.messages.Format.{Lane}
 use Rattle.sctp_model.specs.messages.Plan.{Message, Entry, Part, End}
 use Rattle.sctp_model.specs.sender.SenderView.{Queued}
@@ -30,9 +30,9 @@ is_marked Marked = true
 abbrev pub lane_meaning : MessageFields → Lane
 lane_meaning m = record { stream = m.stream; kind = kind_meaning m.kind }
 
--- the message that was handed in, cut into fragments (RFC 9260, 6.9)
+-- the message that was handed in, cut into fragments (RFC 9260, 6.9), each of which is repeated until it is acknowledged
 abbrev pub message_meaning : ℕ → MessageFields → Message
-message_meaning size m = record { ticket = m.ticket; payload = m.payload_id; fragments = cut size m.bytes.items; until = m.until }
+message_meaning size m = record { ticket = m.ticket; payload = m.payload_id; fragments = cut size m.bytes.items; until = m.until; limit = None }
 
 -- the same message while it waits for its number
 abbrev pub queued_meaning : ℕ → MessageFields → Queued
@@ -57,6 +57,10 @@ item_meaning size e = record {
 -- the lane of a stream and a kind
 abbrev pub lane_of : ℕ → Kind → Lane
 lane_of stream kind = record { stream = stream; kind = kind_meaning kind }
+
+-- The numbers of each lane are counted from 0 on the wire, as long as its stream isn't reset (RFC 6525, 5.1.2).
+abbrev pub no_base : Lane → ℕ
+no_base = λ l. 0
 
 -- what stands at the indexes of items
 abbrev pub entries_of : List Item → List Entry

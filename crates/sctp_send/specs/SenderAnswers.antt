@@ -47,9 +47,9 @@ QueueAnswer v stream bytes (Ok ticket) = (refusal v stream bytes ≡ None) × (t
 QueueAnswer v stream bytes (Err fault) = refused_with (refusal v stream bytes) fault
 
 -- the view after the call: a refusal changes nothing
-abbrev pub queue_after : SenderView → Lane → ℕ → List ℕ → Option ℕ → Result Ticket SendFault → SenderView
-queue_after v lane payload bytes until (Ok ticket) = queued v lane payload bytes until
-queue_after v lane payload bytes until (Err fault) = v
+abbrev pub queue_after : SenderView → Lane → (payload : ℕ) → List ℕ → (until limit : Option ℕ) → Result Ticket SendFault → SenderView
+queue_after v lane payload bytes until limit (Ok ticket) = queued v lane payload bytes until limit
+queue_after v lane payload bytes until limit (Err fault) = v
 
 -- the lane of a call
 abbrev pub lane_for : ℕ → Bool → Lane

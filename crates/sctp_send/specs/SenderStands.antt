@@ -2,11 +2,13 @@
 use Rattle.std.specs.Prelude.{◌≡◌, ℕ, zero, suc, ◌+◌, ◌≤◌, max, false, if◌then◌else◌, List, [], ◌∷◌, length, drop, Option, None, Some}
 use Rattle.sctp_model.specs.messages.Format.{Format, ordered_lane, unordered_lane}
 use Rattle.sctp_model.specs.messages.Plan.{Entry, Plan}
+use Rattle.sctp_model.specs.sender.Outgoing.{Outgoing, Sends}
 use Rattle.sctp_model.specs.sender.SenderView.{SenderView}
 use Rattle.sctp_model.specs.sender.Entries.{entry_message, is_of_abandoned, continued, in_part}
 use Rattle.sctp_model.specs.sender.Abandoning.{Name, name_of, waits, is_abandoned}
 use Rattle.sctp_model.specs.sender.Reached.{IsReached}
 use Rattle.sctp_send.specs.SenderKept.{Item, Rest, Track, Kept}
+use Rattle.sctp_send.specs.OutstandingFields.{no_base}
 use Rattle.sctp_send.specs.CoveredRuns.{AreCovered}
 use Rattle.sctp_send.specs.ForwardKept.{IsForwardKept}
 use Rattle.sctp_send.specs.inner.Walks.{any_item, any_rest}
@@ -78,13 +80,20 @@ pub record AreOver (s : Kept) (given : ℕ) : Type 0 where
   pub within : s.ended ≤ given
   pub each : (t : ℕ) → t ≤ max s.ended s.passed → IsOver s t
 
--- It is a view that calls reach, tickets that count as ended are over, no ticket is late before its moment, and the FORWARD that was built last is
--- still true of the entries that it was built from.
+-- No stream is reset: each takes messages, its numbers on the wire are those of the plan, and no request waits for its answer.
+pub record IsUnreset (x : Outgoing) : Type 0 where
+  pub base : x.base ≡ no_base
+  pub sending : x.sending ≡ (λ s. Sends)
+  pub pending : x.pending ≡ None
+
+-- It is a view that calls reach, without a reset; tickets that count as ended are over, no ticket is late before its moment, and the FORWARD that was built
+-- last is still true of the entries that it was built from.
 pub record Keeps (f : Format) (s : Kept) (v : SenderView) : Type 0 where
   pub holds : Holds s v
   pub over : AreOver s v.tickets
   pub due : AreDue s v.tickets
   pub forward : IsForwardKept f v.streams v.plan.entries s.forward
+  pub unreset : IsUnreset v.resets
   pub reached : IsReached f v
 
 -- Stands for: hidden from the crates above, which know it by the clauses alone.

@@ -2,6 +2,7 @@
 
 pub mod expire;
 pub mod moments;
+pub mod wear;
 
 ghost use Rattle.std.specs.Prelude.{◌≡◌, ℕ, ◌<◌, ◌≤◌, ◌+◌, [], ◌∷◌, ◌++◌, true, false, List, length, map, take, drop, set, IfSome, IfNone};
 ghost use Rattle.sctp_send.specs.PartsKept.{IsSameRoom};

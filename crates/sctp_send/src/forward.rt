@@ -18,7 +18,7 @@ ghost use Rattle.sctp_model.specs.sender.SentChunks.{skip_said, forward_end, for
 ghost use Rattle.sctp_wire.specs.Skips.{skip_size, IsSkip};
 ghost use Rattle.sctp_framing.specs.SkipForms.{skip_form};
 ghost use Rattle.sctp_packet.specs.Draft.{has_room, after_try};
-ghost use Rattle.sctp_send.specs.OutstandingFields.{item_meaning, entries_of};
+ghost use Rattle.sctp_send.specs.OutstandingFields.{item_meaning, entries_of, no_base};
 ghost use Rattle.sctp_send.specs.SenderKept.{Kept};
 ghost use Rattle.sctp_send.specs.SenderStands.{StandsFor, Keeps};
 ghost use Rattle.sctp_send.specs.inner.Lanes.{passed_meaning, forward_of_lanes, forward_of_list};
@@ -114,7 +114,7 @@ fn put_lanes<F: Framing>(
     lanes: &[Passed],
     packet: &mut PacketWriter,
 ) -> Result<bool, NoMemory>
-    requires fits { AllByRecursion (IsSkip (skip_form F.format)) (map (skip_said F.format) (map passed_meaning lanes.now)) }
+    requires fits { AllByRecursion (IsSkip (skip_form F.format)) (map (skip_said F.format no_base) (map passed_meaning lanes.now)) }
     requires few { skip_size (skip_form F.format) * length lanes.now ≤ GREATEST_PACKET }
     ensures answer { IfOk result (λ put. put ≡ has_room packet.old (forward_of_lanes F.format cumulative lanes.now)) }
     ensures after { IfOk result (λ put. packet.new ≡ after_try packet.old (forward_of_lanes F.format cumulative lanes.now) put) }

@@ -13,6 +13,8 @@
 //! | [`Sender::on_shutdown`] | as `on_sack` for the cumulative TSN of a SHUTDOWN; what gap blocks acknowledged beyond it stays acknowledged |
 //! | [`Sender::on_timeout`] | every chunk that was sent and is neither acknowledged nor abandoned is marked for retransmission |
 //! | [`Sender::abandon`] | `answer`: the first of the five answers that applies. `step`: a message without a TSN leaves the queue; one with TSNs is abandoned, with its marks; one sent in part gets an end mark |
+//! | [`Sender::wear`] | each message is abandoned, as by `abandon`, if one of its outstanding fragments was retransmitted as often as its limit allows |
+//! | [`Sender::limits`] | None if no message that is held has a limit of retransmissions: then `wear` abandons nothing, nor does it after `expire` |
 //! | [`Sender::expire`] | each message whose lifetime is over is abandoned, by rising ticket, as `abandon` would |
 //! | [`Sender::put_forward`] | `answer`: true if and only if the FORWARD goes past CUM and fits what is left of the packet. `after`: the packet has it after its other chunks, or is as before. `reaches`: with the least packet limit or more it goes past CUM whenever the point does. `memory`, `unchanged`: NoMemory only if the chunk would have gone in, and the packet is then as before |
 //! | [`Sender::keep_forward`] | the sender stands for the same views: it builds the FORWARD ahead, for `put_forward` to take |
@@ -27,8 +29,8 @@
 //!
 //! Laws of every view that calls reach, by induction over the calls (`sctp_model/proofs/sender`): CUM is no more than the TSNs assigned, all up to it
 //! is acknowledged, nothing beyond the last TSN is said (`Bounds`); TSNs after CUM and messages in part are at most 32,767, TSNs assigned and owed at
-//! most 2^63 - 1 (`OwedLaws`); a ticket is of one message at most (`TicketLaws`), by which its entries are found (`NameLaws`); only `abandon` and
-//! `expire` abandon a message (`AbandonedLaws`); the point is the largest index up to which all after CUM is abandoned (`point_is_point`); a FORWARD
+//! most 2^63 - 1 (`OwedLaws`); a ticket is of one message at most (`TicketLaws`), by which its entries are found (`NameLaws`); only `abandon`,
+//! `expire` and `wear` abandon a message (`AbandonedLaws`); the point is the largest index up to which all after CUM is abandoned (`point_is_point`); a FORWARD
 //! lists the largest number of each numbered (stream, kind) that it skips, by rising stream (`forward_is_forward`), and goes as far as a packet lets it
 //! (`ForwardEnd`); what a packet is filled with is one list (`FillLaws`).
 //!
@@ -45,7 +47,7 @@
 //! The files of `src` form a path on which each imports only what is before it: `due_pages`, `last_forward`, `message`, `ordered`; `blocks`, `by_ticket`,
 //! `due_table`, `entry`, `seats`, `track`; `dues`, `fates`, `part_lists`, `pieces`; `looking`, `queue`, `told`, `wishes`; `counts`, `streams`; `stretches`;
 //! `outstanding`; `by_message`, `entries`, `lanes`, `pushing`, `run_room`, `searching`, `stock`, `telling`; `assigning`, `covered`, `indexed`, `sender`,
-//! `waking`; `entering`, `fill`, `laws`, `queueing`, `readers`, `sack`; `abandon`, `keeping`, `moments`; `expire`, `forward`, `putting`.
+//! `waking`; `entering`, `fill`, `laws`, `queueing`, `readers`, `sack`, `wear`; `abandon`, `keeping`, `moments`; `expire`, `forward`, `putting`.
 //!
 //! What a body may still get away with: nothing that a caller can see but costs, how much memory is kept, and the texts of `Debug` and of faults. Only
 //! tested: `crates/sctp_call_rows` compares each answer and each packet's bytes at the limits (docs/CALLS.md).
@@ -64,6 +66,7 @@ mod stock;
 mod told;
 
 pub use abandon::Abandoned;
+pub use abandon::wear::Limits;
 pub use fill::Filled;
 pub use queueing::SendFault;
 pub use sack::SackFault;

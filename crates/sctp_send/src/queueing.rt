@@ -65,7 +65,7 @@ impl<F: Framing> Sender<F> {
     ) -> Result<Ticket, SendFault>
         ensures answer { (v : SenderView) → StandsFor F.format self.old v → QueueAnswer v stream bytes.items result }
         ensures step { (v : SenderView) → StandsFor F.format self.old v
-            → StandsFor F.format self.new (queue_after v (lane_for stream ordered) payload_id bytes.items until result) }
+            → StandsFor F.format self.new (queue_after v (lane_for stream ordered) payload_id bytes.items until None result) }
     {
         match self.accept(stream, ordered, payload_id, bytes, until) {
             Ok(ticket) => {
@@ -88,7 +88,7 @@ impl<F: Framing> Sender<F> {
     ) -> Result<Ticket, SendFault>
         ensures answer { (v : SenderView) → StandsFor F.format self.old v → QueueAnswer v stream bytes.items result }
         ensures step { (v : SenderView) → StandsFor F.format self.old v
-            → StandsFor F.format self.new (queue_after v (lane_for stream ordered) payload_id bytes.items until result) }
+            → StandsFor F.format self.new (queue_after v (lane_for stream ordered) payload_id bytes.items until None result) }
     {
         if let Some(fault) = self.refusal(stream, &bytes) {
             return Err(fault);

@@ -5,7 +5,7 @@ use Rattle.sctp_model.specs.numbers.Limits.{STREAM_LIMIT, LEAST_PACKET, GREATEST
 use Rattle.sctp_model.specs.sender.Words.{when, first_there}
 use Rattle.sctp_model.specs.wire.Chunk.{padded}
 use Rattle.sctp_model.specs.end.EndView.{Configuration}
-use Rattle.sctp_model.specs.end.Configured.{IsConfiguration, ConfigurationFault, WrongPort, WrongLimit, WrongFragment, WrongBuffer, WrongStreams, is_between, is_fragment, configuration_fault}
+use Rattle.sctp_model.specs.end.Configured.{IsConfiguration, WrongPort, WrongLimit, WrongFragment, WrongBuffer, WrongStreams, is_between, is_fragment, configuration_fault}
 
 -- ---- tests that don't hold
 

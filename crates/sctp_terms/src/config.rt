@@ -33,6 +33,8 @@ pub struct Config {
 impl Model for Config {
     ghost use Rattle.sctp_model.specs.end.EndView.{Configuration};
     ghost use Rattle.sctp_model.specs.end.Configured.{IsConfiguration};
+    ghost use Rattle.std.specs.Prelude.{false};
+    ghost use Rattle.sctp_model.specs.numbers.Limits.{LEAST_WAIT};
 
     ghost Value = { Configuration };
 
@@ -48,6 +50,10 @@ impl Model for Config {
       partial = c.partial;
       delay = c.delay;
       standard_closing = c.standard_closing;
+      fast_retransmit = false;
+      least_wait = LEAST_WAIT;
+      congestion_control = false;
+      reset = false;
     } };
 
     ghost inverse = { λ c. record {
@@ -76,6 +82,10 @@ impl Model for Config {
       partial = c.partial;
       delay = c.delay;
       standard_closing = c.standard_closing;
+      fast_retransmit = false;
+      least_wait = LEAST_WAIT;
+      congestion_control = false;
+      reset = false;
     }) };
 }
 

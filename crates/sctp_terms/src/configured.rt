@@ -1,11 +1,12 @@
 //! The readers of a configuration. Each value is within its limits.
 
-ghost use Rattle.std.specs.Prelude.{◌≡◌, ◌≤◌, ◌<◌, ◌+◌};
+ghost use Rattle.std.specs.Prelude.{◌≡◌, ◌≤◌, ◌<◌, ◌+◌, true, false, MatchOption};
 ghost use Rattle.sctp_model.specs.numbers.Limits.{STREAM_LIMIT, LEAST_PACKET, GREATEST_PACKET, LEAST_FRAGMENT, GREATEST_FRAGMENT, FRAGMENT_OVERHEAD, LEAST_BUFFER, GREATEST_BUFFER};
 ghost use Rattle.sctp_model.specs.wire.Chunk.{padded};
 ghost use Rattle.sctp_model.specs.end.Configured.{IsConfiguration};
 
 use crate::config::Config;
+use crate::unset::{Pace, Reset};
 
 impl Config {
     /// The endpoint's own port, which isn't 0.
@@ -98,5 +99,22 @@ impl Config {
         ensures { result ≡ self.now.standard_closing }
     {
         self.standard_closing
+    }
+
+    /// What an endpoint measures round trips and paces its user data by (RFC 9260, 6.3.1 and 7.2); None without fast retransmit. No call sets it.
+    pub fn pace(&self) -> Option<Pace>
+        ensures { MatchOption result (self.now.fast_retransmit ≡ false) (λ pace. self.now.fast_retransmit ≡ true) }
+    {
+        // The proof sees the fields where one is read.
+        let _ = &self.own_port;
+        None
+    }
+
+    /// With what it asks for the reset of streams (RFC 6525); None if it doesn't. No call sets it.
+    pub fn reset(&self) -> Option<Reset>
+        ensures { MatchOption result (self.now.reset ≡ false) (λ reset. self.now.reset ≡ true) }
+    {
+        let _ = &self.own_port;
+        None
     }
 }

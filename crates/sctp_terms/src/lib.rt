@@ -11,6 +11,7 @@
 //! | [`Config::with_partial`], [`Config::with_interleave`] | this configuration, asking also for partial reliability, for I-DATA |
 //! | [`Config::with_delay`], [`Config::with_standard_closing`] | this configuration, with delayed SACKs; closing by the RFC's timers |
 //! | [`Config::limit`] and the other readers | the value that it was made with, within its limits |
+//! | [`Settings::of`], [`Settings::with_limit`] and the others, [`Settings::checked`] | a configuration's values; the same with other ones; the configuration with these values, None if they have a fault |
 //! | [`faultless_is_configured`] (law) | a configuration with ports of 16 bits has no fault if and only if it is within its limits |
 //! | [`Draw::new`] | these random values; None if and only if the tag is 0 |
 //! | [`Draw::tag`], [`Draw::tsn`] | the value that it was made with; the tag is never 0, and both have 32 bits |
@@ -29,6 +30,8 @@ mod laws;
 mod life;
 mod mode;
 mod reason;
+mod settings;
+mod unset;
 
 pub use calls::{AbortFault, ConnectFault, ShutdownFault};
 pub use config::Config;
@@ -38,3 +41,5 @@ pub use laws::faultless_is_configured;
 pub use life::{End, State};
 pub use mode::Mode;
 pub use reason::Reason;
+pub use settings::Settings;
+pub use unset::{Pace, Reset};

@@ -3,7 +3,9 @@ mod ScriptRuns
 mod ScriptLemmas
 mod LineActs
 mod ScriptSafety
+mod ScriptReached
 mod ScriptLines
 mod ScriptAnswers
 mod ScriptGathered
 mod ScriptOneFault
+mod PlacedLines

@@ -1,60 +1,81 @@
 -- What one line of a script leaves.
-use Rattle.std.proofs.Common.{◌≡◌, ℕ, Bool, true, List, Option, Some, None, Result, Ok, Err, refl, sym, ap, ◌∙◌, subst}
+use Rattle.std.proofs.Common.{◌≡◌, ℕ, Bool, true, false, List, [], Option, Some, None, Result, Ok, Err, refl, sym, ap, ◌∙◌, subst}
 use Rattle.std.proofs.lemmas.Option.{none-some, same_Some}
 use Rattle.std.specs.Prelude.{MatchResult}
 use Rattle.std.specs.Result.{IsErrAnd}
 use Rattle.std.specs.Option.{is_some}
+use Rattle.sctp_model.specs.end.EndView.{Configuration}
 use Rattle.sctp_model.specs.world.World.{World}
 use Rattle.sctp_model.specs.world.Events as meaning
 use Rattle.sctp_model.specs.world.Steps.{Step}
+use Rattle.sctp_events.specs.Alike.{turned_round}
 use Rattle.sctp_events.specs.Events.{Wanted, event_meaning}
 use Rattle.sctp_events.specs.declared.config.PairConfig.{PairConfig}
+use Rattle.sctp_events.specs.declared.two_configs.TwoConfigs.{TwoConfigs}
 use Rattle.sctp_events.specs.declared.event.Event.{Event}
-use Rattle.sctp_script.specs.Grammar.{LineMeaning, Pairs, Acts, Says}
+use Rattle.sctp_script.specs.Grammar.{Pairs, Acts}
+use Rattle.sctp_script.specs.Places.{Place, PlacedMeaning, Plain, Configures, SaysAt, is_paired}
 use Rattle.sctp_script.specs.OutcomeText.{outcome_line}
-use Rattle.sctp_script.specs.ReadLineAnswer.{Finds}
-use Rattle.sctp_script.specs.declared.line.Acting.{Acting}
-use Rattle.sctp_script.specs.declared.line.Acting.TheVariants as acting
+use Rattle.sctp_script.specs.PlacedAnswer.{placed_meaning, place_at, FindsAt}
+use Rattle.sctp_script.specs.declared.placed.Placed.{Placed}
+use Rattle.sctp_script.specs.declared.placed.Placed.TheVariants as placed
 use Rattle.sctp_pair.specs.declared.pair.Pair.{Pair}
 use Rattle.sctp_pair.specs.Happens.{IsMeant}
 use Rattle.sctp_trace.specs.declared.script.ScriptFault.{ScriptFault}
 use Rattle.sctp_trace.specs.declared.script.ScriptFault.TheVariants.{Read, Write, NoMemory, Line}
 use Rattle.sctp_pair.specs.PairStands.{PairStands}
-use Rattle.sctp_trace.specs.Script.{is_paired}
-use Rattle.sctp_trace.specs.inner.ScriptSteps.{StandsAt, IsGatheredOf, LineLeaves}
+use Rattle.sctp_trace.specs.Stages.{Stage, SetUp, Reached, place_of, world_of}
+use Rattle.sctp_trace.specs.inner.ScriptSteps.{StandsAt, IsSetUp, IsGatheredOf, LineLeaves}
 
 -- ---- one line acts
 
--- a pair is there where the state says so
-pub paired : (pair : Option Pair) (state : Option World) → StandsAt pair state → is_some pair ≡ is_paired state
-paired None None stands = refl
-paired None (Some w) stands = absurd stands
-paired (Some pair) None stands = absurd stands
-paired (Some pair) (Some w) stands = refl
-
--- a line that says what it says where the state does
-pub says_here : (pair : Option Pair) (state : Option World) (b : Bool) (line : List ℕ) (m : LineMeaning)
-    → StandsAt pair state → b ≡ is_some pair → Says b line m → Says (is_paired state) line m
-says_here pair state b line m stands e says = subst (λ (x : Bool). Says x line m) (e ∙ paired pair state stands) says
+-- a place behind the `pair` line has a pair
+pub paired : (b : Bool) (fresh : Option TwoConfigs) → is_paired (place_at b fresh) ≡ b
+paired false fresh = refl
+paired true (Some configs) = refl
+paired true None = refl
 
 -- The world of a pair that is there. The equations of pairs go to lemmas on any type: `cc` would go through all of a pair's parts.
-pub world_of : (option : Option Pair) (pair : Pair) (state : Option World) → option ≡ Some pair → StandsAt option state
+pub world_there : (option : Option Pair) (pair : Pair) (state : Option World) → option ≡ Some pair → StandsAt option state
     → (w : World) × (state ≡ Some w) × PairStands pair w
-world_of None pair state e stands = absurd (none-some pair e)
-world_of (Some other) pair None e stands = absurd stands
-world_of (Some other) pair (Some w) e stands =
+world_there None pair state e stands = absurd (none-some pair e)
+world_there (Some other) pair None e stands = absurd stands
+world_there (Some other) pair (Some w) e stands =
     (w, refl, subst (λ (p : Pair). PairStands p w) (same_Some other pair e) stands)
 
 -- what is wanted came to pass, and what was written of its outcome
-pub outcome_leaves : (result : Result (Unit {0}) ScriptFault) (n : ℕ) (state : Option World) (w x : World) (line : List ℕ) (wanted : Wanted) (e : meaning.Event)
-    (o : meaning.Outcome) (here : List ℕ) (pair : Pair) → state ≡ Some w → Says (is_paired state) line (Acts wanted) → IsMeant wanted e → Step w e (Some o) x → PairStands pair x
-    → IsGatheredOf result (outcome_line wanted o) here → LineLeaves result n state line here (Some pair)
-outcome_leaves (Ok u) n state w x line wanted e o here pair is says meant step stands written =
-    (Some x, (Acts wanted, says, (w, x, e, o, meant, is, step, written, refl)), stands)
-outcome_leaves (Err Read) n state w x line wanted e o here pair is says meant step stands written = absurd written
-outcome_leaves (Err Write) n state w x line wanted e o here pair is says meant step stands written = absurd written
-outcome_leaves (Err NoMemory) n state w x line wanted e o here pair is says meant step stands written = written
-outcome_leaves (Err (Line m fault)) n state w x line wanted e o here pair is says meant step stands written = absurd written
+pub outcome_leaves : (result : Result (Unit {0}) ScriptFault) (n : ℕ) (stage : Stage) (w x : World) (line : List ℕ) (wanted : Wanted) (e : meaning.Event)
+    (o : meaning.Outcome) (here : List ℕ) (pair : Pair) → world_of stage ≡ Some w → SaysAt (place_of stage) line (Plain (Acts wanted)) → IsMeant wanted e
+    → Step w e (Some o) x → PairStands pair x → IsGatheredOf result (outcome_line wanted o) here → LineLeaves result n stage line here (Some pair) None
+outcome_leaves (Ok u) n stage w x line wanted e o here pair is says meant step stands written =
+    (Reached x, (Plain (Acts wanted), says, (w, x, e, o, meant, is, step, written, refl)), (stands, refl))
+outcome_leaves (Err Read) n stage w x line wanted e o here pair is says meant step stands written = absurd written
+outcome_leaves (Err Write) n stage w x line wanted e o here pair is says meant step stands written = absurd written
+outcome_leaves (Err NoMemory) n stage w x line wanted e o here pair is says meant step stands written = written
+outcome_leaves (Err (Line m fault)) n stage w x line wanted e o here pair is says meant step stands written = absurd written
+
+-- two endpoints were set up, as the `pair` line or a line of options says
+pub pair_leaves : (result : Result (Unit {0}) ScriptFault) (n : ℕ) (stage : Stage) (line : List ℕ) (config : PairConfig) (configs : TwoConfigs) (pair : Option Pair)
+    (fresh : Option TwoConfigs) → SaysAt (place_of stage) line (Plain (Pairs config.a)) → configs.a ≡ config.a → configs.b ≡ turned_round config.a
+    → IsSetUp result configs pair fresh → LineLeaves result n stage line [] pair fresh
+pair_leaves (Ok u) n stage line config configs pair fresh says is_a is_b (s, under, stand) =
+    let same : SetUp configs.a configs.b s ≡ SetUp config.a (turned_round config.a) s =
+    ap (λ (a : Configuration). SetUp a configs.b s) is_a ∙ ap (λ (b : Configuration). SetUp config.a b s) is_b in
+    (SetUp configs.a configs.b s, (Plain (Pairs config.a), says, (s, under, refl, same)), stand)
+pair_leaves (Err Read) n stage line config configs pair fresh says is_a is_b set = absurd set
+pair_leaves (Err Write) n stage line config configs pair fresh says is_a is_b set = absurd set
+pair_leaves (Err NoMemory) n stage line config configs pair fresh says is_a is_b set = refl
+pair_leaves (Err (Line m fault)) n stage line config configs pair fresh says is_a is_b set = absurd set
+
+pub options_leave : (result : Result (Unit {0}) ScriptFault) (n : ℕ) (stage : Stage) (line : List ℕ) (configs : TwoConfigs) (pair : Option Pair)
+    (fresh : Option TwoConfigs) → SaysAt (place_of stage) line (Configures configs.a configs.b) → IsSetUp result configs pair fresh
+    → LineLeaves result n stage line [] pair fresh
+options_leave (Ok u) n stage line configs pair fresh says (s, under, stand) =
+    (SetUp configs.a configs.b s, (Configures configs.a configs.b, says, (s, under, refl, refl)), stand)
+options_leave (Err Read) n stage line configs pair fresh says set = absurd set
+options_leave (Err Write) n stage line configs pair fresh says set = absurd set
+options_leave (Err NoMemory) n stage line configs pair fresh says set = refl
+options_leave (Err (Line m fault)) n stage line configs pair fresh says set = absurd set
 
 -- ---- what calls answered
 
@@ -65,16 +86,11 @@ mapped_is Q (Ok y) q x cases is = cc
 mapped_is Q (Err e) (Ok y) x cases is = absurd cases
 mapped_is Q (Err e) (Err d) x cases is = cc
 
--- a line that says an event, and one that says a pair
-pub finds_event : (b : Bool) (line : List ℕ) (found : Option Acting) (a : Acting) (event : Event) → found ≡ Some a → a ≡ acting.Event event
-    → Finds b line found → Says b line (Acts (event_meaning event))
-finds_event b line found a event f e finds =
-    subst (λ (x : Option Acting). Finds b line x) (f ∙ ap Some e) finds
-
-pub finds_pair : (b : Bool) (line : List ℕ) (found : Option Acting) (a : Acting) (config : PairConfig) → found ≡ Some a → a ≡ acting.Pair config
-    → Finds b line found → Says b line (Pairs config.a)
-finds_pair b line found a config f e finds =
-    subst (λ (x : Option Acting). Finds b line x) (f ∙ ap Some e) finds
+-- what was found on a line says what the line does
+pub finds : (place : Place) (line : List ℕ) (found : Option Placed) (p : Placed) (m : PlacedMeaning) → found ≡ Some p → placed_meaning p ≡ m
+    → FindsAt place line found → SaysAt place line m
+finds place line found p m f e says =
+    subst (λ (x : PlacedMeaning). SaysAt place line x) e (subst (λ (x : Option Placed). FindsAt place line x) f says)
 
 pub no_pair : (b : Bool) (option : Option Pair) → b ≡ true → b ≡ is_some option → option ≡ None → ⊥
 no_pair b None t e n = cc

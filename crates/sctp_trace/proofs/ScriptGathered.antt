@@ -1,11 +1,11 @@
 -- Output that is gathered before it is written: what is written stays a beginning of what the lines of a script write.
-use Rattle.std.proofs.Common.{◌≡◌, ℕ, ◌+◌, length, ◌++◌, inl, inr, List, [], Bool, Option, None, ◌≤◌, Result, Ok, Err, refl, sym, ap, ◌∙◌, subst, arith, append_assoc, append-nil}
+use Rattle.std.proofs.Common.{◌≡◌, ℕ, ◌+◌, length, ◌++◌, inl, inr, List, [], Bool, ◌≤◌, Result, Ok, Err, refl, sym, ap, ◌∙◌, subst, arith, append_assoc, append-nil}
 use Rattle.std.proofs.lemmas.List.Elements.{All-nil}
 use Rattle.sctp_text.specs.TextLines.{Reading, IsOneLine}
 use Rattle.sctp_text.specs.NextLineAnswer.{given_by, IsAnswer, LeadsOn}
 use Rattle.sctp_text.specs.declared.line_reader.NextLine.{NextLine}
 use Rattle.sctp_text.specs.declared.line_reader.ReadFault.{ReadFault}
-use Rattle.sctp_model.specs.world.World.{World}
+use Rattle.sctp_trace.specs.Stages.{Stage, Unpaired}
 use Rattle.sctp_words.specs.declared.line_fault.LineFault.{LineFault}
 use Rattle.sctp_trace.specs.declared.script.Running.{Running}
 use Rattle.sctp_trace.specs.declared.script.ScriptFault.{ScriptFault}
@@ -51,10 +51,10 @@ output_cut text written more (output, behind, is, begins) = (output, more ++ beh
 -- what was written before a fault is written for first lines
 fault_front : (end : Type 0) (text : List ℕ) (n : ℕ) (fault : LineFault) (written : List ℕ) → FaultsFirst end text n fault written → BeginsFront text written
 fault_front end text n fault written (inl faulty) =
-    (faulty.front, faulty.rest, written, [], faulty.state, faulty.before, sym (append-nil written))
+    (faulty.front, faulty.rest, written, [], faulty.stage, faulty.before, sym (append-nil written))
 fault_front end text n fault written (inr none) =
-    let start : IsFront text [] text [] None = record { each = All-nil IsOneLine; whole = refl; small = omega arith; goes = (refl, refl) } in
-    rw (none.4) ([], text, [], [], None, start, refl)
+    let start : IsFront text [] text [] Unpaired = record { each = All-nil IsOneLine; whole = refl; small = omega arith; goes = (refl, refl) } in
+    rw (none.4) ([], text, [], [], Unpaired, start, refl)
 
 -- however it ends, where the writer fails a beginning of it was written
 write_cut : (end : Type 0) (ended : Result (Unit {0}) ScriptFault) (text written more : List ℕ) → EndsAs end ended text (written ++ more)
@@ -82,7 +82,7 @@ closed_so end ended result text done gathered written ends (inr (inr is, part)) 
     rw (is.0, is.1) (front_cut text (done ++ written) part.0 ends)
 
 -- what was written of the bytes that were gathered stands behind all that was written before
-pub passed_on : (s : Running) (text done before written rest : List ℕ) (lines : List (List ℕ)) (state : Option World) → before ≡ written ++ rest
+pub passed_on : (s : Running) (text done before written rest : List ℕ) (lines : List (List ℕ)) (state : Stage) → before ≡ written ++ rest
     → IsSoFar s text (done ++ before) lines state → IsSoFar s text ((done ++ written) ++ rest) lines state
 passed_on s text done before written rest lines state is so =
     let parts : done ++ before ≡ (done ++ written) ++ rest = ap (λ (bytes : List ℕ). done ++ bytes) is ∙ sym (append_assoc done written rest) in
@@ -90,7 +90,7 @@ passed_on s text done before written rest lines state is so =
 
 -- The same, and the reader of lines gave the answer that was met.
 pub got_line : ((text : List ℕ) (lines : List (List ℕ)) (now : Reading) (bytes : List ℕ) (answer : Result NextLine ReadFault) (after : Reading) → LeadsOn text lines now bytes answer after)
-    → (s : Running) (text done before written rest : List ℕ) (lines : List (List ℕ)) (state : Option World) → before ≡ written ++ rest
+    → (s : Running) (text done before written rest : List ℕ) (lines : List (List ℕ)) (state : Stage) → before ≡ written ++ rest
     → IsSoFar s text (done ++ before) lines state → s.lines.given ≤ LONGEST_TEXT → (bytes : List ℕ) (told answer : NextLine) (now : Reading) → told ≡ answer
     → s.lines.held ++ bytes ≡ given_by (Ok told) ++ now.held → now.given ≡ s.lines.given + length (given_by (Ok told)) → IsAnswer (Ok told) now
     → Got s text ((done ++ written) ++ rest) lines state bytes answer now
@@ -106,7 +106,7 @@ runs_behind end result s text done before here after is runs =
     subst (λ (bytes : List ℕ). RunsOn end result s text bytes) (append_assoc done before here ∙ ap (λ (bytes : List ℕ). done ++ bytes) (sym is)) runs
 
 -- the writer failed before the next line was asked for
-pub stopped_writing : (end : Type 0) (fault : ScriptFault) (s t : Running) (text done before written rest : List ℕ) (lines : List (List ℕ)) (state : Option World)
+pub stopped_writing : (end : Type 0) (fault : ScriptFault) (s t : Running) (text done before written rest : List ℕ) (lines : List (List ℕ)) (state : Stage)
     → s.lines.given ≤ LONGEST_TEXT → IsPassedOn (Err fault) before written rest → IsSoFar s text (done ++ before) lines state
     → RunsOn end (Err fault) t (text ++ []) ((done ++ written) ++ rest)
 stopped_writing end Read s t text done before written rest lines state small passed so = absurd passed

@@ -1,5 +1,6 @@
 -- The lines of a script have a course, and each of its worlds is safe.
-use Rattle.std.proofs.Common.{◌≡◌, ℕ, ◌<◌, ◌^◌, Bool, true, false, ◌∷◌, [], List, map, Option, None, Some, inl, inr, refl, sym, ◌∙◌, subst, arith}
+use Rattle.std.proofs.Common.{◌≡◌, ℕ, ◌<◌, ◌^◌, Bool, true, false, ◌∷◌, [], List, map, None, Some, inl, inr, refl, sym, ap, ◌∙◌, subst, arith}
+use Rattle.std.proofs.lemmas.Option.{same_Some}
 use Rattle.sctp_model.specs.numbers.Lists.{Has}
 use Rattle.sctp_model.specs.wire.Packet.{Packet}
 use Rattle.sctp_model.specs.end.Sealing.{Sealing}
@@ -9,146 +10,204 @@ use Rattle.sctp_model.specs.world.World.{Side, A, B, World, configuration_of, st
 use Rattle.sctp_model.specs.world.Events.{Event, Foreign, Outcome}
 use Rattle.sctp_model.specs.world.Steps.{Step, PassesThrough, last_of}
 use Rattle.sctp_model.specs.world.Aged.{Aged}
-use Rattle.sctp_safety.specs.Runs.{AreAllSafe, EachWorldIsSafe}
+use Rattle.sctp_safety.specs.Runs.{KeepBothPromises, EachWorldIsSafe}
+use Rattle.sctp_outcomes.specs.Users.{exchange, IsFaithful, UsersTakeWhatWasSent}
 use Rattle.sctp_cookie.specs.Seals.{IsUnder}
 use Rattle.sctp_events.specs.Events.{Wanted, Happens, BringsBytes}
 use Rattle.sctp_pair.specs.Happens.{IsMeant}
 use Rattle.sctp_pair.specs.Unforged.{KeyPremises, HasByteCookies, HaveByteCookies, PremisesAreTheKeys, WhatIsReadHasByteCookies}
 use Rattle.sctp_script.specs.CanBe.{CanBe}
-use Rattle.sctp_script.specs.Configuration.{IsOfPair}
-use Rattle.sctp_script.specs.Grammar.{LineMeaning, Silent, Pairs, Acts, Fault, Says}
-use Rattle.sctp_trace.specs.Script.{LISTENER_KEY, set_up, Does, Goes}
+use Rattle.sctp_events.specs.Alike.{turned_round}
+use Rattle.sctp_events.specs.Setups.{setup_with}
+use Rattle.sctp_script.specs.Configuration.{AreOfPair}
+use Rattle.sctp_script.specs.Grammar.{Silent, Pairs, Acts, Fault, Says}
+use Rattle.sctp_script.specs.Places as places
+use Rattle.sctp_script.specs.Places.{Place, Behind, Acted, Plain, Configures, SaysAt, is_paired}
+use Rattle.sctp_trace.specs.Stages.{LISTENER_KEY, Stage, Unpaired, SetUp, Reached, world_of}
+use Rattle.sctp_trace.specs.Script.{Goes}
+use Rattle.sctp_trace.proofs.PlacedLines.{event_plain, pair_plain}
 use Rattle.sctp_trace.specs.ScriptSafe.{AreEventsOf, Course}
 
--- the laws of `pair` lines, and of configurations
+-- the laws of `pair` lines and lines of options, and of configurations
 pub record PairLaws : Type 0 where
   pub first : (paired : Bool) (line : List ℕ) (c : Configuration) → Says paired line (Pairs c) → paired ≡ false
-  pub right : (paired : Bool) (line : List ℕ) (c : Configuration) → Says paired line (Pairs c) → IsOfPair c
+  pub pair : (place : Place) (line : List ℕ) (c : Configuration) → SaysAt place line (Plain (Pairs c)) → AreOfPair c (turned_round c)
+  pub options : (line : List ℕ) (a b c d : Configuration) → AreOfPair a b → SaysAt (Behind a b) line (Configures c d) → AreOfPair c d
   pub within : (c : Configuration) → c.own_port < 2 ^ 16 → c.peer_port < 2 ^ 16 → configuration_fault c ≡ None → IsConfiguration c
 
-pair_is_configured : PairLaws → (paired : Bool) (line : List ℕ) (c : Configuration) → Says paired line (Pairs c) → IsConfiguration c
-pair_is_configured laws paired line c says =
-    let is = laws.right paired line c says in
-    laws.within c (omega (arith, is.own_port)) (omega (arith, is.peer_port)) is.faultless
+-- the limits hold at both ends
+both_configured : PairLaws → (a b : Configuration) (s : Sealing) → AreOfPair a b → (x : Side) → IsConfiguration (configuration_of (setup_with a b s) x)
+both_configured laws a b s right A = laws.within a (omega (arith, right.of_a.own_port)) (omega (arith, right.of_a.peer_port)) right.of_a.faultless
+both_configured laws a b s right B =
+    let same : record b { own_port = a.peer_port; peer_port = a.own_port } ≡ b =
+    ap (λ (p : ℕ). record b { own_port = p; peer_port = a.own_port }) (right.of_a.peer_port ∙ sym right.of_b.own_port)
+    ∙ ap (λ (p : ℕ). record b { own_port = b.own_port; peer_port = p }) (right.of_a.own_port ∙ sym right.of_b.peer_port) in
+    subst IsConfiguration (sym same) (laws.within b (omega (arith, right.of_b.own_port)) (omega (arith, right.of_b.peer_port)) right.of_b.faultless)
 
 -- ---- a course from a world on
 
--- what lines behind `pair` lead through from a world to a world
+-- what lines behind one that acts lead through from a world to a world
 record GoesThrough (v w : World) (lines : List (List ℕ)) : Type 0 where
   pub events : List Event
-  pub theirs : AreEventsOf true lines events
+  pub theirs : AreEventsOf Acted lines events
   pub outcomes : List Outcome
   pub worlds : List World
   pub passes : PassesThrough v events (map Some outcomes) worlds
   pub ends : last_of v worlds ≡ w
 
-same_world : (v w : World) → Some v ≡ Some w → v ≡ w
-same_world v w is = cc
-
-goes_through : PairLaws → (v w : World) (lines : List (List ℕ)) (written : List ℕ) → Goes (Some v) lines written (Some w) → GoesThrough v w lines
-goes_through laws v w [] written goes =
-    record { events = []; theirs = refl; outcomes = []; worlds = []; passes = tt; ends = same_world v w (sym goes.1) }
-goes_through laws v w (line ∷ lines) written (here, behind, mid, (Silent, says, does), rest, whole) =
-    let on = goes_through laws v w lines behind (subst (λ (s : Option World). Goes s lines behind (Some w)) does.1 rest) in
+goes_through : PairLaws → (v w : World) (lines : List (List ℕ)) (written : List ℕ) (after : Stage) → Goes (Reached v) lines written after → world_of after ≡ Some w
+    → GoesThrough v w lines
+goes_through laws v w [] written after goes there =
+    record { events = []; theirs = refl; outcomes = []; worlds = []; passes = tt; ends = same_Some v w (ap world_of (sym goes.1) ∙ there) }
+goes_through laws v w (line ∷ lines) written after (here, behind, mid, (Plain Silent, says, does), rest, whole) there =
+    let on = goes_through laws v w lines behind after (subst (λ (s : Stage). Goes s lines behind after) does.1 rest) there in
     record { events = on.events; theirs = inl (says, on.theirs); outcomes = on.outcomes; worlds = on.worlds; passes = on.passes; ends = on.ends }
-goes_through laws v w (line ∷ lines) written (here, behind, mid, (Pairs c, says, does), rest, whole) = let no = laws.first true line c says in cc
-goes_through laws v w (line ∷ lines) written (here, behind, mid, (Acts wanted, says, (u, x, e, o, meant, was, step, writes, is)), rest, whole) =
-    let on = goes_through laws x w lines behind (subst (λ (s : Option World). Goes s lines behind (Some w)) is rest) in
+goes_through laws v w (line ∷ lines) written after (here, behind, mid, (Plain (Pairs c), says, does), rest, whole) there =
+    let no = laws.first true line c says in cc
+goes_through laws v w (line ∷ lines) written after (here, behind, mid, (Configures c d, says, does), rest, whole) there = absurd says
+goes_through laws v w (line ∷ lines) written after (here, behind, mid, (Plain (Acts wanted), says, (u, x, e, o, meant, was, step, writes, is)), rest, whole) there =
+    let on = goes_through laws x w lines behind after (subst (λ (s : Stage). Goes s lines behind after) is rest) there in
     record {
       events = e ∷ on.events;
-      theirs = inr (inr (wanted, e, on.events, says, meant, on.theirs, refl));
+      theirs = inr (inr (inr (wanted, e, on.events, says, meant, on.theirs, refl)));
       outcomes = o ∷ on.outcomes;
       worlds = x ∷ on.worlds;
-      passes = (subst (λ (y : World). Step y e (Some o) x) (sym (same_world v u was)) step, on.passes);
+      passes = (subst (λ (y : World). Step y e (Some o) x) (sym (same_Some v u was)) step, on.passes);
       ends = on.ends;
     }
-goes_through laws v w (line ∷ lines) written (here, behind, mid, (Fault fault, says, does), rest, whole) = absurd does
+goes_through laws v w (line ∷ lines) written after (here, behind, mid, (Plain (Fault fault), says, does), rest, whole) there = absurd does
 
 -- ---- a course from START on
 
--- the limits hold at both ends
-both_configured : (c : Configuration) (s : Sealing) → IsConfiguration c → (x : Side) → IsConfiguration (configuration_of (set_up c s) x)
-both_configured c s is A = record {
-  own_port = is.own_port;
-  peer_port = is.peer_port;
-  limit = is.limit;
-  fragment = is.fragment;
-  buffer = is.buffer;
-  outbound = is.outbound;
-  inbound = is.inbound;
-}
-both_configured c s is B = record {
-  own_port = is.peer_port;
-  peer_port = is.own_port;
-  limit = is.limit;
-  fragment = is.fragment;
-  buffer = is.buffer;
-  outbound = is.outbound;
-  inbound = is.inbound;
-}
+-- what lines from this place on lead through, with two endpoints set up on the way
+record HasCourse (place : Place) (lines : List (List ℕ)) (w : World) : Type 0 where
+  pub a : Configuration
+  pub b : Configuration
+  pub seal : Sealing
+  pub key : IsUnder LISTENER_KEY seal
+  pub right : AreOfPair a b
+  pub events : List Event
+  pub theirs : AreEventsOf place lines events
+  pub outcomes : List Outcome
+  pub worlds : List World
+  pub passes : PassesThrough (start (setup_with a b seal)) events (map Some outcomes) worlds
+  pub ends : last_of (start (setup_with a b seal)) worlds ≡ w
 
--- a line that does nothing, and a course behind it
-behind_silence : (line : List ℕ) (lines : List (List ℕ)) (w : World) → Says false line Silent → Course lines w → Course (line ∷ lines) w
-behind_silence line lines w says on = record {
-  setup = on.setup;
+-- the same behind one line more, by what it says
+one_more : (place next : Place) (line : List ℕ) (lines : List (List ℕ)) (w : World) (on : HasCourse next lines w) → AreEventsOf place (line ∷ lines) on.events
+    → HasCourse place (line ∷ lines) w
+one_more place next line lines w on theirs = record {
+  a = on.a;
+  b = on.b;
+  seal = on.seal;
   key = on.key;
-  configured = on.configured;
+  right = on.right;
   events = on.events;
-  theirs = inl (says, on.theirs);
+  theirs = theirs;
   outcomes = on.outcomes;
   worlds = on.worlds;
   passes = on.passes;
   ends = on.ends;
 }
 
--- a `pair` line, and what the lines behind it lead through
-behind_pair : PairLaws → (line : List ℕ) (lines : List (List ℕ)) (w : World) (c : Configuration) (s : Sealing) → Says false line (Pairs c) → IsUnder LISTENER_KEY s
-    → GoesThrough (start (set_up c s)) w lines → Course (line ∷ lines) w
-behind_pair laws line lines w c s says under on = record {
-  setup = set_up c s;
+-- no line: the world is the one that the endpoints were set up in
+nothing_asked : (a b : Configuration) (s : Sealing) (w : World) → IsUnder LISTENER_KEY s → AreOfPair a b → Some (start (setup_with a b s)) ≡ Some w → HasCourse (Behind a b) [] w
+nothing_asked a b s w under right is = record {
+  a = a;
+  b = b;
+  seal = s;
   key = under;
-  configured = both_configured c s (pair_is_configured laws false line c says);
-  events = on.events;
-  theirs = inr (inl (c, says, on.theirs));
-  outcomes = on.outcomes;
-  worlds = on.worlds;
-  passes = on.passes;
+  right = right;
+  events = [];
+  theirs = refl;
+  outcomes = [];
+  worlds = [];
+  passes = tt;
+  ends = same_Some (start (setup_with a b s)) w is;
+}
+
+-- a line that says nothing, and a line of options
+silent_first : (a b : Configuration) (line : List ℕ) (lines : List (List ℕ)) (w : World) → SaysAt (Behind a b) line (Plain Silent) → HasCourse (Behind a b) lines w → HasCourse (Behind a b) (line ∷ lines) w
+silent_first a b line lines w says on = one_more (Behind a b) (Behind a b) line lines w on (inl (says, on.theirs))
+
+options_first : (a b c d : Configuration) (line : List ℕ) (lines : List (List ℕ)) (w : World) → SaysAt (Behind a b) line (Configures c d) → HasCourse (Behind c d) lines w → HasCourse (Behind a b) (line ∷ lines) w
+options_first a b c d line lines w says on = one_more (Behind a b) (Behind c d) line lines w on (inr (inr (inl (c, d, says, on.theirs))))
+
+-- behind the pair no line is a `pair` line
+no_pair_more : PairLaws → (a b : Configuration) (line : List ℕ) (lines : List (List ℕ)) (w : World) (c : Configuration) → SaysAt (Behind a b) line (Plain (Pairs c)) → HasCourse (Behind a b) (line ∷ lines) w
+no_pair_more laws a b line lines w c says = let no : true ≡ false = laws.first true line c (pair_plain (Behind a b) line c says) in cc
+
+-- the first line that asks something of the two endpoints
+asks_first : (a b : Configuration) (s : Sealing) (line : List ℕ) (lines : List (List ℕ)) (w u x : World) (wanted : Wanted) (e : Event) (o : Outcome) → IsUnder LISTENER_KEY s → AreOfPair a b
+    → SaysAt (Behind a b) line (Plain (Acts wanted)) → IsMeant wanted e → Some (start (setup_with a b s)) ≡ Some u → Step u e (Some o) x → GoesThrough x w lines
+    → HasCourse (Behind a b) (line ∷ lines) w
+asks_first a b s line lines w u x wanted e o under right says meant was step on = record {
+  a = a;
+  b = b;
+  seal = s;
+  key = under;
+  right = right;
+  events = e ∷ on.events;
+  theirs = inr (inr (inr (wanted, e, on.events, says, meant, on.theirs, refl)));
+  outcomes = o ∷ on.outcomes;
+  worlds = x ∷ on.worlds;
+  passes = (subst (λ (y : World). Step y e (Some o) x) (sym (same_Some (start (setup_with a b s)) u was)) step, on.passes);
   ends = on.ends;
 }
 
--- from a state that is a world on
-through_from : PairLaws → (state : Option World) (v w : World) (lines : List (List ℕ)) (written : List ℕ) → state ≡ Some v → Goes state lines written (Some w) → GoesThrough v w lines
-through_from laws state v w lines written is goes =
-    goes_through laws v w lines written (subst (λ (s : Option World). Goes s lines written (Some w)) is goes)
+-- lines behind the pair, whose configurations are right
+behind_pair : PairLaws → (a b : Configuration) (s : Sealing) (lines : List (List ℕ)) (written : List ℕ) (after : Stage) (w : World) → IsUnder LISTENER_KEY s → AreOfPair a b
+    → Goes (SetUp a b s) lines written after → world_of after ≡ Some w → HasCourse (Behind a b) lines w
+behind_pair laws a b s [] written after w under right goes there = nothing_asked a b s w under right (ap world_of (sym goes.1) ∙ there)
+behind_pair laws a b s (line ∷ lines) written after w under right (here, behind, mid, (Plain Silent, says, does), rest, whole) there =
+    silent_first a b line lines w says (behind_pair laws a b s lines behind after w under right (subst (λ (x : Stage). Goes x lines behind after) does.1 rest) there)
+behind_pair laws a b s (line ∷ lines) written after w under right (here, behind, mid, (Plain (Pairs c), says, does), rest, whole) there =
+    no_pair_more laws a b line lines w c says
+behind_pair laws a b s (line ∷ lines) written after w under right (here, behind, mid, (Configures c d, says, (t, seals, writes, is)), rest, whole) there =
+    options_first a b c d line lines w says (behind_pair laws c d t lines behind after w seals (laws.options line a b c d right says) (subst (λ (x : Stage). Goes x lines behind after) is rest) there)
+behind_pair laws a b s (line ∷ lines) written after w under right (here, behind, mid, (Plain (Acts wanted), says, (u, x, e, o, meant, was, step, writes, is)), rest, whole) there =
+    asks_first a b s line lines w u x wanted e o under right says meant was step (goes_through laws x w lines behind after (subst (λ (y : Stage). Goes y lines behind after) is rest) there)
+behind_pair laws a b s (line ∷ lines) written after w under right (here, behind, mid, (Plain (Fault fault), says, does), rest, whole) there = absurd does
 
-no_world : (w : World) → None ≡ Some w → ⊥
-no_world w is = cc
+-- before a `pair` line there is no world
+no_world : (place : Place) (lines : List (List ℕ)) (u w : World) → None ≡ Some u → HasCourse place lines w
+no_world place lines u w none = cc
 
--- a first line, and what is known of the lines behind it where there is no pair yet
-behind_line : PairLaws → (line : List ℕ) (lines : List (List ℕ)) (w : World) (m : LineMeaning) (here behind : List ℕ) (mid : Option World) → Says false line m
-    → Does None m here mid → Goes mid lines behind (Some w) → (mid ≡ None → Course lines w) → Course (line ∷ lines) w
-behind_line laws line lines w Silent here behind mid says (writes, is) rest again = behind_silence line lines w says (again is)
-behind_line laws line lines w (Pairs c) here behind mid says (s, under, writes, is) rest again =
-    behind_pair laws line lines w c s says under (through_from laws mid (start (set_up c s)) w lines behind is rest)
-behind_line laws line lines w (Acts wanted) here behind mid says (u, x, e, o, meant, was, step, writes, is) rest again = absurd (no_world u was)
-behind_line laws line lines w (Fault fault) here behind mid says does rest again = absurd does
+-- the `pair` line, and a line that says nothing
+pair_first : (c : Configuration) (line : List ℕ) (lines : List (List ℕ)) (w : World) → SaysAt places.Unpaired line (Plain (Pairs c)) → HasCourse (Behind c (turned_round c)) lines w
+    → HasCourse places.Unpaired (line ∷ lines) w
+pair_first c line lines w says on = one_more places.Unpaired (Behind c (turned_round c)) line lines w on (inr (inl (c, says, on.theirs)))
 
--- what lines lead through from START on has a course
-abbrev HaveCourse : List (List ℕ) → Type 0
-HaveCourse lines = (written : List ℕ) (w : World) → Goes None lines written (Some w) → Course lines w
+silent_start : (line : List ℕ) (lines : List (List ℕ)) (w : World) → SaysAt places.Unpaired line (Plain Silent) → HasCourse places.Unpaired lines w → HasCourse places.Unpaired (line ∷ lines) w
+silent_start line lines w says on = one_more places.Unpaired places.Unpaired line lines w on (inl (says, on.theirs))
 
-no_lines : HaveCourse []
-no_lines written w goes = absurd (no_world w (sym goes.1))
+-- lines from the first one on
+from_start : PairLaws → (lines : List (List ℕ)) (written : List ℕ) (after : Stage) (w : World) → Goes Unpaired lines written after → world_of after ≡ Some w
+    → HasCourse places.Unpaired lines w
+from_start laws [] written after w goes there = no_world places.Unpaired [] w w (ap world_of (sym goes.1) ∙ there)
+from_start laws (line ∷ lines) written after w (here, behind, mid, (Plain Silent, says, does), rest, whole) there =
+    silent_start line lines w says (from_start laws lines behind after w (subst (λ (x : Stage). Goes x lines behind after) does.1 rest) there)
+from_start laws (line ∷ lines) written after w (here, behind, mid, (Plain (Pairs c), says, (s, under, writes, is)), rest, whole) there =
+    pair_first c line lines w says (behind_pair laws c (turned_round c) s lines behind after w under (laws.pair places.Unpaired line c says) (subst (λ (x : Stage). Goes x lines behind after) is rest) there)
+from_start laws (line ∷ lines) written after w (here, behind, mid, (Configures c d, says, does), rest, whole) there = absurd says
+from_start laws (line ∷ lines) written after w (here, behind, mid, (Plain (Acts wanted), says, (u, x, e, o, meant, was, step, writes, is)), rest, whole) there =
+    no_world places.Unpaired (line ∷ lines) u w was
+from_start laws (line ∷ lines) written after w (here, behind, mid, (Plain (Fault fault), says, does), rest, whole) there = absurd does
 
--- one line in front of lines that have a course
-one_line_more : PairLaws → (line : List ℕ) (lines : List (List ℕ)) → HaveCourse lines → HaveCourse (line ∷ lines)
-one_line_more laws line lines on written w (here, behind, mid, acts, rest, whole) =
-    behind_line laws line lines w acts.0 here behind mid acts.1 acts.2 rest
-    (λ is. on behind w (subst (λ (s : Option World). Goes s lines behind (Some w)) is rest))
-
-pub has_course : PairLaws → (lines : List (List ℕ)) (written : List ℕ) (w : World) → Goes None lines written (Some w) → Course lines w
-has_course laws [] = no_lines
-has_course laws (line ∷ lines) = one_line_more laws line lines (has_course laws lines)
+pub has_course : PairLaws → (lines : List (List ℕ)) (written : List ℕ) (stage : Stage) (w : World) → Goes Unpaired lines written stage → world_of stage ≡ Some w → Course lines w
+has_course laws lines written stage w goes there =
+    let on = from_start laws lines written stage w goes there in
+    record {
+      setup = setup_with on.a on.b on.seal;
+      key = on.key;
+      configured = both_configured laws on.a on.b on.seal on.right;
+      events = on.events;
+      theirs = on.theirs;
+      outcomes = on.outcomes;
+      worlds = on.worlds;
+      passes = on.passes;
+      ends = on.ends;
+    }
 
 -- ---- strangers
 
@@ -173,23 +232,28 @@ cookies_of laws paired line (BringsBytes s bytes) e x p says (Some q, reads, mea
     subst HasByteCookies same (laws.byte_cookies bytes q (laws.can_be paired line (BringsBytes s bytes) says) reads)
 cookies_of laws paired line (BringsBytes s bytes) e x p says (None, reads, meant) is = absurd (not_unread s x p (sym meant ∙ is))
 
-pub have_byte_cookies : StrangerLaws → (paired : Bool) (lines : List (List ℕ)) (events : List Event) → AreEventsOf paired lines events → HaveByteCookies events
-have_byte_cookies laws paired [] events none x p has = let has : Has [] (Foreign x (Some p)) = rw none at has in absurd has
-have_byte_cookies laws paired (line ∷ lines) events (inl silent) x p has = have_byte_cookies laws paired lines events silent.1 x p has
-have_byte_cookies laws paired (line ∷ lines) events (inr (inl pair)) x p has = have_byte_cookies laws true lines events pair.2 x p has
-have_byte_cookies laws paired (line ∷ lines) events (inr (inr (wanted, e, es, says, meant, theirs, is))) x p has =
+pub have_byte_cookies : StrangerLaws → (place : Place) (lines : List (List ℕ)) (events : List Event) → AreEventsOf place lines events → HaveByteCookies events
+have_byte_cookies laws place [] events none x p has = let has : Has [] (Foreign x (Some p)) = rw none at has in absurd has
+have_byte_cookies laws place (line ∷ lines) events (inl silent) x p has = have_byte_cookies laws place lines events silent.1 x p has
+have_byte_cookies laws place (line ∷ lines) events (inr (inl pair)) x p has = have_byte_cookies laws (Behind pair.0 (turned_round pair.0)) lines events pair.2 x p has
+have_byte_cookies laws place (line ∷ lines) events (inr (inr (inl options))) x p has = have_byte_cookies laws (Behind options.0 options.1) lines events options.3 x p has
+have_byte_cookies laws place (line ∷ lines) events (inr (inr (inr (wanted, e, es, says, meant, theirs, is)))) x p has =
     let has : Has (e ∷ es) (Foreign x (Some p)) = rw is at has in
     elim has [
-      | inl this ↦ cookies_of laws paired line wanted e x p says meant this
-      | inr behind ↦ have_byte_cookies laws paired lines es theirs x p behind
+      | inl this ↦ cookies_of laws (is_paired place) line wanted e x p (event_plain place line wanted says) meant this
+      | inr behind ↦ have_byte_cookies laws Acted lines es theirs x p behind
     ]
 
 -- ---- safety
 
 -- nothing happened before the events of a course
-pub course_is_safe : EachWorldIsSafe → PremisesAreTheKeys → StrangerLaws → (lines : List (List ℕ)) (w : World) (c : Course lines w)
-    → KeyPremises LISTENER_KEY c.events → Aged (start c.setup) c.events c.worlds → AreAllSafe (start c.setup ∷ c.worlds)
-course_is_safe safe keys laws lines w c premises aged =
-    let cookies = have_byte_cookies laws false lines c.events c.theirs in
-    let premises = (keys LISTENER_KEY c.setup.sealing c.events c.key).in_words_of_the_seal cookies premises in
-    safe c.setup [] c.events [] (map Some c.outcomes) [] c.worlds c.configured tt c.passes premises aged
+pub course_is_safe : EachWorldIsSafe → UsersTakeWhatWasSent → PremisesAreTheKeys → StrangerLaws → (lines : List (List ℕ)) (w : World) (c : Course lines w)
+    → KeyPremises LISTENER_KEY c.events → Aged (start c.setup) c.events c.worlds
+    → KeepBothPromises (start c.setup ∷ c.worlds) × ((x : Side) (n : ℕ) → IsFaithful (exchange x n c.events (map Some c.outcomes) w))
+course_is_safe safe users keys laws lines w c premises aged =
+    let cookies = have_byte_cookies laws places.Unpaired lines c.events c.theirs in
+    let premises = (keys LISTENER_KEY c.setup.sealing c.events c.key).in_words_of_the_seal cookies premises in (
+      safe c.setup [] c.events [] (map Some c.outcomes) [] c.worlds c.configured tt c.passes premises aged,
+      λ x n. subst (λ (v : World). IsFaithful (exchange x n c.events (map Some c.outcomes) v)) c.ends
+          (users c.setup c.events (map Some c.outcomes) c.worlds c.configured c.passes premises aged x n),
+    )

@@ -1,60 +1,47 @@
 -- What a script writes, and which of its lines has the first fault: over its bytes, the grammar of its lines and the steps of two endpoints.
--- A script's state is the world of its two endpoints, once there was a `pair` line. A failed allocation is no answer of a step here.
-use Rattle.std.specs.Prelude.{◌≡◌, ℕ, suc, ◌<◌, ◌≤◌, ◌⊎◌, Bool, true, false, List, [], ◌∷◌, ◌++◌, length, Option, Some, None, Result, Ok, Err}
+-- A failed allocation is no answer of a step here.
+use Rattle.std.specs.Prelude.{◌≡◌, ℕ, suc, ◌<◌, ◌≤◌, ◌⊎◌, List, [], ◌∷◌, ◌++◌, length, Some, Result, Ok, Err}
 use Rattle.std.specs.List.{All}
-use Rattle.sctp_model.specs.sender.Words.{count_up}
 use Rattle.sctp_model.specs.end.Sealing.{Sealing}
-use Rattle.sctp_model.specs.end.EndView.{Configuration}
-use Rattle.sctp_model.specs.world.World.{World, Setup, start}
+use Rattle.sctp_model.specs.world.World.{World}
 use Rattle.sctp_model.specs.world.Events.{Event, Outcome}
 use Rattle.sctp_model.specs.world.Steps.{Step}
 use Rattle.sctp_cookie.specs.Seals.{IsUnder}
+use Rattle.sctp_events.specs.Alike.{turned_round}
 use Rattle.sctp_pair.specs.Happens.{IsMeant}
 use Rattle.sctp_words.specs.declared.line_fault.LineFault.{LineFault}
 use Rattle.sctp_words.specs.declared.line_fault.LineFault.TheVariants.{TooLong, PairOrder}
-use Rattle.sctp_script.specs.Grammar.{LineMeaning, Silent, Pairs, Acts, Fault, Says, IsFirstFaultOf}
+use Rattle.sctp_script.specs.Grammar.{Silent, Pairs, Acts, Fault}
+use Rattle.sctp_script.specs.Places.{Place, PlacedMeaning, Plain, Configures, SaysAt}
 use Rattle.sctp_text.specs.TextLines.{IsOneLine, IsTooLong, ended, joined, lines_of, ended_lines_of}
 use Rattle.sctp_script.specs.OutcomeText.{outcome_line}
 use Rattle.sctp_script.specs.ReportText.{report}
+use Rattle.sctp_trace.specs.Stages.{LISTENER_KEY, Stage, Unpaired, SetUp, Reached, place_of, world_of}
 use Rattle.sctp_trace.specs.declared.script.ScriptFault.{ScriptFault}
 use Rattle.sctp_trace.specs.declared.script.ScriptFault.TheVariants.{Read, Write, NoMemory, Line}
 use Rattle.sctp_text.specs.declared.limits.TheConstants.{LONGEST_TEXT}
 
--- ---- pairs
-
--- B's key: the bytes 0 to 31
-abbrev pub LISTENER_KEY : List ℕ
-LISTENER_KEY = count_up 0 32
-
--- how two endpoints are set up with this configuration of A's, B with this seal
-abbrev pub set_up : Configuration → Sealing → Setup
-set_up c s = record { alike = c; a_port = c.own_port; b_port = c.peer_port; sealing = s }
-
 -- ---- lines that act
 
--- whether there was a `pair` line
-abbrev pub is_paired : Option World → Bool
-is_paired None = false
-is_paired (Some w) = true
+-- what is written for what a line says, and the stage that it leads to
+abbrev pub Does : Stage → PlacedMeaning → List ℕ → Stage → Type 0
+Does stage (Plain Silent) written after = (written ≡ []) × (after ≡ stage)
+Does stage (Plain (Pairs c)) written after = (s : Sealing) × IsUnder LISTENER_KEY s × (written ≡ []) × (after ≡ SetUp c (turned_round c) s)
+Does stage (Configures a b) written after = (s : Sealing) × IsUnder LISTENER_KEY s × (written ≡ []) × (after ≡ SetUp a b s)
+Does stage (Plain (Acts wanted)) written after =
+    (w x : World) × (e : Event) × (o : Outcome) × IsMeant wanted e × (world_of stage ≡ Some w) × Step w e (Some o) x
+    × (written ≡ outcome_line wanted o) × (after ≡ Reached x)
+Does stage (Plain (Fault fault)) written after = ⊥
 
--- what is written for what a line says, and the state that it leads to
-abbrev pub Does : Option World → LineMeaning → List ℕ → Option World → Type 0
-Does state Silent written after = (written ≡ []) × (after ≡ state)
-Does state (Pairs c) written after = (s : Sealing) × IsUnder LISTENER_KEY s × (written ≡ []) × (after ≡ Some (start (set_up c s)))
-Does state (Acts wanted) written after =
-    (w x : World) × (e : Event) × (o : Outcome) × IsMeant wanted e × (state ≡ Some w) × Step w e (Some o) x
-    × (written ≡ outcome_line wanted o) × (after ≡ Some x)
-Does state (Fault fault) written after = ⊥
-
--- a line without a fault writes this and leads to this state
-abbrev pub LineActs : Option World → List ℕ → List ℕ → Option World → Type 0
-LineActs state line written after = (m : LineMeaning) × Says (is_paired state) line m × Does state m written after
+-- a line without a fault writes this and leads to this stage
+abbrev pub LineActs : Stage → List ℕ → List ℕ → Stage → Type 0
+LineActs stage line written after = (m : PlacedMeaning) × SaysAt (place_of stage) line m × Does stage m written after
 
 -- lines without a fault, one after another
-abbrev pub Goes : Option World → List (List ℕ) → List ℕ → Option World → Type 0
-Goes state [] written after = (written ≡ []) × (after ≡ state)
-Goes state (line ∷ lines) written after =
-    (here behind : List ℕ) × (mid : Option World) × LineActs state line here mid × Goes mid lines behind after × (written ≡ here ++ behind)
+abbrev pub Goes : Stage → List (List ℕ) → List ℕ → Stage → Type 0
+Goes stage [] written after = (written ≡ []) × (after ≡ stage)
+Goes stage (line ∷ lines) written after =
+    (here behind : List ℕ) × (mid : Stage) × LineActs stage line here mid × Goes mid lines behind after × (written ≡ here ++ behind)
 
 -- ---- OUTPUT
 
@@ -62,8 +49,10 @@ Goes state (line ∷ lines) written after =
 pub record IsOutput (text written : List ℕ) : Type 0 where
   pub small : length text ≤ LONGEST_TEXT
   pub outcomes : List ℕ
+  pub stage : Stage
+  pub goes : Goes Unpaired (lines_of text) outcomes stage
   pub world : World
-  pub goes : Goes None (lines_of text) outcomes (Some world)
+  pub there : world_of stage ≡ Some world
   pub whole : written ≡ outcomes ++ report world
 
 -- ---- the first fault
@@ -72,32 +61,32 @@ pub record IsOutput (text written : List ℕ) : Type 0 where
 abbrev pub BeginsWith : Type 0 → List ℕ → List ℕ → Type 0
 BeginsWith end text line = IsOneLine line × (((tail : List ℕ) × (text ≡ ended line ++ tail)) ⊎ (end × (0 < length line) × (text ≡ line)))
 
--- Behind so many bytes the first line of a text has this fault and none of a smaller kind. One that is too long may go on.
-abbrev pub HasFirstFault : Type 0 → Bool → ℕ → List ℕ → LineFault → Type 0
-HasFirstFault end paired given text fault =
+-- Behind so many bytes the first line of a text has this fault at its place. One that is too long may go on.
+abbrev pub HasFirstFault : Type 0 → Place → ℕ → List ℕ → LineFault → Type 0
+HasFirstFault end place given text fault =
     ((fault ≡ TooLong) × IsTooLong given text)
-    ⊎ ((IsTooLong given text → ⊥) × ((line : List ℕ) × BeginsWith end text line × IsFirstFaultOf paired line fault))
+    ⊎ ((IsTooLong given text → ⊥) × ((line : List ℕ) × BeginsWith end text line × SaysAt place line (Plain (Fault fault))))
 
--- First lines of a text, each with its line feed, have no fault, write this and lead to this state; the rest follows them.
-pub record IsFront (text : List ℕ) (front : List (List ℕ)) (rest written : List ℕ) (state : Option World) : Type 0 where
+-- First lines of a text, each with its line feed, have no fault, write this and lead to this stage; the rest follows them.
+pub record IsFront (text : List ℕ) (front : List (List ℕ)) (rest written : List ℕ) (stage : Stage) : Type 0 where
   pub each : All IsOneLine front
   pub whole : text ≡ joined front ++ rest
   pub small : length (joined front) ≤ LONGEST_TEXT
-  pub goes : Goes None front written state
+  pub goes : Goes Unpaired front written stage
 
 -- the line after first lines has this fault; lines count from 1
 pub record IsFaulty (end : Type 0) (text : List ℕ) (n : ℕ) (fault : LineFault) (written : List ℕ) : Type 0 where
   pub front : List (List ℕ)
   pub rest : List ℕ
-  pub state : Option World
-  pub before : IsFront text front rest written state
+  pub stage : Stage
+  pub before : IsFront text front rest written stage
   pub number : n ≡ suc (length front)
-  pub has : HasFirstFault end (is_paired state) (length (joined front)) rest fault
+  pub has : HasFirstFault end (place_of stage) (length (joined front)) rest fault
 
 -- no line of a script acts or has a fault
 pub record HasNoPair (text : List ℕ) : Type 0 where
   pub small : length text ≤ LONGEST_TEXT
-  pub goes : Goes None (lines_of text) [] None
+  pub goes : Goes Unpaired (lines_of text) [] Unpaired
 
 -- Line n is the first one with a fault, and what the lines before it wrote. Where no line acts or has a fault, line 1 has one.
 abbrev pub FaultsFirst : Type 0 → List ℕ → ℕ → LineFault → List ℕ → Type 0
@@ -107,14 +96,14 @@ FaultsFirst end text n fault written =
 -- ---- LINES
 
 -- no more line is there to its end, or the next one has a fault
-abbrev pub Stops : Option World → ℕ → List ℕ → Type 0
-Stops state given rest = (ended_lines_of rest ≡ []) ⊎ ((fault : LineFault) × HasFirstFault ⊥ (is_paired state) given rest fault)
+abbrev pub Stops : Stage → ℕ → List ℕ → Type 0
+Stops stage given rest = (ended_lines_of rest ≡ []) ⊎ ((fault : LineFault) × HasFirstFault ⊥ (place_of stage) given rest fault)
 
 -- LINES: what is written for the lines of a text that a line feed ends, up to the first one with a fault
 abbrev pub IsLines : List ℕ → List ℕ → Type 0
 IsLines text written =
-    (front : List (List ℕ)) × (rest : List ℕ) × (state : Option World) × IsFront text front rest written state
-    × Stops state (length (joined front)) rest
+    (front : List (List ℕ)) × (rest : List ℕ) × (stage : Stage) × IsFront text front rest written stage
+    × Stops stage (length (joined front)) rest
 
 -- a beginning of LINES
 abbrev pub BeginsLines : List ℕ → List ℕ → Type 0

@@ -1,17 +1,17 @@
 //! Runs a script: each line acts before the next one is read, and the report is last.
 
-ghost use Rattle.std.specs.Prelude.{◌≡◌, ℕ, suc, true, ◌+◌, ◌-◌, ◌^◌, ◌<◌, ◌≤◌, List, [], ◌++◌, length, Option, None, IfOk, OnOk, ◌⊎◌};
-ghost use Rattle.sctp_model.specs.world.World.{World};
+ghost use Rattle.std.specs.Prelude.{◌≡◌, ℕ, suc, true, ◌+◌, ◌-◌, ◌^◌, ◌<◌, ◌≤◌, List, [], ◌++◌, length, IfOk, OnOk, ◌⊎◌};
+ghost use Rattle.sctp_trace.specs.Stages.{Stage, Unpaired};
 ghost use Rattle.sctp_trace.specs.Script.{IsAnswered, failed_reads, failed_writes};
-ghost use Rattle.sctp_trace.specs.inner.ScriptSteps.{StandsAt, IsWrittenOf, IsGatheredOf, IsPassedOn, IsClosed, LineLeaves, Closes, IsSoFar, RunsOn, EndsAs, fault_of};
+ghost use Rattle.sctp_trace.specs.inner.ScriptSteps.{Stand, IsSetUp, IsWrittenOf, IsGatheredOf, IsPassedOn, IsClosed, LineLeaves, Closes, IsSoFar, RunsOn, EndsAs, fault_of};
 ghost use Rattle.sctp_text.specs.TextLines.{MayBegin};
 ghost use Rattle.sctp_text.specs.declared.limits.TheConstants.{LONGEST_TEXT};
 
 use crate::gathered::{close, finish, gather_outcome, pass_on};
 use crate::script_laws::lines_are_there;
 use sctp_cookie::keys_have_seals;
-use sctp_pair::Pair;
-use sctp_script::{Acting, events_follow_the_pair, read_line};
+use sctp_pair::{Pair, TwoConfigs};
+use sctp_script::{Place, Placed, events_follow_the_pair, read_line_at};
 use sctp_text::{LineReader, NextLine, ReadFault, Sink, Source, line_after_line};
 use sctp_words::{LineError, LineFault};
 use std::alloc::Global;
@@ -91,7 +91,7 @@ fn run_all<R: Source, W: Sink>(
     requires reads { R.failures input.old < 2 ^ 64 - 1 }
     requires writes { W.failures output.old < 2 ^ 64 - 1 }
     requires empty { gathered.old.items ≡ [] }
-    requires begins { IsSoFar running.old [] [] [] None }
+    requires begins { IsSoFar running.old [] [] [] Unpaired }
     ensures answer { (read written : List ℕ) × R.Reads input.old read input.new × W.Writes output.old written output.new
         × EndsAs (R.IsAtEnd input.new) result read (written ++ gathered.new.items) }
     ensures failed_reads { R.failures input.new ≡ R.failures input.old + failed_reads result }
@@ -101,24 +101,27 @@ fn run_all<R: Source, W: Sink>(
     finish(&running.pair, gathered)
 }
 
-/// The state of a run: the reader of the script's lines, the pair once there is one, and the number of the next line.
+/// The state of a run: the reader of the script's lines, the pair once there is one, its configurations until a line asks something of it, and the
+/// number of the next line.
 #[derive(Drop)]
 struct Running {
     alloc: Global,
     lines: LineReader,
     pair: Option<Pair>,
+    fresh: Option<TwoConfigs>,
     number: u64,
 }
 
 impl Running {
     /// The state before the first line.
     fn new(alloc: Global) -> Running
-        ensures { IsSoFar result [] [] [] None }
+        ensures { IsSoFar result [] [] [] Unpaired }
     {
         Running {
             alloc,
             lines: LineReader::new(alloc),
             pair: None,
+            fresh: None,
             number: 1,
         }
     }
@@ -134,7 +137,7 @@ impl Running {
         requires writes { W.failures output.old < 2 ^ 64 - 1 }
         requires number { self.old.number ≤ suc self.old.lines.given }
         requires small { self.old.lines.given ≤ LONGEST_TEXT }
-        ensures runs { (text done : List ℕ) (lines : List (List ℕ)) (state : Option World) → IsSoFar self.old text (done ++ gathered.old.items) lines state
+        ensures runs { (text done : List ℕ) (lines : List (List ℕ)) (stage : Stage) → IsSoFar self.old text (done ++ gathered.old.items) lines stage
             → (read written : List ℕ) × R.Reads input.old read input.new × W.Writes output.old written output.new
             × RunsOn (R.IsAtEnd input.new) result self.new (text ++ read) ((done ++ written) ++ gathered.new.items) }
         ensures small { IfOk result (λ on. on ≡ true → self.new.lines.given ≤ LONGEST_TEXT) }
@@ -147,12 +150,26 @@ impl Running {
         pass_on(&self.lines, gathered, output)?;
         match self.lines.next_line(input) {
             Ok(NextLine::Ended(line)) => {
-                act(self.alloc, &mut self.pair, self.number, &line, gathered)?;
+                act(
+                    self.alloc,
+                    &mut self.pair,
+                    &mut self.fresh,
+                    self.number,
+                    &line,
+                    gathered,
+                )?;
                 self.number += 1;
                 Ok(true)
             }
             Ok(NextLine::Last(line)) => {
-                act(self.alloc, &mut self.pair, self.number, &line, gathered)?;
+                act(
+                    self.alloc,
+                    &mut self.pair,
+                    &mut self.fresh,
+                    self.number,
+                    &line,
+                    gathered,
+                )?;
                 Ok(false)
             }
             Ok(NextLine::TooLong) => Err(ScriptFault::Line(self.number, LineFault::TooLong)),
@@ -166,31 +183,50 @@ impl Running {
 fn act(
     alloc: Global,
     pair: &mut Option<Pair>,
+    fresh: &mut Option<TwoConfigs>,
     number: u64,
     line: &[u8],
     gathered: &mut Vec<u8>,
 ) -> Result<(), ScriptFault>
-    ensures leaves { (state : Option World) → StandsAt pair.old state
-        → (here : List ℕ) × (gathered.new.items ≡ gathered.old.items ++ here) × LineLeaves result number state line.now here pair.new }
+    ensures leaves { (stage : Stage) → Stand pair.old fresh.old stage
+        → (here : List ℕ) × (gathered.new.items ≡ gathered.old.items ++ here) × LineLeaves result number stage line.now here pair.new fresh.new }
     ensures no_calls { (failed_reads result ≡ 0) × (failed_writes result ≡ 0) }
 {
-    // laws: an event is after the `pair` line; the listener's key has a seal
+    // law: an event is after the `pair` line
     events_follow_the_pair();
-    keys_have_seals();
-    match read_line(alloc, line, pair.is_some()) {
+    match read_line_at(alloc, line, Place::of(pair.is_some(), *fresh)) {
         Ok(None) => Ok(()),
-        Ok(Some(Acting::Pair(config))) => {
-            let made = Pair::new(alloc, config).map_err(|_| ScriptFault::NoMemory)?;
-            drop(pair.replace(made));
-            Ok(())
-        }
-        Ok(Some(Acting::Event(event))) => {
+        Ok(Some(Placed::Pair(config))) => set_up(alloc, &TwoConfigs::alike(config), pair, fresh),
+        Ok(Some(Placed::Options(configs))) => set_up(alloc, &configs, pair, fresh),
+        Ok(Some(Placed::Event(event))) => {
             let Some(pair) = pair else { unreachable!() };
             let outcome = pair.step(&event).map_err(|_| ScriptFault::NoMemory)?;
+            *fresh = None;
             gather_outcome(alloc, &event, &outcome, gathered)
         }
         Err(LineError::Fault(fault)) => Err(ScriptFault::Line(number, fault)),
         Err(LineError::NoMemory) => Err(ScriptFault::NoMemory),
+    }
+}
+
+/// Makes the pair with these configurations, in place of the one that is there.
+fn set_up(
+    alloc: Global,
+    configs: &TwoConfigs,
+    pair: &mut Option<Pair>,
+    fresh: &mut Option<TwoConfigs>,
+) -> Result<(), ScriptFault>
+    ensures { IsSetUp result configs.now pair.new fresh.new }
+{
+    // law: the listener's key has a seal
+    keys_have_seals();
+    match Pair::of_two(alloc, *configs) {
+        Ok(made) => {
+            drop(pair.replace(made));
+            *fresh = Some(*configs);
+            Ok(())
+        }
+        Err(_) => Err(ScriptFault::NoMemory),
     }
 }
 

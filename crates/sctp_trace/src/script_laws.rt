@@ -7,10 +7,13 @@ ghost use Rattle.sctp_trace.specs.ScriptLaws.{LinesAreThere};
 
 use sctp_cookie::keys_have_seals;
 use sctp_endpoint::one_packet;
-use sctp_outcomes::every_event_has_an_outcome;
+use sctp_outcomes::{every_event_has_an_outcome, users_take_what_was_sent};
 use sctp_pair::premises_are_the_keys;
 use sctp_safety::each_world_on_the_way_is_safe;
-use sctp_script::{events_can_happen, events_follow_the_pair, one_meaning, the_pair_comes_first};
+use sctp_script::{
+    configurations_are_right, events_can_happen, events_follow_the_pair, one_meaning_at,
+    the_pair_comes_first,
+};
 use sctp_terms::faultless_is_configured;
 use sctp_text::lines_in_one_way;
 
@@ -25,10 +28,12 @@ pub fn every_script_is_safe()
     ensures { ScriptsAreSafe }
 {
     the_pair_comes_first();
+    configurations_are_right();
     faultless_is_configured();
     events_can_happen();
     premises_are_the_keys();
     each_world_on_the_way_is_safe();
+    users_take_what_was_sent();
 }
 
 // law
@@ -36,7 +41,7 @@ pub fn every_script_is_safe()
 pub fn lines_are_there()
     ensures { LinesAreThere }
 {
-    one_meaning();
+    one_meaning_at();
     events_follow_the_pair();
     events_can_happen();
     lines_in_one_way();
@@ -50,5 +55,5 @@ pub fn lines_are_there()
 pub fn one_first_fault()
     ensures { (text : List ℕ) → HasOneFault text }
 {
-    one_meaning();
+    one_meaning_at();
 }

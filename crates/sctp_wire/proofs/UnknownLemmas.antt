@@ -1,8 +1,9 @@
 -- A chunk of an unknown type by the rule; and of parameters what is acted on and reported is what the rule picks from those up to the first one that stops.
-use Rattle.std.proofs.Common.{◌≡◌, ℕ, ◌/◌, ◌%◌, ◌<◌, Bool, true, false, List, [], ◌∷◌, ◌++◌, refl, ◌∙◌, ap, arith}
-use Rattle.std.specs.Prelude.{not, if◌then◌else◌, ◌&&◌, ◌||◌}
+use Rattle.std.proofs.Common.{◌≡◌, ℕ, ◌/◌, ◌%◌, ◌<◌, Bool, true, false, List, [], ◌∷◌, ◌++◌, refl, ◌∙◌, ap, sym, arith, ⊎_elim, ◌≢◌}
+use Rattle.std.specs.Prelude.{◌==◌, not, if◌then◌else◌, ◌&&◌, ◌||◌}
 use Rattle.std.specs.List.{filter}
 use Rattle.std.proofs.lemmas.Bool.{lt-ltb, le-ltb}
+use Rattle.std.proofs.lemmas.Bool.Decides.{eqb_tells}
 use Rattle.sctp_model.specs.wire.Chunk.{Unknown}
 use Rattle.sctp_model.specs.wire.Typed.{Typed}
 use Rattle.sctp_model.specs.wire.Unknown.{RuleMeaning, chunk_rule, parameter_rule, reported_before, is_known_parameter, is_passed_over}
@@ -10,7 +11,9 @@ use Rattle.sctp_model.specs.end.EndView.{EndView}
 use Rattle.sctp_model.specs.end.Reports.{causes_with, with_causes}
 use Rattle.sctp_model.specs.end.PeerFaults.{After, GoesOn, Ends, PassedOver, Replies, Drops}
 use Rattle.sctp_model.specs.end.Closing.{rested}
-use Rattle.sctp_model.specs.end.Acting.{unknown_item, may_report, unknown_causes, unknown_leaves, unknown_acts}
+use Rattle.sctp_model.specs.wire.Reconfig.{RECONFIG}
+use Rattle.sctp_model.specs.end.Reconfiguring.{takes_reconfig}
+use Rattle.sctp_model.specs.end.Acting.{OtherActs, ReconfigComes, IsUnknown, unknown_item, may_report, unknown_causes, unknown_leaves, unknown_acts}
 use Rattle.sctp_model.specs.end.Arriving.{Next, Passes, Last, EndsAnswered, Stopped, noted}
 use Rattle.sctp_wire.specs.UnknownLaws.{IsByTwoBits, ActsByTwoBits, LooksNoFurther, is_told_parameter, is_acted_on, AreByParameterRule}
 
@@ -51,12 +54,22 @@ ends_packet : (e : EndView) (kind flags : ℕ) (value : List ℕ) → kind / 64 
 ends_packet e kind flags value low =
     (with_causes (unknown_causes e kind flags value) e, ap (λ (b : Bool). unknown_leaves b (with_causes (unknown_causes e kind flags value) e)) (lt-ltb kind 128 (omega arith)))
 
+-- its type is not RE-CONFIG's
+not_reconfig : (e : EndView) (kind : ℕ) → kind / 64 < 2 → takes_reconfig e kind ≡ false
+not_reconfig e kind low =
+    ⊎_elim (λ (y : ((kind == RECONFIG) ≡ true) × (kind ≡ RECONFIG)). let is = y.1 in absurd (omega arith)) (λ (no : ((kind == RECONFIG) ≡ false) × (kind ≢ RECONFIG)). rw no.0 refl) (eqb_tells kind RECONFIG)
+
+-- so it acts as one of an unknown type
+acts_as_unknown : (e : EndView) (kind flags : ℕ) (value : List ℕ) (a : After) → kind / 64 < 2 → OtherActs e kind flags value a → a ≡ unknown_acts e kind flags value
+acts_as_unknown e kind flags value a low (ReconfigComes c takes at) = let q : true ≡ false = sym takes ∙ not_reconfig e kind low in absurd (cc)
+acts_as_unknown e kind flags value a low (IsUnknown b off same) = same
+
 pub looks_no_further : (kind flags : ℕ) (value : List ℕ) → LooksNoFurther kind flags value
-looks_no_further kind flags value tag e n [] back other t m v low (Next _ mid _ k _ _ _ _ _ act rest) = let u = ends_packet e kind flags value low in let q : GoesOn k mid ≡ Ends u.0 = act ∙ u.1 in absurd (cc)
-looks_no_further kind flags value tag e n [] back other t m v low (Passes _ _ _ _ _ _ _ act rest) = let u = ends_packet e kind flags value low in let q : PassedOver ≡ Ends u.0 = act ∙ u.1 in absurd (cc)
+looks_no_further kind flags value tag e n [] back other t m v low (Next _ mid _ k _ _ _ _ _ act rest) = let u = ends_packet e kind flags value low in let q : GoesOn k mid ≡ Ends u.0 = acts_as_unknown e kind flags value _ low act ∙ u.1 in absurd (cc)
+looks_no_further kind flags value tag e n [] back other t m v low (Passes _ _ _ _ _ _ _ act rest) = let u = ends_packet e kind flags value low in let q : PassedOver ≡ Ends u.0 = acts_as_unknown e kind flags value _ low act ∙ u.1 in absurd (cc)
 looks_no_further kind flags value tag e n [] back other t m v low (Last _ _ _ _ _ act) = Last e t n (Unknown kind flags value) other act
-looks_no_further kind flags value tag e n [] back other t m v low (EndsAnswered _ _ _ _ _ p act) = let u = ends_packet e kind flags value low in let q : Replies t p ≡ Ends u.0 = act ∙ u.1 in absurd (cc)
-looks_no_further kind flags value tag e n [] back other t m v low (Stopped _ _ _ _ r act) = let u = ends_packet e kind flags value low in let q : Drops r ≡ Ends u.0 = act ∙ u.1 in absurd (cc)
+looks_no_further kind flags value tag e n [] back other t m v low (EndsAnswered _ _ _ _ _ p act) = let u = ends_packet e kind flags value low in let q : Replies t p ≡ Ends u.0 = acts_as_unknown e kind flags value _ low act ∙ u.1 in absurd (cc)
+looks_no_further kind flags value tag e n [] back other t m v low (Stopped _ _ _ _ r act) = let u = ends_packet e kind flags value low in let q : Drops r ≡ Ends u.0 = acts_as_unknown e kind flags value _ low act ∙ u.1 in absurd (cc)
 looks_no_further kind flags value tag e n (x ∷ front) back other t m v low (Next _ mid _ k _ _ _ _ _ act rest) =
     Next e mid t k n m x (front ++ Unknown kind flags value ∷ other) v act (looks_no_further kind flags value tag (rested mid) (noted k n) front back other t m v low rest)
 looks_no_further kind flags value tag e n (x ∷ front) back other t m v low (Passes _ _ _ _ _ _ _ act rest) =

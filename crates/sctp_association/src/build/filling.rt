@@ -14,7 +14,7 @@ ghost use Rattle.sctp_packet.specs.Draft.{room_in, with_chunks, has_room, after_
 ghost use Rattle.sctp_send.specs.SenderStands.{StandsFor};
 ghost use Rattle.sctp_association.specs.StartsMean.{starts_at, with_fragments};
 ghost use Rattle.sctp_association.specs.TrafficStands.{TrafficStands};
-ghost use Rattle.sctp_association.specs.Drafted.{IsOf};
+ghost use Rattle.sctp_association.specs.Drafted.{IsOf, IsQuiet};
 ghost use Rattle.sctp_association.specs.FillsBehind.{FillsBehind};
 ghost use Rattle.sctp_association.specs.declared.time.starts.Starts as starts;
 ghost use Rattle.sctp_association.specs.declared.build.packing.Marks as marks;
@@ -118,7 +118,7 @@ pub(crate) fn fill_rest(
     traffic: &mut Traffic,
     writer: &mut PacketWriter,
 ) -> Result<Fragments, NoMemory>
-    ensures filled { (e : EndView) (m : marks.Marks) (n : starts.Starts) → TrafficStands traffic.old (format_of e) e.sender e.receiver
+    ensures filled { (e : EndView) (m : marks.Marks) (n : starts.Starts) → TrafficStands traffic.old (format_of e) e.sender e.receiver → IsQuiet e
         → IsOf e (record { writer = writer.old; marks = m })
         → IfOk result (λ fragments. starts_at n ≡ with_fragments fragments.some (starts_at m.starts)
         → FillsBehind e (record { writer = writer.old; marks = m }) (record { writer = writer.new; marks = record m { starts = n } }) traffic.new fragments.tickets) }
@@ -141,7 +141,7 @@ pub(crate) fn fill_behind(
     traffic: &mut Traffic,
     packing: &mut Packing,
 ) -> Result<Vec<Ticket>, NoMemory>
-    ensures filled { (e : EndView) → TrafficStands traffic.old (format_of e) e.sender e.receiver → IsOf e packing.old
+    ensures filled { (e : EndView) → TrafficStands traffic.old (format_of e) e.sender e.receiver → IsQuiet e → IsOf e packing.old
         → IfOk result (λ tickets. FillsBehind e packing.old packing.new traffic.new tickets) }
     ensures memory { (f : Format) (s : SenderView) (r : ReceiverView) → TrafficStands traffic.old f s r → OnErr result (TrafficStands traffic.new f s r) }
 {

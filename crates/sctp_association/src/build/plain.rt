@@ -13,7 +13,7 @@ ghost use Rattle.sctp_packet.specs.PacketBytes.{WritesPacket};
 ghost use Rattle.sctp_association.specs.DueStands.{DueStands};
 ghost use Rattle.sctp_association.specs.TrafficStands.{TrafficStands};
 ghost use Rattle.sctp_association.specs.MachineStands.{MachineStands};
-ghost use Rattle.sctp_association.specs.Drafted.{drafted, IsEmpty, IsPacked};
+ghost use Rattle.sctp_association.specs.Drafted.{drafted, IsEmpty, IsPacked, IsQuiet};
 ghost use Rattle.sctp_association.specs.BuildAnswers.{BuildAnswer};
 ghost use Rattle.sctp_association.specs.PlainPacket.{IsPlain, plain_marks};
 ghost use Rattle.sctp_association.specs.declared.state.due.Due as kept;
@@ -147,7 +147,7 @@ fn put_plain(
     sack: bool,
     writer: &mut PacketWriter,
 ) -> Result<Plain, NoMemory>
-    ensures packed { (e : EndView) (t : model.Tags) (g : model.Stage) (d : kept.Due) → e.phase ≡ model.Open t g → IsPlain d e.due
+    ensures packed { (e : EndView) (t : model.Tags) (g : model.Stage) (d : kept.Due) → e.phase ≡ model.Open t g → IsPlain d e.due → IsQuiet e
         → TrafficStands traffic.old (format_of e) e.sender e.receiver → IsEmpty e (record { writer = writer.old; marks = plain_marks d sack false })
         → IfOk result (λ p. (s : SenderView) × IsPacked e s (record { writer = writer.new; marks = plain_marks d p.sack p.fragments }) p.tickets
         × TrafficStands traffic.new (format_of e) s e.receiver) }

@@ -21,7 +21,7 @@ ghost use Rattle.sctp_association.specs.MachineStands.{MachineStands};
 use crate::machine::Machine;
 use crate::state::life::Life;
 use crate::time::timer::Alarm;
-use sctp_recv::{Answer, ForwardAnswer};
+use sctp_recv::{Answer, ForwardAnswer, resets_stay};
 use sctp_send::SackFault;
 use sctp_values::NoMemory;
 use sctp_wire::{Forward, Piece, Sack};
@@ -57,6 +57,7 @@ impl Machine {
         ensures room { OnOk result (length self.new.due.causes.bytes.items + 11 ≤ vec_capacity self.new.due.causes.bytes) }
     {
         self.due.causes.make_room()?;
+        resets_stay();
         match &mut self.life {
             Life::Unjoined(_) => Ok(Answer::Ahead),
             Life::Joined(association) => association.traffic.on_data(piece),
@@ -84,6 +85,7 @@ impl Machine {
             × MachineStands self.new (record v { receiver = r })) }
         ensures refused { (v : EndView) → MachineStands self.old v → OnErr result (MachineStands self.new v) }
     {
+        resets_stay();
         match &mut self.life {
             Life::Unjoined(_) => Ok(ForwardAnswer::OutOfDate),
             Life::Joined(association) => association.traffic.on_forward(forward),

@@ -1,7 +1,7 @@
 //! How an endpoint enters an association: a listener by the cookie that returns to it, a caller by the INIT ACK that it accepts, two endpoints without
 //! packets (RFC 9260, 5.1). Sender and receiver are created first, which alone may allocate; then the state changes.
 
-ghost use Rattle.std.specs.Prelude.{◌≡◌, ℕ, List, ◌<◌, ◌+◌, ◌^◌, length, IfOk, OnOk, OnErr};
+ghost use Rattle.std.specs.Prelude.{◌≡◌, ℕ, false, List, ◌<◌, ◌+◌, ◌^◌, length, IfOk, OnOk, OnErr};
 ghost use Rattle.sctp_model.specs.sender.SenderView.{fresh_sender};
 ghost use Rattle.sctp_model.specs.receiver.ReceiverView.{fresh_receiver};
 ghost use Rattle.sctp_model.specs.end.EndView.{EndView, format_for};
@@ -123,17 +123,29 @@ impl Machine {
     }
 }
 
-/// Sender and receiver of an endpoint of this configuration, on these terms. `peer_rwnd` is the window that the peer advertised, in bytes.
+/// It asks for no fast retransmit: no call of [`Config`] sets that (RFC 9260, 7.2.4).
+fn without_pace(config: &Config)
+    ensures { config.now.fast_retransmit ≡ false }
+{
+    if let Some(pace) = config.pace() {
+        match pace {}
+    }
+}
+
+/// Sender and receiver of an endpoint of this configuration, on these terms: it has no pace. `peer_rwnd` is the window that the peer advertised, in
+/// bytes.
 fn begun_for(
     alloc: Global,
     config: &Config,
     terms: Terms,
     peer_rwnd: u32,
 ) -> Result<Traffic, NoMemory>
-    ensures { IfOk result (λ t. TrafficStands t (format_for terms.interleave)
+    ensures unpaced { config.now.fast_retransmit ≡ false }
+    ensures begins { IfOk result (λ t. TrafficStands t (format_for terms.interleave)
         (fresh_sender terms.own_tsn terms.outbound config.now.fragment peer_rwnd terms.partial)
         (fresh_receiver terms.peer_tsn terms.inbound config.now.buffer)) }
 {
+    without_pace(config);
     let sizes = Sizes {
         fragment: config.fragment(),
         buffer: config.buffer(),

@@ -5,11 +5,11 @@ ghost use Rattle.std.specs.Prelude.{◌≡◌, true, false, ◌≤◌, ◌<◌, 
 ghost use Rattle.sctp_model.specs.end.EndView.{EndView};
 ghost use Rattle.sctp_model.specs.end.EndView as model;
 ghost use Rattle.sctp_model.specs.end.Sealing.{Sealing};
-ghost use Rattle.sctp_model.specs.end.Clock.{turned, closed};
+ghost use Rattle.sctp_model.specs.end.Clock.{closed};
 ghost use Rattle.sctp_model.specs.end.Closing.{with_due};
 ghost use Rattle.sctp_model.specs.end.Options.{value_of};
 ghost use Rattle.sctp_model.specs.end.PeerFaults.{packet_to, abort_for};
-ghost use Rattle.sctp_model.specs.end.Opening.{is_calling, is_echoing, cookie_read, seal_in, ack_fault};
+ghost use Rattle.sctp_model.specs.end.Opening.{is_calling, is_echoing, acknowledged_echo, cookie_read, seal_in, ack_fault};
 ghost use Rattle.sctp_model.specs.end.Acting.{may_report};
 ghost use Rattle.sctp_model.specs.end.Arriving.{is_answer};
 ghost use Rattle.sctp_model.specs.end.Strays.{body_among, chunks_verdict, listens};
@@ -101,7 +101,7 @@ impl Machine {
     /// A COOKIE ACK arrived: the caller's association is established (RFC 9260, 5.1, E).
     pub fn establish(&mut self)
         ensures { (v : EndView) (t : model.Tags) (xs : List ℕ) → MachineStands self.old v → v.phase ≡ model.Echoing t xs
-            → MachineStands self.new (turned (model.Open t model.Established) v) }
+            → MachineStands self.new (acknowledged_echo t v) }
     {
         self.due.turn(Stage::Established);
         turn_timers(&mut self.timers, Stage::Established);

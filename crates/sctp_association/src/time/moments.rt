@@ -1,13 +1,13 @@
 //! What the time does to an endpoint: messages whose lifetime is over are abandoned, then each timer that is due expires once, and a delayed SACK is
 //! due (RFC 9260, 5.1, 6.2, 6.3.3 and 9.2; RFC 3758, 3.5). Nothing here allocates.
 
-ghost use Rattle.std.specs.Prelude.{◌≡◌};
+ghost use Rattle.std.specs.Prelude.{◌≡◌, true};
 ghost use Rattle.sctp_model.specs.sender.SenderView.{SenderView};
 ghost use Rattle.sctp_model.specs.sender.Readers.{point};
-ghost use Rattle.sctp_model.specs.sender.Abandoning.{timed_out};
 ghost use Rattle.sctp_model.specs.end.EndView.{EndView};
-ghost use Rattle.sctp_model.specs.end.Clock.{at_moment, settled, is_point_past};
-ghost use Rattle.sctp_model.specs.end.Moments.{after_abandoning, due_again, ring, waited, passed, ticked, next_moment};
+ghost use Rattle.sctp_model.specs.end.EndView as model;
+ghost use Rattle.sctp_model.specs.end.Clock.{at_moment, settled};
+ghost use Rattle.sctp_model.specs.end.Moments.{after_abandoning, due_again, ring, waited, is_data_due, given_up, passed, ticked, next_moment};
 ghost use Rattle.sctp_association.specs.TimersMean.{alarm_meaning};
 ghost use Rattle.sctp_association.specs.MachineStands.{MachineStands};
 
@@ -42,7 +42,7 @@ impl Machine {
         ensures { (v : EndView) → MachineStands self.old v → MachineStands self.new (passed v) }
     {
         let before = self.point();
-        self.expire();
+        self.give_up();
         self.when_abandoned(before);
         self.expire_timer(Alarm::Init);
         self.expire_timer(Alarm::Cookie);
@@ -50,6 +50,17 @@ impl Machine {
         self.expire_timer(Alarm::Shutdown);
         self.expire_timer(Alarm::ShutdownAck);
         self.wait_over();
+    }
+
+    /// What is past its time is abandoned and, if the data timer is due, what was retransmitted as often as it may be (RFC 3758, 3.5; RFC 7496, 3.1).
+    fn give_up(&mut self)
+        ensures { (v : EndView) → MachineStands self.old v → MachineStands self.new (record v { sender = given_up (is_data_due v) v.sender v.moment }) }
+    {
+        let is_due = self.timers.get(Alarm::Fragments).is_over(self.moment);
+        self.expire();
+        if is_due {
+            self.wear();
+        }
     }
 
     /// A SACK that was delayed long enough is due (RFC 9260, 6.2).
@@ -114,7 +125,7 @@ impl Machine {
 
     /// All outstanding user data is due again, and a FORWARD-TSN if it skips something.
     fn repeat_fragments(&mut self)
-        ensures { (v : EndView) → MachineStands self.old v → MachineStands self.new (record v { sender = timed_out v.sender; due = record v.due { forward = is_point_past v.sender } }) }
+        ensures { (v : EndView) → MachineStands self.old v → MachineStands self.new (due_again model.DataAlarm v) }
     {
         let past = self.is_point_past();
         self.due.owe_forward(past);

@@ -1,6 +1,6 @@
 //! The five timers of an endpoint: which start and stop together, and which expires first (RFC 9260, 6.3 and 9.2).
 
-ghost use Rattle.std.specs.Prelude.{◌≡◌};
+ghost use Rattle.std.specs.Prelude.{◌≡◌, Bool};
 ghost use Rattle.sctp_model.specs.end.EndView.{unused_timer};
 ghost use Rattle.sctp_model.specs.end.Clock.{stopped, replaced};
 ghost use Rattle.sctp_model.specs.end.Moments.{earlier, earliest, all_alarms};
@@ -108,7 +108,7 @@ impl Timers {
 
     /// The timers of an open association: those of its opening stop, and those of its closing unless they are wanted.
     pub(crate) fn keep_open(&mut self, shutdown: bool, shutdown_ack: bool)
-        ensures { timers_meaning self.new ≡ open_timers shutdown shutdown_ack (timers_meaning self.old) }
+        ensures { (request : Bool) → timers_meaning self.new ≡ open_timers shutdown shutdown_ack request (timers_meaning self.old) }
     {
         self.init = self.init.stopped();
         self.cookie = self.cookie.stopped();

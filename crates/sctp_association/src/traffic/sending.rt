@@ -1,6 +1,6 @@
 //! The sender of an association, in either format (RFC 9260, 6; RFC 3758, 3.5; RFC 8260, 2.2).
 
-ghost use Rattle.std.specs.Prelude.{◌≡◌, ◌<◌, ◌≤◌, nat_lt, false, option_map};
+ghost use Rattle.std.specs.Prelude.{◌≡◌, ℕ, ◌<◌, ◌≤◌, nat_lt, true, false, None, MatchOption, option_map};
 ghost use Rattle.sctp_model.specs.numbers.Limits.{WINDOW};
 ghost use Rattle.sctp_model.specs.messages.Format.{Format};
 ghost use Rattle.sctp_model.specs.sender.SenderView.{SenderView};
@@ -8,14 +8,14 @@ ghost use Rattle.sctp_model.specs.receiver.ReceiverView.{ReceiverView};
 ghost use Rattle.sctp_model.specs.sender.Reached.{IsReached};
 ghost use Rattle.sctp_model.specs.sender.Readers.{drained, unsettled, point, outstanding, acknowledged, abandoned};
 ghost use Rattle.sctp_model.specs.sender.SackTaken.{sack_fault, sack_after, shutdown_fault, shutdown_after};
-ghost use Rattle.sctp_model.specs.sender.Abandoning.{has_late, expired, timed_out, abandon_answer, abandon_after};
+ghost use Rattle.sctp_model.specs.sender.Abandoning.{has_late, expired, worn, timed_out, abandon_answer, abandon_after};
 ghost use Rattle.sctp_model.specs.end.Clock.{is_point_past};
 ghost use Rattle.sctp_wire.specs.ChunkTree.{sack_meaning};
 ghost use Rattle.sctp_send.specs.SenderAnswers.{reason_meaning, answer_meaning, QueueAnswer, queue_after, lane_for, next_late};
 ghost use Rattle.sctp_association.specs.TrafficStands.{TrafficStands};
 
 use crate::traffic::Traffic;
-use sctp_send::{Abandoned, SackFault, SendFault};
+use sctp_send::{Abandoned, Limits, SackFault, SendFault};
 use sctp_values::Ticket;
 use sctp_wire::Sack;
 
@@ -188,6 +188,26 @@ impl Traffic {
         }
     }
 
+    /// The data timer expired: abandons the messages of what was retransmitted as often as it may be (RFC 7496, 3.1).
+    pub(crate) fn wear(&mut self)
+        ensures { (f : Format) (s : SenderView) (r : ReceiverView) → TrafficStands self.old f s r → TrafficStands self.new f (worn (λ i. true) s) r }
+    {
+        match self {
+            Traffic::Plain(directions) => directions.sender.wear(),
+            Traffic::Interleaved(directions) => directions.sender.wear(),
+        }
+    }
+
+    /// Whether messages with a limit of retransmissions may be held; None if none is (RFC 7496, 3.1).
+    pub(crate) fn limits(&self) -> Option<Limits>
+        ensures { (f : Format) (s : SenderView) (r : ReceiverView) → TrafficStands self.now f s r → MatchOption result ((now : ℕ) → worn (λ i. true) (expired s now) ≡ expired s now) (λ limits. Unit {0}) }
+    {
+        match self {
+            Traffic::Plain(directions) => directions.sender.limits(),
+            Traffic::Interleaved(directions) => directions.sender.limits(),
+        }
+    }
+
     /// Abandons the message with this ticket (RFC 3758, 3.5).
     pub(crate) fn abandon(&mut self, ticket: Ticket) -> Abandoned
         ensures answer { (f : Format) (s : SenderView) (r : ReceiverView) → TrafficStands self.old f s r → answer_meaning result ≡ abandon_answer s ticket.0 }
@@ -212,7 +232,7 @@ impl Traffic {
         until: Option<u64>,
     ) -> Result<Ticket, SendFault>
         ensures answer { (f : Format) (s : SenderView) (r : ReceiverView) → TrafficStands self.old f s r → QueueAnswer s stream bytes.items result }
-        ensures step { (f : Format) (s : SenderView) (r : ReceiverView) → TrafficStands self.old f s r → TrafficStands self.new f (queue_after s (lane_for stream ordered) payload_id bytes.items until result) r }
+        ensures step { (f : Format) (s : SenderView) (r : ReceiverView) → TrafficStands self.old f s r → TrafficStands self.new f (queue_after s (lane_for stream ordered) payload_id bytes.items until None result) r }
     {
         match self {
             Traffic::Plain(directions) => directions

@@ -126,7 +126,7 @@ impl Machine {
     }
 }
 
-/// The timers of an endpoint that calls: all but T1-init stop.
+/// The timers of an endpoint that calls: all but the one of its INIT stop.
 fn call_timers(timers: &mut Timers)
     ensures { (d : model.Draw) → timers_meaning timers.new ≡ timers_in (model.Calling d) (timers_meaning timers.old) }
 {

@@ -18,7 +18,7 @@ use crate::machine::Machine;
 use crate::state::life::{Association, Life, Progress, Unjoined};
 use crate::state::stage::Stage;
 use sctp_recv::Message;
-use sctp_terms::{Config, End, State};
+use sctp_terms::{Config, End, Pace, State};
 use sctp_values::Ticket;
 
 #[tactic(auto, unfolding(crate::specs::MachineStands::MachineStands))]
@@ -100,6 +100,14 @@ impl Machine {
             Life::Unjoined(_) => {}
             Life::Joined(association) => association.traffic.reached(),
         }
+    }
+
+    /// What it measures round trips and paces its user data by (RFC 9260, 6.3.1 and 7.2); None if it doesn't. No call sets it up.
+    pub fn pace(&self) -> Option<Pace>
+        ensures { (v : EndView) → MachineStands self.now v → MatchOption result (v.pace ≡ None) (λ pace. v.pace ≡ None → ⊥) }
+    {
+        let _ = &self.moment;
+        None
     }
 
     // law

@@ -18,6 +18,7 @@ use Rattle.sctp_model.proofs.receiver.OneStep.{fewer_apart, kept_apart, taken_is
 use Rattle.sctp_model.proofs.receiver.Idle.{still_idle}
 use Rattle.sctp_model.proofs.receiver.Giving.{at_here, at_elsewhere, IsGiving, giving, giving_ordered, giving_unordered, IsClear, served, still_clear}
 use Rattle.sctp_model.proofs.receiver.OneKept.{with_chunk, takes_idle}
+use Rattle.sctp_model.specs.receiver.Incoming.{Incoming}
 
 -- ---- a new receiver
 
@@ -155,6 +156,13 @@ pub sent_at_rest : (f : Format) (r : ReceiverView) → IsAtRest f r → IsAtRest
 sent_at_rest f r rest = record {
   ordinary = record { apart = rest.ordinary.apart; recorded = rest.ordinary.recorded };
   idle = still_idle f r (sack_sent r) refl refl refl rest.idle;
+  settled = rest.settled;
+}
+
+pub reset_at_rest : (f : Format) (r : ReceiverView) (x : Incoming) → IsAtRest f r → IsAtRest f (record r { resets = x })
+reset_at_rest f r x rest = record {
+  ordinary = record { apart = rest.ordinary.apart; recorded = rest.ordinary.recorded };
+  idle = still_idle f r (record r { resets = x }) refl refl refl rest.idle;
   settled = rest.settled;
 }
 

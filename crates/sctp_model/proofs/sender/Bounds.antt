@@ -11,8 +11,8 @@ use Rattle.sctp_model.specs.sender.Assigning.{is_on, without_first, stream_after
 use Rattle.sctp_model.specs.sender.Filling.{Wish, next_wish, gone, with_sent}
 use Rattle.sctp_model.specs.messages.Acknowledgement.{in_blocks}
 use Rattle.sctp_model.specs.sender.SackTaken.{is_stale, is_beyond, index_of, some_ends_past, sack_covers, covered_by, sack_fault, sack_taken, shutdown_fault, shutdown_taken, Stale, Beyond}
-use Rattle.sctp_model.specs.sender.Abandoning.{Name, without, ended, with_abandoned, timed_out, unsettled_at}
-use Rattle.sctp_model.specs.sender.Reached.{IsReached, Begins, Queues, Goes, Covers, Closes, Abandons, Repeats}
+use Rattle.sctp_model.specs.sender.Abandoning.{Name, without, ended, with_abandoned, marking, unsettled_at, is_worn}
+use Rattle.sctp_model.specs.sender.Reached.{IsReached, Begins, Queues, Goes, Covers, Closes, Abandons, Repeats, Rebases}
 use Rattle.sctp_model.proofs.sender.WishCases.{IsAssigned, Whole, Begun, Continued, assigned_cases, wish_cases}
 use Rattle.sctp_model.proofs.sender.AbandonCases.{after_abandon, after_end}
 use Rattle.sctp_model.proofs.sender.SetLaws.{IsSet, is_set, AllFilled, is_filled}
@@ -97,27 +97,31 @@ beyond [] i le = refl
 beyond (e ∷ es) zero le = absurd (omega arith)
 beyond (e ∷ es) (suc i) le = beyond es i (omega arith)
 
-entry_beyond : (p : Plan) (i : ℕ) → length p.entries < i → entry_at p i ≡ None
+pub entry_beyond : (p : Plan) (i : ℕ) → length p.entries < i → entry_at p i ≡ None
 entry_beyond p zero lt = absurd (omega arith)
 entry_beyond p (suc i) lt = beyond p.entries i (omega arith)
 
-bounded_timed : (v : SenderView) → IsBounded v → IsBounded (timed_out v)
-bounded_timed v h = record {
+bounded_timed : (v : SenderView) (test : ℕ → Bool) → IsBounded v → IsBounded (marking v test)
+bounded_timed v test h = record {
   within = h.within;
   covered = h.covered;
-  apart = λ i on. rw (h.apart i on) (by_entry i (entry_at v.plan i) on);
+  apart = λ i on. rw (h.apart i on, by_entry i (entry_at v.plan i) on) (off (test i));
   unsent = h.unsent;
   uncovered = h.uncovered;
-  unmarked = λ i lt. rw (h.unmarked i lt, entry_beyond v.plan i lt) refl;
+  unmarked = λ i lt. rw (h.unmarked i lt, entry_beyond v.plan i lt) (off (test i));
 }
   where
+    off : (b : Bool) → (b && false) ≡ false
+    off true = refl
+    off false = refl
+
     by_entry : (i : ℕ) (o : Option Entry) → v.covered i ≡ true → unsettled_at v i o ≡ false
     by_entry i None on = refl
-    by_entry i (Some e) on = rw on (off (v.sent i))
+    by_entry i (Some e) on = rw on (both (v.sent i) (is_worn v i e))
       where
-        off : (b : Bool) → (b && false) ≡ false
-        off true = refl
-        off false = refl
+        both : (b c : Bool) → ((b && false) && not c) ≡ false
+        both true c = refl
+        both false c = refl
 
 -- ---- what a SACK or a SHUTDOWN covers lies within the plan
 
@@ -227,7 +231,7 @@ bounded_given v n h =
 pub is_bounded : (f : Format) (v : SenderView) → IsReached f v → IsBounded v
 is_bounded f _ (Begins i s b r p large) =
     record { within = omega arith; covered = λ j lo hi. absurd (omega arith); apart = λ j on. refl; unsent = λ j lt. refl; uncovered = λ j lt. refl; unmarked = λ j lt. refl }
-is_bounded f _ (Queues v l p b u h free) =
+is_bounded f _ (Queues v l p b u n h free) =
     let k = is_bounded f v h in
     record { within = k.within; covered = k.covered; apart = k.apart; unsent = k.unsent; uncovered = k.uncovered; unmarked = k.unmarked }
 is_bounded f _ (Goes v room w h next may) = bounded_wish f v w (is_set f v h) (is_filled f v h) (is_bounded f v h) next
@@ -236,4 +240,7 @@ is_bounded f _ (Closes v x h none) = bounded_shut v x (is_bounded f v h) (shutdo
 is_bounded f _ (Abandons v t h) =
     let k = is_bounded f v h in
     after_abandon IsBounded v t k (λ on. bounded_longer v v.plan (without t v.queue) v.abandoned v.turn k (omega arith)) (λ n is kept. bounded_given v n k)
-is_bounded f _ (Repeats v h) = bounded_timed v (is_bounded f v h)
+is_bounded f _ (Repeats v test h) = bounded_timed v test (is_bounded f v h)
+is_bounded f _ (Rebases v x h) =
+    let k = is_bounded f v h in
+    record { within = k.within; covered = k.covered; apart = k.apart; unsent = k.unsent; uncovered = k.uncovered; unmarked = k.unmarked }

@@ -7,7 +7,7 @@ use Rattle.sctp_model.specs.sender.SenderView.{Queued, SenderView}
 use Rattle.sctp_model.specs.sender.Entries.{entry_message}
 use Rattle.sctp_model.specs.sender.Assigning.{with_message, with_entry, first_on}
 use Rattle.sctp_model.specs.sender.Abandoning.{Name, name_at, name_among, has_ticket, ended, with_abandoned}
-use Rattle.sctp_model.specs.sender.Reached.{IsReached, Begins, Queues, Goes, Covers, Closes, Abandons, Repeats}
+use Rattle.sctp_model.specs.sender.Reached.{IsReached, Begins, Queues, Goes, Covers, Closes, Abandons, Repeats, Rebases}
 use Rattle.sctp_model.proofs.sender.WishCases.{IsAssigned, Whole, Begun, Continued, after_wish}
 use Rattle.sctp_model.proofs.sender.AbandonCases.{same_lane-self, lanes_same, after_abandon, after_end, given_or_before}
 use Rattle.sctp_model.proofs.sender.SetLaws.{AllFilled, is_filled}
@@ -65,7 +65,7 @@ HasMessages v = AllNamed v.streams v.plan v.plan.entries
 
 pub is_named : (f : Format) (v : SenderView) → IsReached f v → HasMessages v
 is_named f _ (Begins i s b r p large) = tt
-is_named f _ (Queues v l p b u h free) = is_named f v h
+is_named f _ (Queues v l p b u n h free) = is_named f v h
 is_named f _ (Goes v room w h next may) =
     after_wish HasMessages f v w (is_named f v h) (λ u a. named_assigned f v u (is_filled f v h) (is_named f v h) a) (λ u i k. k) next
 is_named f _ (Covers v x h none) = is_named f v h
@@ -73,7 +73,8 @@ is_named f _ (Closes v x h none) = is_named f v h
 is_named f _ (Abandons v t h) =
     let before = is_named f v h in
     after_abandon HasMessages v t before (λ on. before) (λ n is kept. let there = name_found v.streams v.plan t v.plan.entries n before is in named_given v n before there.0 there.1)
-is_named f _ (Repeats v h) = is_named f v h
+is_named f _ (Repeats v test h) = is_named f v h
+is_named f _ (Rebases v x h) = is_named f v h
 
 -- ---- only messages with a number are abandoned
 
@@ -106,14 +107,15 @@ knows_given v n h low l k on =
 
 pub knows_abandoned : (f : Format) (v : SenderView) → IsReached f v → KnowsAbandoned v
 knows_abandoned f _ (Begins i s b r p large) = λ l n on. absurd (cc)
-knows_abandoned f _ (Queues v l p b u h free) = knows_abandoned f v h
+knows_abandoned f _ (Queues v l p b u n h free) = knows_abandoned f v h
 knows_abandoned f _ (Goes v room w h next may) = after_wish KnowsAbandoned f v w (knows_abandoned f v h) (λ u a. knows_assigned f v u (knows_abandoned f v h) a) (λ u i k. k) next
 knows_abandoned f _ (Covers v x h none) = knows_abandoned f v h
 knows_abandoned f _ (Closes v x h none) = knows_abandoned f v h
 knows_abandoned f _ (Abandons v t h) =
     let before = knows_abandoned f v h in
     after_abandon KnowsAbandoned v t before (λ on. before) (λ n is kept. knows_given v n before (name_found v.streams v.plan t v.plan.entries n (is_named f v h) is).0)
-knows_abandoned f _ (Repeats v h) = knows_abandoned f v h
+knows_abandoned f _ (Repeats v test h) = knows_abandoned f v h
+knows_abandoned f _ (Rebases v x h) = knows_abandoned f v h
 
 -- a new number is not abandoned yet
 pub new_kept : (f : Format) (v : SenderView) (l : Lane) → IsReached f v → v.abandoned l (length (v.plan.messages l)) ≡ false

@@ -6,7 +6,7 @@ use Rattle.sctp_model.specs.messages.Format.{Format, Lane, same_lane}
 use Rattle.sctp_model.specs.messages.Plan.{Entry, End, Plan, entry_at}
 use Rattle.sctp_model.specs.sender.SenderView.{SenderView}
 use Rattle.sctp_model.specs.sender.Abandoning.{Name, with_abandoned}
-use Rattle.sctp_model.specs.sender.Reached.{IsReached, Begins, Queues, Goes, Covers, Closes, Abandons, Repeats}
+use Rattle.sctp_model.specs.sender.Reached.{IsReached, Begins, Queues, Goes, Covers, Closes, Abandons, Repeats, Rebases}
 use Rattle.sctp_model.proofs.sender.WishCases.{IsAssigned, Whole, Begun, Continued, after_wish}
 use Rattle.sctp_model.proofs.sender.AbandonCases.{lanes_same, after_abandon, after_end, given_itself}
 use Rattle.sctp_model.proofs.sender.CountLaws.{HasMessages, is_named}
@@ -63,14 +63,15 @@ ends_given v n h l k = after_end (λ (p : Plan). Has p.entries (End l k) → (wi
 
 pub are_ends_given : (f : Format) (v : SenderView) → IsReached f v → AreEndsGiven v
 are_ends_given f _ (Begins i s b r p large) = λ l n has. absurd has
-are_ends_given f _ (Queues v l p b u h free) = are_ends_given f v h
+are_ends_given f _ (Queues v l p b u n h free) = are_ends_given f v h
 are_ends_given f _ (Goes v room w h next may) =
     let k = are_ends_given f v h in
     after_wish AreEndsGiven f v w k (λ u a. ends_assigned f v u (is_named f v h) k a) (λ u i x. x) next
 are_ends_given f _ (Covers v x h none) = are_ends_given f v h
 are_ends_given f _ (Closes v x h none) = are_ends_given f v h
 are_ends_given f _ (Abandons v t h) = let k = are_ends_given f v h in after_abandon AreEndsGiven v t k (λ on. k) (λ n is kept. ends_given v n k)
-are_ends_given f _ (Repeats v h) = are_ends_given f v h
+are_ends_given f _ (Repeats v test h) = are_ends_given f v h
+are_ends_given f _ (Rebases v x h) = are_ends_given f v h
 
 -- by its index
 has_at : (es : List Entry) (i : ℕ) (e : Entry) → slice_get es i ≡ Some e → Has es e

@@ -19,7 +19,7 @@ fresh = fresh_sender 4294967295 2 4 100 true
 
 -- three fragments on stream 0, then two on stream 1, worthless from moment 500
 abbrev two : SenderView
-two = queued (queued fresh (ordered_lane 0) 7 (1 ∷ 2 ∷ 3 ∷ 4 ∷ 5 ∷ 6 ∷ 7 ∷ 8 ∷ 9 ∷ []) None) (ordered_lane 1) 8 (1 ∷ 2 ∷ 3 ∷ 4 ∷ 5 ∷ []) (Some 500)
+two = queued (queued fresh (ordered_lane 0) 7 (1 ∷ 2 ∷ 3 ∷ 4 ∷ 5 ∷ 6 ∷ 7 ∷ 8 ∷ 9 ∷ []) None None) (ordered_lane 1) 8 (1 ∷ 2 ∷ 3 ∷ 4 ∷ 5 ∷ []) (Some 500) None
 
 abbrev indexes : List Wish → List ℕ
 indexes ws = map (λ w. w.index) ws
@@ -119,13 +119,13 @@ expires : map (abandoned (expired begun 500)) (1 ∷ 2 ∷ []) ≡ false ∷ tru
 expires = refl
 
 -- the number of an abandoned message is not used again
-next_number : (fill Interleaved 50 (queued (abandon_after given 2) (ordered_lane 0) 1 (9 ∷ []) None)).view.plan.entries
+next_number : (fill Interleaved 50 (queued (abandon_after given 2) (ordered_lane 0) 1 (9 ∷ []) None None)).view.plan.entries
     ≡ Part (ordered_lane 0) 0 0 ∷ Part (ordered_lane 1) 0 0 ∷ End (ordered_lane 0) 0 ∷ End (ordered_lane 1) 0 ∷ Part (ordered_lane 0) 1 0 ∷ []
 next_number = refl
 
 -- three messages of one index each, all abandoned before a SACK came: one FORWARD to 3, naming 2
 abbrev three : SenderView
-three = (fill Plain 200 (queued (queued (queued fresh (ordered_lane 0) 0 (1 ∷ []) None) (ordered_lane 0) 0 (2 ∷ []) None) (ordered_lane 0) 0 (3 ∷ []) None)).view
+three = (fill Plain 200 (queued (queued (queued fresh (ordered_lane 0) 0 (1 ∷ []) None None) (ordered_lane 0) 0 (2 ∷ []) None None) (ordered_lane 0) 0 (3 ∷ []) None None)).view
 
 abbrev none_left : SenderView
 none_left = abandon_after (abandon_after (abandon_after three 1) 2) 3

@@ -9,7 +9,7 @@ use Rattle.sctp_model.specs.sender.Words.{when, some_passes}
 use Rattle.sctp_model.specs.sender.Entries.{entry_lane, entry_number, is_of, is_of_abandoned, is_in_part, next_part, continued}
 use Rattle.sctp_model.specs.sender.Assigning.{with_message, with_entry}
 use Rattle.sctp_model.specs.sender.Abandoning.{Name, with_abandoned}
-use Rattle.sctp_model.specs.sender.Reached.{IsReached, Begins, Queues, Goes, Covers, Closes, Abandons, Repeats}
+use Rattle.sctp_model.specs.sender.Reached.{IsReached, Begins, Queues, Goes, Covers, Closes, Abandons, Repeats, Rebases}
 use Rattle.sctp_model.proofs.sender.WordLaws.{when_there}
 use Rattle.sctp_model.proofs.sender.WishCases.{IsAssigned, Whole, Begun, Continued, after_wish}
 use Rattle.sctp_model.proofs.sender.AbandonCases.{same_lane-self, after_abandon, after_end, given_other}
@@ -92,9 +92,10 @@ kept_given v n named h s e = after_end (λ (p : Plan). continued p s ≡ Some e 
 
 pub are_parts_kept : (f : Format) (v : SenderView) → IsReached f v → ArePartsKept v
 are_parts_kept f _ (Begins i s b r p large) = λ t e is. absurd (cc)
-are_parts_kept f _ (Queues v l p b u h free) = are_parts_kept f v h
+are_parts_kept f _ (Queues v l p b u n h free) = are_parts_kept f v h
 are_parts_kept f _ (Goes v room w h next may) = let k = are_parts_kept f v h in after_wish ArePartsKept f v w k (λ u a. kept_assigned f v u h k a) (λ u i x. x) next
 are_parts_kept f _ (Covers v x h none) = are_parts_kept f v h
 are_parts_kept f _ (Closes v x h none) = are_parts_kept f v h
 are_parts_kept f _ (Abandons v t h) = let k = are_parts_kept f v h in after_abandon ArePartsKept v t k (λ on. k) (λ n is kept. kept_given v n (is_named f v h) k)
-are_parts_kept f _ (Repeats v h) = are_parts_kept f v h
+are_parts_kept f _ (Repeats v test h) = are_parts_kept f v h
+are_parts_kept f _ (Rebases v x h) = are_parts_kept f v h

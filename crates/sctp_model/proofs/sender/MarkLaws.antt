@@ -11,8 +11,8 @@ use Rattle.sctp_model.specs.sender.Words.{some_passes}
 use Rattle.sctp_model.specs.sender.Entries.{entry_lane, entry_number, is_of, is_of_abandoned, is_wanted, is_unsettled, passes_at}
 use Rattle.sctp_model.specs.sender.Filling.{with_sent}
 use Rattle.sctp_model.specs.sender.SackTaken.{covered_by}
-use Rattle.sctp_model.specs.sender.Abandoning.{Name, ended, with_abandoned, timed_out, unsettled_at}
-use Rattle.sctp_model.specs.sender.Reached.{IsReached, Begins, Queues, Goes, Covers, Closes, Abandons, Repeats}
+use Rattle.sctp_model.specs.sender.Abandoning.{Name, ended, with_abandoned, is_worn, is_to_repeat, marking, unsettled_at}
+use Rattle.sctp_model.specs.sender.Reached.{IsReached, Begins, Queues, Goes, Covers, Closes, Abandons, Repeats, Rebases}
 use Rattle.sctp_model.proofs.sender.WordLaws.{some_is}
 use Rattle.sctp_model.proofs.sender.WishCases.{IsAssigned, Whole, Begun, Continued, after_wish}
 use Rattle.sctp_model.proofs.sender.AbandonCases.{same_lane-self, after_abandon, after_end, given_other}
@@ -118,25 +118,25 @@ marked_given v n b h = record { sent = λ i on. h.sent i (still i on).0; kept = 
         let off : not (is_of n.lane n.number e) ≡ true = subst (λ (o : Option Entry). not (some_passes (mine i) o) ≡ true) there other in
         given_other v n (entry_lane e) (entry_number e) (λ same. let yes = its_own e same in let clash : not true ≡ true = subst (λ (t : Bool). not t ≡ true) yes off in cc) ∙ h.kept i e on there
 
-marked_timed : (v : SenderView) → IsMarkedWell v → IsMarkedWell (timed_out v)
-marked_timed v h = record { sent = λ i on. (by_mark i (v.marked i) refl on).0; kept = λ i e on here. (by_mark i (v.marked i) refl on).1 e here }
+marked_timed : (v : SenderView) (test : ℕ → Bool) → IsMarkedWell v → IsMarkedWell (marking v test)
+marked_timed v test h = record { sent = λ i on. (by_mark i (v.marked i) refl on).0; kept = λ i e on here. (by_mark i (v.marked i) refl on).1 e here }
   where
     lost : (x : Bool) → not x ≡ true → x ≡ false
     lost true is = absurd (cc)
     lost false is = refl
 
-    by_mark : (i : ℕ) (b : Bool) → v.marked i ≡ b → (b || unsettled_at v i (entry_at v.plan i)) ≡ true → (v.sent i ≡ true) × ((e : Entry) → entry_at v.plan i ≡ Some e → is_of_abandoned v e ≡ false)
+    by_mark : (i : ℕ) (b : Bool) → v.marked i ≡ b → (b || (test i && unsettled_at v i (entry_at v.plan i))) ≡ true → (v.sent i ≡ true) × ((e : Entry) → entry_at v.plan i ≡ Some e → is_of_abandoned v e ≡ false)
     by_mark i true marked on = (h.sent i marked, λ e here. h.kept i e marked here)
     by_mark i false marked on =
-        let there = some_is (is_unsettled v i) (entry_at v.plan i) on in
-        let parts = and_parts (v.sent i) (is_wanted v i there.0) there.2 in
+        let there = some_is (is_to_repeat v i) (entry_at v.plan i) (and_parts (test i) (unsettled_at v i (entry_at v.plan i)) on).1 in
+        let parts = and_parts (v.sent i) (is_wanted v i there.0) (and_parts (is_unsettled v i there.0) (not (is_worn v i there.0)) there.2).0 in
         let wanted = and_parts (not (v.covered i)) (not (is_of_abandoned v there.0)) parts.1 in
         let found = there.1 in
         (parts.0, λ e here. let same : there.0 ≡ e = cc in subst (λ (x : Entry). is_of_abandoned v x ≡ false) same (lost (is_of_abandoned v there.0) wanted.1))
 
 pub is_marked_well : (f : Format) (v : SenderView) → IsReached f v → IsMarkedWell v
 is_marked_well f _ (Begins i s b r p large) = record { sent = λ j on. absurd (cc); kept = λ j e on here. absurd (cc) }
-is_marked_well f _ (Queues v l p b u h free) = let k = is_marked_well f v h in record { sent = k.sent; kept = k.kept }
+is_marked_well f _ (Queues v l p b u n h free) = let k = is_marked_well f v h in record { sent = k.sent; kept = k.kept }
 is_marked_well f _ (Goes v room w h next may) =
     let k = is_marked_well f v h in
     after_wish IsMarkedWell f v w k (λ u a. marked_assigned f v u (is_bounded f v h) (is_named f v h) k a) (λ u i x. marked_sent u i x) next
@@ -145,4 +145,5 @@ is_marked_well f _ (Closes v x h none) = marked_covered v _ _ _ (is_marked_well 
 is_marked_well f _ (Abandons v t h) =
     let k = is_marked_well f v h in
     after_abandon IsMarkedWell v t k (λ on. record { sent = k.sent; kept = k.kept }) (λ n is kept. marked_given v n (is_bounded f v h) k)
-is_marked_well f _ (Repeats v h) = marked_timed v (is_marked_well f v h)
+is_marked_well f _ (Repeats v test h) = marked_timed v test (is_marked_well f v h)
+is_marked_well f _ (Rebases v x h) = let k = is_marked_well f v h in record { sent = k.sent; kept = k.kept }

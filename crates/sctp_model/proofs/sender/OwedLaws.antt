@@ -12,7 +12,7 @@ use Rattle.sctp_model.specs.sender.Entries.{entry_lane, entry_fragment, fragment
 use Rattle.sctp_model.specs.sender.Queueing.{owed_for, owed_by_queue, owed_by_parts, promised, cut}
 use Rattle.sctp_model.specs.sender.Assigning.{with_message, with_entry, is_on, first_on, without_first}
 use Rattle.sctp_model.specs.sender.Abandoning.{Name, with_abandoned}
-use Rattle.sctp_model.specs.sender.Reached.{IsReached, Begins, Queues, Goes, Covers, Closes, Abandons, Repeats}
+use Rattle.sctp_model.specs.sender.Reached.{IsReached, Begins, Queues, Goes, Covers, Closes, Abandons, Repeats, Rebases}
 use Rattle.sctp_model.proofs.sender.WordLaws.{sum-changed, found_is}
 pub use Rattle.sctp_model.proofs.sender.WordLaws.{sum-zero}
 use Rattle.sctp_model.proofs.sender.WishCases.{IsAssigned, Whole, Begun, Continued, after_wish}
@@ -214,10 +214,10 @@ promised_assigned _ v _ full h (Continued s e lt on) =
 
 pub is_promised : (f : Format) (v : SenderView) → IsReached f v → IsPromised v
 is_promised f _ (Begins i s b r p large) = let none = sum-zero (λ j. owed_at (record { messages = λ l. []; entries = [] }) j) s (λ j. refl) in omega (arith, none)
-is_promised f _ (Queues v l p b u h free) =
+is_promised f _ (Queues v l p b u n h free) =
     let a = accepted v l.stream b free in
     let k = is_promised f v h in
-    omega (arith, a.owed, owed_push v.queue (record { lane = l; message = record { ticket = suc v.tickets; payload = p; fragments = cut v.fragment b; until = u } }))
+    omega (arith, a.owed, owed_push v.queue (record { lane = l; message = record { ticket = suc v.tickets; payload = p; fragments = cut v.fragment b; until = u; limit = n } }))
 is_promised f _ (Goes v room w h next may) =
     let k = is_promised f v h in
     after_wish IsPromised f v w k (λ u a. let less = promised_assigned f v u (is_filled f v h) (is_named f v h) a in omega arith) (λ u i held. held) next
@@ -227,4 +227,5 @@ is_promised f _ (Abandons v t h) =
     let k = is_promised f v h in
     let names = is_named f v h in
     after_abandon IsPromised v t k (λ on. let less = owed_rest (λ q. q.message.ticket == t) v.queue in omega arith) (λ n is kept. promised_given v n names (name_found v.streams v.plan t v.plan.entries n names is).1 k)
-is_promised f _ (Repeats v h) = is_promised f v h
+is_promised f _ (Repeats v test h) = is_promised f v h
+is_promised f _ (Rebases v x h) = is_promised f v h

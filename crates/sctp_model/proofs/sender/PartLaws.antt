@@ -12,7 +12,7 @@ use Rattle.sctp_model.specs.sender.Assigning.{with_entry}
 use Rattle.sctp_model.specs.sender.Readers.{outstanding}
 use Rattle.sctp_model.specs.sender.Filling.{Wish, may_go, is_let_flow, room_of}
 use Rattle.sctp_model.specs.sender.Abandoning.{Name, with_abandoned}
-use Rattle.sctp_model.specs.sender.Reached.{IsReached, Begins, Queues, Goes, Covers, Closes, Abandons, Repeats}
+use Rattle.sctp_model.specs.sender.Reached.{IsReached, Begins, Queues, Goes, Covers, Closes, Abandons, Repeats, Rebases}
 use Rattle.sctp_model.proofs.sender.WordLaws.{some_is, sum-zero, sum-changed}
 use Rattle.sctp_model.proofs.sender.AbandonCases.{lanes_same, after_abandon, after_end}
 use Rattle.sctp_model.proofs.sender.PlanLaws.{continued_is, continued_more}
@@ -91,7 +91,7 @@ windowed_wish f room w may =
 
 pub is_windowed : (f : Format) (v : SenderView) → IsReached f v → IsWindowed v
 is_windowed f _ (Begins i s b r p large) = let none = sum-zero (λ j. one_if_some (continued (record { messages = λ l. []; entries = [] }) j)) s (λ j. refl) in omega (arith, none)
-is_windowed f _ (Queues v l p b u h free) = is_windowed f v h
+is_windowed f _ (Queues v l p b u n h free) = is_windowed f v h
 is_windowed f _ (Goes v room w h next may) = windowed_wish f room w may
 is_windowed f _ (Covers v x h none) = let k = is_windowed f v h in omega arith
 is_windowed f _ (Closes v x h none) = let k = is_windowed f v h in omega arith
@@ -99,4 +99,5 @@ is_windowed f _ (Abandons v t h) =
     let before = is_windowed f v h in
     let names = is_named f v h in
     after_abandon IsWindowed v t before (λ on. before) (λ n is kept. windowed_given v n names (name_found v.streams v.plan t v.plan.entries n names is).1 before)
-is_windowed f _ (Repeats v h) = is_windowed f v h
+is_windowed f _ (Repeats v test h) = is_windowed f v h
+is_windowed f _ (Rebases v x h) = is_windowed f v h

@@ -9,7 +9,7 @@ use Rattle.sctp_model.specs.sender.SenderView.{Queued, SenderView}
 use Rattle.sctp_model.specs.sender.Entries.{entry_lane, entry_number, entry_message}
 use Rattle.sctp_model.specs.sender.Assigning.{with_message, with_entry, is_on, without_first}
 use Rattle.sctp_model.specs.sender.Abandoning.{Name, waits, without, name_of, name_among, has_ticket, with_abandoned}
-use Rattle.sctp_model.specs.sender.Reached.{IsReached, Begins, Queues, Goes, Covers, Closes, Abandons, Repeats}
+use Rattle.sctp_model.specs.sender.Reached.{IsReached, Begins, Queues, Goes, Covers, Closes, Abandons, Repeats, Rebases}
 use Rattle.sctp_model.proofs.sender.WishCases.{IsAssigned, Whole, Begun, Continued, after_wish}
 use Rattle.sctp_model.proofs.sender.AbandonCases.{after_abandon, after_end}
 use Rattle.sctp_model.proofs.sender.SetLaws.{AllFilled, is_filled}
@@ -133,7 +133,7 @@ ticketed_withdrawn v t h = record { waiting = λ x is. h.waiting x (fewer_withou
 
 pub is_ticketed : (f : Format) (v : SenderView) → IsReached f v → IsTicketed v
 is_ticketed f _ (Begins i s b r p large) = record { waiting = λ t is. absurd (cc); apart = tt; owned = tt }
-is_ticketed f _ (Queues v l p b u h free) = ticketed_queued v _ (is_named f v h) refl (is_ticketed f v h)
+is_ticketed f _ (Queues v l p b u n h free) = ticketed_queued v _ (is_named f v h) refl (is_ticketed f v h)
 is_ticketed f _ (Goes v room w h next may) =
     let k = is_ticketed f v h in
     after_wish IsTicketed f v w k (λ u a. ticketed_assigned f v u (is_filled f v h) (is_named f v h) k a) (λ u i x. record { waiting = x.waiting; apart = x.apart; owned = x.owned }) next
@@ -142,4 +142,5 @@ is_ticketed f _ (Closes v x h none) = let k = is_ticketed f v h in record { wait
 is_ticketed f _ (Abandons v t h) =
     let k = is_ticketed f v h in
     after_abandon IsTicketed v t k (λ on. ticketed_withdrawn v t k) (λ n is kept. ticketed_given v n (is_named f v h) k (found_owns v.plan v.tickets t v.plan.entries v.plan.entries n k.owned is).0)
-is_ticketed f _ (Repeats v h) = let k = is_ticketed f v h in record { waiting = k.waiting; apart = k.apart; owned = k.owned }
+is_ticketed f _ (Repeats v test h) = let k = is_ticketed f v h in record { waiting = k.waiting; apart = k.apart; owned = k.owned }
+is_ticketed f _ (Rebases v x h) = let k = is_ticketed f v h in record { waiting = k.waiting; apart = k.apart; owned = k.owned }

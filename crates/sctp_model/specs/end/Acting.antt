@@ -1,20 +1,21 @@
--- What one chunk does to an end that has begun: a data type for each kind of chunk, and a row for each state that takes it (RFC 9260, 4, 6 and 9).
+-- What one chunk does at an endpoint with an association: a data type for each kind of chunk, and a row for each state that takes it (RFC 9260, 4, 6 and 9).
 use Rattle.std.specs.Prelude.{◌≡◌, ℕ, ◌+◌, ◌<◌, ◌⊎◌, nat_lt, Bool, true, false, ◌&&◌, ◌||◌, ◌==◌, if◌then◌else◌, List, [], ◌∷◌, ◌++◌, length, Some, None}
 use Rattle.sctp_model.specs.numbers.Numbers.{u16_bytes}
 use Rattle.sctp_model.specs.wire.Typed.{Typed, typed_in}
 use Rattle.sctp_model.specs.wire.Unknown.{chunk_rule}
 use Rattle.sctp_model.specs.wire.Chunk.{PieceMeaning, SackMeaning, ForwardMeaning, ChunkMeaning, Data, IData, Init, InitAck, Sack, Heartbeat, HeartbeatAck, Abort, Shutdown, ShutdownAck, Error, CookieEcho, CookieAck, ShutdownComplete, ForwardTsn, IForwardTsn, Unknown}
 use Rattle.sctp_model.specs.messages.Format.{Format, Plain, Interleaved}
-use Rattle.sctp_model.specs.receiver.ReceiverView.{ReceiverView}
+use Rattle.sctp_model.specs.receiver.ReceiverView.{ReceiverView, IsCumulative}
 use Rattle.sctp_model.specs.sender.SackTaken.{Stale, Beyond, BadBlock, sack_fault, sack_taken, shutdown_fault, shutdown_taken}
 use Rattle.sctp_model.specs.receiver.PieceTaken.{PieceAnswer, Duplicate, Ahead, NoSuchStream, Passed, NoRoom, Kept, PieceTaken}
 use Rattle.sctp_model.specs.receiver.ForwardTaken.{OutOfDate, Bad, Moved, ForwardTaken}
 use Rattle.sctp_model.specs.end.EndView.{format_of, Tags, Completed, Aborted, StaleCookie, Stage, ShutdownSent, ShutdownReceived, ShutdownAckSent, Phase, Calling, Echoing, Open, DataAlarm, Timer, EndView}
-use Rattle.sctp_model.specs.end.Clock.{turned, closed, with_timer, settled, renewed}
+use Rattle.sctp_model.specs.end.Clock.{turned, closed, settled, renewed, paced}
 use Rattle.sctp_model.specs.end.Closing.{with_due, answers_shutdown, takes_data, takes_acknowledgements, awaits_ack, awaits_complete, hears}
 use Rattle.sctp_model.specs.end.Reports.{item, causes_with, with_causes, fits_alone, INVALID_STREAM, STALE_COOKIE, UNRECOGNIZED_CHUNK}
 use Rattle.sctp_model.specs.end.PeerFaults.{Unnoted, ToAcknowledge, After, GoesOn, Ends, PassedOver, Replies, packet_to, at_fault, no_user_data, violation}
 use Rattle.sctp_model.specs.end.Opening.{InitAckActs, EchoActs, CookieAckActs}
+use Rattle.sctp_model.specs.end.Reconfiguring.{parameters_heard, takes_reconfig}
 
 -- ---- chunks with data (6.2 and 6.5; RFC 8260, 2.1 and 2.2)
 
@@ -70,11 +71,12 @@ pub data ForwardActs (f : Format) (e : EndView) (m : ForwardMeaning) : After →
 
 -- ---- SACK (6.2.1 and 6.3.2)
 
--- What a SACK that counts leaves: what it acknowledges; a FORWARD is due where the point is past CUM; the data timer's repeats are counted anew.
+-- The endpoint after a SACK that was taken: what it acknowledges is acknowledged; a FORWARD is due if the point is past CUM; the data timer's count of expiries is 0 again; and an
+-- endpoint with a pace acts on the round trip and the misses that it reports.
 abbrev pub sack_heard : EndView → SackMeaning → EndView
 sack_heard e s =
     let x = settled (record e { sender = sack_taken e.sender s; due = record e.due { forward = true } }) in
-    with_timer DataAlarm (renewed e.moment (nat_lt e.sender.cum (sack_taken e.sender s).cum) (x.timers DataAlarm)) x
+    paced e.sender (e.timers DataAlarm).wait (renewed e.moment (nat_lt e.sender.cum (sack_taken e.sender s).cum) (x.timers DataAlarm)) x
 
 -- What a SACK does (6.2.1).
 pub data SackActs (e : EndView) (s : SackMeaning) : After → Type 0 where
@@ -120,7 +122,8 @@ shut_timer standard moved now t = if standard && moved then renewed now true t e
 abbrev pub shutdown_counted : EndView → ℕ → EndView
 shutdown_counted e tsn =
     let x = settled (record e { sender = shutdown_taken e.sender tsn }) in
-    with_timer DataAlarm (shut_timer e.configuration.standard_closing (nat_lt e.sender.cum (shutdown_taken e.sender tsn).cum) e.moment (x.timers DataAlarm)) x
+    paced e.sender (e.timers DataAlarm).wait
+    (shut_timer e.configuration.standard_closing (nat_lt e.sender.cum (shutdown_taken e.sender tsn).cum) e.moment (x.timers DataAlarm)) x
 
 -- the peer says that it is done (9.2): its cumulative TSN acknowledges
 abbrev pub shutdown_heard : Tags → EndView → ℕ → EndView
@@ -160,7 +163,7 @@ abbrev pub may_report : Phase → Bool
 may_report (Calling d) = false
 may_report h = true
 
--- the causes that wait, with the report where the rule asks for it
+-- the causes that wait, with the report if the rule asks for it
 abbrev pub unknown_causes : EndView → ℕ → ℕ → List ℕ → List Typed
 unknown_causes e kind flags value =
     if (chunk_rule kind).report && may_report e.phase then causes_with e (unknown_item kind flags value) else e.due.causes
@@ -174,6 +177,12 @@ unknown_leaves false e = GoesOn Unnoted e
 abbrev pub unknown_acts : EndView → ℕ → ℕ → List ℕ → After
 unknown_acts e kind flags value =
     unknown_leaves (chunk_rule kind).stop (with_causes (unknown_causes e kind flags value) e)
+
+-- What a chunk of any other type does: a RE-CONFIG, at an endpoint that has agreed on it, acts by its parameters (RFC 6525, 5.2); every other one is of an unknown type.
+pub data OtherActs (e : EndView) (kind flags : ℕ) (value : List ℕ) : After → Type 0 where
+  ReconfigComes : (c : ℕ) → takes_reconfig e kind ≡ true → IsCumulative e.receiver c →
+      OtherActs e kind flags value (GoesOn Unnoted (parameters_heard c e (typed_in value)))
+  IsUnknown : (a : After) → takes_reconfig e kind ≡ false → a ≡ unknown_acts e kind flags value → OtherActs e kind flags value a
 
 -- ---- one clause for each type; the tag is that of the packet
 
@@ -195,4 +204,4 @@ Acts e tag CookieAck a = CookieAckActs e a
 Acts e tag (ShutdownComplete t) a = CompleteActs e a
 Acts e tag (ForwardTsn m) a = ForwardActs Plain e m a
 Acts e tag (IForwardTsn m) a = ForwardActs Interleaved e m a
-Acts e tag (Unknown kind flags value) a = a ≡ unknown_acts e kind flags value
+Acts e tag (Unknown kind flags value) a = OtherActs e kind flags value a

@@ -1,4 +1,4 @@
--- A packet that comes, whole or cut short: whether it passes, what its chunks do one after the other, and what is told of it (RFC 9260, 4, 5.1, 8.4 and 8.5).
+-- A packet arrives, whole or cut short: whether it passes, what its chunks do one after the other, and what is reported of it (RFC 9260, 4, 5.1, 8.4 and 8.5).
 use Rattle.std.specs.Prelude.{◌≡◌, ℕ, ◌<◌, ◌⊎◌, Bool, true, false, not, ◌&&◌, ◌||◌, if◌then◌else◌, List, [], ◌∷◌, ◌++◌, drop, Option, Some, None}
 use Rattle.sctp_model.specs.numbers.Limits.{SACK_DELAY}
 use Rattle.sctp_model.specs.wire.Chunk.{ChunkMeaning}
@@ -11,6 +11,7 @@ use Rattle.sctp_model.specs.end.Closing.{with_due, is_shutdown_sent, rested}
 use Rattle.sctp_model.specs.end.PeerFaults.{FAULT, PORTS, TAG, STATE, Note, Unnoted, ToAcknowledge, GoesOn, Ends, PassedOver, Replies, Drops}
 use Rattle.sctp_model.specs.end.Opening.{begun}
 use Rattle.sctp_model.specs.end.Acting.{Acts}
+use Rattle.sctp_model.specs.end.Wearing.{missed_below, wearing}
 use Rattle.sctp_model.specs.end.Passing.{has_ports, passes}
 use Rattle.sctp_model.specs.end.Strays.{Verdict, Taken, Dropped, Answer, stray_verdict, opened_by}
 
@@ -32,7 +33,7 @@ abbrev pub noted : Note → Notes → Notes
 noted Unnoted n = record n { listed = true }
 noted (ToAcknowledge is_data at_once) n = record { listed = true; acknowledges = true; brings_data = n.brings_data || is_data; at_once = n.at_once || at_once }
 
--- taken where some chunk was listed, else dropped for the state (RFC 9260, 4)
+-- taken if some chunk was listed, else dropped for the state (RFC 9260, 4)
 abbrev pub verdict_of : Bool → Verdict
 verdict_of true = Taken
 verdict_of false = Dropped STATE
@@ -95,23 +96,23 @@ acknowledges g e = with_due (record e.due { sack = true; shutdown = e.due.shutdo
 abbrev pub delays : EndView → EndView
 delays e = record e { delayed = Some (after_wait e.moment SACK_DELAY) }
 
--- with standard closing user data in SHUTDOWN SENT clears the count of the SHUTDOWN's timer, which begins anew where it runs (9.2)
+-- with standard closing user data in SHUTDOWN SENT clears the count of the SHUTDOWN's timer, which begins anew if it runs (9.2)
 abbrev pub kept_going : Bool → EndView → EndView
 kept_going false e = e
 kept_going true e = with_timer ShutdownAlarm (renewed e.moment true (e.timers ShutdownAlarm)) e
 
--- What a packet leaves at an open end, where something in it is to be acknowledged.
+-- What a packet leaves at an open end, if something in it is to be acknowledged.
 abbrev pub answered_in : Notes → Stage → EndView → EndView
 answered_in n g e =
     kept_going (e.configuration.standard_closing && (n.brings_data && is_shutdown_sent g)) (if is_at_once n g e then acknowledges g e else delays e)
 
--- where something is to be acknowledged, and the association isn't over by now
+-- if something is to be acknowledged, and the association isn't over by now
 abbrev pub acknowledges_in : Notes → Bool → Phase → EndView → EndView
 acknowledges_in n false h e = e
 acknowledges_in n true (Open t g) e = answered_in n g e
 acknowledges_in n true h e = e
 
--- The end of a packet, whatever ended it, or where it was cut: what is due after all its chunks (6.2).
+-- The end of a packet, whatever ended it, or if it was cut: what is due after all its chunks (6.2).
 abbrev pub packet_ended : Notes → EndView → EndView
 packet_ended n e = acknowledges_in n n.acknowledges e.phase e
 
@@ -127,9 +128,9 @@ pub data Arrives (e : EndView) (d : Draw) (p : Packet) : EndView → Verdict →
       has_association e.phase ≡ false → opened_by e p ≡ Some b → AllAct p.tag (begun b e) (noted Unnoted no_notes) (drop 1 p.chunks) t n v →
       (gap : Bool) → LeavesGap t gap → Arrives e d p (packet_ended (urged gap n) t) v
   Heard : (t : EndView) (n : Notes) (v : Verdict) → has_ports e.configuration p ≡ true → passes e.phase p ≡ true → has_association e.phase ≡ true →
-      AllAct p.tag e no_notes p.chunks t n v → (gap : Bool) → LeavesGap t gap → Arrives e d p (packet_ended (urged gap n) t) v
+      AllAct p.tag e no_notes p.chunks t n v → (gap : Bool) → LeavesGap t gap → Arrives e d p (packet_ended (urged gap n) (wearing (missed_below e.pace) t)) v
 
--- ---- what comes to an end at a moment, as it reads: None where the bytes don't
+-- ---- what comes to an end at a moment, as it reads: None if the bytes don't
 
 -- The end takes the moment. Bytes that don't read are dropped for it; a packet arrives.
 pub data Receives (e : EndView) (now : ℕ) (d : Draw) : Option Packet → EndView → Verdict → Type 0 where

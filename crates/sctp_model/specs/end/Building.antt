@@ -1,24 +1,30 @@
 -- A packet that is built: what is due, in its order, and then fragments (RFC 9260, 5.1, 6.1, 6.10 and 9.2; RFC 3758, 3.5; RFC 8260, 2.2 and 2.3.1).
-use Rattle.std.specs.Prelude.{◌≡◌, ℕ, ◌-◌, nat_le, Bool, true, false, ◌&&◌, List, [], ◌∷◌, ◌++◌, map, Option, Some, None}
+use Rattle.std.specs.Prelude.{◌≡◌, ℕ, ◌-◌, nat_le, Bool, true, false, ◌&&◌, List, [], ◌∷◌, ◌++◌, map, Option, Some, None, option_map, is_some}
 use Rattle.sctp_model.specs.numbers.Serial.{tsn}
 use Rattle.sctp_model.specs.wire.Typed.{Typed}
 use Rattle.sctp_model.specs.wire.Chunk.{SackMeaning, ChunkMeaning, Sack, HeartbeatAck, Shutdown, ShutdownAck, Error, CookieEcho, CookieAck}
 use Rattle.sctp_model.specs.wire.Packet.{Packet, size_of_packet}
 use Rattle.sctp_model.specs.receiver.ReceiverView.{IsCumulative}
+use Rattle.sctp_model.specs.wire.Reconfig.{reconfig_chunk, reset_item}
+use Rattle.sctp_model.specs.sender.Outgoing.{Request}
+use Rattle.sctp_model.specs.sender.Resetting.{request_said}
 use Rattle.sctp_model.specs.sender.Filling.{Wish, Fill, fill}
 use Rattle.sctp_model.specs.sender.SentChunks.{chunk_of, forward_chunk_of}
 use Rattle.sctp_model.specs.receiver.SackMade.{IsSack, sack_sent}
-use Rattle.sctp_model.specs.end.EndView.{format_of, Draw, Tags, Stage, Phase, Calling, Echoing, Open, InitAlarm, CookieAlarm, DataAlarm, ShutdownAlarm, AckAlarm, Timer, EndView, has_association}
+use Rattle.sctp_model.specs.receiver.ResetTaken.{with_answers}
+use Rattle.sctp_model.specs.end.EndView.{format_of, Draw, Tags, Stage, Phase, Calling, Echoing, Open, InitAlarm, CookieAlarm, DataAlarm, ShutdownAlarm, AckAlarm, ResetAlarm, Timer, EndView, has_association}
 use Rattle.sctp_model.specs.end.Clock.{running, with_timer, started, is_point_past}
 use Rattle.sctp_model.specs.end.Closing.{with_due}
+use Rattle.sctp_model.specs.end.Pacing.{room_by, sent_pace}
 use Rattle.sctp_model.specs.end.Reports.{written}
 use Rattle.sctp_model.specs.end.Opening.{own_init}
+use Rattle.sctp_model.specs.end.Reconfiguring.{asking}
 
 -- ---- what is due
 
 -- Where each kind of control chunk goes in a packet: before all user data, in this order (RFC 9260, 6.10).
 pub data Slot : Type 0 where
-  EchoSlot CookieAckSlot HeartbeatSlot ErrorSlot SackSlot ForwardSlot ShutdownSlot ShutdownAckSlot : Slot
+  EchoSlot CookieAckSlot HeartbeatSlot ErrorSlot SackSlot ForwardSlot AnswerSlot RequestSlot ShutdownSlot ShutdownAckSlot : Slot
 
 -- while a cookie is echoed, and while the association is open (RFC 9260, 5.1 and 6.10)
 abbrev pub echoing_slots : List Slot
@@ -26,7 +32,7 @@ echoing_slots = EchoSlot ∷ ErrorSlot ∷ []
 
 -- the order of filling while the association is open (RFC 9260, 6.10)
 abbrev pub open_slots : List Slot
-open_slots = CookieAckSlot ∷ HeartbeatSlot ∷ ErrorSlot ∷ SackSlot ∷ ForwardSlot ∷ ShutdownSlot ∷ ShutdownAckSlot ∷ []
+open_slots = CookieAckSlot ∷ HeartbeatSlot ∷ ErrorSlot ∷ SackSlot ∷ ForwardSlot ∷ AnswerSlot ∷ RequestSlot ∷ ShutdownSlot ∷ ShutdownAckSlot ∷ []
 
 -- there is a value
 abbrev pub has_some : Option (List ℕ) → Bool
@@ -46,6 +52,8 @@ is_due HeartbeatSlot e = has_some e.due.heartbeat
 is_due ErrorSlot e = has_causes e.due.causes
 is_due SackSlot e = e.due.sack
 is_due ForwardSlot e = e.due.forward && is_point_past e.sender
+is_due AnswerSlot e = has_causes e.receiver.resets.answers
+is_due RequestSlot e = e.due.request && is_some e.sender.resets.pending
 is_due ShutdownSlot e = e.due.shutdown
 is_due ShutdownAckSlot e = e.due.shutdown_ack
 
@@ -57,6 +65,9 @@ pub data Wants (e : EndView) : Slot → ChunkMeaning → Type 0 where
   ReportCauses : Wants e ErrorSlot (Error (written e.due.causes))
   Acknowledge : (s : SackMeaning) → IsSack e.receiver s → Wants e SackSlot (Sack s)
   PassOn : Wants e ForwardSlot (forward_chunk_of (format_of e) e.configuration.limit e.sender)
+  AnswerReset : Wants e AnswerSlot (reconfig_chunk e.receiver.resets.answers)
+  AskReset : (q : Request) → e.sender.resets.pending ≡ Some q →
+      Wants e RequestSlot (reconfig_chunk (reset_item (tsn e.receiver.initial e.receiver.resets.taken) (request_said e.sender q) ∷ []))
   SayShutdown : (c : ℕ) → IsCumulative e.receiver c → Wants e ShutdownSlot (Shutdown (tsn e.receiver.initial c))
   AnswerShutdown : Wants e ShutdownAckSlot ShutdownAck
 
@@ -69,6 +80,8 @@ once_built HeartbeatSlot e = with_due (record e.due { heartbeat = None }) e
 once_built ErrorSlot e = with_due (record e.due { causes = [] }) e
 once_built SackSlot e = record e { due = record e.due { sack = false }; delayed = None; receiver = sack_sent e.receiver }
 once_built ForwardSlot e = started DataAlarm (with_due (record e.due { forward = false }) e)
+once_built AnswerSlot e = record e { receiver = with_answers e.receiver [] }
+once_built RequestSlot e = started ResetAlarm (with_due (record e.due { request = false }) e)
 once_built ShutdownSlot e = started ShutdownAlarm (with_due (record e.due { shutdown = false }) e)
 once_built ShutdownAckSlot e = started AckAlarm (with_due (record e.due { shutdown_ack = false }) e)
 
@@ -93,13 +106,20 @@ abbrev pub timer_after : EndView → List Wish → Timer
 timer_after e [] = e.timers DataAlarm
 timer_after e (w ∷ ws) = running e.moment (e.timers DataAlarm) (e.timers DataAlarm).expiry
 
--- what fits behind these chunks is filled with fragments (RFC 9260, 6.1)
+-- the space for fragments after these chunks: what is left of the packet, if the endpoint's pace allows it (RFC 9260, 6.1)
+abbrev pub room_behind : EndView → List ChunkMeaning → ℕ
+room_behind e xs = room_by e.pace (format_of e) (e.configuration.limit - size_of_packet xs) e.sender
+
+-- the fragments that fill it (RFC 9260, 6.1)
 abbrev pub filled_behind : EndView → List ChunkMeaning → Fill
-filled_behind e xs = fill (format_of e) (e.configuration.limit - size_of_packet xs) e.sender
+filled_behind e xs = fill (format_of e) (room_behind e xs) e.sender
 
 -- the end once fragments went out behind these chunks
 abbrev pub sent : EndView → List ChunkMeaning → EndView
-sent e xs = with_timer DataAlarm (timer_after e (filled_behind e xs).wishes) (record e { sender = (filled_behind e xs).view })
+sent e xs = with_timer DataAlarm (timer_after e (filled_behind e xs).wishes) (record e {
+  sender = (filled_behind e xs).view;
+  pace = option_map (sent_pace e.moment e.sender (filled_behind e xs).view (filled_behind e xs).wishes) e.pace;
+})
 
 -- the chunks of these fragments
 abbrev pub fragments : EndView → List ChunkMeaning → List ChunkMeaning
@@ -107,7 +127,7 @@ fragments e xs = map (chunk_of (format_of e)) (filled_behind e xs).wishes
 
 -- ---- the next packet
 
--- BUILD: what the next packet of an end holds (RFC 9260, 6.10), and what building it leaves. Where it holds nothing there is no packet.
+-- BUILD: what the next packet of an end holds (RFC 9260, 6.10), and what building it leaves. If it holds nothing there is no packet.
 pub data Builds (e : EndView) : List ChunkMeaning → EndView → Type 0 where
   Sleeps : has_association e.phase ≡ false → Builds e [] e
   Waits : (d : Draw) → e.phase ≡ Calling d → e.due.init ≡ false → Builds e [] e
@@ -116,8 +136,8 @@ pub data Builds (e : EndView) : List ChunkMeaning → EndView → Type 0 where
       Builds e (own_init e.configuration d ∷ []) (started InitAlarm (with_due (record e.due { init = false }) e))
   Echoes : (t : Tags) (cookie : List ℕ) (zs : List ChunkMeaning) (full : Bool) (x : EndView) → e.phase ≡ Echoing t cookie →
       Puts echoing_slots e [] zs full x → Builds e zs x
-  EndsFull : (t : Tags) (g : Stage) (zs : List ChunkMeaning) (x : EndView) → e.phase ≡ Open t g → Puts open_slots e [] zs true x → Builds e zs x
-  Fills : (t : Tags) (g : Stage) (zs : List ChunkMeaning) (x : EndView) → e.phase ≡ Open t g → Puts open_slots e [] zs false x →
+  EndsFull : (t : Tags) (g : Stage) (zs : List ChunkMeaning) (x : EndView) → e.phase ≡ Open t g → Puts open_slots (asking e) [] zs true x → Builds e zs x
+  Fills : (t : Tags) (g : Stage) (zs : List ChunkMeaning) (x : EndView) → e.phase ≡ Open t g → Puts open_slots (asking e) [] zs false x →
       Builds e (zs ++ fragments x zs) (sent x zs)
 
 -- the tag on an end's packets: the one that its peer asked for, once it knows it; an INIT has 0 (8.5.1)

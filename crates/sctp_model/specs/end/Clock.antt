@@ -1,9 +1,12 @@
--- The timers of an end: when they start, stop and expire (RFC 9260, 6.3, 5.1 and 9.2; RFC 3758, 3.5).
-use Rattle.std.specs.Prelude.{ℕ, suc, ◌+◌, ◌*◌, min, max, ◌==◌, nat_lt, nat_le, Bool, true, false, ◌&&◌, if◌then◌else◌, Option, None, Some}
+-- The timers of an endpoint: when they start, stop and expire (RFC 9260, 6.3, 5.1 and 9.2; RFC 3758, 3.5).
+use Rattle.std.specs.Prelude.{ℕ, suc, ◌+◌, ◌-◌, ◌*◌, min, max, ◌==◌, nat_lt, nat_le, Bool, true, false, ◌&&◌, if◌then◌else◌, Option, None, Some, option_map}
 use Rattle.sctp_model.specs.numbers.Limits.{LAST_MOMENT, FIRST_WAIT, LONGEST_WAIT, OPENING_REPEATS, REPEATS}
 use Rattle.sctp_model.specs.sender.SenderView.{SenderView}
+use Rattle.sctp_model.specs.sender.Words.{when}
+use Rattle.sctp_model.specs.sender.Entries.{in_flight}
 use Rattle.sctp_model.specs.sender.Readers.{point, unsettled}
-use Rattle.sctp_model.specs.end.EndView.{ShutdownSent, ShutdownAckSent, Phase, Calling, Echoing, Open, Over, Ended, Due, nothing_due, Alarm, InitAlarm, CookieAlarm, DataAlarm, ShutdownAlarm, AckAlarm, Timer, EndView}
+use Rattle.sctp_model.specs.end.Pacing.{Pace, pace_begun, wait_begun, heard, wait_heard}
+use Rattle.sctp_model.specs.end.EndView.{Established, ShutdownSent, ShutdownAckSent, Phase, Calling, Echoing, Open, Over, Ended, Due, nothing_due, Alarm, InitAlarm, CookieAlarm, DataAlarm, ShutdownAlarm, AckAlarm, ResetAlarm, Timer, EndView}
 
 -- ---- one timer
 
@@ -36,6 +39,7 @@ repeats_of CookieAlarm = OPENING_REPEATS
 repeats_of DataAlarm = REPEATS
 repeats_of ShutdownAlarm = REPEATS
 repeats_of AckAlarm = REPEATS
+repeats_of ResetAlarm = REPEATS
 
 -- ---- the timers of an end
 
@@ -46,6 +50,7 @@ alarm_number CookieAlarm = 1
 alarm_number DataAlarm = 2
 alarm_number ShutdownAlarm = 3
 alarm_number AckAlarm = 4
+alarm_number ResetAlarm = 5
 
 -- another timer in this one's place
 abbrev pub replaced : Alarm → Timer → (Alarm → Timer) → Alarm → Timer
@@ -72,6 +77,7 @@ is_home CookieAlarm (Echoing t xs) = true
 is_home DataAlarm (Open t g) = true
 is_home ShutdownAlarm (Open t ShutdownSent) = true
 is_home AckAlarm (Open t ShutdownAckSent) = true
+is_home ResetAlarm (Open t Established) = true
 is_home a h = false
 
 -- What was due once the end has gone to this state: the packets that belong to one state alone are forgotten elsewhere, all others stay.
@@ -79,6 +85,7 @@ abbrev pub due_in : Phase → Due → Due
 due_in h d = record d {
   init = d.init && is_home InitAlarm h;
   cookie_echo = d.cookie_echo && is_home CookieAlarm h;
+  request = d.request && is_home ResetAlarm h;
   shutdown = d.shutdown && is_home ShutdownAlarm h;
   shutdown_ack = d.shutdown_ack && is_home AckAlarm h;
 }
@@ -101,7 +108,7 @@ closed why e = record (turned (Over why) e) { due = nothing_due; delayed = None 
 abbrev pub is_point_past : SenderView → Bool
 is_point_past v = nat_lt v.cum (point v)
 
--- The data timer stops where nothing is unsettled (RFC 9260, 6.3.2), and a FORWARD is due no more where the point is CUM (RFC 3758, 3.5).
+-- The data timer stops if nothing is unsettled (RFC 9260, 6.3.2), and a FORWARD is due no more if the point is CUM (RFC 3758, 3.5).
 abbrev pub settled : EndView → EndView
 settled e = record (with_timer DataAlarm (if unsettled e.sender then e.timers DataAlarm else stopped (e.timers DataAlarm)) e) {
   due = record e.due { forward = e.due.forward && is_point_past e.sender };
@@ -112,8 +119,53 @@ abbrev pub renewed_expiry : ℕ → Option ℕ → Option ℕ
 renewed_expiry now None = None
 renewed_expiry now (Some m) = Some (after_wait now FIRST_WAIT)
 
--- The data timer after a SACK that was taken: its count of repeats is 0; where the SACK moved CUM, its wait is the first one again, and it begins anew where it
+-- The data timer after a SACK that was taken: its count of repeats is 0; if the SACK moved CUM, its wait is the first one again, and it begins anew if it
 -- still runs (RFC 9260, 6.3.2).
 abbrev pub renewed : ℕ → Bool → Timer → Timer
 renewed now false t = record t { repeats = 0 }
 renewed now true t = record { wait = FIRST_WAIT; repeats = 0; expiry = renewed_expiry now t.expiry }
+
+-- ---- the data timer of an endpoint with a pace
+
+-- The data timer's expiry after an acknowledgement, with this RTO: a running timer is restarted if that is asked for (`anew`), one that doesn't run is started if data is in flight
+-- (RFC 9260, 6.3.2, R3 and R4, and 7.2.4, step 4).
+abbrev pub paced_expiry : (now wait : ℕ) → (anew flies : Bool) → Option ℕ → Option ℕ
+paced_expiry now wait anew flies None = when flies (after_wait now wait)
+paced_expiry now wait anew flies (Some m) = Some (if anew then after_wait now wait else m)
+
+-- That timer; `wait` is the RTO before the acknowledgement. Without a pace it stays as it is.
+abbrev pub timer_heard : Option Pace → (now least wait : ℕ) → (v u : SenderView) → Timer → Timer
+timer_heard None now least wait v u t = t
+timer_heard (Some p) now least wait v u t =
+    let h = heard now v u p in
+    let w = wait_heard least wait h in
+    record t { wait = w; expiry = paced_expiry now w h.anew (nat_lt 0 (in_flight h.sender)) t.expiry }
+
+-- the sender after it: an endpoint with a pace has marked what was missed for retransmission
+abbrev pub sender_heard : Option Pace → (now : ℕ) → (v u : SenderView) → SenderView
+sender_heard None now v u = u
+sender_heard (Some p) now v u = (heard now v u p).sender
+
+-- The endpoint after an acknowledgement that its sender has taken: `v` is the sender before it, `wait` the RTO before it, `t` the data timer without a pace.
+abbrev pub paced : (v : SenderView) → (wait : ℕ) → Timer → EndView → EndView
+paced v wait t e = record (with_timer DataAlarm (timer_heard e.pace e.moment e.configuration.least_wait wait v e.sender t) e) {
+  sender = sender_heard e.pace e.moment v e.sender;
+  pace = option_map (λ p. (heard e.moment v e.sender p).pace) e.pace;
+}
+
+-- ---- the round trip of the handshake
+
+-- The round trip of a COOKIE ECHO that was sent once, by the time at which its timer was started; none if it was retransmitted (RFC 9260, 6.3.1, C5).
+abbrev pub echo_trip : (now : ℕ) → Timer → Option ℕ
+echo_trip now t = if t.repeats == 0 then option_map (λ m. min (now - (m - FIRST_WAIT)) LONGEST_WAIT) t.expiry else None
+
+-- the data timer of a new association with this pace
+abbrev pub timer_begun : Option Pace → (least wait : ℕ) → Timer → Timer
+timer_begun None least wait t = t
+timer_begun (Some p) least wait t = record t { wait = wait_begun least wait p }
+
+-- An endpoint whose association begins: the round trip of the handshake is its first measurement; without one the data timer has the handshake's RTO. One without a pace stays as it is.
+abbrev pub measured : (trip : Option ℕ) → (wait : ℕ) → EndView → EndView
+measured trip wait e =
+    let p = option_map (pace_begun trip) e.pace in
+    record (with_timer DataAlarm (timer_begun p e.configuration.least_wait wait (e.timers DataAlarm)) e) { pace = p }

@@ -1,4 +1,4 @@
--- How an end turns from state to state while an association is closed (RFC 9260, 9.2).
+-- How an endpoint goes from state to state while an association is closed (RFC 9260, 9.2).
 use Rattle.std.specs.Prelude.{Bool, true, false}
 use Rattle.sctp_model.specs.sender.Readers.{drained}
 use Rattle.sctp_model.specs.end.EndView.{Tags, Stage, Established, ShutdownPending, ShutdownSent, ShutdownReceived, ShutdownAckSent, Phase, Open, Due, EndView}
@@ -70,7 +70,7 @@ abbrev pub is_shutdown_sent : Stage → Bool
 is_shutdown_sent ShutdownSent = true
 is_shutdown_sent g = false
 
--- An end hears a chunk where it is open, in a stage whose row says so.
+-- An end hears a chunk if it is open, in a stage whose row says so.
 abbrev pub hears : (Stage → Bool) → Phase → Bool
 hears says (Open t g) = says g
 hears says h = false

@@ -1,7 +1,7 @@
--- What an end may be set up with: the limits of a configuration, and what is wrong with one beyond them.
+-- What an endpoint may be set up with: the limits of a configuration, and the faults of one beyond them.
 use Rattle.std.specs.Prelude.{ℕ, ◌+◌, ◌^◌, ◌<◌, ◌≤◌, ◌==◌, nat_le, Bool, false, not, ◌&&◌, ◌||◌, [], ◌∷◌, Option}
 use Rattle.sctp_model.specs.wire.Chunk.{padded}
-use Rattle.sctp_model.specs.numbers.Limits.{STREAM_LIMIT, LEAST_PACKET, GREATEST_PACKET, LEAST_FRAGMENT, GREATEST_FRAGMENT, FRAGMENT_OVERHEAD, LEAST_BUFFER, GREATEST_BUFFER}
+use Rattle.sctp_model.specs.numbers.Limits.{STREAM_LIMIT, LEAST_PACKET, GREATEST_PACKET, LEAST_FRAGMENT, GREATEST_FRAGMENT, FRAGMENT_OVERHEAD, LEAST_BUFFER, GREATEST_BUFFER, LEAST_WAIT}
 use Rattle.sctp_model.specs.sender.Words.{when, first_there}
 use Rattle.sctp_model.specs.end.EndView.{Configuration}
 
@@ -15,7 +15,7 @@ pub record IsConfiguration (c : Configuration) : Type 0 where
   pub outbound : (1 ≤ c.outbound) × (c.outbound ≤ STREAM_LIMIT)
   pub inbound : (1 ≤ c.inbound) × (c.inbound ≤ STREAM_LIMIT)
 
--- the configuration of these ports, sizes and streams that asks for neither extension
+-- the configuration of these ports, sizes and streams that asks for no option
 abbrev pub plain_configuration : (own_port peer_port limit fragment buffer outbound inbound : ℕ) → Configuration
 plain_configuration own_port peer_port limit fragment buffer outbound inbound = record {
   own_port = own_port;
@@ -29,6 +29,10 @@ plain_configuration own_port peer_port limit fragment buffer outbound inbound = 
   partial = false;
   delay = false;
   standard_closing = false;
+  fast_retransmit = false;
+  least_wait = LEAST_WAIT;
+  congestion_control = false;
+  reset = false;
 }
 
 -- ---- faults
@@ -37,7 +41,7 @@ plain_configuration own_port peer_port limit fragment buffer outbound inbound = 
 pub data ConfigurationFault : Type 0 where
   -- a port is 0
   WrongPort : ConfigurationFault
-  -- a size is out of its range; a fragment also where it fits no packet of its own
+  -- a size is out of its range; a fragment also if it fits no packet of its own
   WrongLimit WrongFragment WrongBuffer : ConfigurationFault
   -- the streams of one way are
   WrongStreams : ConfigurationFault

@@ -1,4 +1,4 @@
--- An end of an association: where it stands in its life, what it is to send, its timers, its sender and its receiver (RFC 9260, 4).
+-- An endpoint of an association: its state, what it is to send, its timers, its sender and its receiver (RFC 9260, 4).
 use Rattle.std.specs.Prelude.{ℕ, ◌^◌, ◌<◌, Bool, true, false, List, [], Option, Some, None}
 use Rattle.sctp_model.specs.numbers.Limits.{FIRST_WAIT}
 use Rattle.sctp_model.specs.wire.Typed.{Typed}
@@ -6,6 +6,7 @@ use Rattle.sctp_model.specs.messages.Format.{Format, Plain, Interleaved}
 use Rattle.sctp_model.specs.sender.SenderView.{SenderView, fresh_sender}
 use Rattle.sctp_model.specs.receiver.ReceiverView.{ReceiverView, fresh_receiver}
 use Rattle.sctp_model.specs.end.Sealing.{Sealing}
+use Rattle.sctp_model.specs.end.Pacing.{Pace}
 
 -- What an end is set up with. Sizes are in bytes, `outbound` and `inbound` count streams.
 pub record Configuration : Type 0 where
@@ -22,6 +23,13 @@ pub record Configuration : Type 0 where
   pub delay : Bool
   -- data and what acknowledges it keep a closing association going, as in RFC 9260, 9.2
   pub standard_closing : Bool
+  -- Fast Retransmit is on, and the RTO is computed from round trips, with this minimum in milliseconds (RFC 9260, 6.3.1 and 7.2.4)
+  pub fast_retransmit : Bool
+  pub least_wait : ℕ
+  -- with Fast Retransmit: a congestion window limits what is in flight (RFC 9260, 7.2)
+  pub congestion_control : Bool
+  -- it may reset its streams, and its peer may (RFC 6525)
+  pub reset : Bool
 
 -- What chance gives to an end that begins: the tag that packets to it will carry, and the TSN of its index 1 (RFC 9260, 5.3.1 and 3.3.2).
 pub record Draw : Type 0 where
@@ -116,10 +124,12 @@ pub record Terms : Type 0 where
   pub inbound : ℕ
   pub interleave : Bool
   pub partial : Bool
+  -- RE-CONFIG (RFC 6525)
+  pub reset : Bool
 
 -- before an association
 abbrev pub no_terms : Terms
-no_terms = record { own_tsn = 0; peer_tsn = 0; outbound = 0; inbound = 0; interleave = false; partial = false }
+no_terms = record { own_tsn = 0; peer_tsn = 0; outbound = 0; inbound = 0; interleave = false; partial = false; reset = false }
 
 -- the format, by whether I-DATA is on
 abbrev pub format_for : Bool → Format
@@ -140,21 +150,24 @@ pub record Due : Type 0 where
   pub sack : Bool
   -- FORWARD-TSN, or I-FORWARD-TSN with I-DATA on (RFC 3758, 3.5; RFC 8260, 2.3.1)
   pub forward : Bool
+  -- a request to reset streams (RFC 6525, 5.1)
+  pub request : Bool
   pub shutdown : Bool
   pub shutdown_ack : Bool
 
 -- nothing at all
 abbrev pub nothing_due : Due
-nothing_due = record { init = false; cookie_echo = false; cookie_ack = false; heartbeat = None; causes = []; sack = false; forward = false; shutdown = false; shutdown_ack = false }
+nothing_due = record { init = false; cookie_echo = false; cookie_ack = false; heartbeat = None; causes = []; sack = false; forward = false; request = false; shutdown = false; shutdown_ack = false }
 
 -- ---- timers
 
--- One for each kind of packet that is sent again until it is answered: INIT, COOKIE ECHO, data or FORWARD, SHUTDOWN, SHUTDOWN ACK
--- (RFC 9260, 5.1, 6.3 and 9.2).
+-- One for each kind of packet that is retransmitted until it is answered: INIT, COOKIE ECHO, data or FORWARD, SHUTDOWN, SHUTDOWN ACK,
+-- a request to reset streams (RFC 9260, 5.1, 6.3 and 9.2; RFC 6525, 5.1.1).
 pub data Alarm : Type 0 where
   InitAlarm CookieAlarm : Alarm
   DataAlarm : Alarm
   ShutdownAlarm AckAlarm : Alarm
+  ResetAlarm : Alarm
 
 -- A timer, in milliseconds: how long it will wait when it starts next, how many times it expired since all was well, and the moment at which it
 -- expires while it runs.
@@ -181,6 +194,8 @@ pub record EndView : Type 0 where
   pub timers : Alarm → Timer
   -- the moment at which a SACK that waits is due, while one waits (RFC 9260, 6.2)
   pub delayed : Option ℕ
+  -- its state of round trips, misses and congestion control, if it is set up for them (RFC 9260, 6.3.1 and 7.2)
+  pub pace : Option Pace
   pub terms : Terms
   pub sender : SenderView
   pub receiver : ReceiverView
@@ -195,6 +210,7 @@ fresh_end c r h = record {
   due = nothing_due;
   timers = λ a. unused_timer;
   delayed = None;
+  pace = None;
   terms = no_terms;
   sender = fresh_sender 0 0 c.fragment 0 false;
   receiver = fresh_receiver 0 0 c.buffer;

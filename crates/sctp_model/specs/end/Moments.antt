@@ -1,30 +1,36 @@
--- Time at an end: what is past its time is abandoned, then each timer that is due expires once, and a SACK that waited is due (RFC 9260, 6.2, 6.3.3, 5.1
+-- Time at an endpoint: messages past their lifetime are abandoned, then each timer that is due expires once, and a delayed SACK is due (RFC 9260, 6.2, 6.3.3, 5.1
 -- and 9.2; RFC 3758, 3.5).
-use Rattle.std.specs.Prelude.{ℕ, nat_lt, min, Bool, true, false, not, ◌||◌, ◌==◌, if◌then◌else◌, List, [], ◌∷◌, Option, Some, None}
+use Rattle.std.specs.Prelude.{ℕ, nat_lt, min, Bool, true, false, not, ◌||◌, ◌==◌, if◌then◌else◌, List, [], ◌∷◌, Option, Some, None, option_map}
 use Rattle.sctp_model.specs.sender.SenderView.{SenderView}
 use Rattle.sctp_model.specs.sender.Readers.{point}
-use Rattle.sctp_model.specs.sender.Abandoning.{expired, timed_out}
-use Rattle.sctp_model.specs.end.EndView.{TimedOut, Alarm, InitAlarm, CookieAlarm, DataAlarm, ShutdownAlarm, AckAlarm, Timer, EndView, has_association}
+use Rattle.sctp_model.specs.sender.Abandoning.{expired, worn, timed_out}
+use Rattle.sctp_model.specs.end.EndView.{TimedOut, Alarm, InitAlarm, CookieAlarm, DataAlarm, ShutdownAlarm, AckAlarm, ResetAlarm, Timer, EndView, has_association}
 use Rattle.sctp_model.specs.end.Clock.{repeats_of, is_over_at, with_timer, at_moment, closed, is_point_past, settled}
 use Rattle.sctp_model.specs.end.Clock.{expired_timer}
+use Rattle.sctp_model.specs.end.Pacing.{expired_pace}
 use Rattle.sctp_model.specs.end.Closing.{with_due, rested}
 
 -- ---- giving up
 
--- What giving up messages leaves: a FORWARD is due where the point moved, and the end is at rest again (RFC 3758, 3.5).
+-- What giving up messages leaves: a FORWARD is due if the point moved, and the end is at rest again (RFC 3758, 3.5).
 abbrev pub after_abandoning : EndView → SenderView → EndView
 after_abandoning e v =
     rested (settled (record e { sender = v; due = record e.due { forward = e.due.forward || not (point v == point e.sender) } }))
 
 -- ---- timers
 
--- what goes out once more after an expiry (RFC 9260, 6.3.3); of the data timer all that is unsettled, and a FORWARD where the point is past CUM
+-- what goes out once more after an expiry (RFC 9260, 6.3.3); of the data timer all that is unsettled, and a FORWARD if the point is past CUM
 abbrev pub due_again : Alarm → EndView → EndView
 due_again InitAlarm e = with_due (record e.due { init = true }) e
 due_again CookieAlarm e = with_due (record e.due { cookie_echo = true }) e
-due_again DataAlarm e = record e { sender = timed_out e.sender; due = record e.due { forward = is_point_past e.sender } }
+due_again DataAlarm e = record e {
+  sender = timed_out e.sender;
+  due = record e.due { forward = is_point_past e.sender };
+  pace = option_map expired_pace e.pace;
+}
 due_again ShutdownAlarm e = with_due (record e.due { shutdown = true }) e
 due_again AckAlarm e = with_due (record e.due { shutdown_ack = true }) e
+due_again ResetAlarm e = with_due (record e.due { request = true }) e
 
 -- A timer that is due expires; the last time the end gives up, and sends nothing (8.1).
 abbrev pub rung : Bool → Alarm → EndView → EndView
@@ -45,7 +51,7 @@ rung_all (a ∷ more) e = rung_all more (ring a e)
 
 -- the timers, in the order in which they expire at one moment
 abbrev pub all_alarms : List Alarm
-all_alarms = InitAlarm ∷ CookieAlarm ∷ DataAlarm ∷ ShutdownAlarm ∷ AckAlarm ∷ []
+all_alarms = InitAlarm ∷ CookieAlarm ∷ DataAlarm ∷ ShutdownAlarm ∷ AckAlarm ∷ ResetAlarm ∷ []
 
 -- ---- a SACK that waits
 
@@ -54,15 +60,23 @@ abbrev pub waited_in : Bool → EndView → EndView
 waited_in false e = e
 waited_in true e = record e { due = record e.due { sack = true }; delayed = None }
 
--- so it is where its moment has come
+-- so it is if its moment has come
 abbrev pub waited : EndView → EndView
 waited e = waited_in (is_over_at e.moment e.delayed) e
 
 -- ---- a moment
 
+-- the data timer is due
+abbrev pub is_data_due : EndView → Bool
+is_data_due e = is_over_at e.moment (e.timers DataAlarm).expiry
+
+-- what is abandoned at a time: messages past their lifetime and, if the data timer is due, messages retransmitted as often as they may be (RFC 3758, 3.5; RFC 7496, 3.1)
+abbrev pub given_up : Bool → SenderView → (now : ℕ) → SenderView
+given_up rings v now = if rings then worn (λ i. true) (expired v now) else expired v now
+
 -- what a moment leaves at an end with an association
 abbrev pub passed : EndView → EndView
-passed e = waited (rung_all all_alarms (after_abandoning e (expired e.sender e.moment)))
+passed e = waited (rung_all all_alarms (after_abandoning e (given_up (is_data_due e) e.sender e.moment)))
 
 -- An end without an association takes the moment, and nothing else.
 abbrev pub ticked : EndView → ℕ → EndView
@@ -70,7 +84,7 @@ ticked e now = if has_association e.phase then passed (at_moment e now) else at_
 
 -- ---- when to come again
 
--- the earlier of two moments, where there are any
+-- the earlier of two moments, if there are any
 abbrev pub earlier : Option ℕ → Option ℕ → Option ℕ
 earlier None n = n
 earlier (Some m) None = Some m

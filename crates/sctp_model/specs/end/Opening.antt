@@ -1,18 +1,21 @@
 -- How an association begins: INIT, INIT ACK, COOKIE ECHO, COOKIE ACK (RFC 9260, 5.1).
-use Rattle.std.specs.Prelude.{◌≡◌, ℕ, ◌-◌, ◌*◌, ◌^◌, ◌<◌, ◌⊎◌, min, nat_le, Bool, true, false, ◌&&◌, ◌||◌, ◌==◌, if◌then◌else◌, List, [], ◌∷◌, ◌++◌, Option, Some, None}
-use Rattle.sctp_model.specs.numbers.Limits.{COOKIE_LIFE}
+use Rattle.std.specs.Prelude.{◌≡◌, ℕ, ◌-◌, ◌*◌, ◌^◌, ◌<◌, ◌⊎◌, min, nat_le, Bool, true, false, not, ◌&&◌, ◌||◌, ◌==◌, if◌then◌else◌, List, [], ◌∷◌, ◌++◌, Option, Some, None}
+use Rattle.sctp_model.specs.numbers.Limits.{COOKIE_LIFE, FIRST_WAIT, LONGEST_WAIT}
 use Rattle.sctp_model.specs.numbers.Numbers.{u16_bytes, u32_bytes}
 use Rattle.sctp_model.specs.wire.Typed.{Typed, typed_in}
 use Rattle.sctp_model.specs.wire.Unknown.{parameters_reported}
 use Rattle.sctp_model.specs.wire.Chunk.{InitMeaning, ChunkMeaning, Init, InitAck, CookieEcho, Error}
+use Rattle.sctp_model.specs.wire.Packet.{size_of_packet}
+use Rattle.sctp_model.specs.sender.Words.{when}
 use Rattle.sctp_model.specs.sender.SenderView.{fresh_sender}
 use Rattle.sctp_model.specs.receiver.ReceiverView.{fresh_receiver}
 use Rattle.sctp_model.specs.end.Sealing.{Body, Sealing}
-use Rattle.sctp_model.specs.end.EndView.{Terms, Configuration, Draw, Tags, AbortedHere, Stage, Established, Phase, Idle, Calling, Echoing, Open, Role, Caller, Paired, Listener, EndView, fresh_end}
-use Rattle.sctp_model.specs.end.Clock.{turned, closed}
+use Rattle.sctp_model.specs.end.Pacing.{Pace, fresh_pace}
+use Rattle.sctp_model.specs.end.EndView.{Terms, Configuration, Draw, Tags, AbortedHere, Stage, Established, Phase, Idle, Calling, Echoing, Open, Role, Caller, Paired, Listener, CookieAlarm, EndView, fresh_end}
+use Rattle.sctp_model.specs.end.Clock.{turned, closed, echo_trip, measured}
 use Rattle.sctp_model.specs.end.Closing.{with_due, takes_cookies, hears}
 use Rattle.sctp_model.specs.end.Reports.{written, item, fits_alone, causes_with, as_fit, MISSING_PARAMETER, OUT_OF_RESOURCE, INVALID_PARAMETER, UNRECOGNIZED_PARAMETERS}
-use Rattle.sctp_model.specs.end.Options.{STATE_COOKIE, value_of, agreed_interleave, agreed_partial, own_options, reports_of}
+use Rattle.sctp_model.specs.end.Options.{STATE_COOKIE, value_of, agreed_interleave, agreed_partial, agreed_reset, own_options, reports_of}
 use Rattle.sctp_model.specs.end.PeerFaults.{TAG, COOKIE, Unnoted, After, GoesOn, PassedOver, Replies, Drops, packet_to, abort_for}
 
 -- ---- an association that begins
@@ -21,9 +24,14 @@ use Rattle.sctp_model.specs.end.PeerFaults.{TAG, COOKIE, Unnoted, After, GoesOn,
 abbrev pub tags_between : Draw → Draw → Tags
 tags_between own peer = record { own = own.tag; peer = peer.tag }
 
+-- its pace, if it is set up for one
+abbrev pub pace_for : Configuration → (window : ℕ) → Option Pace
+pace_for c window = when c.fast_retransmit (fresh_pace c.congestion_control (c.limit - size_of_packet []) window)
+
 -- The end joins an association on these terms: nothing is sent or heard in it yet. `window` is the peer's, in bytes.
 abbrev pub joined : Terms → (window : ℕ) → EndView → EndView
 joined x window e = record e {
+  pace = pace_for e.configuration window;
   terms = x;
   sender = fresh_sender x.own_tsn x.outbound e.configuration.fragment window x.partial;
   receiver = fresh_receiver x.peer_tsn x.inbound e.configuration.buffer;
@@ -39,6 +47,7 @@ terms_of_ack c d m = record {
   inbound = min m.outbound c.inbound;
   interleave = agreed_interleave c m.parameters;
   partial = agreed_partial c m.parameters;
+  reset = agreed_reset c m.parameters;
 }
 
 -- The terms of a listener, by what its cookie says (5.1.3).
@@ -50,6 +59,7 @@ terms_of_body b = record {
   inbound = b.from_caller;
   interleave = b.interleave;
   partial = b.partial;
+  reset = b.reset;
 }
 
 -- What an end takes to be agreed on with a peer that is set up like itself, and drew this.
@@ -61,6 +71,7 @@ terms_alike c own peer = record {
   inbound = min c.outbound c.inbound;
   interleave = c.interleave;
   partial = c.partial;
+  reset = c.reset;
 }
 
 -- an end that is opened without packets: established at once, its peer's window the buffer of its own
@@ -94,6 +105,7 @@ body_for e d m =
       from_caller = min m.outbound c.inbound;
       partial = agreed_partial c m.parameters;
       interleave = agreed_interleave c m.parameters;
+      reset = agreed_reset c m.parameters;
     }
 
 -- the INIT ACK that holds these reports: of parameters the cookie comes first, then the listener's options (3.3.3)
@@ -155,7 +167,7 @@ pub data InitAckActs (e : EndView) (m : InitMeaning) : After → Type 0 where
 
 -- ---- COOKIE ECHO (5.1.5 and 5.2.4)
 
--- the milliseconds from when a cookie was made to this moment; none where that was later
+-- the milliseconds from when a cookie was made to this moment; none if that was later
 abbrev pub age : (moment : ℕ) → Body → ℕ
 age moment b = moment - b.made
 
@@ -168,6 +180,10 @@ abbrev pub is_addressed : EndView → ℕ → Body → Bool
 is_addressed e tag b =
     (b.listener.port == e.configuration.own_port) && ((b.caller.port == e.configuration.peer_port) && (b.listener.tag == tag))
 
+-- This listener could have made it: one that is set up without stream reset makes no cookie that says reset.
+abbrev pub is_formed : EndView → Body → Bool
+is_formed e b = e.configuration.reset || not b.reset
+
 -- What a listener makes of a cookie (5.1.5): it opens, it would if it weren't too old, or it is nobody's.
 pub data CookieRead : Type 0 where
   CookieOpens CookieLate : Body → CookieRead
@@ -176,7 +192,7 @@ pub data CookieRead : Type 0 where
 -- what a listener reads in a body, or in none
 abbrev pub body_read : EndView → ℕ → Option Body → CookieRead
 body_read e tag None = Strange
-body_read e tag (Some b) = if is_addressed e tag b then (if nat_le (age e.moment b) COOKIE_LIFE then CookieOpens b else CookieLate b) else Strange
+body_read e tag (Some b) = if is_addressed e tag b && is_formed e b then (if nat_le (age e.moment b) COOKIE_LIFE then CookieOpens b else CookieLate b) else Strange
 
 -- what a listener reads in the bytes of a cookie
 abbrev pub cookie_read : Sealing → EndView → ℕ → List ℕ → CookieRead
@@ -186,10 +202,14 @@ cookie_read s e tag xs = body_read e tag (s.opened xs)
 abbrev pub tags_of_body : Body → Tags
 tags_of_body b = record { own = b.listener.tag; peer = b.caller.tag }
 
--- The listener joins on the terms of its cookie, and the caller is to be told (5.1, D).
+-- the time from an INIT ACK to its cookie, which is a round trip, or longer if a COOKIE ECHO was lost (6.3.1)
+abbrev pub cookie_trip : (moment : ℕ) → Body → ℕ
+cookie_trip moment b = min (age moment b) LONGEST_WAIT
+
+-- The listener joins on the terms of its cookie, and a COOKIE ACK is due (5.1, D).
 abbrev pub begun : Body → EndView → EndView
 begun b e =
-    let t = turned (Open (tags_of_body b) Established) (joined (terms_of_body b) b.rwnd e) in
+    let t = measured (Some (cookie_trip e.moment b)) FIRST_WAIT (turned (Open (tags_of_body b) Established) (joined (terms_of_body b) b.rwnd e)) in
     with_due (record t.due { cookie_ack = true }) t
 
 -- the two tags are the association's
@@ -208,7 +228,7 @@ seal_in (Listener s) = Some s
 seal_in Caller = None
 seal_in Paired = None
 
--- What a COOKIE ECHO does where the association is there already: its COOKIE ACK may have been lost, so it is told once more (5.2.4).
+-- What a COOKIE ECHO does if the association is there already: its COOKIE ACK may have been lost, so it is told once more (5.2.4).
 pub data EchoActs (e : EndView) (tag : ℕ) (xs : List ℕ) : After → Type 0 where
   NotHere : (seal_in e.role ≡ None) ⊎ (hears takes_cookies e.phase ≡ false) → EchoActs e tag xs PassedOver
   EchoedAgain : (s : Sealing) (t : Tags) (g : Stage) → seal_in e.role ≡ Some s → e.phase ≡ Open t g → takes_cookies g ≡ true →
@@ -223,7 +243,11 @@ abbrev pub is_echoing : Phase → Bool
 is_echoing (Echoing t xs) = true
 is_echoing h = false
 
+-- The caller's association begins: its COOKIE ECHO is acknowledged (5.1, E).
+abbrev pub acknowledged_echo : Tags → EndView → EndView
+acknowledged_echo t e = measured (echo_trip e.moment (e.timers CookieAlarm)) (e.timers CookieAlarm).wait (turned (Open t Established) e)
+
 -- What a COOKIE ACK does (5.1, E).
 pub data CookieAckActs (e : EndView) : After → Type 0 where
   NotEchoing : is_echoing e.phase ≡ false → CookieAckActs e PassedOver
-  CookieAcked : (t : Tags) (xs : List ℕ) → e.phase ≡ Echoing t xs → CookieAckActs e (GoesOn Unnoted (turned (Open t Established) e))
+  CookieAcked : (t : Tags) (xs : List ℕ) → e.phase ≡ Echoing t xs → CookieAckActs e (GoesOn Unnoted (acknowledged_echo t e))

@@ -1,7 +1,8 @@
--- What the parameters of INIT and INIT ACK say, and what both ends want (RFC 9260, 3.2.1, 3.3.2 and 3.3.3; RFC 3758, 3.1; RFC 8260, 2.2.1).
+-- What the parameters of INIT and INIT ACK say, and which options both endpoints want (RFC 9260, 3.2.1, 3.3.2 and 3.3.3; RFC 3758, 3.1; RFC 8260, 2.2.1).
 use Rattle.std.specs.Prelude.{ℕ, Bool, true, false, not, ◌&&◌, ◌||◌, ◌==◌, if◌then◌else◌, List, [], ◌∷◌, ◌++◌, map, Option, Some, None}
 use Rattle.sctp_model.specs.wire.Typed.{Typed, typed_in, typed_bytes}
 use Rattle.sctp_model.specs.wire.Unknown.{parameters_acted_on, first_of}
+use Rattle.sctp_model.specs.wire.Reconfig.{RECONFIG}
 use Rattle.sctp_model.specs.end.EndView.{Configuration}
 use Rattle.sctp_model.specs.end.Reports.{item}
 
@@ -54,13 +55,17 @@ agreed_partial c bytes =
     c.partial && (is_carried (value_of FORWARD_TSN_SUPPORTED bytes)
     && (not (agreed_interleave c bytes) || lists_type 194 (value_of SUPPORTED_EXTENSIONS bytes)))
 
+-- stream reset: both are set up for it, and list RE-CONFIG (RFC 6525, 5.1.1)
+abbrev pub agreed_reset : Configuration → List ℕ → Bool
+agreed_reset c bytes = c.reset && lists_type RECONFIG (value_of SUPPORTED_EXTENSIONS bytes)
+
 -- ---- an end's own options
 
 -- the chunk types of its extensions, rising (RFC 5061, 4.2.7)
 abbrev pub own_extensions : Configuration → List ℕ
 own_extensions c =
     (if c.interleave then 64 ∷ [] else [])
-    ++ (if c.partial then 192 ∷ [] else []) ++ (if c.interleave && c.partial then 194 ∷ [] else [])
+    ++ (if c.reset then RECONFIG ∷ [] else []) ++ (if c.partial then 192 ∷ [] else []) ++ (if c.interleave && c.partial then 194 ∷ [] else [])
 
 -- an empty list of extensions isn't written
 abbrev pub unless_empty : List ℕ → List Typed

@@ -1,4 +1,4 @@
--- Which packets an end looks into: ports and verification tags (RFC 9260, 8.5 and 8.5.1).
+-- Which packets an endpoint looks into: ports and verification tags (RFC 9260, 8.5 and 8.5.1).
 use Rattle.std.specs.Prelude.{ℕ, Bool, true, false, not, ◌&&◌, ◌==◌, if◌then◌else◌, List, [], ◌∷◌}
 use Rattle.sctp_model.specs.wire.Chunk.{ChunkMeaning, Init, Abort, ShutdownComplete}
 use Rattle.sctp_model.specs.wire.Packet.{Packet}
@@ -14,7 +14,7 @@ is_reflected (Abort shown causes) = shown
 is_reflected (ShutdownComplete shown) = shown
 is_reflected x = false
 
--- The tag is one that the end looks for: its own, or its peer's where it is reflected. A caller has no peer's tag yet, and an end without an association
+-- The tag is one that the end looks for: its own, or its peer's if it is reflected. A caller has no peer's tag yet, and an end without an association
 -- asks for none.
 abbrev pub passes_tag : Phase → (reflected : Bool) → ℕ → Bool
 passes_tag (Calling d) reflected tag = not reflected && (tag == d.tag)

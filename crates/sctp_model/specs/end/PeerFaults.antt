@@ -28,7 +28,7 @@ STATE = 4
 abbrev pub COOKIE : ℕ
 COOKIE = 5
 
--- What is noted of a chunk for the end of its packet (6.2): nothing, or that it is to be acknowledged, be it user data or a FORWARD; at once, where that may
+-- What is noted of a chunk for the end of its packet (6.2): nothing, or that it is to be acknowledged, be it user data or a FORWARD; at once, if that may
 -- not wait for another packet, which matters only to an end that delays its SACKs.
 pub data Note : Type 0 where
   Unnoted : Note

@@ -1,4 +1,4 @@
--- What an end tells its peer of what it couldn't use: causes and parameters as bytes, and which still fit a packet (RFC 9260, 3.2, 3.2.2 and 3.3.10).
+-- What an endpoint reports to its peer that it couldn't use: causes and parameters as bytes, and which of them fit a packet (RFC 9260, 3.2, 3.2.2 and 3.3.10).
 use Rattle.std.specs.Prelude.{ℕ, nat_le, Bool, if◌then◌else◌, List, [], ◌∷◌, ◌++◌}
 use Rattle.sctp_model.specs.wire.Chunk.{ChunkMeaning, Error}
 use Rattle.sctp_model.specs.wire.Packet.{size_of_packet}

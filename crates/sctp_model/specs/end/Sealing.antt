@@ -1,4 +1,4 @@
--- A listener's cookie without its bytes: what stands in it, and that the listener reads again what it sealed (RFC 9260, 5.1.3).
+-- A listener's cookie without its bytes: what is in it, and that the listener reads again what it sealed (RFC 9260, 5.1.3).
 use Rattle.std.specs.Prelude.{◌≡◌, ℕ, ◌^◌, ◌<◌, Bool, List, length, Option, Some}
 
 -- One of the two ends, as a cookie remembers it: its port, the tag that packets to it carry, and its first TSN.
@@ -18,6 +18,7 @@ pub record Body : Type 0 where
   pub from_caller : ℕ
   pub partial : Bool
   pub interleave : Bool
+  pub reset : Bool
 
 -- a port of 16 bits, a tag and a TSN of 32
 pub record IsPartyInRange (x : Party) : Type 0 where

@@ -1,4 +1,4 @@
--- A packet at an end without an association: its first chunk decides, and the end stays as it is (RFC 9260, 5.1 and 8.4).
+-- A packet at an endpoint without an association: its first chunk decides, and the endpoint stays as it is (RFC 9260, 5.1 and 8.4).
 use Rattle.std.specs.Prelude.{ℕ, Bool, true, false, ◌||◌, ◌==◌, if◌then◌else◌, List, [], ◌∷◌, Option, Some, None}
 use Rattle.sctp_model.specs.numbers.Numbers.{u32_bytes}
 use Rattle.sctp_model.specs.wire.Chunk.{InitMeaning, ChunkMeaning, Data, IData, Init, InitAck, Sack, Heartbeat, HeartbeatAck, Abort, Shutdown, ShutdownAck, Error, CookieEcho, CookieAck, ShutdownComplete, ForwardTsn, IForwardTsn, Unknown}
@@ -34,7 +34,7 @@ seal_at h r = None
 abbrev pub listens : EndView → Option Sealing
 listens e = seal_at e.phase e.role
 
--- an INIT at a listener, or where none listens (5.1, B)
+-- an INIT at a listener, or if none listens (5.1, B)
 abbrev pub init_verdict : Option Sealing → EndView → Draw → InitMeaning → Verdict
 init_verdict None e d m = Answer (packet_to e.configuration m.tag (Abort false []))
 init_verdict (Some s) e d m =
@@ -98,11 +98,11 @@ abbrev pub body_in : Option Sealing → EndView → ℕ → ChunkMeaning → Opt
 body_in (Some s) e tag (CookieEcho cookie) = body_of (cookie_read s e tag cookie)
 body_in s e tag x = None
 
--- the body that a listener finds in the first of these chunks; where one of them is an ABORT there is none
+-- the body that a listener finds in the first of these chunks; if one of them is an ABORT there is none
 abbrev pub body_among : EndView → ℕ → List ChunkMeaning → Option Body
 body_among e tag [] = None
 body_among e tag (x ∷ xs) = if holds_abort (x ∷ xs) then None else body_in (listens e) e tag x
 
--- THE COOKIE that begins an association: that of the first chunk, where no ABORT is in the packet.
+-- THE COOKIE that begins an association: that of the first chunk, if no ABORT is in the packet.
 abbrev pub opened_by : EndView → Packet → Option Body
 opened_by e p = body_among e p.tag p.chunks

@@ -1,11 +1,14 @@
--- What the user of an end calls, and what each call answers (RFC 9260, 11.1).
-use Rattle.std.specs.Prelude.{◌≡◌, ℕ, suc, nat_le, Bool, true, false, if◌then◌else◌, List, Option, Some, None}
+-- What the user of an endpoint calls, and what each call returns (RFC 9260, 11.1).
+use Rattle.std.specs.Prelude.{◌≡◌, ℕ, suc, nat_le, Bool, true, false, not, ◌&&◌, if◌then◌else◌, List, find, Option, Some, None, is_some}
 use Rattle.sctp_model.specs.wire.Packet.{Packet, size_of_packet}
 use Rattle.sctp_model.specs.world.Calls.{Call}
 use Rattle.sctp_model.specs.receiver.ReceiverView.{Handed, ReceiverView}
 use Rattle.sctp_model.specs.sender.Queueing.{Refusal, refusal, queued}
 use Rattle.sctp_model.specs.sender.Abandoning.{AbandonAnswer, abandon_answer, abandon_after}
 use Rattle.sctp_model.specs.receiver.SackMade.{TakeLeaves}
+use Rattle.sctp_model.specs.receiver.ResetTaken.{told_of}
+use Rattle.sctp_model.specs.sender.Words.{count_up}
+use Rattle.sctp_model.specs.sender.Resetting.{resetting}
 use Rattle.sctp_model.specs.end.EndView.{Draw, AbortedHere, Stage, Established, ShutdownPending, ShutdownSent, ShutdownReceived, ShutdownAckSent, Phase, Idle, Listening, Calling, Echoing, Open, Over, EndView}
 use Rattle.sctp_model.specs.end.Clock.{turned, closed}
 use Rattle.sctp_model.specs.end.Closing.{with_due, rested, hears}
@@ -60,7 +63,7 @@ send_answer e c =
 
 -- the message waits for its number; a refusal drops the bytes
 abbrev pub send_leaves : SendAnswer → EndView → Call → EndView
-send_leaves (Ticket t) e c = record e { sender = queued e.sender c.lane c.payload c.bytes c.until }
+send_leaves (Ticket t) e c = record e { sender = queued e.sender c.lane c.payload c.bytes c.until c.limit }
 send_leaves (Refused r) e c = e
 send_leaves NotOpen e c = e
 
@@ -110,6 +113,34 @@ shut_in h e = e
 -- the end after shutdown
 abbrev pub shut : EndView → EndView
 shut e = shut_in e.phase e
+
+-- ---- reset (RFC 6525, 5.1)
+
+-- What `reset` returns.
+pub data ResetCall : Type 0 where
+  Begun NotAgreed NoStream : ResetCall
+
+-- an endpoint in ESTABLISHED that has agreed on it may reset each of its outgoing streams
+abbrev pub reset_call : EndView → (stream : ℕ) → ResetCall
+reset_call e s =
+    if not (e.terms.reset && hears is_established e.phase) then NotAgreed
+    else if nat_le e.sender.streams s then NoStream
+    else Begun
+
+-- the endpoint after it
+abbrev pub reset_leaves : ResetCall → EndView → (stream : ℕ) → EndView
+reset_leaves Begun e s = record e { sender = resetting e.sender s }
+reset_leaves NotAgreed e s = e
+reset_leaves NoStream e s = e
+
+-- the lowest stream of which a reset by the peer wasn't reported to the user
+abbrev pub reset_there : EndView → Option ℕ
+reset_there e = find (λ s. is_some (e.receiver.resets.told s)) (count_up 0 e.receiver.streams)
+
+-- the endpoint once it was reported
+abbrev pub told_leaves : Option ℕ → EndView → EndView
+told_leaves None e = e
+told_leaves (Some s) e = record e { receiver = told_of e.receiver s }
 
 -- ---- abort (11.1.4)
 

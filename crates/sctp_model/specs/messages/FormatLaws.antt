@@ -1,4 +1,4 @@
--- The two laws of a format on which safety stands: which chunks are a whole message, and what a FORWARD may make go.
+-- The two laws of a format that safety rests on: which chunks are a whole message, and what a FORWARD may make go.
 use Rattle.std.specs.Prelude.{◌≡◌, ℕ, suc, ◌<◌, ◌≤◌, ◌⊎◌, false, List, ◌∷◌, length, slice_get, Some}
 use Rattle.sctp_model.specs.numbers.Lists.{Has}
 use Rattle.sctp_model.specs.messages.Format.{Format, Lane, is_numbered}
@@ -17,7 +17,7 @@ pub record IsMessage (f : Format) (p : Plan) (l : Lane) (n : ℕ) (m : Message) 
   pub each : (k : ℕ) → k < length m.fragments →
       (i : ℕ) × (entry_at p i ≡ Some (Part l n k)) × (slice_get xs k ≡ Some (piece_of f i l n k m))
 
--- Chunks of the plan are whole exactly where they are one message, and then they carry its bytes and its payload id
+-- Chunks of the plan are whole exactly if they are one message, and then they carry its bytes and its payload id
 -- (RFC 9260, 6.9; RFC 8260, 2.2.3).
 pub record IsWholeJust (f : Format) (p : Plan) : Type 0 where
   pub one : (xs : List Piece) → ((x : Piece) → Has xs x → IsFragment f p x) → IsWhole f xs →
@@ -42,14 +42,14 @@ pub record IsUpTo (f : Format) (v : SenderView) (kept : List Piece) (c : ℕ) : 
   pub chunks : (x : Piece) → Has kept x → IsFragment f v.plan x
   pub taken : (i : ℕ) → 0 < i → i ≤ c → IsTaken f v.plan kept i ⊎ IsOfAbandoned v i
 
--- A FORWARD makes a chunk go: where the format numbers its lane by its number, and else by its index (RFC 3758, 3.6; RFC 8260, 2.3.1).
+-- A FORWARD makes a chunk go: by its number, if the format numbers its lane, and else by its index (RFC 3758, 3.6; RFC 8260, 2.3.1).
 abbrev pub MakesGo : Format → Forward → Piece → Type 0
 MakesGo f x y =
     ((s : Skip) × Has x.skips s × (s.lane ≡ y.lane) × IsNumberBelow (suc s.number) y.number)
     ⊎ ((is_numbered f y.lane.kind ≡ false) × (y.index ≤ x.point))
 
 -- The law of skipping: what a FORWARD makes go, of what is kept, is of an abandoned message or is among all chunks of a whole one.
--- So nothing else is lost where whole messages are handed over first (RFC 3758, 3.6).
+-- So nothing else is lost if whole messages are handed over first (RFC 3758, 3.6).
 abbrev pub SkipLaw : Format → Type 0
 SkipLaw f =
     (v : SenderView) (c p : ℕ) (x : Forward) (kept : List Piece) →

@@ -40,13 +40,13 @@ abbrev pub as_number : Option ℕ → Option ℕ
 as_number None = None
 as_number (Some n) = if nat_lt n (COUNTS - 1) then Some n else None
 
--- The number that a wire value stands for near a reference: none where the format has none, and where no number is near.
+-- The number that a wire value stands for near a reference: none if the format has none, or if no number is near.
 abbrev pub number_near : Format → Kind → (wire reference : ℕ) → Option ℕ
 number_near Plain Ordered wire reference = as_number (near 16 wire reference)
 number_near Plain Unordered wire reference = None
 number_near Interleaved k wire reference = as_number (near 32 wire reference)
 
--- What rises by one from a fragment of a message to the next: the index, or the fragment number, which is 0 where the chunk has B.
+-- What rises by one from a fragment of a message to the next: the index, or the fragment number, which is 0 if the chunk has B.
 abbrev pub place_in : Format → (index : ℕ) → (begin : Bool) → (word : ℕ) → ℕ
 place_in Plain index begin word = index
 place_in Interleaved index begin word = if begin then 0 else word
@@ -73,7 +73,7 @@ abbrev pub is_skipped : Option ℕ → (skip : ℕ) → Bool
 is_skipped None skip = false
 is_skipped (Some n) skip = nat_lt n skip
 
--- Whether an unordered chunk is left behind, and goes where its message isn't whole: under DATA by its index, under I-DATA by its number.
+-- Whether an unordered chunk is left behind, and goes if its message isn't whole: under DATA by its index, under I-DATA by its number.
 abbrev pub lets_go : Format → (index : ℕ) → (number : Option ℕ) → (jump skip : ℕ) → Bool
 lets_go Plain index number jump skip = nat_le index jump
 lets_go Interleaved index number jump skip = is_skipped number skip

@@ -57,6 +57,14 @@ TSN_LIMIT = 2 ^ 63 - 1
 abbrev pub TICKET_LIMIT : ℕ
 TICKET_LIMIT = 2 ^ 64 - 1
 
+-- requests to reset streams that an endpoint makes: so their sequence numbers are within half of their space
+abbrev pub REQUEST_LIMIT : ℕ
+REQUEST_LIMIT = 2 ^ 31 - 1
+
+-- streams of one request: with them it fits a packet of every limit (RFC 6525, 4.1)
+abbrev pub RESETS_AT_ONCE : ℕ
+RESETS_AT_ONCE = 256
+
 -- ---- the network
 
 -- A packet comes before so many TSNs more have been assigned since it was built: half their space, less a window on each side of what it says, so that
@@ -92,7 +100,7 @@ FIRST_WAIT = 1_000
 abbrev pub LONGEST_WAIT : ℕ
 LONGEST_WAIT = 60_000
 
--- how long a SACK may wait for another packet, where an end delays its SACKs (at most 500 by RFC 9260, 6.2, which recommends this: SACK.Delay of 16)
+-- how long a SACK may wait for another packet, if an end delays its SACKs (at most 500 by RFC 9260, 6.2, which recommends this: SACK.Delay of 16)
 abbrev pub SACK_DELAY : ℕ
 SACK_DELAY = 200
 
@@ -107,3 +115,25 @@ REPEATS = 10
 -- how long a cookie lives (Valid.Cookie.Life of RFC 9260, 16)
 abbrev pub COOKIE_LIFE : ℕ
 COOKIE_LIFE = 60_000
+
+-- the smallest RTO of an endpoint with round trips, if no other is asked for (RTO.Min of RFC 9260, 16)
+abbrev pub LEAST_WAIT : ℕ
+LEAST_WAIT = 1_000
+
+-- the granularity of the clock (G of RFC 9260, 6.3.1)
+abbrev pub TICK : ℕ
+TICK = 1
+
+-- ---- congestion control
+
+-- packets that may be sent for one acknowledgement (Max.Burst of RFC 9260, 16)
+abbrev pub BURST : ℕ
+BURST = 4
+
+-- the constant of the initial congestion window, in bytes (RFC 9260, 7.2.1, for IPv4)
+abbrev pub FIRST_WINDOW : ℕ
+FIRST_WINDOW = 4_404
+
+-- the largest congestion window: no peer can advertise more (RFC 9260, 3.3.4)
+abbrev pub GREATEST_WINDOW : ℕ
+GREATEST_WINDOW = 2 ^ 32 - 1

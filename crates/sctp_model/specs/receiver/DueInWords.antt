@@ -1,4 +1,4 @@
--- What is due on a stream, said without a walk over its numbers (RFC 9260, 6.6; RFC 3758, 3.6).
+-- What may be delivered on a stream, without a walk over its numbers (RFC 9260, 6.6; RFC 3758, 3.6).
 use Rattle.std.specs.Prelude.{◌≡◌, ℕ, ◌<◌, ◌≤◌, List, ◌∷◌}
 use Rattle.sctp_model.specs.numbers.Lists.{Has}
 use Rattle.sctp_model.specs.messages.Format.{Format, ordered_lane}

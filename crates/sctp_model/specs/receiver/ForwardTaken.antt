@@ -1,4 +1,4 @@
--- A FORWARD comes to a receiver: its sender gave up all that is missing up to an index, and names the messages that are waited for in vain
+-- A FORWARD arrives at a receiver: its sender gave up all that is missing up to an index, and names the messages that are waited for in vain
 -- (RFC 3758, 3.6; RFC 8260, 2.3).
 use Rattle.std.specs.Prelude.{◌≡◌, ℕ, Bool, true, false, not, ◌||◌, nat_le, max, List, [], ◌∷◌, filter, Option, Some, None, if◌then◌else◌}
 use Rattle.sctp_model.specs.wire.Chunk.{SkipMeaning, ForwardMeaning}

@@ -1,4 +1,4 @@
--- A data chunk comes to a receiver: which answer it gets, and what that leaves (RFC 9260, 6.2 and 6.6; RFC 3758, 3.6; RFC 8260, 2.2).
+-- A data chunk arrives at a receiver: which answer it gets, and what that leaves (RFC 9260, 6.2 and 6.6; RFC 3758, 3.6; RFC 8260, 2.2).
 use Rattle.std.specs.Prelude.{◌≡◌, ℕ, ◌+◌, Bool, false, ◌||◌, ◌&&◌, nat_lt, nat_le, ◌==◌, List, [], ◌∷◌, ◌++◌, length, take}
 use Rattle.sctp_model.specs.numbers.Limits.{DUPLICATE_LIMIT}
 use Rattle.sctp_model.specs.wire.Chunk.{PieceMeaning}
@@ -40,7 +40,7 @@ abbrev pub is_repeated : Format → List Piece → Piece → Bool
 is_repeated Plain kept x = false
 is_repeated Interleaved kept x = is_held kept x
 
--- The chunk is passed: its number is too late, where the format numbers its lane, or it is a fragment that is kept already.
+-- The chunk is passed: its number is too late, if the format numbers its lane, or it is a fragment that is kept already.
 abbrev pub is_passed : Format → ReceiverView → Piece → Bool
 is_passed f r x = (is_numbered f x.lane.kind && is_late r x.lane x.number) || is_repeated f r.kept x
 

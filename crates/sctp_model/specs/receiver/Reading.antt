@@ -1,6 +1,6 @@
 -- From wire values to counts. A receiver reads a TSN forward from that of its cumulative index, an SSN or MID near a count of its own
 -- (RFC 9260, 2.6 and 6.2; RFC 8260, 2.1).
-use Rattle.std.specs.Prelude.{ℕ, ◌+◌, ◌-◌, max, not, nat_lt, nat_le, Bool, true, ◌||◌, Option, Some, None}
+use Rattle.std.specs.Prelude.{ℕ, ◌+◌, ◌-◌, max, not, nat_lt, nat_le, Bool, true, ◌||◌, Option, Some, None, option_map}
 use Rattle.sctp_model.specs.numbers.Limits.{WINDOW}
 use Rattle.sctp_model.specs.numbers.Serial.{COUNTS, tsn, ahead, before}
 use Rattle.sctp_model.specs.wire.Chunk.{PieceMeaning}
@@ -10,7 +10,7 @@ use Rattle.sctp_model.specs.messages.Pieces.{Piece}
 use Rattle.sctp_model.specs.receiver.ReceiverView.{ReceiverView}
 use Rattle.sctp_model.specs.receiver.Top.{top}
 
--- ---- TSNs, where c is the cumulative index
+-- ---- TSNs; c is the cumulative index
 
 -- the steps from the TSN of c up to this one, around the circle
 abbrev pub offset : ReceiverView → (c wire : ℕ) → ℕ
@@ -39,9 +39,9 @@ abbrev pub reference_in : ReceiverView → (stream : ℕ) → Kind → ℕ
 reference_in r s Ordered = r.next s
 reference_in r s Unordered = top r s
 
--- The number of a chunk of this lane, if the format gives it one and a count is near.
+-- The number of a chunk of this lane, if the format has one, and a count is near: counted from the base of the last reset of its stream (RFC 6525, 5.2.2).
 abbrev pub number_in : Format → ReceiverView → Lane → (wire : ℕ) → Option ℕ
-number_in f r l wire = number_near f l.kind wire (reference_in r l.stream l.kind)
+number_in f r l wire = option_map (λ n. r.resets.base l + n) (number_near f l.kind wire (reference_in r l.stream l.kind - r.resets.base l))
 
 -- the lowest number of a lane that still counts: none that is skipped does, and with order none below the stream's next
 abbrev pub lowest_in : ReceiverView → Lane → Kind → ℕ

@@ -1,4 +1,4 @@
--- What a receiver tells in a SACK (RFC 9260, 3.3.4 and 6.2.1), and what is left when it was sent, and when the user takes a message.
+-- What a receiver says in a SACK (RFC 9260, 3.3.4 and 6.2.1), and what it is once that was sent, and once the user took a message.
 use Rattle.std.specs.Prelude.{◌≡◌, ℕ, ◌<◌, List, [], ◌∷◌, ◌++◌, take, Option, Some, None}
 use Rattle.sctp_model.specs.numbers.Limits.{BLOCK_LIMIT}
 use Rattle.sctp_model.specs.numbers.Lists.{Has, AreInOrder, at}
@@ -51,7 +51,7 @@ first_taken r s first rest = record r {
   waiting = at r.waiting s rest;
 }
 
--- A message is taken where one waits; else there is none, and nothing changes.
+-- A message is taken if one waits; else there is none, and nothing changes.
 abbrev pub TakeLeaves : ReceiverView → (stream : ℕ) → Option Handed → ReceiverView → Type 0
 TakeLeaves r s None t = (r.waiting s ≡ []) × (t ≡ r)
 TakeLeaves r s (Some h) t = (rest : List Handed) × (r.waiting s ≡ h ∷ rest) × (t ≡ first_taken r s h rest)

@@ -1,5 +1,5 @@
--- Messages that are abandoned (RFC 3758, 3.5; RFC 8260, 2.3.1), those past their time, and the data timer (RFC 9260, 6.3.3).
-use Rattle.std.specs.Prelude.{ℕ, ◌==◌, nat_lt, nat_le, if◌then◌else◌, Bool, true, not, ◌&&◌, ◌||◌, List, [], ◌∷◌, Option, fold, find, unwrap_or, option_map, option_and_then}
+-- Messages that are abandoned (RFC 3758, 3.5; RFC 8260, 2.3.1): by name, past their lifetime, or retransmitted as often as they may be (RFC 7496, 3.1); and the data timer (RFC 9260, 6.3.3).
+use Rattle.std.specs.Prelude.{ℕ, ◌==◌, nat_lt, nat_le, if◌then◌else◌, Bool, true, not, ◌&&◌, ◌||◌, List, [], ◌∷◌, Option, fold, find, unwrap_or, option_map, option_and_then, length}
 use Rattle.std.specs.Option.{option_map_or}
 use Rattle.std.specs.List.{list_any}
 use Rattle.sctp_model.specs.numbers.Lists.{at}
@@ -29,7 +29,7 @@ name_at e = record { lane = entry_lane e; number = entry_number e }
 abbrev pub name_among : Plan → (ticket : ℕ) → List Entry → Option Name
 name_among p t es = option_map name_at (find (λ e. has_ticket t (entry_message p e)) es)
 
--- The message with this ticket, where it has a number: so it has an index, too.
+-- The message with this ticket, if it has a number: so it has an index, too.
 abbrev pub name_of : SenderView → (ticket : ℕ) → Option Name
 name_of v t = name_among v.plan t v.plan.entries
 
@@ -84,11 +84,11 @@ with_abandoned v n = record v {
   marked = λ i. v.marked i && not (passes_at v.plan (λ j e. is_of n.lane n.number e) i);
 }
 
--- a message with a number may be abandoned where that is allowed, and it neither was before nor is acknowledged
+-- a message with a number may be abandoned if that is allowed, and it neither was before nor is acknowledged
 abbrev pub may_abandon_named : SenderView → Name → Bool
 may_abandon_named v n = v.partial && (not (is_abandoned v n) && not (is_covered v n))
 
--- it is abandoned where it may be
+-- it is abandoned if it may be
 abbrev pub abandon_named : SenderView → Name → SenderView
 abandon_named v n = if may_abandon_named v n then with_abandoned v n else v
 
@@ -133,12 +133,46 @@ has_late v now = list_any (is_to_expire v now) (count_up 1 v.tickets)
 abbrev pub expired : SenderView → (now : ℕ) → SenderView
 expired v now = fold (expire_one now) v (count_up 1 v.tickets)
 
+-- ---- what was retransmitted as often as it may be (RFC 7496, 3.1)
+
+-- a fragment that was retransmitted n times may not be again, by its message's limit
+abbrev pub is_used_up : (repeats : ℕ) → Message → Bool
+is_used_up repeats m = some_passes (λ limit. nat_le limit repeats) m.limit
+
+-- The fragment at an index was retransmitted as often as its message's limit allows. If messages may not be abandoned, no limit counts: each is retransmitted until it is acknowledged.
+abbrev pub is_worn : SenderView → ℕ → Entry → Bool
+is_worn v i e = v.partial && some_passes (is_used_up (v.repeats i)) (entry_message v.plan e)
+
+-- it was sent, isn't settled, and may be retransmitted
+abbrev pub is_to_repeat : SenderView → ℕ → Entry → Bool
+is_to_repeat v i e = is_unsettled v i e && not (is_worn v i e)
+
+-- the index passes, and its fragment was sent, isn't settled, and may not be retransmitted
+abbrev pub is_worn_at : (ℕ → Bool) → SenderView → ℕ → Bool
+is_worn_at test v i = test i && passes_at v.plan (λ j e. is_unsettled v j e && is_worn v j e) i
+
+-- the ticket of the message at an index
+abbrev pub ticket_at : SenderView → ℕ → ℕ
+ticket_at v i = unwrap_or (option_map (λ m. m.ticket) (option_and_then (entry_message v.plan) (entry_at v.plan i))) 0
+
+-- then that message is abandoned
+abbrev pub wear_one : (ℕ → Bool) → SenderView → (index : ℕ) → SenderView
+wear_one test v i = if is_worn_at test v i then abandon_after v (ticket_at v i) else v
+
+-- WEAR: so for each index that passes, by rising index (RFC 7496, 3.1).
+abbrev pub worn : (ℕ → Bool) → SenderView → SenderView
+worn test v = fold (wear_one test) v (count_up 1 (length v.plan.entries))
+
 -- ---- the data timer
 
--- the entry at this index, if there is one, is unsettled
+-- the entry at this index, if there is one, is to be retransmitted
 abbrev pub unsettled_at : SenderView → ℕ → Option Entry → Bool
-unsettled_at v i e = some_passes (is_unsettled v i) e
+unsettled_at v i e = some_passes (is_to_repeat v i) e
 
--- The data timer expires: what went out and is wanted still is marked for repeating.
+-- Of the indexes that pass, those that were sent, aren't settled and may be retransmitted are marked for that.
+abbrev pub marking : SenderView → (ℕ → Bool) → SenderView
+marking v test = record v { marked = λ i. v.marked i || (test i && unsettled_at v i (entry_at v.plan i)) }
+
+-- The data timer expires: of all indexes (RFC 9260, 6.3.3).
 abbrev pub timed_out : SenderView → SenderView
-timed_out v = record v { marked = λ i. v.marked i || unsettled_at v i (entry_at v.plan i) }
+timed_out v = marking v (λ i. true)

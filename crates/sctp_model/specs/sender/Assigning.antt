@@ -52,7 +52,7 @@ going_on v s e = record v { plan = with_entry v.plan e; turn = stream_after v s 
 abbrev pub beginning : SenderView → (stream : ℕ) → Queued → SenderView
 beginning v s q = record v { plan = with_message v.plan q 1; queue = without_first (is_on s) v.queue; turn = stream_after v s }
 
--- What a stream does in its turn: it goes on where a message is in part, so that they go one at a time; else it begins the next, where one waits.
+-- What a stream does in its turn: it goes on if a message is in part, so that they go one at a time; else it begins the next, if one waits.
 abbrev pub turn_of : SenderView → (stream : ℕ) → Option SenderView
 turn_of v s = first_there (option_map (going_on v s) (continued v.plan s) ∷ option_map (beginning v s) (first_on s v.queue) ∷ [])
 

@@ -1,4 +1,4 @@
--- What a sender's view says of each entry of its plan: whose it is, what it carries, how far it came; and which messages are in part.
+-- What a sender's view says of each entry of its plan: whose it is, what it carries, how far it is; and which messages are partly sent.
 use Rattle.std.specs.Prelude.{ℕ, suc, ◌+◌, ◌-◌, ◌==◌, nat_lt, if◌then◌else◌, Bool, false, not, ◌&&◌, ◌||◌, List, [], ◌∷◌, length, slice_index_or, Option, None, Some, option_and_then}
 use Rattle.std.specs.Option.{option_or, option_map_or}
 use Rattle.sctp_model.specs.messages.Format.{Lane, same_lane}
@@ -89,7 +89,7 @@ is_unsent v i e = not (v.sent i) && is_wanted v i e
 abbrev pub is_in_flight : SenderView → ℕ → Entry → Bool
 is_in_flight v i e = not (v.marked i) && is_unsettled v i e
 
--- its data, where it is in flight
+-- its data, if it is in flight
 abbrev pub flight_of : SenderView → ℕ → Entry → ℕ
 flight_of v i e = if is_in_flight v i e then length (entry_bytes v.plan e) else 0
 
@@ -109,7 +109,7 @@ abbrev pub next_part : Plan → Entry → Option Entry
 next_part p (Part l n k) = when (nat_lt (suc k) (length (fragments_in (message_at p l n)))) (Part l n (suc k))
 next_part p (End l n) = None
 
--- The fragment that the message in part of a stream takes next, where it has such a message. It has one at most: a stream's messages go one after
+-- The fragment that the message in part of a stream takes next, if it has such a message. It has one at most: a stream's messages go one after
 -- the other (RFC 8260, 2.2.2).
 abbrev pub continued : Plan → ℕ → Option Entry
 continued p s = option_and_then (next_part p) (latest s p.entries)

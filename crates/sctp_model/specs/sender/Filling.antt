@@ -1,5 +1,5 @@
--- What goes into a packet: one wish after the other, as long as room, flow and window allow (RFC 9260, 6.1 and 6.3.3).
-use Rattle.std.specs.Prelude.{◌≡◌, ℕ, zero, suc, ◌+◌, ◌-◌, ◌==◌, ◌≤◌, nat_le, Bool, true, false, ◌&&◌, ◌||◌, List, [], ◌∷◌, length, drop, filter_map, Option, Some, unwrap_or, option_map, option_and_then}
+-- What goes into a packet: one wish after the other, as long as space, flow and window allow (RFC 9260, 6.1 and 6.3.3).
+use Rattle.std.specs.Prelude.{◌≡◌, ℕ, zero, suc, ◌+◌, ◌-◌, ◌==◌, ◌≤◌, nat_le, Bool, true, false, ◌&&◌, ◌||◌, if◌then◌else◌, List, [], ◌∷◌, length, drop, filter_map, Option, Some, unwrap_or, option_map, option_and_then}
 use Rattle.std.specs.Option.{option_map_or}
 use Rattle.sctp_model.specs.numbers.Limits.{WINDOW}
 use Rattle.sctp_model.specs.numbers.Lists.{at}
@@ -49,7 +49,7 @@ bytes_of_wish w = entry_bytes w.view.plan (wished w)
 
 -- its chunk, a DATA or an I-DATA
 abbrev pub chunk_of : Format → Wish → ChunkMeaning
-chunk_of f w = data_chunk f (piece_said f w.view.initial w.index (wished w) (entry_message w.view.plan (wished w)))
+chunk_of f w = data_chunk f (piece_said f w.view.initial w.view.resets.base w.index (wished w) (entry_message w.view.plan (wished w)))
 
 -- how much room its chunk takes in a packet, padded (RFC 9260, 3.2)
 abbrev pub room_of : Format → Wish → ℕ
@@ -67,13 +67,17 @@ is_let_flow w =
 abbrev pub may_go : Format → (room : ℕ) → Wish → Bool
 may_go f room w = nat_le (room_of f w) room && (is_let_flow w && nat_le (outstanding w.view) WINDOW)
 
--- the next wish, where it may go; else the packet ends
+-- the next wish, if it may go; else the packet ends
 abbrev pub goes : Format → (room : ℕ) → SenderView → Option Wish
 goes f room v = option_and_then (λ w. when (may_go f room w) w) (next_wish f v)
 
+-- how often it was retransmitted, once it is sent now
+abbrev pub repeats_then : SenderView → (index : ℕ) → ℕ
+repeats_then v i = if v.sent i then suc (v.repeats i) else v.repeats i
+
 -- the fragment at an index went out, and needs no repeating now
 abbrev pub with_sent : SenderView → (index : ℕ) → SenderView
-with_sent v i = record v { sent = at v.sent i true; marked = at v.marked i false }
+with_sent v i = record v { sent = at v.sent i true; marked = at v.marked i false; repeats = at v.repeats i (repeats_then v i) }
 
 -- the view that a wish leaves when it went
 abbrev pub gone : Wish → SenderView

@@ -20,12 +20,12 @@ largest_in l found (e ∷ es) = largest_in l (if same_lane l (entry_lane e) then
 abbrev pub entries_to : SenderView → (p : ℕ) → List Entry
 entries_to v p = take (p - v.cum) (drop v.cum v.plan.entries)
 
--- the entry of a lane, where it has a number
+-- the entry of a lane, if it has a number
 abbrev pub skip_in : Lane → Option ℕ → List Skip
 skip_in l None = []
 skip_in l (Some n) = record { lane = l; number = n } ∷ []
 
--- the entry of a lane, where its messages are numbered and one was passed
+-- the entry of a lane, if its messages are numbered and one was passed
 abbrev pub skip_of : Format → List Entry → Lane → List Skip
 skip_of f es l = if is_numbered f l.kind then skip_in l (largest_in l None es) else []
 

@@ -1,6 +1,6 @@
 -- What the chunk of a fragment says (RFC 9260, 3.3.1; RFC 8260, 2.1).
-use Rattle.std.specs.Prelude.{ℕ, suc, ◌==◌, Bool, true, false, length, Option, None, Some}
-use Rattle.sctp_model.specs.messages.Format.{Format, Kind, Ordered, Unordered}
+use Rattle.std.specs.Prelude.{ℕ, suc, ◌-◌, ◌==◌, Bool, true, false, length, Option, None, Some}
+use Rattle.sctp_model.specs.messages.Format.{Format, Kind, Ordered, Unordered, Lane}
 use Rattle.sctp_model.specs.numbers.Serial.{tsn}
 use Rattle.sctp_model.specs.wire.Chunk.{PieceMeaning}
 use Rattle.sctp_model.specs.messages.Plan.{Message, Entry}
@@ -18,16 +18,20 @@ abbrev pub payload_said : Option Message → ℕ
 payload_said None = 0
 payload_said (Some m) = m.payload
 
+-- The number on the wire for a number of a lane: counted from the base of the last reset of its stream (RFC 6525, 5.1.2 and 5.2.2).
+abbrev pub number_said : Format → (base : Lane → ℕ) → Lane → (number : ℕ) → ℕ
+number_said f base l n = wire_number f l.kind (n - base l)
+
 -- what the chunk of a message's entry says at an index; the flag I is 0
-abbrev pub piece_said : Format → ℕ → ℕ → Entry → Option Message → PieceMeaning
-piece_said f initial i e m = record {
+abbrev pub piece_said : Format → ℕ → (base : Lane → ℕ) → ℕ → Entry → Option Message → PieceMeaning
+piece_said f initial base i e m = record {
   immediate = false;
   unordered = is_unordered (entry_lane e).kind;
   begin = entry_fragment e == 0;
   end = suc (entry_fragment e) == length (fragments_in m);
   tsn = tsn initial i;
   stream = (entry_lane e).stream;
-  number = wire_number f (entry_lane e).kind (entry_number e);
+  number = number_said f base (entry_lane e) (entry_number e);
   word = word_of f (payload_said m) (entry_fragment e);
   bytes = bytes_in e m;
 }

@@ -1,9 +1,10 @@
--- A message that the user hands in: cut into fragments (RFC 9260, 6.9) and queued, or refused for the first reason that there is.
-use Rattle.std.specs.Prelude.{ℕ, suc, ◌+◌, ◌*◌, ◌==◌, min, nat_lt, nat_le, ◌||◌, List, [], ◌∷◌, ◌++◌, length, map, take, drop, Option}
+-- A message that the user sends: cut into fragments (RFC 9260, 6.9) and queued, or refused for the first reason that there is.
+use Rattle.std.specs.Prelude.{ℕ, suc, ◌+◌, ◌*◌, ◌==◌, min, nat_lt, nat_le, not, ◌||◌, List, [], ◌∷◌, ◌++◌, length, map, take, drop, Option}
 use Rattle.std.specs.Int.{div_ceil}
 use Rattle.sctp_model.specs.numbers.Limits.{LONGEST_MESSAGE, QUEUE_LIMIT, TICKET_LIMIT, TSN_LIMIT}
 use Rattle.sctp_model.specs.messages.Format.{Lane}
 use Rattle.sctp_model.specs.messages.Plan.{Message}
+use Rattle.sctp_model.specs.sender.Outgoing.{is_sending}
 use Rattle.sctp_model.specs.sender.SenderView.{Queued, SenderView}
 use Rattle.sctp_model.specs.sender.Words.{when, first_there, count_up}
 use Rattle.sctp_model.specs.sender.Entries.{sum_below, continued, fragments_from}
@@ -43,6 +44,8 @@ promised v = length v.plan.entries + (owed_by_queue v.queue + owed_by_parts v)
 pub data Refusal : Type 0 where
   -- the stream isn't below the number of streams; the message has no byte; or more than a message may have
   NoSuchStream Empty TooLong : Refusal
+  -- the stream is being reset, or the peer refused to
+  Resetting : Refusal
   -- no further message may wait; tickets or TSNs would run out
   QueueFull Spent : Refusal
 
@@ -50,6 +53,7 @@ pub data Refusal : Type 0 where
 abbrev pub refusal : SenderView → (stream : ℕ) → (bytes : List ℕ) → Option Refusal
 refusal v stream bytes = first_there (
     when (nat_le v.streams stream) NoSuchStream
+    ∷ when (not (is_sending (v.resets.sending stream))) Resetting
     ∷ when (length bytes == 0) Empty
     ∷ when (nat_lt LONGEST_MESSAGE (length bytes)) TooLong
     ∷ when (nat_le QUEUE_LIMIT (length v.queue)) QueueFull
@@ -57,12 +61,13 @@ refusal v stream bytes = first_there (
     ∷ [])
 
 -- the message of the next ticket: tickets are 1, 2, 3, ..
-abbrev pub new_message : SenderView → (payload : ℕ) → (bytes : List ℕ) → (until : Option ℕ) → Message
-new_message v payload bytes until = record { ticket = suc v.tickets; payload = payload; fragments = cut v.fragment bytes; until = until }
+abbrev pub new_message : SenderView → (payload : ℕ) → (bytes : List ℕ) → (until limit : Option ℕ) → Message
+new_message v payload bytes until limit =
+    record { ticket = suc v.tickets; payload = payload; fragments = cut v.fragment bytes; until = until; limit = limit }
 
 -- The view in which it waits behind all others.
-abbrev pub queued : SenderView → Lane → (payload : ℕ) → (bytes : List ℕ) → (until : Option ℕ) → SenderView
-queued v lane payload bytes until = record v {
-  queue = v.queue ++ record { lane = lane; message = new_message v payload bytes until } ∷ [];
+abbrev pub queued : SenderView → Lane → (payload : ℕ) → (bytes : List ℕ) → (until limit : Option ℕ) → SenderView
+queued v lane payload bytes until limit = record v {
+  queue = v.queue ++ record { lane = lane; message = new_message v payload bytes until limit } ∷ [];
   tickets = suc v.tickets;
 }

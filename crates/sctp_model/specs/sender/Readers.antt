@@ -1,4 +1,4 @@
--- What a sender tells of itself, and of a message by its ticket.
+-- What a sender reports of itself, and of a message by its ticket.
 use Rattle.std.specs.Prelude.{ℕ, suc, ◌+◌, ◌-◌, ◌==◌, if◌then◌else◌, Bool, not, ◌&&◌, ◌||◌, List, [], ◌∷◌, length, drop}
 use Rattle.sctp_model.specs.messages.Plan.{Entry}
 use Rattle.sctp_model.specs.sender.SenderView.{SenderView}

@@ -13,7 +13,7 @@ pub data SackFault : Type 0 where
 
 -- ---- its numbers, as indexes
 
--- a cumulative TSN is older than CUM where it comes before its TSN
+-- a cumulative TSN is older than CUM if it comes before its TSN
 abbrev pub is_stale : SenderView → (cumulative : ℕ) → Bool
 is_stale v wire = before 32 wire (tsn v.initial v.cum)
 

@@ -4,7 +4,7 @@ use Rattle.std.specs.Option.{option_or}
 
 -- ---- what may be absent
 
--- this, where the test holds
+-- this, if the test holds
 abbrev pub when : {A : Type 0} → Bool → A → Option A
 when holds x = if holds then Some x else None
 
@@ -34,3 +34,8 @@ sum_below summand (suc n) = sum_below summand n + summand n
 abbrev pub lowest : (ℕ → Bool) → (n : ℕ) → Option ℕ
 lowest test zero = None
 lowest test (suc n) = option_or (lowest test n) (when (test (suc n)) (suc n))
+
+-- the largest number up to this one that passes, 0 if none does
+abbrev pub last_that : (ℕ → Bool) → ℕ → ℕ
+last_that passes zero = 0
+last_that passes (suc n) = if passes (suc n) then suc n else last_that passes n

@@ -1,4 +1,4 @@
--- What chunks say, without where they lie in memory: plain numbers and lists (RFC 9260, 3.2 and 3.3; RFC 3758, 3.2; RFC 8260, 2).
+-- What chunks say, as plain numbers and lists (RFC 9260, 3.2 and 3.3; RFC 3758, 3.2; RFC 8260, 2).
 use Rattle.std.specs.Prelude.{ℕ, ◌+◌, ◌-◌, ◌*◌, ◌/◌, Bool, List, length}
 
 -- A piece of user data with its place (RFC 9260, 3.3.1; RFC 8260, 2.1). The number is that of its message

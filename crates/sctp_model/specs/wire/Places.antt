@@ -1,4 +1,4 @@
--- Where in a packet chunks may stand (RFC 9260, 5.1 and 6.10).
+-- Where in a packet a chunk may be (RFC 9260, 5.1 and 6.10).
 use Rattle.std.specs.Prelude.{◌≡◌, ℕ, ◌+◌, Bool, true, false, if◌then◌else◌, List, [], ◌∷◌, Option, Some, None}
 use Rattle.sctp_model.specs.wire.Chunk.{ChunkMeaning, Init, InitAck, CookieEcho, ShutdownComplete, size_of_chunk}
 

@@ -65,7 +65,7 @@ starts_typed bytes =
 abbrev pub typed_at : List ℕ → Typed
 typed_at bytes = record { kind = u16_at bytes; value = slice_range bytes 4 (length_field bytes) }
 
--- The items, where so many bytes are still inside the item before or its padding. At each byte that isn't, one begins.
+-- The items; so many bytes are still inside the item before, or its padding. At each byte that isn't, one begins.
 abbrev pub items_after : (inside : ℕ) → List ℕ → Option (List Typed)
 items_after inside [] = Some []
 items_after (suc inside) (b ∷ bytes) = items_after inside bytes

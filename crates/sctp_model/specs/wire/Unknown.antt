@@ -1,4 +1,4 @@
--- Types that an end doesn't know: what is still looked at and what is reported, by the two highest bits of the type (RFC 9260, 3.2 and 3.2.1).
+-- Types that an endpoint doesn't know: what is still processed and what is reported, by the two highest bits of the type (RFC 9260, 3.2 and 3.2.1).
 -- What an end does about such a chunk is told with its other chunks; of parameters it is told here.
 use Rattle.std.specs.Prelude.{ℕ, ◌-◌, ◌/◌, ◌%◌, ◌^◌, Bool, true, false, if◌then◌else◌, ◌==◌, ◌||◌, nat_lt, List, [], ◌∷◌, Option, Some, None}
 use Rattle.sctp_model.specs.wire.Typed.{Typed}
@@ -30,7 +30,7 @@ is_known_parameter kind = (kind == 7) || (kind == 8) || (kind == 32776) || (kind
 abbrev pub is_passed_over : ℕ → Bool
 is_passed_over kind = (kind == 5) || (kind == 6) || (kind == 9) || (kind == 11) || (kind == 12)
 
--- what is acted on from a parameter on, where so much is acted on behind it
+-- what is acted on from a parameter on; this is acted on after it
 abbrev pub acted_from : Typed → List Typed → List Typed
 acted_from x later =
     if is_known_parameter x.kind then x ∷ later
@@ -43,12 +43,12 @@ abbrev pub parameters_acted_on : List Typed → List Typed
 parameters_acted_on [] = []
 parameters_acted_on (x ∷ xs) = acted_from x (parameters_acted_on xs)
 
--- this one, where its rule says so, before others
+-- this one, if its rule says so, before others
 abbrev pub reported_before : {X : Type 0} → Bool → X → List X → List X
 reported_before true x xs = x ∷ xs
 reported_before false x xs = xs
 
--- what is reported from a parameter on, where so much is reported behind it
+-- what is reported from a parameter on; this is reported after it
 abbrev pub reported_from : Typed → List Typed → List Typed
 reported_from x later =
     if is_known_parameter x.kind || is_passed_over x.kind then later

@@ -1,5 +1,5 @@
--- AGED: how long the network may keep a packet, told in TSNs. TSNs come round again, so one that came too late could be read as another (RFC 9260, 2.6).
-use Rattle.std.specs.Prelude.{◌≡◌, ℕ, ◌+◌, ◌<◌, List, [], ◌∷◌, length, Some}
+-- AGED: how long the network may keep a packet, measured in TSNs. TSNs wrap around, so one that arrived too late could be read as another (RFC 9260, 2.6).
+use Rattle.std.specs.Prelude.{◌≡◌, ℕ, ◌+◌, ◌<◌, List, ◌∷◌, length, Some}
 use Rattle.sctp_model.specs.numbers.Limits.{AGE_LIMIT}
 use Rattle.sctp_model.specs.numbers.Lists.{item_at}
 use Rattle.sctp_model.specs.wire.Packet.{Packet}

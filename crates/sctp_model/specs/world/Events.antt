@@ -1,12 +1,13 @@
--- What may happen in the world, and what is told of it.
+-- What may happen in the world, and what is reported of it.
 use Rattle.std.specs.Prelude.{ℕ, suc, Bool, true, false, List, length, Option, None, Some}
 use Rattle.sctp_model.specs.wire.Packet.{Packet, size_of_packet}
 use Rattle.sctp_model.specs.world.Calls.{Call}
 use Rattle.sctp_model.specs.receiver.ReceiverView.{Handed}
+use Rattle.sctp_model.specs.receiver.ResetTaken.{old_waiting}
 use Rattle.sctp_model.specs.sender.Abandoning.{AbandonAnswer}
-use Rattle.sctp_model.specs.end.EndView.{Draw}
+use Rattle.sctp_model.specs.end.EndView.{Draw, EndView}
 use Rattle.sctp_model.specs.end.Strays.{Verdict, Taken, Dropped, Answer}
-use Rattle.sctp_model.specs.end.UserCalls.{SendAnswer, ShutdownAnswer, Shut, NotShut, AbortAnswer, Aborts, NoPeer, TooLong}
+use Rattle.sctp_model.specs.end.UserCalls.{SendAnswer, ShutdownAnswer, Shut, NotShut, ResetCall, Begun, NotAgreed, NoStream, AbortAnswer, Aborts, NoPeer, TooLong}
 use Rattle.sctp_model.specs.world.World.{Side, World, bag_of, with_packet}
 
 -- ---- events
@@ -22,11 +23,14 @@ pub data Event : Type 0 where
   Build : Side → Event
   -- the n-th packet of an end's bag comes to the other one
   Deliver : Side → ℕ → Event
-  -- somebody else's packet comes to this end, as it reads; None where its bytes don't read
+  -- somebody else's packet comes to this end, as it reads; None if its bytes don't read
   Foreign : Side → Option Packet → Event
   -- the calls of an end's user: a message, a ticket, a stream, nothing, the bytes of a reason
   Send : Side → Call → Event
   Abandon Take : Side → ℕ → Event
+  -- a stream is to be reset; which stream did the peer reset
+  Reset : Side → ℕ → Event
+  WasReset : Side → Event
   Shutdown : Side → Event
   Abort : Side → List ℕ → Event
 
@@ -54,6 +58,10 @@ pub data Outcome : Type 0 where
   Fate : AbandonAnswer → Outcome
   Message : Handed → Outcome
   NoMessage : Outcome
+  -- there is no such stream; the stream that the peer reset, and how many of its messages that wait were delivered before that, or none
+  NoSuchReset : Outcome
+  ResetThere : ℕ → ℕ → Outcome
+  NoReset : Outcome
   -- a reason too long for one packet
   AbortTooLong : Outcome
 
@@ -93,6 +101,17 @@ with_abort w s TooLong = w
 abbrev pub shutdown_told : ShutdownAnswer → Outcome
 shutdown_told Shut = Done
 shutdown_told NotShut = RefusedState
+
+-- what is reported of the user's reset
+abbrev pub reset_told : ResetCall → Outcome
+reset_told Begun = Done
+reset_told NotAgreed = RefusedState
+reset_told NoStream = NoSuchReset
+
+-- what is reported of the peer's resets
+abbrev pub resets_told : EndView → Option ℕ → Outcome
+resets_told e (Some s) = ResetThere s (old_waiting e.receiver s)
+resets_told e None = NoReset
 
 -- what is told of taking a message
 abbrev pub message_told : Option Handed → Outcome

@@ -1,4 +1,4 @@
--- What is asked of chance and of strangers, and what is promised of every world.
+-- What is assumed of random numbers and of third parties, and what is promised of every world.
 use Rattle.std.specs.Prelude.{◌≡◌, ℕ, ◌⊎◌, true, List, [], ◌∷◌, map, Option, None, Some}
 use Rattle.sctp_model.specs.numbers.Lists.{Has, joined}
 use Rattle.sctp_model.specs.wire.Chunk.{ChunkMeaning, Init, CookieEcho}
@@ -49,8 +49,8 @@ pub record IsStranger (s : Sealing) (tags : List ℕ) (p : Packet) : Type 0 wher
   pub chunks : (x : ChunkMeaning) → Has p.chunks x → IsTheirs s tags x → ⊥
 
 -- FRESH and UNFORGED, of the events of a run: whoever else sends to either end is a stranger. (That no tag is 0 is in each step that draws.)
-abbrev pub Premises : Sealing → List Event → Type 0
-Premises s es = (x : Side) (p : Packet) → Has es (Foreign x (Some p)) → IsStranger s (drawn_in es) p
+abbrev pub FreshAndUnforged : Sealing → List Event → Type 0
+FreshAndUnforged s es = (x : Side) (p : Packet) → Has es (Foreign x (Some p)) → IsStranger s (drawn_in es) p
 
 -- ---- SAFE
 
@@ -83,7 +83,7 @@ pub record IsReachable (s : Setup) (events : List Event) (w : World) : Type 0 wh
   pub configured : (x : Side) → IsConfiguration (configuration_of s x)
   pub answers : List (Option Outcome)
   pub run : Run (start s) events answers w
-  pub premises : Premises s.sealing events
+  pub premises : FreshAndUnforged s.sealing events
 
 -- They lead there through these worlds, in time: AGED holds too.
 pub record IsReachedInTime (s : Setup) (events : List Event) (w : World) : Type 0 where
@@ -92,5 +92,5 @@ pub record IsReachedInTime (s : Setup) (events : List Event) (w : World) : Type 
   pub worlds : List World
   pub run : PassesThrough (start s) events answers worlds
   pub ends : last_of (start s) worlds ≡ w
-  pub premises : Premises s.sealing events
+  pub premises : FreshAndUnforged s.sealing events
   pub aged : Aged (start s) events worlds

@@ -1,5 +1,5 @@
 -- STEP and RUN: every event with every way that it can go.
-use Rattle.std.specs.Prelude.{◌≡◌, ℕ, ◌^◌, ◌<◌, max, true, false, List, [], ◌∷◌, ◌++◌, Option, None, Some}
+use Rattle.std.specs.Prelude.{◌≡◌, ℕ, ◌^◌, ◌<◌, max, true, false, ◌&&◌, List, [], ◌∷◌, ◌++◌, Option, None, Some}
 use Rattle.sctp_model.specs.numbers.Lists.{at, item_at}
 use Rattle.sctp_model.specs.wire.Chunk.{ChunkMeaning}
 use Rattle.sctp_model.specs.wire.Packet.{Packet, size_of_packet}
@@ -12,9 +12,9 @@ use Rattle.sctp_model.specs.end.Strays.{Verdict}
 use Rattle.sctp_model.specs.end.Arriving.{Receives, IsCutShort}
 use Rattle.sctp_model.specs.end.Building.{Builds, packet_of}
 use Rattle.sctp_model.specs.end.Moments.{ticked}
-use Rattle.sctp_model.specs.end.UserCalls.{Called, NotIdle, connect_answer, called, SendAnswer, Ticket, Refused, NotOpen, send_answer, send_leaves, abandons, abandoned_at, UserTakes, shutdown_answer, shut, abort_answer, abort_leaves}
-use Rattle.sctp_model.specs.world.World.{Side, A, B, other, Log, World, end_of, bag_of, log_of, with_end, with_packet, with_log, end_now, came, logged, logged_one}
-use Rattle.sctp_model.specs.world.Events.{Event, OpenBoth, At, Drawing, Connect, Build, Deliver, Foreign, Send, Abandon, Take, Shutdown, Abort, brings_packet, Outcome, Done, RefusedState, Sent, Quiet, Absent, Told, Fate, next_number, told, with_verdict, abort_told, with_abort, shutdown_told, message_told}
+use Rattle.sctp_model.specs.end.UserCalls.{Called, NotIdle, connect_answer, called, SendAnswer, Ticket, Refused, NotOpen, send_answer, send_leaves, abandons, abandoned_at, UserTakes, reset_call, reset_leaves, reset_there, told_leaves, shutdown_answer, shut, abort_answer, abort_leaves}
+use Rattle.sctp_model.specs.world.World.{Side, A, B, other, are_alike, Log, World, end_of, bag_of, log_of, with_end, with_packet, with_log, end_now, came, logged, logged_one}
+use Rattle.sctp_model.specs.world.Events.{Event, OpenBoth, At, Drawing, Connect, Build, Deliver, Foreign, Send, Abandon, Take, Reset, WasReset, Shutdown, Abort, brings_packet, Outcome, Done, RefusedState, Sent, Quiet, Absent, Told, Fate, next_number, told, with_verdict, abort_told, with_abort, reset_told, resets_told, shutdown_told, message_told}
 
 -- ---- logs
 
@@ -42,9 +42,9 @@ pub data Brings (w : World) : Event → Side → Option Packet → Type 0 where
 -- In the world `w` the event is answered so, and leaves the last world. None for an answer: memory was wanted. A packet is then cut short; any
 -- other event has changed nothing.
 pub data Step (w : World) : Event → Option Outcome → World → Type 0 where
-  OpensBoth : (x y : Draw) → w.openable ≡ true → IsDraw x → IsDraw y →
+  OpensBoth : (x y : Draw) → are_alike w.a.configuration w.b.configuration ≡ true → w.openable ≡ true → IsDraw x → IsDraw y →
       Step w (OpenBoth x y) (Some Done) (record w { a = opened w.a.configuration x y; b = opened w.b.configuration y x; openable = false })
-  OpenRefused : (x y : Draw) → w.openable ≡ false → Step w (OpenBoth x y) (Some RefusedState) w
+  OpenRefused : (x y : Draw) → (w.openable && are_alike w.a.configuration w.b.configuration) ≡ false → Step w (OpenBoth x y) (Some RefusedState) w
   TimePasses : (m : ℕ) → m < 2 ^ 64 → Step w (At m) (Some Done) (record w {
     a = ticked w.a (max w.clock m);
     b = ticked w.b (max w.clock m);
@@ -68,6 +68,8 @@ pub data Step (w : World) : Event → Option Outcome → World → Type 0 where
       (with_log (with_end w s (abandoned_at (end_of w s) k)) s (named_at (logged_one w s k (abandoned_at (end_of w s) k)) k))
   TakesOne : (s : Side) (n : ℕ) (h : Option Handed) (t : EndView) → UserTakes (end_of w s) n h t →
       Step w (Take s n) (Some (message_told h)) (with_end w s t)
+  ResetsOne : (s : Side) (n : ℕ) → Step w (Reset s n) (Some (reset_told (reset_call (end_of w s) n))) (with_end w s (reset_leaves (reset_call (end_of w s) n) (end_of w s) n))
+  TellsReset : (s : Side) → Step w (WasReset s) (Some (resets_told (end_of w s) (reset_there (end_of w s)))) (with_end w s (told_leaves (reset_there (end_of w s)) (end_of w s)))
   ShutsDown : (s : Side) → Step w (Shutdown s) (Some (shutdown_told (shutdown_answer (end_of w s).phase))) (with_end w s (shut (end_of w s)))
   AbortsIt : (s : Side) (r : List ℕ) → Step w (Abort s r) (Some (abort_told w s (abort_answer (end_of w s) r)))
       (with_abort (with_end w s (abort_leaves (abort_answer (end_of w s) r) (end_of w s))) s (abort_answer (end_of w s) r))

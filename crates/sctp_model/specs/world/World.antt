@@ -1,11 +1,12 @@
--- The world of two ends: a caller and a listener, all that either ever gave to the network, the clock, and the chance for what comes next.
-use Rattle.std.specs.Prelude.{ℕ, zero, suc, Bool, true, false, not, ◌&&◌, if◌then◌else◌, List, [], ◌∷◌, ◌++◌}
+-- The world of two endpoints: a caller and a listener, all packets that either ever built, the clock, and the random numbers for what arrives next.
+use Rattle.std.specs.Prelude.{min, ℕ, zero, suc, Bool, true, false, not, ◌&&◌, ◌==◌, if◌then◌else◌, List, [], ◌∷◌, ◌++◌, Option, None, Some}
 use Rattle.sctp_model.specs.wire.Packet.{Packet}
 use Rattle.sctp_model.specs.world.Calls.{Call}
 use Rattle.sctp_model.specs.sender.SenderView.{SenderView}
 use Rattle.sctp_model.specs.sender.Readers.{abandoned}
 use Rattle.sctp_model.specs.end.Sealing.{Sealing}
 use Rattle.sctp_model.specs.end.EndView.{Configuration, Draw, Idle, Listening, Caller, Listener, EndView, fresh_end}
+use Rattle.sctp_model.specs.end.Pacing.{Pace}
 use Rattle.sctp_model.specs.end.Clock.{at_moment}
 
 -- Which of the two: A calls, B listens (RFC 9260, 5.1).
@@ -18,7 +19,7 @@ other A = B
 other B = A
 
 -- What is remembered of an end's user: the calls of `send` that were accepted, by ticket; the tickets given to `abandon`; and the tickets
--- of the messages that were abandoned, in the order in which they were.
+-- of the messages that were abandoned, in the order of the events that abandoned them; those of one event by rising ticket.
 pub record Log : Type 0 where
   pub calls : List Call
   pub named : ℕ → Bool
@@ -73,14 +74,9 @@ with_log w B l = record w { log_b = l }
 abbrev pub end_now : World → Side → EndView
 end_now w s = at_moment (end_of w s) w.clock
 
--- Something was delivered to the end, which left it so: from now on `open` is refused.
-abbrev pub came : World → Side → EndView → World
-came w A e = record w { a = e; openable = false }
-came w B e = record w { b = e; openable = false }
-
 -- ---- the order of abandoning
 
--- the ticket, where its message was abandoned between two views of its sender
+-- the ticket, if its message was abandoned between two views of its sender
 abbrev pub if_newly_abandoned : SenderView → SenderView → (ticket : ℕ) → List ℕ
 if_newly_abandoned v u t = if abandoned u t && not (abandoned v t) then t ∷ [] else []
 
@@ -93,7 +89,7 @@ newly_abandoned v u (suc n) = newly_abandoned v u n ++ if_newly_abandoned v u (s
 abbrev pub with_order : Log → List ℕ → Log
 with_order l tickets = record l { order = l.order ++ tickets }
 
--- the log of an end that a moment left so, which may be too late for any of its messages
+-- the log of an end that a moment or a packet left so: it may be too late for some of its messages, or some may not be retransmitted again
 abbrev pub logged : World → Side → EndView → Log
 logged w s t = with_order (log_of w s) (newly_abandoned (end_of w s).sender t.sender t.sender.tickets)
 
@@ -101,19 +97,47 @@ logged w s t = with_order (log_of w s) (newly_abandoned (end_of w s).sender t.se
 abbrev pub logged_one : World → Side → (ticket : ℕ) → EndView → Log
 logged_one w s k t = with_order (log_of w s) (if_newly_abandoned (end_of w s).sender t.sender k)
 
+-- ---- what arrives
+
+-- The order after a packet that left an endpoint like this: with a pace it may have abandoned messages at the packet's end; without one it abandons none there.
+abbrev pub order_heard : Option Pace → World → Side → EndView → List ℕ
+order_heard None w s t = (log_of w s).order
+order_heard (Some p) w s t = (logged w s t).order
+
+-- its log
+abbrev pub logged_packet : World → Side → EndView → Log
+logged_packet w s t = record (log_of w s) { order = order_heard t.pace w s t }
+
+-- A packet arrived at the endpoint, and left it like this: from now on `open` is refused.
+abbrev pub came : World → Side → EndView → World
+came w A e = record w { a = e; log_a = logged_packet w A e; openable = false }
+came w B e = record w { b = e; log_b = logged_packet w B e; openable = false }
+
 -- ---- START
 
--- How two ends are set up: alike but for the ports, each of which is the other's peer's, and for the seal, which the listener has alone.
+-- How two endpoints are set up: each by a configuration of its own; the port of each is the other's peer port, and the listener has the seal.
 pub record Setup : Type 0 where
-  pub alike : Configuration
+  pub of_a : Configuration
+  pub of_b : Configuration
   pub a_port : ℕ
   pub b_port : ℕ
   pub sealing : Sealing
 
 -- what the end of a side is set up with
 abbrev pub configuration_of : Setup → Side → Configuration
-configuration_of s A = record (s.alike) { own_port = s.a_port; peer_port = s.b_port }
-configuration_of s B = record (s.alike) { own_port = s.b_port; peer_port = s.a_port }
+configuration_of s A = record (s.of_a) { own_port = s.a_port; peer_port = s.b_port }
+configuration_of s B = record (s.of_b) { own_port = s.b_port; peer_port = s.a_port }
+
+-- both have an option, or neither has it
+abbrev pub is_shared : Bool → Bool → Bool
+is_shared a b = if a then b else not b
+
+-- They may be opened without packets, since they would agree: on as many streams each way, on the format, and on partial reliability and stream reset, which both have or neither has (RFC
+-- 9260, 5.1.1).
+abbrev pub are_alike : Configuration → Configuration → Bool
+are_alike c d =
+    (min d.outbound d.inbound == min c.outbound c.inbound) &&
+    (is_shared d.interleave c.interleave && (is_shared d.partial c.partial && is_shared d.reset c.reset))
 
 -- a user who has asked for nothing yet
 abbrev pub no_log : Log

@@ -1,6 +1,6 @@
 -- What the user's calls note.
-use Rattle.std.proofs.Common.{◌≡◌, ℕ, Bool, true, false, List, [], ◌∷◌, Option, Some, None, refl, sym, subst, ap, ◌∙◌}
-use Rattle.std.specs.Prelude.{if◌then◌else◌}
+use Rattle.std.proofs.Common.{◌≡◌, ℕ, Bool, true, false, List, [], ◌∷◌, Option, Some, None, refl, sym, subst, ap, ◌∙◌, arith, not, ◌&&◌}
+use Rattle.std.specs.Prelude.{if◌then◌else◌, find, nat_le, is_some}
 use Rattle.sctp_model.specs.sender.Queueing.{Refusal, refusal}
 use Rattle.sctp_model.specs.sender.Abandoning.{abandon_after}
 use Rattle.sctp_model.specs.receiver.ReceiverView.{Handed, ReceiverView}
@@ -9,11 +9,11 @@ use Rattle.sctp_model.specs.end.EndView.{AbortedHere, Phase, Idle, Listening, Ca
 use Rattle.sctp_model.specs.end.Clock.{closed, turned}
 use Rattle.sctp_model.specs.end.Closing.{hears, rested}
 use Rattle.sctp_model.specs.end.Moments.{after_abandoning}
-use Rattle.sctp_model.specs.end.UserCalls.{Called, connect_answer, Aborts, NoPeer, TooLong, is_established, answer_for, NotOpen, send_leaves, is_open, shut_in}
-use Rattle.sctp_outcomes.specs.Kept.{is_before, IsSound, IsUnused, KeepsLogs, ConnectKeepsLogs, ShutdownKeepsLogs, AbortKeepsLogs, AbandonKeepsLogs, SendNotes, SendGivesTickets, TakeNotes, TakeTakesOne}
+use Rattle.sctp_model.specs.end.UserCalls.{Called, connect_answer, Aborts, NoPeer, TooLong, is_established, answer_for, NotOpen, send_leaves, is_open, shut_in, Begun, NotAgreed, NoStream, reset_leaves, reset_there, told_leaves}
+use Rattle.sctp_outcomes.specs.Kept.{is_before, IsSound, IsUnused, KeepsLogs, ConnectKeepsLogs, ShutdownKeepsLogs, AbortKeepsLogs, AbandonKeepsLogs, SendNotes, SendGivesTickets, TakeNotes, TakeTakesOne, ResetKeepsLogs, ToldKeepsLogs}
 use Rattle.sctp_outcomes.proofs.logs.Senders.{abandoned_keeps}
-use Rattle.sctp_outcomes.proofs.logs.Ends.{never, heard_after, keeps_itself, keeps_on, same_keeps, sender_keeps, rested_keeps}
-use Rattle.sctp_outcomes.proofs.logs.Passed.{abandoning_keeps}
+use Rattle.sctp_outcomes.proofs.logs.Ends.{abandoning_keeps, never, heard_after, keeps_itself, keeps_on, same_keeps, sender_keeps, rested_keeps, joined_keeps}
+use Rattle.sctp_model.specs.sender.Words.{count_up}
 
 -- ---- connect, shutdown, abort
 
@@ -69,6 +69,7 @@ send_gives_tickets e c s = by_state (hears is_established e.phase) refl
     by_reason : (o : Option Refusal) → hears is_established e.phase ≡ true → SendNotes (answer_for e o) e (send_leaves (answer_for e o) e c)
     by_reason None on = record {
       sound = record { bare = λ before. never (heard_after is_established e.phase on) before; buffer = s.buffer; named = s.named };
+      grown = omega arith;
       numbers = refl;
       tickets = refl;
       taken = refl;
@@ -82,6 +83,35 @@ send_gives_tickets e c s = by_state (hears is_established e.phase) refl
 
 -- ---- take
 
+-- a stream is reset with an association
+pub reset_keeps_logs : ResetKeepsLogs
+reset_keeps_logs e n s = go e.terms.reset (hears is_established e.phase) (nat_le e.sender.streams n) refl
+  where
+    begun : hears is_established e.phase ≡ true → KeepsLogs e (reset_leaves Begun e n)
+    begun on = joined_keeps e (reset_leaves Begun e n) refl refl (record { taken = refl; buffer = refl }) refl (heard_after is_established e.phase on) s
+
+    go : (b h w : Bool) → hears is_established e.phase ≡ h → KeepsLogs e (reset_leaves (if not (b && h) then NotAgreed else if w then NoStream else Begun) e n)
+    go false h w is = keeps_itself e s
+    go true false w is = keeps_itself e s
+    go true true true is = keeps_itself e s
+    go true true false is = begun is
+
+-- before an association no reset came
+pub told_keeps_logs : ToldKeepsLogs
+told_keeps_logs e s = go (reset_there e) refl (is_before e.phase) refl
+  where
+    none_of : (xs : List ℕ) → find (λ (x : ℕ). false) xs ≡ None
+    none_of [] = refl
+    none_of (x ∷ xs) = none_of xs
+
+    none : is_before e.phase ≡ true → reset_there e ≡ None
+    none before = ap (λ (r : ReceiverView). find (λ (x : ℕ). is_some (r.resets.told x)) (count_up 0 r.streams)) (s.bare before).receiver ∙ none_of (count_up 0 0)
+
+    go : (o : Option ℕ) → reset_there e ≡ o → (b : Bool) → is_before e.phase ≡ b → KeepsLogs e (told_leaves o e)
+    go None is b at = keeps_itself e s
+    go (Some n) is true at = absurd (let q : Some n ≡ None = sym is ∙ none at in cc)
+    go (Some n) is false at = joined_keeps e (told_leaves (Some n) e) refl refl (record { taken = refl; buffer = refl }) refl at s
+
 -- nothing waits before an association
 nothing_waits : (e : EndView) (n : ℕ) (h : Handed) (rest : List Handed) → IsUnused e → e.receiver.waiting n ≡ h ∷ rest → ⊥
 nothing_waits e n h rest u waits = let q : [] ≡ h ∷ rest = subst (λ (r : ReceiverView). r.waiting n ≡ h ∷ rest) u.receiver waits in absurd (cc)
@@ -90,6 +120,7 @@ take_notes : (e : EndView) (n : ℕ) (h : Option Handed) (r : ReceiverView) → 
 take_notes e n None r s (none, is) = same_keeps e _ refl is refl (λ on. on) s
 take_notes e n (Some h) r s (rest, waits, is) = record {
   sound = record { bare = λ on. absurd (nothing_waits e n h rest (s.bare on) waits); buffer = ap (λ (x : ReceiverView). x.buffer) is ∙ s.buffer; named = s.named };
+  grown = omega arith;
   numbers = refl;
   tickets = refl;
   taken = ap (λ (x : ReceiverView). x.taken) is;

@@ -1,6 +1,6 @@
 -- A packet that comes notes nothing.
 use Rattle.std.proofs.Common.{◌≡◌, ℕ, zero, suc, Bool, true, false, List, [], ◌∷◌, Some, None, inl, inr, refl, sym, subst, ap, ◌∙◌}
-use Rattle.std.specs.Prelude.{if◌then◌else◌}
+use Rattle.std.specs.Prelude.{if◌then◌else◌, ◌==◌, ◌&&◌}
 use Rattle.sctp_model.specs.wire.Packet.{Packet}
 use Rattle.sctp_model.specs.wire.Chunk.{PieceMeaning, ForwardMeaning, ChunkMeaning, Data, IData, Init, InitAck, Sack, Heartbeat, HeartbeatAck, Abort, Shutdown, ShutdownAck, Error, CookieEcho, CookieAck, ShutdownComplete, ForwardTsn, IForwardTsn, Unknown}
 use Rattle.sctp_model.specs.messages.Format.{Format, Kind, Ordered, Unordered}
@@ -13,16 +13,27 @@ use Rattle.sctp_model.specs.receiver.ForwardTaken.{ForwardAnswer, OutOfDate, Bad
 use Rattle.sctp_model.specs.end.Sealing.{Body}
 use Rattle.sctp_model.specs.end.EndView.{Draw, Aborted, Phase, Idle, Listening, Calling, Echoing, Open, Over, EndView}
 use Rattle.sctp_model.specs.end.Clock.{at_moment, closed}
-use Rattle.sctp_model.specs.end.Closing.{takes_acknowledgements, rested}
+use Rattle.sctp_model.specs.end.Closing.{takes_acknowledgements, rested, takes_data, hears}
 use Rattle.sctp_model.specs.end.PeerFaults.{GoesOn, Ends, Replies, Note}
 use Rattle.sctp_model.specs.end.Opening.{AcceptedAck, RefusedAck, EchoedAgain, CookieAcked, begun}
-use Rattle.sctp_model.specs.end.Acting.{Acts, ForwardComes, PieceComes, IsOld, SackStale, ShutdownStale, HeartbeatCounts, SackCounts, ShutdownCounts, Closes, SaysNothing, Crosses, Again, AckCompletes, CompleteCompleted, PieceEmpty, WrongFormat, SackWrong, ShutdownWrong, WrongKind, IsBad}
+use Rattle.sctp_model.specs.end.Acting.{Acts, ForwardComes, PieceComes, IsOld, SackStale, ShutdownStale, HeartbeatCounts, SackCounts, ShutdownCounts, Closes, SaysNothing, Crosses, Again, AckCompletes, CompleteCompleted, PieceEmpty, WrongFormat, SackWrong, ShutdownWrong, WrongKind, IsBad, ReconfigComes, IsUnknown}
 use Rattle.sctp_model.specs.end.Strays.{Verdict, seal_at, listens, holds_abort, body_in, body_among}
+use Rattle.sctp_model.specs.sender.Abandoning.{worn}
+use Rattle.sctp_model.specs.end.Wearing.{missed_below, wearing}
+use Rattle.sctp_model.proofs.PacedEnds.{worn_cases}
+use Rattle.sctp_outcomes.proofs.logs.Senders.{worn_keeps}
 use Rattle.sctp_model.specs.end.Arriving.{Notes, no_notes, urged, kept_going, packet_ended, AllAct, Arrives, Elsewhere, NotOurs, Stray, CookieBegins, Heard, DroppedUnread, ReadAs, CutFirst, CutLater, cut_to}
 use Rattle.sctp_safety.proofs.machine.EndWords.{Keeps, all_act_keeps, ended_cases}
 use Rattle.sctp_safety.proofs.machine.Sides.{unknown_goes, unknown_ends, unknown_never_replies}
 use Rattle.sctp_outcomes.specs.Kept.{is_before, IsSound, KeepsLogs, PacketsKeepLogs, CutPacketsKeepLogs}
-use Rattle.sctp_outcomes.proofs.logs.Ends.{heard_after, IsSameToUser, keeps_itself, keeps_on, same_keeps, joined_keeps, begins_keeps, rested_keeps}
+use Rattle.sctp_outcomes.proofs.logs.Ends.{abandoning_keeps, heard_after, IsSameToUser, keeps_itself, keeps_on, same_keeps, joined_keeps, begins_keeps, rested_keeps}
+use Rattle.sctp_model.proofs.sender.HeardLaws.{heard_plan, heard_tickets}
+use Rattle.sctp_model.specs.sender.SackTaken.{sack_taken, shutdown_taken}
+use Rattle.sctp_model.specs.wire.Typed.{typed_in}
+use Rattle.sctp_model.specs.wire.Reconfig.{RECONFIG}
+use Rattle.sctp_model.specs.sender.SenderView.{SenderView}
+use Rattle.sctp_safety.proofs.machine.Reconfigured.{parameters_same}
+use Rattle.std.proofs.lemmas.Bool.{and_parts}
 
 -- ---- what comes to a receiver is taken by nobody yet
 
@@ -70,18 +81,18 @@ open_after : (e : EndView) (h : Phase) → is_before h ≡ false → e.phase ≡
 open_after e h after is = ap is_before is ∙ after
 
 -- one after which the packet goes on
-goes_keeps : (e : EndView) (tag : ℕ) (x : ChunkMeaning) (y : Note) (t : EndView) → IsSound e → Acts e tag x (GoesOn y t) → KeepsLogs e t
+pub goes_keeps : (e : EndView) (tag : ℕ) (x : ChunkMeaning) (y : Note) (t : EndView) → IsSound e → Acts e tag x (GoesOn y t) → KeepsLogs e t
 goes_keeps e tag (Data p) y t s (PieceComes u g a r is _ _ _ came) = joined_keeps e t refl refl (piece_same _ e.receiver p a r came) refl (open_after e (Open u g) refl is) s
 goes_keeps e tag (IData p) y t s (PieceComes u g a r is _ _ _ came) = joined_keeps e t refl refl (piece_same _ e.receiver p a r came) refl (open_after e (Open u g) refl is) s
 goes_keeps e tag (Init m) y t s h = absurd (cc)
 goes_keeps e tag (InitAck m) y t s (AcceptedAck d xs is _ _ _) = begins_keeps e t refl refl refl refl refl (ap is_before is) s
 goes_keeps e tag (Sack k) y t s (SackStale _ _) = keeps_itself e s
-goes_keeps e tag (Sack k) y t s (SackCounts on _) = joined_keeps e t refl refl (same e.receiver) refl (heard_after takes_acknowledgements e.phase on) s
+goes_keeps e tag (Sack k) y t s (SackCounts on _) = joined_keeps e t (heard_plan e.pace e.moment e.sender (sack_taken e.sender k)) (heard_tickets e.pace e.moment e.sender (sack_taken e.sender k)) (same e.receiver) refl (heard_after takes_acknowledgements e.phase on) s
 goes_keeps e tag (Heartbeat i) y t s (HeartbeatCounts _) = same_keeps e t refl refl refl (λ on. on) s
 goes_keeps e tag (HeartbeatAck i) y t s h = let q : t ≡ e = cc in subst (KeepsLogs e) (sym q) (keeps_itself e s)
 goes_keeps e tag (Abort b xs) y t s h = absurd (cc)
 goes_keeps e tag (Shutdown n) y t s (ShutdownStale _ _ _ _ _) = same_keeps e t refl refl refl (λ on. absurd (cc)) s
-goes_keeps e tag (Shutdown n) y t s (ShutdownCounts _ _ _ _ _) = joined_keeps e t refl refl (same e.receiver) refl refl s
+goes_keeps e tag (Shutdown n) y t s (ShutdownCounts _ _ _ _ _) = joined_keeps e t (heard_plan e.pace e.moment e.sender (shutdown_taken e.sender n)) (heard_tickets e.pace e.moment e.sender (shutdown_taken e.sender n)) (same e.receiver) refl refl s
 goes_keeps e tag (Shutdown n) y t s (Crosses _ _) = same_keeps e t refl refl refl (λ on. absurd (cc)) s
 goes_keeps e tag (Shutdown n) y t s (Again _ _) = same_keeps e t refl refl refl (λ on. on) s
 goes_keeps e tag ShutdownAck y t s h = elim h [ ]
@@ -93,10 +104,15 @@ goes_keeps e tag (ForwardTsn m) y t s (IsOld u g r is _ _ came) = joined_keeps e
 goes_keeps e tag (ForwardTsn m) y t s (ForwardComes u g r is _ _ came) = joined_keeps e t refl refl (forward_same _ e.receiver m _ r came) refl (open_after e (Open u g) refl is) s
 goes_keeps e tag (IForwardTsn m) y t s (IsOld u g r is _ _ came) = joined_keeps e t refl refl (forward_same _ e.receiver m _ r came) refl (open_after e (Open u g) refl is) s
 goes_keeps e tag (IForwardTsn m) y t s (ForwardComes u g r is _ _ came) = joined_keeps e t refl refl (forward_same _ e.receiver m _ r came) refl (open_after e (Open u g) refl is) s
-goes_keeps e tag (Unknown n f v) y t s h = let u = unknown_goes e y t n f v h in subst (KeepsLogs e) (sym u.same) (same_keeps e _ refl refl refl (λ on. on) s)
+goes_keeps e tag (Unknown n f v) y t s (ReconfigComes c takes _) =
+    let u = parameters_same c e (typed_in v) in
+    joined_keeps e t (ap (λ (x : SenderView). x.plan) u.sender.1) (ap (λ (x : SenderView). x.tickets) u.sender.1)
+    (record { taken = ap (λ (r : ReceiverView). r.taken) u.receiver.1; buffer = ap (λ (r : ReceiverView). r.buffer) u.receiver.1 }) u.configuration
+    (ap is_before u.phase ∙ heard_after takes_data e.phase (and_parts e.terms.reset (hears takes_data e.phase) (and_parts (n == RECONFIG) (e.terms.reset && hears takes_data e.phase) takes).1).1) s
+goes_keeps e tag (Unknown n f v) y t s (IsUnknown _ _ h) = let u = unknown_goes e y t n f v h in subst (KeepsLogs e) (sym u.same) (same_keeps e _ refl refl refl (λ on. on) s)
 
 -- one that ends it
-ends_keeps : (e : EndView) (tag : ℕ) (x : ChunkMeaning) (t : EndView) → IsSound e → Acts e tag x (Ends t) → KeepsLogs e t
+pub ends_keeps : (e : EndView) (tag : ℕ) (x : ChunkMeaning) (t : EndView) → IsSound e → Acts e tag x (Ends t) → KeepsLogs e t
 ends_keeps e tag (Data p) t s h = elim h [ ]
 ends_keeps e tag (IData p) t s h = elim h [ ]
 ends_keeps e tag (Init m) t s h = absurd (cc)
@@ -113,10 +129,10 @@ ends_keeps e tag CookieAck t s h = elim h [ ]
 ends_keeps e tag (ShutdownComplete b) t s (CompleteCompleted _) = same_keeps e t refl refl refl (λ on. absurd (cc)) s
 ends_keeps e tag (ForwardTsn m) t s h = elim h [ ]
 ends_keeps e tag (IForwardTsn m) t s h = elim h [ ]
-ends_keeps e tag (Unknown n f v) t s h = let u = unknown_ends e t n f v h in subst (KeepsLogs e) (sym u.same) (same_keeps e _ refl refl refl (λ on. on) s)
+ends_keeps e tag (Unknown n f v) t s (IsUnknown _ _ h) = let u = unknown_ends e t n f v h in subst (KeepsLogs e) (sym u.same) (same_keeps e _ refl refl refl (λ on. on) s)
 
 -- one that is answered: the end is closed
-replies_keeps : (e : EndView) (tag : ℕ) (x : ChunkMeaning) (t : EndView) (p : Packet) → IsSound e → Acts e tag x (Replies t p) → KeepsLogs e t
+pub replies_keeps : (e : EndView) (tag : ℕ) (x : ChunkMeaning) (t : EndView) (p : Packet) → IsSound e → Acts e tag x (Replies t p) → KeepsLogs e t
 replies_keeps e tag (Data q) t p s (PieceEmpty _ _ _ _ _) = same_keeps e t refl refl refl (λ on. absurd (cc)) s
 replies_keeps e tag (Data q) t p s (WrongFormat _ _ _ _ _ _) = same_keeps e t refl refl refl (λ on. absurd (cc)) s
 replies_keeps e tag (IData q) t p s (PieceEmpty _ _ _ _ _) = same_keeps e t refl refl refl (λ on. absurd (cc)) s
@@ -137,7 +153,7 @@ replies_keeps e tag (ForwardTsn m) t p s (WrongKind _ _ _ _ _) = same_keeps e t 
 replies_keeps e tag (ForwardTsn m) t p s (IsBad _ _ _ _ _ _ _) = same_keeps e t refl refl refl (λ on. absurd (cc)) s
 replies_keeps e tag (IForwardTsn m) t p s (WrongKind _ _ _ _ _) = same_keeps e t refl refl refl (λ on. absurd (cc)) s
 replies_keeps e tag (IForwardTsn m) t p s (IsBad _ _ _ _ _ _ _) = same_keeps e t refl refl refl (λ on. absurd (cc)) s
-replies_keeps e tag (Unknown n f v) t p s h = absurd (unknown_never_replies e t p n f v h)
+replies_keeps e tag (Unknown n f v) t p s (IsUnknown _ _ h) = absurd (unknown_never_replies e t p n f v h)
 
 -- ---- a packet
 
@@ -148,7 +164,7 @@ each_keeps tag o = record {
   replies = λ e x t p any k act. (keeps_on o e t k (replies_keeps e tag x t p k.sound act), tt);
 }
 
-acts_keep : (tag : ℕ) (e : EndView) (b : Notes) (xs : List ChunkMeaning) (t : EndView) (m : Notes) (v : Verdict) → IsSound e → AllAct tag e b xs t m v → KeepsLogs e t
+pub acts_keep : (tag : ℕ) (e : EndView) (b : Notes) (xs : List ChunkMeaning) (t : EndView) (m : Notes) (v : Verdict) → IsSound e → AllAct tag e b xs t m v → KeepsLogs e t
 acts_keep tag e b xs t m v s acts =
     (all_act_keeps tag (KeepsLogs e) (λ (x : ChunkMeaning). Unit {0}) (λ (p : Packet). Unit {0}) (each_keeps tag e) e b xs t m v (λ x h. tt) (keeps_itself e s) acts).0
 
@@ -157,7 +173,7 @@ ended_keeps n e s = ended_cases (KeepsLogs e) n e (keeps_itself e s) (λ t g is.
     (λ t g is. same_keeps e _ refl refl refl (λ on. on) s) (λ x k. keeps_on e x (kept_going true x) k (same_keeps x _ refl refl refl (λ on. on) k.sound))
 
 -- a cookie opens at a listener alone
-opens_before : (e : EndView) (tag : ℕ) (xs : List ChunkMeaning) (b : Body) → body_among e tag xs ≡ Some b → is_before e.phase ≡ true
+pub opens_before : (e : EndView) (tag : ℕ) (xs : List ChunkMeaning) (b : Body) → body_among e tag xs ≡ Some b → is_before e.phase ≡ true
 opens_before e tag [] b is = absurd (cc)
 opens_before e tag (x ∷ xs) b is = by_abort (holds_abort (x ∷ xs)) is
   where
@@ -173,6 +189,10 @@ opens_before e tag (x ∷ xs) b is = by_abort (holds_abort (x ∷ xs)) is
     by_abort true here = absurd (cc)
     by_abort false here = by_phase e.phase here
 
+-- at the end of a packet
+worn_keeps_logs : (from : ℕ) (e : EndView) → IsSound e → KeepsLogs e (wearing from e)
+worn_keeps_logs from e s = worn_cases (KeepsLogs e) from e (keeps_itself e s) (λ test on. abandoning_keeps e (worn test e.sender) (worn_keeps test e.sender) s)
+
 arrives_keeps : (e : EndView) (d : Draw) (p : Packet) (t : EndView) (v : Verdict) → IsSound e → Arrives e d p t v → KeepsLogs e t
 arrives_keeps e d p t v s (Elsewhere _) = keeps_itself e s
 arrives_keeps e d p t v s (NotOurs _ _) = keeps_itself e s
@@ -182,8 +202,10 @@ arrives_keeps e d p t v s (CookieBegins b u n _ _ _ _ opens acts gap _) =
     let all = keeps_on e (begun b e) u new (acts_keep p.tag (begun b e) _ _ u n v new.sound acts) in
     keeps_on e u (packet_ended (urged gap n) u) all (ended_keeps (urged gap n) u all.sound)
 arrives_keeps e d p t v s (Heard u n _ _ _ _ acts gap _) =
-    let all = acts_keep p.tag e no_notes p.chunks u n v s acts in
-    keeps_on e u (packet_ended (urged gap n) u) all (ended_keeps (urged gap n) u all.sound)
+    let x = wearing (missed_below e.pace) u in
+    let acted = acts_keep p.tag e no_notes p.chunks u n v s acts in
+    let all = keeps_on e u x acted (worn_keeps_logs (missed_below e.pace) u acted.sound) in
+    keeps_on e x (packet_ended (urged gap n) x) all (ended_keeps (urged gap n) x all.sound)
 
 -- ---- at a moment
 

@@ -1,24 +1,14 @@
 -- A moment that comes notes nothing.
-use Rattle.std.proofs.Common.{not, ◌||◌, ◌==◌, Bool, true, false, List, [], ◌∷◌, refl}
+use Rattle.std.proofs.Common.{Bool, true, false, List, [], ◌∷◌, refl}
 use Rattle.std.specs.Prelude.{if◌then◌else◌, nat_lt}
-use Rattle.sctp_model.specs.sender.SenderView.{SenderView}
-use Rattle.sctp_model.specs.sender.Readers.{point}
-use Rattle.sctp_model.specs.sender.Abandoning.{expired as expired_messages}
-use Rattle.sctp_model.specs.end.EndView.{TimedOut, Alarm, InitAlarm, CookieAlarm, DataAlarm, ShutdownAlarm, AckAlarm, EndView, has_association}
-use Rattle.sctp_model.specs.end.Clock.{at_moment, closed, settled, with_timer, is_over_at, repeats_of}
+use Rattle.sctp_model.specs.end.EndView.{TimedOut, Alarm, InitAlarm, CookieAlarm, DataAlarm, ShutdownAlarm, AckAlarm, EndView, has_association, ResetAlarm}
+use Rattle.sctp_model.specs.end.Clock.{at_moment, closed, with_timer, is_over_at, repeats_of}
 use Rattle.sctp_model.specs.end.Clock.{expired_timer}
-use Rattle.sctp_model.specs.end.Closing.{rested}
-use Rattle.sctp_model.specs.end.Moments.{after_abandoning, due_again, rung, ring, rung_all, all_alarms, waited_in, waited, passed}
+use Rattle.sctp_model.specs.end.Moments.{after_abandoning, is_data_due, given_up, due_again, rung, ring, rung_all, all_alarms, waited_in, waited, passed}
 use Rattle.sctp_outcomes.specs.Kept.{IsSound, KeepsLogs, MomentsKeepLogs}
-use Rattle.sctp_outcomes.proofs.logs.Senders.{KeepsNumbers, expired_keeps, timed_out_keeps}
-use Rattle.sctp_outcomes.proofs.logs.Ends.{keeps_itself, keeps_on, same_keeps, sender_keeps, rested_keeps}
+use Rattle.sctp_outcomes.proofs.logs.Senders.{given_up_keeps, timed_out_keeps}
+use Rattle.sctp_outcomes.proofs.logs.Ends.{abandoning_keeps, keeps_itself, keeps_on, same_keeps, sender_keeps}
 use Rattle.sctp_outcomes.proofs.logs.Heard.{moment_keeps}
-
-pub abandoning_keeps : (e : EndView) (v : SenderView) → KeepsNumbers e.sender v → IsSound e → KeepsLogs e (after_abandoning e v)
-abandoning_keeps e v k s =
-    let mid = settled (record e { sender = v; due = record e.due { forward = e.due.forward || not (point v == point e.sender) } }) in
-    let first = sender_keeps e mid k refl refl refl s in
-    keeps_on e mid (rested mid) first (rested_keeps mid first.sound)
 
 again_keeps : (a : Alarm) (e : EndView) → IsSound e → KeepsLogs e (due_again a e)
 again_keeps InitAlarm e s = same_keeps e _ refl refl refl (λ on. on) s
@@ -26,6 +16,7 @@ again_keeps CookieAlarm e s = same_keeps e _ refl refl refl (λ on. on) s
 again_keeps DataAlarm e s = sender_keeps e _ (timed_out_keeps e.sender) refl refl refl s
 again_keeps ShutdownAlarm e s = same_keeps e _ refl refl refl (λ on. on) s
 again_keeps AckAlarm e s = same_keeps e _ refl refl refl (λ on. on) s
+again_keeps ResetAlarm e s = same_keeps e _ refl refl refl (λ on. on) s
 
 rung_keeps : (b : Bool) (a : Alarm) (e : EndView) → IsSound e → KeepsLogs e (rung b a e)
 rung_keeps false a e s = keeps_itself e s
@@ -55,9 +46,9 @@ moments_keep_logs e now s = go (has_association e.phase)
     go false = moment_keeps e now s
     go true =
         let m = at_moment e now in
-        let u = after_abandoning m (expired_messages m.sender m.moment) in
+        let u = after_abandoning m (given_up (is_data_due m) m.sender m.moment) in
         let first = moment_keeps e now s in
-        let second = abandoning_keeps m (expired_messages m.sender m.moment) (expired_keeps m.sender m.moment) first.sound in
+        let second = abandoning_keeps m (given_up (is_data_due m) m.sender m.moment) (given_up_keeps (is_data_due m) m.sender m.moment) first.sound in
         let r = rung_all all_alarms u in
         let third = keeps_on m u r second (all_keep all_alarms u second.sound) in
         keeps_on e m (waited r) first (keeps_on m r (waited r) third (waited_keeps (is_over_at r.moment r.delayed) r third.sound))

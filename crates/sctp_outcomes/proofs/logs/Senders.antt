@@ -1,5 +1,5 @@
 -- What abandoning, time and the data timer leave of a sender's tickets and numbers.
-use Rattle.std.proofs.Common.{◌≡◌, ℕ, zero, suc, ◌<◌, ◌⊎◌, Bool, true, false, List, [], ◌∷◌, ◌++◌, length, Option, Some, None, inl, inr, refl, sym, subst, ap, ◌∙◌}
+use Rattle.std.proofs.Common.{◌≡◌, ℕ, zero, suc, ◌<◌, ◌≤◌, ◌⊎◌, Bool, true, false, List, [], ◌∷◌, ◌++◌, length, length-append, arith, Option, Some, None, inl, inr, refl, sym, subst, ap, ◌∙◌}
 use Rattle.std.specs.Prelude.{◌||◌, if◌then◌else◌, find, fold, option_map, option_and_then}
 use Rattle.std.proofs.Math.Path.{fun_ext}
 use Rattle.std.proofs.lemmas.List.{append-nil}
@@ -11,8 +11,10 @@ use Rattle.sctp_model.specs.sender.SenderView.{SenderView, fresh_sender}
 use Rattle.sctp_model.specs.sender.Words.{when, count_up}
 use Rattle.sctp_model.specs.sender.Entries.{entry_lane, entry_number, entry_message}
 use Rattle.sctp_model.specs.sender.Assigning.{with_entry}
-use Rattle.sctp_model.specs.sender.Abandoning.{Name, name_at, name_of, has_ticket, without, with_abandoned, abandon_after, is_overdue, expire_one, expired, unsettled_at, timed_out}
+use Rattle.sctp_model.specs.sender.Abandoning.{Name, name_at, name_of, has_ticket, without, with_abandoned, abandon_after, is_overdue, expire_one, expired, worn, unsettled_at, timed_out}
 use Rattle.sctp_model.specs.sender.Filling.{begun_ticket, begun_tickets}
+use Rattle.sctp_model.specs.end.Moments.{given_up}
+use Rattle.sctp_model.proofs.sender.WornLaws.{wears_each}
 use Rattle.sctp_model.proofs.sender.AbandonCases.{after_abandon, after_end}
 use Rattle.sctp_outcomes.specs.Kept.{IsNamed}
 
@@ -24,14 +26,15 @@ IsNew k v = v ≡ fresh_sender 0 0 k 0 false
 pub record KeepsNumbers (v u : SenderView) : Type 0 where
   pub numbers : begun_tickets u.plan u.plan.entries ≡ begun_tickets v.plan v.plan.entries
   pub named : IsNamed v.plan → IsNamed u.plan
+  pub grown : length v.plan.entries ≤ length u.plan.entries
   pub tickets : u.tickets ≡ v.tickets
   pub new : (k : ℕ) → IsNew k v → IsNew k u
 
 pub keeps_itself : (v : SenderView) → KeepsNumbers v v
-keeps_itself v = record { numbers = refl; named = λ n. n; tickets = refl; new = λ k n. n }
+keeps_itself v = record { numbers = refl; named = λ n. n; grown = omega arith; tickets = refl; new = λ k n. n }
 
 pub keeps_on : (v u w : SenderView) → KeepsNumbers v u → KeepsNumbers u w → KeepsNumbers v w
-keeps_on v u w a b = record { numbers = b.numbers ∙ a.numbers; named = λ n. b.named (a.named n); tickets = b.tickets ∙ a.tickets; new = λ k n. b.new k (a.new k n) }
+keeps_on v u w a b = record { numbers = b.numbers ∙ a.numbers; named = λ n. b.named (a.named n); grown = (let x = a.grown in let y = b.grown in omega (arith, x, y)); tickets = b.tickets ∙ a.tickets; new = λ k n. b.new k (a.new k n) }
 
 -- ---- lists
 
@@ -96,13 +99,14 @@ given_keeps : (v : SenderView) (t : ℕ) (n : Name) → name_of v t ≡ Some n �
 given_keeps v t n is = record {
   numbers = after_end (λ (p : Plan). begun_tickets p p.entries ≡ begun_tickets v.plan v.plan.entries) v n (λ off. refl) (λ on. marked_numbers v.plan n.lane n.number);
   named = λ named. after_end IsNamed v n (λ off. named) (λ on. named_more v.plan (End n.lane n.number) (name_is_named v.plan t n named is) named);
+  grown = after_end (λ (p : Plan). length v.plan.entries ≤ length p.entries) v n (λ off. omega arith) (λ on. (let q = length-append v.plan.entries (End n.lane n.number ∷ []) in omega (arith, q)));
   tickets = refl;
   new = λ k new. absurd (let none : None ≡ Some n = subst (λ (x : SenderView). name_of x t ≡ Some n) new is in cc);
 }
 
 pub abandoned_keeps : (v : SenderView) (t : ℕ) → KeepsNumbers v (abandon_after v t)
 abandoned_keeps v t =
-    after_abandon (KeepsNumbers v) v t (keeps_itself v) (λ on. record { numbers = refl; named = λ n. n; tickets = refl; new = withdrawn_new v t }) (λ n is kept. given_keeps v t n is)
+    after_abandon (KeepsNumbers v) v t (keeps_itself v) (λ on. record { numbers = refl; named = λ n. n; grown = omega arith; tickets = refl; new = withdrawn_new v t }) (λ n is kept. given_keeps v t n is)
 
 -- ---- time
 
@@ -120,6 +124,15 @@ all_keep now v (t ∷ ts) = keeps_on v (expire_one now v t) (fold (expire_one no
 pub expired_keeps : (v : SenderView) (now : ℕ) → KeepsNumbers v (expired v now)
 expired_keeps v now = all_keep now v (count_up 1 v.tickets)
 
+pub worn_keeps : (test : ℕ → Bool) (v : SenderView) → KeepsNumbers v (worn test v)
+worn_keeps test v = wears_each (KeepsNumbers v) (λ x t k. keeps_on v x (abandon_after x t) k (abandoned_keeps x t)) test v (count_up 1 (length v.plan.entries)) (keeps_itself v)
+
+pub given_up_keeps : (rings : Bool) (v : SenderView) (now : ℕ) → KeepsNumbers v (given_up rings v now)
+given_up_keeps true v now =
+    let u = expired v now in
+    keeps_on v u (worn (λ i. true) u) (expired_keeps v now) (worn_keeps (λ i. true) u)
+given_up_keeps false v now = expired_keeps v now
+
 -- ---- the data timer
 
 nothing_marked : (k i : ℕ) → (false || unsettled_at (fresh_sender 0 0 k 0 false) i (item_at [] i)) ≡ false
@@ -130,4 +143,4 @@ new_timed_out : (k : ℕ) → IsNew k (timed_out (fresh_sender 0 0 k 0 false))
 new_timed_out k = λ j. record (fresh_sender 0 0 k 0 false) { marked = fun_ext (nothing_marked k) j }
 
 pub timed_out_keeps : (v : SenderView) → KeepsNumbers v (timed_out v)
-timed_out_keeps v = record { numbers = refl; named = λ n. n; tickets = refl; new = λ k new. subst (λ (x : SenderView). IsNew k (timed_out x)) (sym new) (new_timed_out k) }
+timed_out_keeps v = record { numbers = refl; named = λ n. n; grown = omega arith; tickets = refl; new = λ k new. subst (λ (x : SenderView). IsNew k (timed_out x)) (sym new) (new_timed_out k) }

@@ -1,5 +1,5 @@
 -- Abandoning, computed: end marks, answers, what expires, and what FORWARDs name and do at the peer.
-use Rattle.std.proofs.Common.{◌≡◌, ℕ, true, false, List, [], ◌∷◌, map, Some, refl}
+use Rattle.std.proofs.Common.{◌≡◌, ℕ, true, false, List, [], ◌∷◌, map, Some, refl, None}
 use Rattle.sctp_model.specs.messages.Format.{Format, Plain, Interleaved, ordered_lane}
 use Rattle.sctp_model.specs.wire.Chunk.{PieceMeaning, ForwardMeaning, IData, ForwardTsn, IForwardTsn}
 use Rattle.sctp_model.specs.messages.Plan.{Part, End}
@@ -9,7 +9,7 @@ use Rattle.sctp_model.specs.receiver.ForwardTaken.{OutOfDate, forward_answer}
 use Rattle.sctp_model.specs.sender.Queueing.{queued}
 use Rattle.sctp_model.specs.sender.Filling.{fill}
 use Rattle.sctp_model.specs.sender.SackTaken.{sack_after}
-use Rattle.sctp_model.specs.sender.Abandoning.{abandon_answer, abandon_after, expired, timed_out, Withdrawn, Abandoned, Acknowledged, Unknown, Reliable}
+use Rattle.sctp_model.specs.sender.Abandoning.{abandon_answer, abandon_after, expired, worn, timed_out, Withdrawn, Abandoned, Acknowledged, Unknown, Reliable}
 use Rattle.sctp_model.specs.sender.Readers.{point, drained, unsettled, acknowledged, abandoned}
 use Rattle.sctp_model.specs.sender.SentChunks.{forward_said, forward_chunk_of}
 use Rattle.sctp_outcomes.specs.receiver.Steps.{cumulative, piece_step, forward_step}
@@ -156,7 +156,25 @@ reliable_answers = (refl, refl)
 -- ---- what is past its time: at its moment, and not before
 
 abbrev timed : SenderView
-timed = queued (fill Plain 200 (queued (fresh_sender 1 1 4 100 true) (ordered_lane 0) 0 (1 ∷ []) (Some 500))).view (ordered_lane 0) 0 (2 ∷ []) (Some 400)
+timed = queued (fill Plain 200 (queued (fresh_sender 1 1 4 100 true) (ordered_lane 0) 0 (1 ∷ []) (Some 500) None)).view (ordered_lane 0) 0 (2 ∷ []) (Some 400) None
 
 at_its_moment : (map (abandoned (expired timed 499)) (1 ∷ 2 ∷ []) ≡ false ∷ false ∷ []) × ((expired timed 399) ≡ timed) × ((expired timed 400).queue ≡ []) × (map (abandoned (expired timed 500)) (1 ∷ 2 ∷ []) ≡ true ∷ false ∷ [])
 at_its_moment = (refl, refl, refl, refl)
+
+-- ---- what may go again once
+
+-- a message of two fragments with a limit of one repeat, and one without behind it; all went out
+abbrev once : SenderView
+once = (fill Plain 200 (asks (queued (fresh_sender 1 1 4 100 true) (ordered_lane 0) 0 (1 ∷ 2 ∷ 3 ∷ 4 ∷ 5 ∷ []) None (Some 1)) 0 0 (6 ∷ []))).view
+
+-- the data timer expires: nothing is worn yet, and all three are marked; of a packet with room for two fragments' chunks two go again
+abbrev twice : SenderView
+twice = (fill Plain 40 (timed_out (worn (λ i. true) once))).view
+
+twice_is : ((worn (λ i. true) once) ≡ once) × (map (λ i. twice.repeats i) (1 ∷ 2 ∷ 3 ∷ []) ≡ 1 ∷ 1 ∷ 0 ∷ []) × (map (λ i. twice.marked i) (1 ∷ 2 ∷ 3 ∷ []) ≡ false ∷ false ∷ true ∷ [])
+twice_is = (refl, refl, refl)
+
+-- it expires again: the first message is abandoned, the other stays marked; where nothing may be abandoned, all are repeated
+worn_is : (map (abandoned (worn (λ i. true) twice)) (1 ∷ 2 ∷ []) ≡ true ∷ false ∷ []) × (indexes (fill Plain 200 (timed_out (worn (λ i. true) twice))).wishes ≡ 3 ∷ [])
+    × (indexes (fill Plain 200 (timed_out (worn (λ i. true) (record twice { partial = false })))).wishes ≡ 1 ∷ 2 ∷ 3 ∷ []) × (point (worn (λ i. true) twice) ≡ 2)
+worn_is = (refl, refl, refl, refl)

@@ -8,11 +8,11 @@ use Rattle.sctp_model.specs.sender.Filling.{Wish, chunk_of}
 
 -- an ordered message is queued on a stream
 abbrev pub asks : SenderView → (stream payload : ℕ) → (bytes : List ℕ) → SenderView
-asks v s payload bytes = queued v (ordered_lane s) payload bytes None
+asks v s payload bytes = queued v (ordered_lane s) payload bytes None None
 
 -- an unordered one
 abbrev pub asks_unordered : SenderView → (stream payload : ℕ) → (bytes : List ℕ) → SenderView
-asks_unordered v s payload bytes = queued v (unordered_lane s) payload bytes None
+asks_unordered v s payload bytes = queued v (unordered_lane s) payload bytes None None
 
 -- a piece by its flags U, B and E; the flag I is 0
 abbrev pub piece : (unordered begin end : Bool) → (tsn stream number word : ℕ) → (bytes : List ℕ) → PieceMeaning

@@ -44,7 +44,7 @@ order qs long many much = rw many (rw much refl)
 
 -- the last ticket is 2 ^ 64 - 1, and the last place in the queue the 1,024th
 abbrev waiting : Queued
-waiting = record { lane = ordered_lane 0; message = record { ticket = 1; payload = 0; fragments = (1 ∷ []) ∷ []; until = None } }
+waiting = record { lane = ordered_lane 0; message = record { ticket = 1; payload = 0; fragments = (1 ∷ []) ∷ []; until = None; limit = None } }
 
 last_ticket : refusal (record fresh { tickets = 18446744073709551614 }) 0 (1 ∷ []) ≡ None
 last_ticket = refl
@@ -56,14 +56,14 @@ last_place = refl
 
 -- a message of three fragments, of which one has an index
 abbrev three : Message
-three = record { ticket = 1; payload = 0; fragments = (1 ∷ []) ∷ (2 ∷ []) ∷ (3 ∷ []) ∷ []; until = None }
+three = record { ticket = 1; payload = 0; fragments = (1 ∷ []) ∷ (2 ∷ []) ∷ (3 ∷ []) ∷ []; until = None; limit = None }
 
 abbrev begun : Entry
 begun = Part (ordered_lane 0) 0 0
 
 -- and one of two fragments waits
 abbrev two_wait : Queued
-two_wait = record { lane = ordered_lane 0; message = record { ticket = 2; payload = 0; fragments = (1 ∷ []) ∷ (2 ∷ []) ∷ []; until = None } }
+two_wait = record { lane = ordered_lane 0; message = record { ticket = 2; payload = 0; fragments = (1 ∷ []) ∷ (2 ∷ []) ∷ []; until = None; limit = None } }
 
 -- before it so many indexes were assigned
 abbrev busy : List Entry → SenderView

@@ -1,56 +1,72 @@
 -- A sender tells why a message is refused, and accepts any other, as the relations say.
-use Rattle.std.proofs.Common.{◌≡◌, ℕ, zero, suc, ◌+◌, ◌<◌, ◌≤◌, ◌⊎◌, inl, inr, Bool, true, false, ◌||◌, ◌==◌, List, [], ◌∷◌, length, Option, Some, None, refl, sym, subst, arith}
+use Rattle.std.proofs.Common.{◌≡◌, ℕ, zero, suc, ◌+◌, ◌<◌, ◌≤◌, ◌⊎◌, inl, inr, Bool, true, false, ◌||◌, ◌==◌, List, [], ◌∷◌, length, Option, Some, None, refl, sym, subst, arith, not}
 use Rattle.std.specs.Prelude.{nat_lt, nat_le}
 use Rattle.std.proofs.lemmas.Bool.{or_parts, or_left, or_right}
 use Rattle.std.proofs.lemmas.Bool.Decides.{nat_tests}
 use Rattle.sctp_model.specs.numbers.Limits.{LONGEST_MESSAGE, QUEUE_LIMIT, TICKET_LIMIT, TSN_LIMIT}
 use Rattle.sctp_model.specs.sender.SenderView.{SenderView}
 use Rattle.sctp_model.specs.sender.Words.{when, first_there}
-use Rattle.sctp_model.specs.sender.Queueing.{Refusal, NoSuchStream, Empty, TooLong, QueueFull, Spent, cut, owed_for, promised, refusal}
+use Rattle.sctp_model.specs.sender.Queueing.{Refusal, NoSuchStream, Empty, TooLong, QueueFull, Spent, cut, owed_for, promised, refusal, Resetting}
 use Rattle.sctp_model.proofs.sender.CutLaws.{cut_some}
-use Rattle.sctp_outcomes.specs.sender.Refusals.{IsSendable, MayWait, IsTooMuch, IsRefused, Has_no_stream, Has_no_byte, Has_too_many, Has_no_place, Has_no_ticket, Has_no_numbers, IsAccepted, RefusalIsTold, AcceptedHasNoReason}
+use Rattle.sctp_outcomes.specs.sender.Refusals.{IsSendable, MayWait, IsTooMuch, IsRefused, Has_no_stream, Has_no_byte, Has_too_many, Has_no_place, Has_no_ticket, Has_no_numbers, IsAccepted, RefusalIsTold, AcceptedHasNoReason, Is_reset}
 use Rattle.sctp_outcomes.proofs.sender.SackCases.{or_way}
 use Rattle.sctp_outcomes.proofs.sender.CutTold.{cut_is_computed}
+use Rattle.sctp_model.specs.sender.Outgoing.{is_sending}
 
--- ---- the first of five reasons
+-- ---- the first of six reasons
 
-abbrev told : (a b c d e : Bool) → Option Refusal
-told a b c d e = first_there (when a NoSuchStream ∷ when b Empty ∷ when c TooLong ∷ when d QueueFull ∷ when e Spent ∷ [])
+abbrev told : (a z b c d e : Bool) → Option Refusal
+told a z b c d e = first_there (when a NoSuchStream ∷ when z Resetting ∷ when b Empty ∷ when c TooLong ∷ when d QueueFull ∷ when e Spent ∷ [])
 
-data IsTold : (a b c d e : Bool) → Refusal → Type 0 where
-  First : (b c d e : Bool) → IsTold true b c d e NoSuchStream
-  Second : (c d e : Bool) → IsTold false true c d e Empty
-  Third : (d e : Bool) → IsTold false false true d e TooLong
-  Fourth : (e : Bool) → IsTold false false false true e QueueFull
-  Fifth : IsTold false false false false true Spent
+data IsTold : (a z b c d e : Bool) → Refusal → Type 0 where
+  First : (z b c d e : Bool) → IsTold true z b c d e NoSuchStream
+  Shut : (b c d e : Bool) → IsTold false true b c d e Resetting
+  Second : (c d e : Bool) → IsTold false false true c d e Empty
+  Third : (d e : Bool) → IsTold false false false true d e TooLong
+  Fourth : (e : Bool) → IsTold false false false false true e QueueFull
+  Fifth : IsTold false false false false false true Spent
 
-told_is : (a b c d e : Bool) (x : Refusal) → told a b c d e ≡ Some x → IsTold a b c d e x
-told_is true b c d e x is = let same : NoSuchStream ≡ x = cc in subst (λ (y : Refusal). IsTold true b c d e y) same (First b c d e)
-told_is false true c d e x is = let same : Empty ≡ x = cc in subst (λ (y : Refusal). IsTold false true c d e y) same (Second c d e)
-told_is false false true d e x is = let same : TooLong ≡ x = cc in subst (λ (y : Refusal). IsTold false false true d e y) same (Third d e)
-told_is false false false true e x is = let same : QueueFull ≡ x = cc in subst (λ (y : Refusal). IsTold false false false true e y) same (Fourth e)
-told_is false false false false true x is = let same : Spent ≡ x = cc in subst (λ (y : Refusal). IsTold false false false false true y) same Fifth
-told_is false false false false false x is = absurd (cc)
+told_is : (a z b c d e : Bool) (x : Refusal) → told a z b c d e ≡ Some x → IsTold a z b c d e x
+told_is true z b c d e x is = let same : NoSuchStream ≡ x = cc in subst (λ (y : Refusal). IsTold true z b c d e y) same (First z b c d e)
+told_is false true b c d e x is = let same : Resetting ≡ x = cc in subst (λ (y : Refusal). IsTold false true b c d e y) same (Shut b c d e)
+told_is false false true c d e x is = let same : Empty ≡ x = cc in subst (λ (y : Refusal). IsTold false false true c d e y) same (Second c d e)
+told_is false false false true d e x is = let same : TooLong ≡ x = cc in subst (λ (y : Refusal). IsTold false false false true d e y) same (Third d e)
+told_is false false false false true e x is = let same : QueueFull ≡ x = cc in subst (λ (y : Refusal). IsTold false false false false true e y) same (Fourth e)
+told_is false false false false false true x is = let same : Spent ≡ x = cc in subst (λ (y : Refusal). IsTold false false false false false true y) same Fifth
+told_is false false false false false false x is = absurd (cc)
 
-record AreNone (a b c d e : Bool) : Type 0 where
+record AreNone (a z b c d e : Bool) : Type 0 where
   first : a ≡ false
+  shut : z ≡ false
   second : b ≡ false
   third : c ≡ false
   fourth : d ≡ false
   fifth : e ≡ false
 
-none_told : (a b c d e : Bool) → told a b c d e ≡ None → AreNone a b c d e
-none_told true b c d e is = absurd (cc)
-none_told false true c d e is = absurd (cc)
-none_told false false true d e is = absurd (cc)
-none_told false false false true e is = absurd (cc)
-none_told false false false false true is = absurd (cc)
-none_told false false false false false is = record { first = refl; second = refl; third = refl; fourth = refl; fifth = refl }
+none_told : (a z b c d e : Bool) → told a z b c d e ≡ None → AreNone a z b c d e
+none_told true z b c d e is = absurd (cc)
+none_told false true b c d e is = absurd (cc)
+none_told false false true c d e is = absurd (cc)
+none_told false false false true d e is = absurd (cc)
+none_told false false false false true e is = absurd (cc)
+none_told false false false false false true is = absurd (cc)
+none_told false false false false false false is = record { first = refl; shut = refl; second = refl; third = refl; fourth = refl; fifth = refl }
 
 -- ---- the tests, and what they say
 
 abbrev no_stream : SenderView → ℕ → Bool
 no_stream v s = nat_le v.streams s
+
+abbrev is_shut : SenderView → ℕ → Bool
+is_shut v s = not (is_sending (v.resets.sending s))
+
+shut_is : (b : Bool) → not b ≡ true → b ≡ false
+shut_is true on = absurd (cc)
+shut_is false on = refl
+
+open_is : (b : Bool) → not b ≡ false → b ≡ true
+open_is true off = refl
+open_is false off = absurd (cc)
 
 abbrev no_byte : List ℕ → Bool
 no_byte bytes = length bytes == 0
@@ -143,22 +159,23 @@ much_on v bytes large some h =
 
 -- ---- both ways
 
-sendable_is : (v : SenderView) (s : ℕ) (bytes : List ℕ) → no_stream v s ≡ false → no_byte bytes ≡ false → too_long bytes ≡ false → IsSendable v s bytes
-sendable_is v s bytes a b c = record { there = off_le v.streams s a; some = some_is bytes b; short = off_lt LONGEST_MESSAGE (length bytes) c }
+sendable_is : (v : SenderView) (s : ℕ) (bytes : List ℕ) → no_stream v s ≡ false → is_shut v s ≡ false → no_byte bytes ≡ false → too_long bytes ≡ false → IsSendable v s bytes
+sendable_is v s bytes a z b c = record { there = off_le v.streams s a; sends = open_is (is_sending (v.resets.sending s)) z; some = some_is bytes b; short = off_lt LONGEST_MESSAGE (length bytes) c }
 
-waits_is : (v : SenderView) (s : ℕ) (bytes : List ℕ) → no_stream v s ≡ false → no_byte bytes ≡ false → too_long bytes ≡ false → no_place v ≡ false → MayWait v s bytes
-waits_is v s bytes a b c d = record { sendable = sendable_is v s bytes a b c; place = off_le QUEUE_LIMIT (length v.queue) d }
+waits_is : (v : SenderView) (s : ℕ) (bytes : List ℕ) → no_stream v s ≡ false → is_shut v s ≡ false → no_byte bytes ≡ false → too_long bytes ≡ false → no_place v ≡ false → MayWait v s bytes
+waits_is v s bytes a z b c d = record { sendable = sendable_is v s bytes a z b c; place = off_le QUEUE_LIMIT (length v.queue) d }
 
 record Sends (v : SenderView) (s : ℕ) (bytes : List ℕ) : Type 0 where
   a : no_stream v s ≡ false
+  z : is_sending (v.resets.sending s) ≡ true
   b : no_byte bytes ≡ false
   c : too_long bytes ≡ false
 
 sends : (v : SenderView) (s : ℕ) (bytes : List ℕ) → IsSendable v s bytes → Sends v s bytes
-sends v s bytes h = record { a = le_off v.streams s h.there; b = some_on bytes h.some; c = lt_off LONGEST_MESSAGE (length bytes) h.short }
+sends v s bytes h = record { a = le_off v.streams s h.there; z = h.sends; b = some_on bytes h.some; c = lt_off LONGEST_MESSAGE (length bytes) h.short }
 
 pub refusal_is_told : RefusalIsTold
-refusal_is_told v s bytes x large = (λ is. forth (no_stream v s) (no_byte bytes) (too_long bytes) (no_place v) (spent v bytes) x refl refl refl refl refl (told_is (no_stream v s) (no_byte bytes) (too_long bytes) (no_place v) (spent v bytes) x is), λ h. back x h)
+refusal_is_told v s bytes x large = (λ is. forth (no_stream v s) (is_shut v s) (no_byte bytes) (too_long bytes) (no_place v) (spent v bytes) x refl refl refl refl refl refl (told_is (no_stream v s) (is_shut v s) (no_byte bytes) (too_long bytes) (no_place v) (spent v bytes) x is), λ h. back x h)
   where
     by_spent : MayWait v s bytes → (no_ticket v ≡ true) ⊎ (too_much v bytes ≡ true) → IsRefused v s bytes Spent
     by_spent waits way = elim way [
@@ -166,30 +183,32 @@ refusal_is_told v s bytes x large = (λ is. forth (no_stream v s) (no_byte bytes
       | inr much ↦ Has_no_numbers waits (much_is v bytes large (waits.sendable.some) much)
     ]
 
-    forth : (a b c d e : Bool) (y : Refusal) → no_stream v s ≡ a → no_byte bytes ≡ b → too_long bytes ≡ c → no_place v ≡ d → spent v bytes ≡ e → IsTold a b c d e y → IsRefused v s bytes y
-    forth _ _ _ _ _ _ is_a is_b is_c is_d is_e (First b c d e) = Has_no_stream (le_is v.streams s is_a)
-    forth _ _ _ _ _ _ is_a is_b is_c is_d is_e (Second c d e) = Has_no_byte (off_le v.streams s is_a) (empty_is bytes is_b)
-    forth _ _ _ _ _ _ is_a is_b is_c is_d is_e (Third d e) = Has_too_many (off_le v.streams s is_a) (lt_is LONGEST_MESSAGE (length bytes) is_c)
-    forth _ _ _ _ _ _ is_a is_b is_c is_d is_e (Fourth e) = Has_no_place (sendable_is v s bytes is_a is_b is_c) (le_is QUEUE_LIMIT (length v.queue) is_d)
-    forth _ _ _ _ _ _ is_a is_b is_c is_d is_e Fifth = by_spent (waits_is v s bytes is_a is_b is_c is_d) (or_way (no_ticket v) (too_much v bytes) is_e)
+    forth : (a z b c d e : Bool) (y : Refusal) → no_stream v s ≡ a → is_shut v s ≡ z → no_byte bytes ≡ b → too_long bytes ≡ c → no_place v ≡ d → spent v bytes ≡ e → IsTold a z b c d e y → IsRefused v s bytes y
+    forth _ _ _ _ _ _ _ is_a is_z is_b is_c is_d is_e (First z b c d e) = Has_no_stream (le_is v.streams s is_a)
+    forth _ _ _ _ _ _ _ is_a is_z is_b is_c is_d is_e (Shut b c d e) = Is_reset (off_le v.streams s is_a) (shut_is (is_sending (v.resets.sending s)) is_z)
+    forth _ _ _ _ _ _ _ is_a is_z is_b is_c is_d is_e (Second c d e) = Has_no_byte (off_le v.streams s is_a) (open_is (is_sending (v.resets.sending s)) is_z) (empty_is bytes is_b)
+    forth _ _ _ _ _ _ _ is_a is_z is_b is_c is_d is_e (Third d e) = Has_too_many (off_le v.streams s is_a) (open_is (is_sending (v.resets.sending s)) is_z) (lt_is LONGEST_MESSAGE (length bytes) is_c)
+    forth _ _ _ _ _ _ _ is_a is_z is_b is_c is_d is_e (Fourth e) = Has_no_place (sendable_is v s bytes is_a is_z is_b is_c) (le_is QUEUE_LIMIT (length v.queue) is_d)
+    forth _ _ _ _ _ _ _ is_a is_z is_b is_c is_d is_e Fifth = by_spent (waits_is v s bytes is_a is_z is_b is_c is_d) (or_way (no_ticket v) (too_much v bytes) is_e)
 
     spent_back : MayWait v s bytes → spent v bytes ≡ true → refusal v s bytes ≡ Some Spent
-    spent_back waits on = let r = sends v s bytes waits.sendable in rw (r.a, r.b, r.c, le_off QUEUE_LIMIT (length v.queue) waits.place, on) refl
+    spent_back waits on = let r = sends v s bytes waits.sendable in rw (r.a, r.z, r.b, r.c, le_off QUEUE_LIMIT (length v.queue) waits.place, on) refl
 
     back : (y : Refusal) → IsRefused v s bytes y → refusal v s bytes ≡ Some y
     back _ (Has_no_stream none) = rw (le_on v.streams s none) refl
-    back _ (Has_no_byte there none) = rw (le_off v.streams s there, none) refl
-    back _ (Has_too_many there long) = rw (le_off v.streams s there, some_on bytes (omega (arith, long)), lt_on LONGEST_MESSAGE (length bytes) long) refl
-    back _ (Has_no_place h full) = let r = sends v s bytes h in rw (r.a, r.b, r.c, le_on QUEUE_LIMIT (length v.queue) full) refl
+    back _ (Is_reset there shut) = rw (le_off v.streams s there, shut) refl
+    back _ (Has_no_byte there sends none) = rw (le_off v.streams s there, sends, none) refl
+    back _ (Has_too_many there sends long) = rw (le_off v.streams s there, sends, some_on bytes (omega (arith, long)), lt_on LONGEST_MESSAGE (length bytes) long) refl
+    back _ (Has_no_place h full) = let r = sends v s bytes h in rw (r.a, r.z, r.b, r.c, le_on QUEUE_LIMIT (length v.queue) full) refl
     back _ (Has_no_ticket waits none) = spent_back waits (or_left (no_ticket v) (too_much v bytes) (le_on TICKET_LIMIT v.tickets none))
     back _ (Has_no_numbers waits much) = spent_back waits (or_right (no_ticket v) (too_much v bytes) (much_on v bytes large waits.sendable.some much))
 
 pub accepted_has_no_reason : AcceptedHasNoReason
-accepted_has_no_reason v s bytes large = (λ is. forth (none_told (no_stream v s) (no_byte bytes) (too_long bytes) (no_place v) (spent v bytes) is), λ h. back h)
+accepted_has_no_reason v s bytes large = (λ is. forth (none_told (no_stream v s) (is_shut v s) (no_byte bytes) (too_long bytes) (no_place v) (spent v bytes) is), λ h. back h)
   where
-    forth : AreNone (no_stream v s) (no_byte bytes) (too_long bytes) (no_place v) (spent v bytes) → IsAccepted v s bytes
+    forth : AreNone (no_stream v s) (is_shut v s) (no_byte bytes) (too_long bytes) (no_place v) (spent v bytes) → IsAccepted v s bytes
     forth off =
-        let waits = waits_is v s bytes off.first off.second off.third off.fourth in
+        let waits = waits_is v s bytes off.first off.shut off.second off.third off.fourth in
         let parts = or_parts (no_ticket v) (too_much v bytes) off.fifth in
         record {
           waits = waits;
@@ -201,7 +220,7 @@ accepted_has_no_reason v s bytes large = (λ is. forth (none_told (no_stream v s
     back h =
         let r = sends v s bytes h.waits.sendable in
         let some = h.waits.sendable.some in
-        rw (r.a, r.b, r.c, le_off QUEUE_LIMIT (length v.queue) h.waits.place, le_off TICKET_LIMIT v.tickets h.ticket, none (too_much v bytes) (λ on. h.numbers (much_is v bytes large some on))) refl
+        rw (r.a, r.z, r.b, r.c, le_off QUEUE_LIMIT (length v.queue) h.waits.place, le_off TICKET_LIMIT v.tickets h.ticket, none (too_much v bytes) (λ on. h.numbers (much_is v bytes large some on))) refl
       where
         none : (b : Bool) → (b ≡ true → ⊥) → b ≡ false
         none true not_so = absurd (not_so refl)

@@ -38,7 +38,7 @@ cut_is = cut_long (replicate 65536 7) (length-replicate {A = ℕ} 65536 7) ∙ m
 -- a message of these fragments waits
 abbrev waits : (rwnd : ℕ) → List (List ℕ) → SenderView
 waits rwnd xs = record (fresh_sender 1 1 1400 rwnd true) {
-  queue = record { lane = ordered_lane 0; message = record { ticket = 1; payload = 0; fragments = xs; until = None } } ∷ [];
+  queue = record { lane = ordered_lane 0; message = record { ticket = 1; payload = 0; fragments = xs; until = None; limit = None } } ∷ [];
   tickets = 1;
 }
 

@@ -10,7 +10,8 @@ use Rattle.sctp_model.specs.end.EndView.{Established, EndView}
 use Rattle.sctp_model.specs.end.Closing.{rested}
 use Rattle.sctp_model.specs.end.Strays.{Taken}
 use Rattle.sctp_model.specs.end.PeerFaults.{ToAcknowledge}
-use Rattle.sctp_model.specs.end.Arriving.{Heard, NoneLeft, Next, ReadAs, no_notes, noted, acknowledges}
+use Rattle.sctp_model.proofs.PacedEnds.{heard_unpaced}
+use Rattle.sctp_model.specs.end.Arriving.{NoneLeft, Next, ReadAs, no_notes, noted, acknowledges}
 use Rattle.sctp_model.specs.end.Building.{packet_of}
 use Rattle.sctp_model.specs.end.UserCalls.{send_answer, abandons}
 use Rattle.sctp_model.specs.world.World.{A, B, World, with_end, with_packet, end_now, came, start}
@@ -23,10 +24,10 @@ use Rattle.sctp_outcomes.proofs.stories.Acts.{bound_none, after_data, data_acts,
 use Rattle.sctp_outcomes.proofs.stories.Ours.{premises_of_ours}
 
 abbrev lost : Call
-lost = record { lane = ordered_lane 0; payload = 0; bytes = 1 ∷ []; until = None }
+lost = record { lane = ordered_lane 0; payload = 0; bytes = 1 ∷ []; until = None; limit = None }
 
 abbrev later : Call
-later = record { lane = ordered_lane 0; payload = 0; bytes = 2 ∷ []; until = None }
+later = record { lane = ordered_lane 0; payload = 0; bytes = 2 ∷ []; until = None; limit = None }
 
 abbrev p0 : World
 p0 = open_world false
@@ -76,12 +77,12 @@ abbrev p6 : World
 p6 = came p5 B (acknowledges Established (rested handed_on))
 
 comes_6 : Step p5 (Deliver A 2) (Some Acted) p6
-comes_6 = PacketComes (Deliver A 2) B (Some packet_2) (acknowledges Established (rested handed_on)) Taken (FromBag A 2 packet_2 refl) (ReadAs packet_2 (acknowledges Established (rested handed_on)) Taken (Heard (rested handed_on) (noted (data_note (rested skipped) 0 second_piece) (noted (ToAcknowledge false true) no_notes)) Taken refl refl refl
+comes_6 = PacketComes (Deliver A 2) B (Some packet_2) (acknowledges Established (rested handed_on)) Taken (FromBag A 2 packet_2 refl) (ReadAs packet_2 (acknowledges Established (rested handed_on)) Taken (heard_unpaced (end_now p5 B) p5.draw packet_2 (rested handed_on) (noted (data_note (rested skipped) 0 second_piece) (noted (ToAcknowledge false true) no_notes)) Taken refl refl refl
     (Next (end_now p5 B) skipped (rested handed_on) (ToAcknowledge false true) no_notes (noted (data_note (rested skipped) 0 second_piece) (noted (ToAcknowledge false true) no_notes)) (ForwardTsn passes) (Data second_piece ∷ []) Taken
     (forward_acts Plain (end_now p5 B) tags_b Established 0 passes (bound_none p5.b.receiver refl) refl refl refl refl)
     (Next (rested skipped) handed_on (rested handed_on) (data_note (rested skipped) 0 second_piece) (noted (ToAcknowledge false true) no_notes) (noted (data_note (rested skipped) 0 second_piece) (noted (ToAcknowledge false true) no_notes)) (Data second_piece) [] Taken
     (data_acts Plain (rested skipped) tags_b Established 0 second_piece (bound_none (rested skipped).receiver refl) refl refl (omega arith) refl)
-    (NoneLeft (rested handed_on) (noted (data_note (rested skipped) 0 second_piece) (noted (ToAcknowledge false true) no_notes))))) false (λ on. absurd (cc))))
+    (NoneLeft (rested handed_on) (noted (data_note (rested skipped) 0 second_piece) (noted (ToAcknowledge false true) no_notes))))) false (λ on. absurd (cc)) refl))
 
 abbrev message : Handed
 message = record { first = 2; lane = ordered_lane 0; number = Some 1; payload = 0; bytes = 2 ∷ [] }

@@ -16,7 +16,8 @@ use Rattle.sctp_model.specs.end.Closing.{rested}
 use Rattle.sctp_model.specs.end.PeerFaults.{packet_to, Unnoted}
 use Rattle.sctp_model.specs.end.Acting.{SackCounts, ShutdownCounts, AckCompletes, CompleteCompleted, sack_heard, shutdown_heard}
 use Rattle.sctp_model.specs.end.Strays.{Taken, Answer}
-use Rattle.sctp_model.specs.end.Arriving.{Heard, NoneLeft, Next, Last, EndsAnswered, ReadAs, no_notes, noted, acknowledges}
+use Rattle.sctp_model.proofs.PacedEnds.{heard_unpaced}
+use Rattle.sctp_model.specs.end.Arriving.{NoneLeft, Next, Last, EndsAnswered, ReadAs, no_notes, noted, acknowledges}
 use Rattle.sctp_model.specs.end.Building.{packet_of}
 use Rattle.sctp_model.specs.end.UserCalls.{send_answer, send_leaves, shut}
 use Rattle.sctp_model.specs.world.World.{A, B, World, with_end, with_packet, with_log, end_now, came}
@@ -34,7 +35,7 @@ tags_b = record { own = 9; peer = 7 }
 
 -- "Hi" on stream 0, in order, with payload protocol identifier 51
 abbrev pub greeting : Call
-greeting = record { lane = ordered_lane 0; payload = 51; bytes = 72 ∷ 105 ∷ []; until = None }
+greeting = record { lane = ordered_lane 0; payload = 51; bytes = 72 ∷ 105 ∷ []; until = None; limit = None }
 
 -- A sends it
 abbrev w10 : World
@@ -63,10 +64,10 @@ w12 = came w11 B (acknowledges Established (rested e12))
 
 step_12 : Step w11 (Deliver A 3) (Some Acted) w12
 unfolding u16_bytes u32_bytes u16_at u32_at starts_typed typed_of
-step_12 = PacketComes (Deliver A 3) B (Some packet_3) (acknowledges Established (rested e12)) Taken (FromBag A 3 packet_3 refl) (ReadAs packet_3 (acknowledges Established (rested e12)) Taken (Heard (rested e12) (noted (data_note (end_now w11 B) 0 piece) no_notes) Taken refl refl refl
+step_12 = PacketComes (Deliver A 3) B (Some packet_3) (acknowledges Established (rested e12)) Taken (FromBag A 3 packet_3 refl) (ReadAs packet_3 (acknowledges Established (rested e12)) Taken (heard_unpaced (end_now w11 B) w11.draw packet_3 (rested e12) (noted (data_note (end_now w11 B) 0 piece) no_notes) Taken refl refl refl
     (Next (end_now w11 B) e12 (rested e12) (data_note (end_now w11 B) 0 piece) no_notes (noted (data_note (end_now w11 B) 0 piece) no_notes) (IData piece) [] Taken
     (data_acts Interleaved (end_now w11 B) tags_b Established 0 piece (bound_none w11.b.receiver refl) refl refl (omega arith) refl)
-    (NoneLeft (rested e12) (noted (data_note (end_now w11 B) 0 piece) no_notes))) false (λ on. absurd (cc))))
+    (NoneLeft (rested e12) (noted (data_note (end_now w11 B) 0 piece) no_notes))) false (λ on. absurd (cc)) refl))
 
 -- who takes it
 abbrev pub arrived : Handed
@@ -109,10 +110,10 @@ w15 = came w14 A (rested e15)
 
 step_15 : Step w14 (Deliver B 3) (Some Acted) w15
 unfolding u16_bytes u32_bytes u16_at u32_at starts_typed typed_of
-step_15 = PacketComes (Deliver B 3) A (Some packet_4) (rested e15) Taken (FromBag B 3 packet_4 refl) (ReadAs packet_4 (rested e15) Taken (Heard (rested e15) (noted Unnoted no_notes) Taken refl refl refl
+step_15 = PacketComes (Deliver B 3) A (Some packet_4) (rested e15) Taken (FromBag B 3 packet_4 refl) (ReadAs packet_4 (rested e15) Taken (heard_unpaced (end_now w14 A) w14.draw packet_4 (rested e15) (noted Unnoted no_notes) Taken refl refl refl
     (Next (end_now w14 A) e15 (rested e15) Unnoted no_notes (noted Unnoted no_notes) (Sack sack) [] Taken
     (SackCounts refl refl)
-    (NoneLeft (rested e15) (noted Unnoted no_notes))) false (λ on. absurd (cc))))
+    (NoneLeft (rested e15) (noted Unnoted no_notes))) false (λ on. absurd (cc)) refl))
 
 -- ---- closing
 
@@ -143,10 +144,10 @@ w18 = came w17 B (rested e18)
 
 step_18 : Step w17 (Deliver A 4) (Some Acted) w18
 unfolding u16_bytes u32_bytes u16_at u32_at starts_typed typed_of
-step_18 = PacketComes (Deliver A 4) B (Some packet_5) (rested e18) Taken (FromBag A 4 packet_5 refl) (ReadAs packet_5 (rested e18) Taken (Heard (rested e18) (noted Unnoted no_notes) Taken refl refl refl
+step_18 = PacketComes (Deliver A 4) B (Some packet_5) (rested e18) Taken (FromBag A 4 packet_5 refl) (ReadAs packet_5 (rested e18) Taken (heard_unpaced (end_now w17 B) w17.draw packet_5 (rested e18) (noted Unnoted no_notes) Taken refl refl refl
     (Next (end_now w17 B) e18 (rested e18) Unnoted no_notes (noted Unnoted no_notes) (Says (tsn 200 0)) [] Taken
     (ShutdownCounts tags_b Established refl refl refl)
-    (NoneLeft (rested e18) (noted Unnoted no_notes))) false (λ on. absurd (cc))))
+    (NoneLeft (rested e18) (noted Unnoted no_notes))) false (λ on. absurd (cc)) refl))
 
 abbrev packet_6 : Packet
 packet_6 = packet_of w18.b (ShutdownAck ∷ [])
@@ -167,16 +168,16 @@ w20 = with_packet (came w19 A (closed Completed (end_now w19 A))) A packet_7
 
 step_20 : Step w19 (Deliver B 4) (Some (told w19 A (Answer packet_7))) w20
 unfolding u16_bytes u32_bytes u16_at u32_at starts_typed typed_of
-step_20 = PacketComes (Deliver B 4) A (Some packet_6) (closed Completed (end_now w19 A)) (Answer packet_7) (FromBag B 4 packet_6 refl) (ReadAs packet_6 (closed Completed (end_now w19 A)) (Answer packet_7) (Heard (closed Completed (end_now w19 A)) no_notes (Answer packet_7) refl refl refl
-    (EndsAnswered (end_now w19 A) (closed Completed (end_now w19 A)) no_notes ShutdownAck [] packet_7 (AckCompletes tags_a ShutdownSent refl refl)) false (λ on. absurd (cc))))
+step_20 = PacketComes (Deliver B 4) A (Some packet_6) (closed Completed (end_now w19 A)) (Answer packet_7) (FromBag B 4 packet_6 refl) (ReadAs packet_6 (closed Completed (end_now w19 A)) (Answer packet_7) (heard_unpaced (end_now w19 A) w19.draw packet_6 (closed Completed (end_now w19 A)) no_notes (Answer packet_7) refl refl refl
+    (EndsAnswered (end_now w19 A) (closed Completed (end_now w19 A)) no_notes ShutdownAck [] packet_7 (AckCompletes tags_a ShutdownSent refl refl)) false (λ on. absurd (cc)) refl))
 
 abbrev w21 : World
 w21 = came w20 B (closed Completed (end_now w20 B))
 
 step_21 : Step w20 (Deliver A 5) (Some Acted) w21
 unfolding u16_bytes u32_bytes u16_at u32_at starts_typed typed_of
-step_21 = PacketComes (Deliver A 5) B (Some packet_7) (closed Completed (end_now w20 B)) Taken (FromBag A 5 packet_7 refl) (ReadAs packet_7 (closed Completed (end_now w20 B)) Taken (Heard (closed Completed (end_now w20 B)) no_notes Taken refl refl refl
-    (Last (end_now w20 B) (closed Completed (end_now w20 B)) no_notes (ShutdownComplete false) [] (CompleteCompleted refl)) false (λ on. absurd (cc))))
+step_21 = PacketComes (Deliver A 5) B (Some packet_7) (closed Completed (end_now w20 B)) Taken (FromBag A 5 packet_7 refl) (ReadAs packet_7 (closed Completed (end_now w20 B)) Taken (heard_unpaced (end_now w20 B) w20.draw packet_7 (closed Completed (end_now w20 B)) no_notes Taken refl refl refl
+    (Last (end_now w20 B) (closed Completed (end_now w20 B)) no_notes (ShutdownComplete false) [] (CompleteCompleted refl)) false (λ on. absurd (cc)) refl))
 
 -- ---- the run
 

@@ -8,7 +8,8 @@ use Rattle.sctp_model.specs.end.EndView.{Established, EndView}
 use Rattle.sctp_model.specs.end.Closing.{rested}
 use Rattle.sctp_model.specs.end.Strays.{Taken}
 use Rattle.sctp_model.specs.end.PeerFaults.{ToAcknowledge}
-use Rattle.sctp_model.specs.end.Arriving.{Heard, NoneLeft, Next, ReadAs, no_notes, noted, acknowledges}
+use Rattle.sctp_model.proofs.PacedEnds.{heard_unpaced}
+use Rattle.sctp_model.specs.end.Arriving.{NoneLeft, Next, ReadAs, no_notes, noted, acknowledges}
 use Rattle.sctp_model.specs.end.Building.{packet_of}
 use Rattle.sctp_model.specs.end.UserCalls.{send_answer, abandons}
 use Rattle.sctp_model.specs.world.World.{A, B, World, with_end, with_packet, end_now, came, start}
@@ -22,7 +23,7 @@ use Rattle.sctp_outcomes.proofs.stories.Ours.{premises_of_ours}
 
 -- one byte more than a fragment holds
 abbrev long : Call
-long = record { lane = ordered_lane 0; payload = 0; bytes = replicate 545 1; until = None }
+long = record { lane = ordered_lane 0; payload = 0; bytes = replicate 545 1; until = None; limit = None }
 
 abbrev q0 : World
 q0 = open_world true
@@ -50,10 +51,10 @@ abbrev q3 : World
 q3 = came q2 B (acknowledges Established (rested kept))
 
 comes_3 : Step q2 (Deliver A 1) (Some Acted) q3
-comes_3 = PacketComes (Deliver A 1) B (Some packet_1) (acknowledges Established (rested kept)) Taken (FromBag A 1 packet_1 refl) (ReadAs packet_1 (acknowledges Established (rested kept)) Taken (Heard (rested kept) (noted (data_note (end_now q2 B) 0 first_piece) no_notes) Taken refl refl refl
+comes_3 = PacketComes (Deliver A 1) B (Some packet_1) (acknowledges Established (rested kept)) Taken (FromBag A 1 packet_1 refl) (ReadAs packet_1 (acknowledges Established (rested kept)) Taken (heard_unpaced (end_now q2 B) q2.draw packet_1 (rested kept) (noted (data_note (end_now q2 B) 0 first_piece) no_notes) Taken refl refl refl
     (Next (end_now q2 B) kept (rested kept) (data_note (end_now q2 B) 0 first_piece) no_notes (noted (data_note (end_now q2 B) 0 first_piece) no_notes) (IData first_piece) [] Taken
     (data_acts Interleaved (end_now q2 B) tags_b Established 0 first_piece (bound_none q2.b.receiver refl) refl refl (omega arith) refl)
-    (NoneLeft (rested kept) (noted (data_note (end_now q2 B) 0 first_piece) no_notes))) false (λ on. absurd (cc))))
+    (NoneLeft (rested kept) (noted (data_note (end_now q2 B) 0 first_piece) no_notes))) false (λ on. absurd (cc)) refl))
 
 -- A's user abandons the message, which takes index 2 for its end mark
 abbrev q4 : World
@@ -82,10 +83,10 @@ one_recorded : (i : ℕ) → q5.b.receiver.seen i ≡ true → i ≤ 1
 one_recorded = bound_more (λ i. false) 1 1 (omega arith) (λ i on. absurd (cc))
 
 comes_6 : Step q5 (Deliver A 2) (Some Acted) q6
-comes_6 = PacketComes (Deliver A 2) B (Some packet_2) (acknowledges Established (rested skipped)) Taken (FromBag A 2 packet_2 refl) (ReadAs packet_2 (acknowledges Established (rested skipped)) Taken (Heard (rested skipped) (noted (ToAcknowledge false true) no_notes) Taken refl refl refl
+comes_6 = PacketComes (Deliver A 2) B (Some packet_2) (acknowledges Established (rested skipped)) Taken (FromBag A 2 packet_2 refl) (ReadAs packet_2 (acknowledges Established (rested skipped)) Taken (heard_unpaced (end_now q5 B) q5.draw packet_2 (rested skipped) (noted (ToAcknowledge false true) no_notes) Taken refl refl refl
     (Next (end_now q5 B) skipped (rested skipped) (ToAcknowledge false true) no_notes (noted (ToAcknowledge false true) no_notes) (IForwardTsn passes) [] Taken
     (forward_acts Interleaved (end_now q5 B) tags_b Established 1 passes one_recorded refl refl refl refl)
-    (NoneLeft (rested skipped) (noted (ToAcknowledge false true) no_notes))) false (λ on. absurd (cc))))
+    (NoneLeft (rested skipped) (noted (ToAcknowledge false true) no_notes))) false (λ on. absurd (cc)) refl))
 
 abbrev ending : List Event
 ending = OpenBoth of_a of_b ∷ Send A long ∷ Build A ∷ Deliver A 1 ∷ Abandon A 1 ∷ Build A ∷ Deliver A 2 ∷ []

@@ -7,7 +7,7 @@ use Rattle.sctp_model.specs.end.EndView.{Draw}
 use Rattle.sctp_model.specs.world.World.{World}
 use Rattle.sctp_model.specs.world.Events.{Event, OpenBoth, Foreign, Outcome}
 use Rattle.sctp_model.specs.world.Steps.{Run, Rest, Then}
-use Rattle.sctp_model.specs.world.Premises.{Premises}
+use Rattle.sctp_model.specs.world.Premises.{FreshAndUnforged}
 
 -- not a stranger's packet, and not `open`
 abbrev pub is_ours : Event → Bool
@@ -27,7 +27,7 @@ each_of test [] e all h = absurd h
 each_of test (x ∷ es) e all (inl q) = subst (λ (y : Event). test y ≡ true) q (and_parts (test x) (are_all test es) all).0
 each_of test (x ∷ es) e all (inr h) = each_of test es e (and_parts (test x) (are_all test es) all).1 h
 
-pub premises_of_ours : (s : Sealing) (es : List Event) → are_all is_ours es ≡ true → Premises s es
+pub premises_of_ours : (s : Sealing) (es : List Event) → are_all is_ours es ≡ true → FreshAndUnforged s es
 premises_of_ours s es all x p has = absurd (let q : false ≡ true = each_of is_ours es (Foreign x (Some p)) all has in cc)
 
 pub opened_by_packets : (es : List Event) → are_all is_by_packets es ≡ true → (x y : Draw) → Has es (OpenBoth x y) → ⊥

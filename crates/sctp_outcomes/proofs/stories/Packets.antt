@@ -1,16 +1,24 @@
 -- The packet that an open end builds, computed: what is due at each place, in their order, and then fragments.
-use Rattle.std.proofs.Common.{◌≡◌, ℕ, Bool, true, false, List, [], ◌∷◌, ◌++◌, Option, Some, None, refl, if◌then◌else◌}
+use Rattle.std.proofs.Common.{◌≡◌, ℕ, Bool, true, false, List, [], ◌∷◌, ◌++◌, Option, Some, None, refl, if◌then◌else◌, sym, subst}
 use Rattle.sctp_model.specs.numbers.Serial.{tsn}
 use Rattle.sctp_model.specs.wire.Chunk.{ChunkMeaning, Sack, HeartbeatAck, Shutdown, ShutdownAck, Error, CookieEcho, CookieAck}
 use Rattle.sctp_model.specs.sender.SentChunks.{forward_chunk_of}
 use Rattle.sctp_model.specs.receiver.SackMade.{sack_of}
 use Rattle.sctp_model.specs.end.EndView.{Tags, Stage, Open, EndView, format_of}
 use Rattle.sctp_model.specs.end.Reports.{written}
-use Rattle.sctp_model.specs.end.Building.{Slot, EchoSlot, CookieAckSlot, HeartbeatSlot, ErrorSlot, SackSlot, ForwardSlot, ShutdownSlot, ShutdownAckSlot, open_slots, has_some, is_due, Wants, AckCookie, AckHeartbeat, ReportCauses, Acknowledge, PassOn, SayShutdown, AnswerShutdown, has_room, Puts, NoMore, NotDue, Put, IsFull, fragments, sent, Builds, EndsFull, Fills, once_built}
+use Rattle.sctp_model.specs.end.Building.{Slot, EchoSlot, CookieAckSlot, HeartbeatSlot, ErrorSlot, SackSlot, ForwardSlot, ShutdownSlot, ShutdownAckSlot, open_slots, has_some, is_due, Wants, AckCookie, AckHeartbeat, ReportCauses, Acknowledge, PassOn, SayShutdown, AnswerShutdown, has_room, Puts, NoMore, NotDue, Put, IsFull, fragments, sent, Builds, EndsFull, Fills, once_built, AnswerSlot, RequestSlot, AnswerReset, AskReset}
 use Rattle.sctp_outcomes.specs.receiver.Runs.{all_runs}
 use Rattle.sctp_outcomes.specs.receiver.Steps.{IsBound, cumulative}
 use Rattle.sctp_outcomes.proofs.receiver.RunsLemmas.{runs_are}
 use Rattle.sctp_outcomes.proofs.receiver.StepsLemmas.{cumulative_is}
+use Rattle.sctp_model.specs.sender.Outgoing.{Request}
+use Rattle.sctp_model.specs.wire.Reconfig.{reconfig_chunk, reset_item}
+use Rattle.sctp_model.specs.sender.Resetting.{request_said}
+use Rattle.std.specs.Prelude.{is_some}
+use Rattle.std.proofs.lemmas.Bool.{and_parts}
+use Rattle.sctp_model.specs.end.Reconfiguring.{asking}
+use Rattle.sctp_model.specs.receiver.ReceiverView.{ReceiverView}
+use Rattle.sctp_safety.proofs.machine.Reconfigured.{asking_same}
 
 -- ---- one place
 
@@ -18,6 +26,11 @@ use Rattle.sctp_outcomes.proofs.receiver.StepsLemmas.{cumulative_is}
 abbrev info_of : Option (List ℕ) → List ℕ
 info_of None = []
 info_of (Some info) = info
+
+-- the chunk of a request
+abbrev request_chunk : EndView → Option Request → ChunkMeaning
+request_chunk e None = reconfig_chunk []
+request_chunk e (Some q) = reconfig_chunk (reset_item (tsn e.receiver.initial e.receiver.resets.taken) (request_said e.sender q) ∷ [])
 
 -- the chunk that is due at a place; no index past the bound was recorded
 abbrev chunk_at : Slot → EndView → (bound : ℕ) → ChunkMeaning
@@ -27,6 +40,8 @@ chunk_at HeartbeatSlot e bound = HeartbeatAck (info_of e.due.heartbeat)
 chunk_at ErrorSlot e bound = Error (written e.due.causes)
 chunk_at SackSlot e bound = Sack (sack_of e.receiver (cumulative e.receiver bound) (all_runs e.receiver (cumulative e.receiver bound) bound))
 chunk_at ForwardSlot e bound = forward_chunk_of (format_of e) e.configuration.limit e.sender
+chunk_at AnswerSlot e bound = reconfig_chunk e.receiver.resets.answers
+chunk_at RequestSlot e bound = request_chunk e e.sender.resets.pending
 chunk_at ShutdownSlot e bound = Shutdown (tsn e.receiver.initial (cumulative e.receiver bound))
 chunk_at ShutdownAckSlot e bound = ShutdownAck
 
@@ -54,6 +69,12 @@ wanted SackSlot e bound within on due =
       is = refl;
     })
 wanted ForwardSlot e bound within on due = PassOn
+wanted AnswerSlot e bound within on due = AnswerReset
+wanted RequestSlot e bound within on due = by e.sender.resets.pending refl (and_parts e.due.request (is_some e.sender.resets.pending) due).1
+  where
+    by : (o : Option Request) → e.sender.resets.pending ≡ o → is_some o ≡ true → Wants e RequestSlot (request_chunk e o)
+    by None q h = absurd (cc)
+    by (Some r) q h = AskReset r q
 wanted ShutdownSlot e bound within on due = SayShutdown (cumulative e.receiver bound) (cumulative_is e.receiver bound within)
 wanted ShutdownAckSlot e bound within on due = AnswerShutdown
 
@@ -65,6 +86,8 @@ bound_after HeartbeatSlot e bound within = within
 bound_after ErrorSlot e bound within = within
 bound_after SackSlot e bound within = within
 bound_after ForwardSlot e bound within = within
+bound_after AnswerSlot e bound within = within
+bound_after RequestSlot e bound within = within
 bound_after ShutdownSlot e bound within = within
 bound_after ShutdownAckSlot e bound within = within
 
@@ -117,17 +140,19 @@ with_fragments b =
     if b.full then b else record { chunks = b.chunks ++ fragments b.after b.chunks; full = false; after = sent b.after b.chunks }
 
 abbrev pub packet_built : EndView → (bound : ℕ) → Built
-packet_built e bound = with_fragments (built_over open_slots bound e [])
+packet_built e bound = with_fragments (built_over open_slots bound (asking e) [])
 
 -- So much an open end builds.
 pub builds_are : (t : Tags) (g : Stage) (e : EndView) (bound : ℕ) → e.phase ≡ Open t g → IsBound e.receiver bound →
     Builds e (packet_built e bound).chunks (packet_built e bound).after
-builds_are t g e bound is within = go (built_over open_slots bound e []) (puts_are open_slots bound e [] (refl, (refl, (refl, (refl, (refl, (refl, (refl, tt))))))) within)
+builds_are t g e bound is within = go (built_over open_slots bound (asking e) [])
+    (puts_are open_slots bound (asking e) [] (refl, (refl, (refl, (refl, (refl, (refl, (refl, (refl, (refl, tt)))))))))
+    (subst (λ (r : ReceiverView). IsBound r bound) (sym (asking_same e).receiver.1) within))
   where
-    by : (zs : List ChunkMeaning) (full : Bool) (x : EndView) → Puts open_slots e [] zs full x →
+    by : (zs : List ChunkMeaning) (full : Bool) (x : EndView) → Puts open_slots (asking e) [] zs full x →
         Builds e (with_fragments (record { chunks = zs; full = full; after = x })).chunks (with_fragments (record { chunks = zs; full = full; after = x })).after
     by zs true x puts = EndsFull t g zs x is puts
     by zs false x puts = Fills t g zs x is puts
 
-    go : (b : Built) → Puts open_slots e [] b.chunks b.full b.after → Builds e (with_fragments b).chunks (with_fragments b).after
+    go : (b : Built) → Puts open_slots (asking e) [] b.chunks b.full b.after → Builds e (with_fragments b).chunks (with_fragments b).after
     go b puts = by b.chunks b.full b.after puts

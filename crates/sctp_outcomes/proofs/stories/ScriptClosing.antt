@@ -12,7 +12,8 @@ use Rattle.sctp_model.specs.end.Closing.{with_due, rested}
 use Rattle.sctp_model.specs.end.PeerFaults.{STATE, packet_to, Unnoted}
 use Rattle.sctp_model.specs.end.Acting.{ShutdownCounts, Again, AckCompletes, CompleteCompleted, shutdown_heard}
 use Rattle.sctp_model.specs.end.Strays.{Taken, Dropped, Answer, stray_verdict}
-use Rattle.sctp_model.specs.end.Arriving.{Stray, Heard, NoneLeft, Next, Last, ReadAs, no_notes, noted}
+use Rattle.sctp_model.proofs.PacedEnds.{heard_unpaced}
+use Rattle.sctp_model.specs.end.Arriving.{Stray, NoneLeft, Next, Last, ReadAs, no_notes, noted}
 use Rattle.sctp_model.specs.end.Arriving.{EndsAnswered}
 use Rattle.sctp_model.specs.end.Building.{packet_of}
 use Rattle.sctp_model.specs.end.UserCalls.{shut}
@@ -52,10 +53,10 @@ s24 = came s23 B (rested e24)
 
 step_24 : Step s23 (Deliver A 4) (Some Acted) s24
 unfolding u16_bytes u32_bytes u16_at u32_at starts_typed typed_of
-step_24 = PacketComes (Deliver A 4) B (Some packet_4) (rested e24) Taken (FromBag A 4 packet_4 refl) (ReadAs packet_4 (rested e24) Taken (Heard (rested e24) (noted Unnoted no_notes) Taken refl refl refl
+step_24 = PacketComes (Deliver A 4) B (Some packet_4) (rested e24) Taken (FromBag A 4 packet_4 refl) (ReadAs packet_4 (rested e24) Taken (heard_unpaced (end_now s23 B) s23.draw packet_4 (rested e24) (noted Unnoted no_notes) Taken refl refl refl
     (Next (end_now s23 B) e24 (rested e24) Unnoted no_notes (noted Unnoted no_notes) (Says (tsn 500 0)) [] Taken
     (ShutdownCounts tags_b Established refl refl refl)
-    (NoneLeft (rested e24) (noted Unnoted no_notes))) false (λ on. absurd (cc))))
+    (NoneLeft (rested e24) (noted Unnoted no_notes))) false (λ on. absurd (cc)) refl))
 
 abbrev e25 : EndView
 e25 = with_due (record (end_now s24 B).due { shutdown_ack = true }) (end_now s24 B)
@@ -65,10 +66,10 @@ s25 = came s24 B (rested e25)
 
 step_25 : Step s24 (Deliver A 4) (Some Acted) s25
 unfolding u16_bytes u32_bytes u16_at u32_at starts_typed typed_of
-step_25 = PacketComes (Deliver A 4) B (Some packet_4) (rested e25) Taken (FromBag A 4 packet_4 refl) (ReadAs packet_4 (rested e25) Taken (Heard (rested e25) (noted Unnoted no_notes) Taken refl refl refl
+step_25 = PacketComes (Deliver A 4) B (Some packet_4) (rested e25) Taken (FromBag A 4 packet_4 refl) (ReadAs packet_4 (rested e25) Taken (heard_unpaced (end_now s24 B) s24.draw packet_4 (rested e25) (noted Unnoted no_notes) Taken refl refl refl
     (Next (end_now s24 B) e25 (rested e25) Unnoted no_notes (noted Unnoted no_notes) (Says (tsn 500 0)) [] Taken
     (Again tags_b refl)
-    (NoneLeft (rested e25) (noted Unnoted no_notes))) false (λ on. absurd (cc))))
+    (NoneLeft (rested e25) (noted Unnoted no_notes))) false (λ on. absurd (cc)) refl))
 
 abbrev packet_5 : Packet
 packet_5 = packet_of s25.b (ShutdownAck ∷ [])
@@ -93,8 +94,8 @@ s27 = with_packet (came s26 A (closed Completed (end_now s26 A))) A complete
 
 step_27 : Step s26 (Deliver B 5) (Some (Answered 5 16)) s27
 unfolding u16_bytes u32_bytes u16_at u32_at starts_typed typed_of
-step_27 = PacketComes (Deliver B 5) A (Some packet_5) (closed Completed (end_now s26 A)) (Answer complete) (FromBag B 5 packet_5 refl) (ReadAs packet_5 (closed Completed (end_now s26 A)) (Answer complete) (Heard (closed Completed (end_now s26 A)) no_notes (Answer complete) refl refl refl
-    (EndsAnswered (end_now s26 A) (closed Completed (end_now s26 A)) no_notes ShutdownAck [] complete (AckCompletes tags_a ShutdownSent refl refl)) false (λ on. absurd (cc))))
+step_27 = PacketComes (Deliver B 5) A (Some packet_5) (closed Completed (end_now s26 A)) (Answer complete) (FromBag B 5 packet_5 refl) (ReadAs packet_5 (closed Completed (end_now s26 A)) (Answer complete) (heard_unpaced (end_now s26 A) s26.draw packet_5 (closed Completed (end_now s26 A)) no_notes (Answer complete) refl refl refl
+    (EndsAnswered (end_now s26 A) (closed Completed (end_now s26 A)) no_notes ShutdownAck [] complete (AckCompletes tags_a ShutdownSent refl refl)) false (λ on. absurd (cc)) refl))
 
 abbrev s28 : World
 s28 = with_verdict (came s27 A (end_now s27 A)) A (stray_verdict (end_now s27 A) s27.draw packet_5)
@@ -109,8 +110,8 @@ s29 = came s28 B (closed Completed (end_now s28 B))
 
 step_29 : Step s28 (Deliver A 5) (Some Acted) s29
 unfolding u16_bytes u32_bytes u16_at u32_at starts_typed typed_of
-step_29 = PacketComes (Deliver A 5) B (Some complete) (closed Completed (end_now s28 B)) Taken (FromBag A 5 complete refl) (ReadAs complete (closed Completed (end_now s28 B)) Taken (Heard (closed Completed (end_now s28 B)) no_notes Taken refl refl refl
-    (Last (end_now s28 B) (closed Completed (end_now s28 B)) no_notes (ShutdownComplete false) [] (CompleteCompleted refl)) false (λ on. absurd (cc))))
+step_29 = PacketComes (Deliver A 5) B (Some complete) (closed Completed (end_now s28 B)) Taken (FromBag A 5 complete refl) (ReadAs complete (closed Completed (end_now s28 B)) Taken (heard_unpaced (end_now s28 B) s28.draw complete (closed Completed (end_now s28 B)) no_notes Taken refl refl refl
+    (Last (end_now s28 B) (closed Completed (end_now s28 B)) no_notes (ShutdownComplete false) [] (CompleteCompleted refl)) false (λ on. absurd (cc)) refl))
 
 abbrev s30 : World
 s30 = came s29 B (end_now s29 B)

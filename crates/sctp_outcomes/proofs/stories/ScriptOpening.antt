@@ -5,15 +5,16 @@ use Rattle.sctp_model.specs.wire.Typed.{starts_typed, typed_of}
 use Rattle.sctp_model.specs.wire.Chunk.{InitMeaning, ChunkMeaning, InitAck, CookieEcho, CookieAck}
 use Rattle.sctp_model.specs.wire.Packet.{Packet}
 use Rattle.sctp_model.specs.end.Sealing.{Body}
-use Rattle.sctp_model.specs.end.EndView.{Draw, Tags, Established, Open, EndView, InitAlarm, CookieAlarm, IsDraw}
-use Rattle.sctp_model.specs.end.Clock.{started, turned}
+use Rattle.sctp_model.specs.end.EndView.{Draw, Tags, Established, EndView, InitAlarm, CookieAlarm, IsDraw}
+use Rattle.sctp_model.specs.end.Clock.{started}
 use Rattle.sctp_model.specs.end.Closing.{with_due}
 use Rattle.sctp_model.specs.end.Reports.{written, item}
 use Rattle.sctp_model.specs.end.Options.{STATE_COOKIE}
 use Rattle.sctp_model.specs.end.PeerFaults.{STATE, packet_to, Unnoted}
-use Rattle.sctp_model.specs.end.Opening.{own_init, body_for, echoing, begun, NotCalling, AcceptedAck, EchoedAgain, NotEchoing, CookieAcked}
+use Rattle.sctp_model.specs.end.Opening.{own_init, body_for, echoing, begun, acknowledged_echo, NotCalling, AcceptedAck, EchoedAgain, NotEchoing, CookieAcked}
 use Rattle.sctp_model.specs.end.Strays.{Taken, Dropped, stray_verdict}
-use Rattle.sctp_model.specs.end.Arriving.{Stray, CookieBegins, Heard, NoneLeft, Next, ReadAs, no_notes, noted}
+use Rattle.sctp_model.proofs.PacedEnds.{heard_unpaced}
+use Rattle.sctp_model.specs.end.Arriving.{Stray, CookieBegins, NoneLeft, Next, ReadAs, no_notes, noted}
 use Rattle.sctp_model.specs.end.Arriving.{Passes}
 use Rattle.sctp_model.specs.end.Building.{EchoSlot, ErrorSlot, EchoCookie, NoMore, NotDue, Put, Calls, Echoes, packet_of}
 use Rattle.sctp_model.specs.end.UserCalls.{called}
@@ -98,10 +99,10 @@ s6 = came s5 A echoes
 
 step_6 : Step s5 (Deliver B 1) (Some Acted) s6
 unfolding u16_bytes u32_bytes u16_at u32_at starts_typed typed_of
-step_6 = PacketComes (Deliver B 1) A (Some ack_packet) echoes Taken (FromBag B 1 ack_packet refl) (ReadAs ack_packet echoes Taken (Heard echoes (noted Unnoted no_notes) Taken refl refl refl
+step_6 = PacketComes (Deliver B 1) A (Some ack_packet) echoes Taken (FromBag B 1 ack_packet refl) (ReadAs ack_packet echoes Taken (heard_unpaced (end_now s5 A) s5.draw ack_packet echoes (noted Unnoted no_notes) Taken refl refl refl
     (Next (end_now s5 A) echoes echoes Unnoted no_notes (noted Unnoted no_notes) (InitAck ack_meaning) [] Taken
     (AcceptedAck of_a cookie refl some refl refl)
-    (NoneLeft echoes (noted Unnoted no_notes))) false (λ on. absurd (cc))))
+    (NoneLeft echoes (noted Unnoted no_notes))) false (λ on. absurd (cc)) refl))
   where
     some : 0 < 9
     some = omega arith
@@ -111,8 +112,8 @@ s7 = came s6 A (end_now s6 A)
 
 step_7 : Step s6 (Deliver B 1) (Some (NotActed STATE)) s7
 unfolding u16_bytes u32_bytes u16_at u32_at starts_typed typed_of
-step_7 = PacketComes (Deliver B 1) A (Some ack_packet) (end_now s6 A) (Dropped STATE) (FromBag B 1 ack_packet refl) (ReadAs ack_packet (end_now s6 A) (Dropped STATE) (Heard (end_now s6 A) no_notes (Dropped STATE) refl refl refl
-    (Passes (end_now s6 A) (end_now s6 A) no_notes no_notes (InitAck ack_meaning) [] (Dropped STATE) (NotCalling refl) (NoneLeft (end_now s6 A) no_notes)) false (λ on. absurd (cc))))
+step_7 = PacketComes (Deliver B 1) A (Some ack_packet) (end_now s6 A) (Dropped STATE) (FromBag B 1 ack_packet refl) (ReadAs ack_packet (end_now s6 A) (Dropped STATE) (heard_unpaced (end_now s6 A) s6.draw ack_packet (end_now s6 A) no_notes (Dropped STATE) refl refl refl
+    (Passes (end_now s6 A) (end_now s6 A) no_notes no_notes (InitAck ack_meaning) [] (Dropped STATE) (NotCalling refl) (NoneLeft (end_now s6 A) no_notes)) false (λ on. absurd (cc)) refl))
 
 -- the cookie goes back
 abbrev echoed : EndView
@@ -149,10 +150,10 @@ s10 = came s9 B again
 
 step_10 : Step s9 (Deliver A 2) (Some Acted) s10
 unfolding u16_bytes u32_bytes u16_at u32_at starts_typed typed_of
-step_10 = PacketComes (Deliver A 2) B (Some packet_2) again Taken (FromBag A 2 packet_2 refl) (ReadAs packet_2 again Taken (Heard again (noted Unnoted no_notes) Taken refl refl refl
+step_10 = PacketComes (Deliver A 2) B (Some packet_2) again Taken (FromBag A 2 packet_2 refl) (ReadAs packet_2 again Taken (heard_unpaced (end_now s9 B) s9.draw packet_2 again (noted Unnoted no_notes) Taken refl refl refl
     (Next (end_now s9 B) again again Unnoted no_notes (noted Unnoted no_notes) (CookieEcho cookie) [] Taken
     (EchoedAgain open_seal tags_b Established refl refl refl refl)
-    (NoneLeft again (noted Unnoted no_notes))) false (λ on. absurd (cc))))
+    (NoneLeft again (noted Unnoted no_notes))) false (λ on. absurd (cc)) refl))
 
 -- and says so
 abbrev packet_3 : Packet
@@ -166,25 +167,25 @@ unfolding u16_bytes u32_bytes u16_at u32_at starts_typed typed_of
 step_11 = BuildsOne B CookieAck [] (packet_built (end_now s10 B) 0).after (builds_are tags_b Established (end_now s10 B) 0 refl (bound_none s10.b.receiver refl))
 
 abbrev open_end : EndView
-open_end = turned (Open tags_a Established) (end_now s11 A)
+open_end = acknowledged_echo tags_a (end_now s11 A)
 
 abbrev s12 : World
 s12 = came s11 A open_end
 
 step_12 : Step s11 (Deliver B 3) (Some Acted) s12
 unfolding u16_bytes u32_bytes u16_at u32_at starts_typed typed_of
-step_12 = PacketComes (Deliver B 3) A (Some packet_3) open_end Taken (FromBag B 3 packet_3 refl) (ReadAs packet_3 open_end Taken (Heard open_end (noted Unnoted no_notes) Taken refl refl refl
+step_12 = PacketComes (Deliver B 3) A (Some packet_3) open_end Taken (FromBag B 3 packet_3 refl) (ReadAs packet_3 open_end Taken (heard_unpaced (end_now s11 A) s11.draw packet_3 open_end (noted Unnoted no_notes) Taken refl refl refl
     (Next (end_now s11 A) open_end open_end Unnoted no_notes (noted Unnoted no_notes) CookieAck [] Taken
     (CookieAcked tags_a cookie refl)
-    (NoneLeft open_end (noted Unnoted no_notes))) false (λ on. absurd (cc))))
+    (NoneLeft open_end (noted Unnoted no_notes))) false (λ on. absurd (cc)) refl))
 
 abbrev pub s13 : World
 s13 = came s12 A (end_now s12 A)
 
 step_13 : Step s12 (Deliver B 3) (Some (NotActed STATE)) s13
 unfolding u16_bytes u32_bytes u16_at u32_at starts_typed typed_of
-step_13 = PacketComes (Deliver B 3) A (Some packet_3) (end_now s12 A) (Dropped STATE) (FromBag B 3 packet_3 refl) (ReadAs packet_3 (end_now s12 A) (Dropped STATE) (Heard (end_now s12 A) no_notes (Dropped STATE) refl refl refl
-    (Passes (end_now s12 A) (end_now s12 A) no_notes no_notes CookieAck [] (Dropped STATE) (NotEchoing refl) (NoneLeft (end_now s12 A) no_notes)) false (λ on. absurd (cc))))
+step_13 = PacketComes (Deliver B 3) A (Some packet_3) (end_now s12 A) (Dropped STATE) (FromBag B 3 packet_3 refl) (ReadAs packet_3 (end_now s12 A) (Dropped STATE) (heard_unpaced (end_now s12 A) s12.draw packet_3 (end_now s12 A) no_notes (Dropped STATE) refl refl refl
+    (Passes (end_now s12 A) (end_now s12 A) no_notes no_notes CookieAck [] (Dropped STATE) (NotEchoing refl) (NoneLeft (end_now s12 A) no_notes)) false (λ on. absurd (cc)) refl))
 
 step_1 : Step (start pair) (Connect of_a) (Some Done) s1
 step_1 = Connects of_a (drawn 7 100 (omega arith) (omega arith) (omega arith)) refl

@@ -11,7 +11,8 @@ use Rattle.sctp_model.specs.end.Closing.{rested}
 use Rattle.sctp_model.specs.end.Acting.{SackCounts, sack_heard}
 use Rattle.sctp_model.specs.end.Strays.{Taken}
 use Rattle.sctp_model.specs.end.PeerFaults.{Unnoted}
-use Rattle.sctp_model.specs.end.Arriving.{Heard, NoneLeft, Next, ReadAs, no_notes, noted, acknowledges}
+use Rattle.sctp_model.proofs.PacedEnds.{heard_unpaced}
+use Rattle.sctp_model.specs.end.Arriving.{NoneLeft, Next, ReadAs, no_notes, noted, acknowledges}
 use Rattle.sctp_model.specs.end.Building.{packet_of}
 use Rattle.sctp_model.specs.end.UserCalls.{Ticket, send_answer, send_leaves}
 use Rattle.sctp_model.specs.world.World.{A, B, World, with_end, with_packet, with_log, end_now, came}
@@ -52,10 +53,10 @@ s16 = came s15 B (acknowledges Established (rested e16))
 
 step_16 : Step s15 (Deliver A 3) (Some Acted) s16
 unfolding u16_bytes u32_bytes u16_at u32_at starts_typed typed_of
-step_16 = PacketComes (Deliver A 3) B (Some packet_3) (acknowledges Established (rested e16)) Taken (FromBag A 3 packet_3 refl) (ReadAs packet_3 (acknowledges Established (rested e16)) Taken (Heard (rested e16) (noted (data_note (end_now s15 B) 0 piece) no_notes) Taken refl refl refl
+step_16 = PacketComes (Deliver A 3) B (Some packet_3) (acknowledges Established (rested e16)) Taken (FromBag A 3 packet_3 refl) (ReadAs packet_3 (acknowledges Established (rested e16)) Taken (heard_unpaced (end_now s15 B) s15.draw packet_3 (rested e16) (noted (data_note (end_now s15 B) 0 piece) no_notes) Taken refl refl refl
     (Next (end_now s15 B) e16 (rested e16) (data_note (end_now s15 B) 0 piece) no_notes (noted (data_note (end_now s15 B) 0 piece) no_notes) (Data piece) [] Taken
     (data_acts Plain (end_now s15 B) tags_b Established 0 piece (bound_none s15.b.receiver refl) refl refl (omega arith) refl)
-    (NoneLeft (rested e16) (noted (data_note (end_now s15 B) 0 piece) no_notes))) false (λ on. absurd (cc))))
+    (NoneLeft (rested e16) (noted (data_note (end_now s15 B) 0 piece) no_notes))) false (λ on. absurd (cc)) refl))
 
 one_recorded : (i : ℕ) → s16.b.receiver.seen i ≡ true → i ≤ 1
 unfolding u16_bytes u32_bytes u16_at u32_at starts_typed typed_of
@@ -69,10 +70,10 @@ s17 = came s16 B (acknowledges Established (rested e17))
 
 step_17 : Step s16 (Deliver A 3) (Some Acted) s17
 unfolding u16_bytes u32_bytes u16_at u32_at starts_typed typed_of
-step_17 = PacketComes (Deliver A 3) B (Some packet_3) (acknowledges Established (rested e17)) Taken (FromBag A 3 packet_3 refl) (ReadAs packet_3 (acknowledges Established (rested e17)) Taken (Heard (rested e17) (noted (data_note (end_now s16 B) 1 piece) no_notes) Taken refl refl refl
+step_17 = PacketComes (Deliver A 3) B (Some packet_3) (acknowledges Established (rested e17)) Taken (FromBag A 3 packet_3 refl) (ReadAs packet_3 (acknowledges Established (rested e17)) Taken (heard_unpaced (end_now s16 B) s16.draw packet_3 (rested e17) (noted (data_note (end_now s16 B) 1 piece) no_notes) Taken refl refl refl
     (Next (end_now s16 B) e17 (rested e17) (data_note (end_now s16 B) 1 piece) no_notes (noted (data_note (end_now s16 B) 1 piece) no_notes) (Data piece) [] Taken
     (data_acts Plain (end_now s16 B) tags_b Established 1 piece one_recorded refl refl (omega arith) refl)
-    (NoneLeft (rested e17) (noted (data_note (end_now s16 B) 1 piece) no_notes))) false (λ on. absurd (cc))))
+    (NoneLeft (rested e17) (noted (data_note (end_now s16 B) 1 piece) no_notes))) false (λ on. absurd (cc)) refl))
 
 -- the SACK names the duplicate; the two bytes wait, and count against the room
 abbrev sack : SackMeaning
@@ -101,10 +102,10 @@ s19 = came s18 A (rested e19)
 
 step_19 : Step s18 (Deliver B 4) (Some Acted) s19
 unfolding u16_bytes u32_bytes u16_at u32_at starts_typed typed_of
-step_19 = PacketComes (Deliver B 4) A (Some packet_4) (rested e19) Taken (FromBag B 4 packet_4 refl) (ReadAs packet_4 (rested e19) Taken (Heard (rested e19) (noted Unnoted no_notes) Taken refl refl refl
+step_19 = PacketComes (Deliver B 4) A (Some packet_4) (rested e19) Taken (FromBag B 4 packet_4 refl) (ReadAs packet_4 (rested e19) Taken (heard_unpaced (end_now s18 A) s18.draw packet_4 (rested e19) (noted Unnoted no_notes) Taken refl refl refl
     (Next (end_now s18 A) e19 (rested e19) Unnoted no_notes (noted Unnoted no_notes) (Sack sack) [] Taken
     (SackCounts refl refl)
-    (NoneLeft (rested e19) (noted Unnoted no_notes))) false (λ on. absurd (cc))))
+    (NoneLeft (rested e19) (noted Unnoted no_notes))) false (λ on. absurd (cc)) refl))
 
 abbrev e20 : EndView
 e20 = sack_heard (end_now s19 A) sack
@@ -114,10 +115,10 @@ s20 = came s19 A (rested e20)
 
 step_20 : Step s19 (Deliver B 4) (Some Acted) s20
 unfolding u16_bytes u32_bytes u16_at u32_at starts_typed typed_of
-step_20 = PacketComes (Deliver B 4) A (Some packet_4) (rested e20) Taken (FromBag B 4 packet_4 refl) (ReadAs packet_4 (rested e20) Taken (Heard (rested e20) (noted Unnoted no_notes) Taken refl refl refl
+step_20 = PacketComes (Deliver B 4) A (Some packet_4) (rested e20) Taken (FromBag B 4 packet_4 refl) (ReadAs packet_4 (rested e20) Taken (heard_unpaced (end_now s19 A) s19.draw packet_4 (rested e20) (noted Unnoted no_notes) Taken refl refl refl
     (Next (end_now s19 A) e20 (rested e20) Unnoted no_notes (noted Unnoted no_notes) (Sack sack) [] Taken
     (SackCounts refl refl)
-    (NoneLeft (rested e20) (noted Unnoted no_notes))) false (λ on. absurd (cc))))
+    (NoneLeft (rested e20) (noted Unnoted no_notes))) false (λ on. absurd (cc)) refl))
 
 -- B's user takes the message
 abbrev e21 : EndView

@@ -1,21 +1,22 @@
 -- Two ends that are opened without packets, set up for small packets: one full fragment in each.
-use Rattle.std.proofs.Common.{ℕ, ◌<◌, ◌^◌, Bool, true, false, Some, refl, arith}
+use Rattle.std.proofs.Common.{ℕ, ◌≡◌, ◌<◌, ◌^◌, Bool, true, false, Some, refl, arith}
 use Rattle.sctp_model.specs.world.Calls.{Call}
 use Rattle.sctp_model.specs.end.EndView.{Draw, Tags, IsDraw}
 use Rattle.sctp_model.specs.end.Configured.{IsConfiguration}
 use Rattle.sctp_model.specs.end.Opening.{opened}
 use Rattle.sctp_model.specs.end.UserCalls.{send_answer, send_leaves, abandoned_at}
-use Rattle.sctp_model.specs.world.World.{Side, A, B, World, with_end, with_log, logged_one, Setup, configuration_of, start}
+use Rattle.sctp_model.specs.world.World.{Side, A, B, are_alike, World, with_end, with_log, logged_one, Setup, configuration_of, start}
 use Rattle.sctp_model.specs.world.Events.{OpenBoth, Done}
 use Rattle.sctp_model.specs.world.Steps.{accepted, named_at, Step, OpensBoth}
 use Rattle.sctp_safety.proofs.machine.OpeningWorlds.{open_seal}
+use Rattle.sctp_model.specs.numbers.Limits.{LEAST_WAIT}
 
 -- ---- two ends without packets
 
 -- small packets, each of one full fragment
 abbrev pub small : Bool → Setup
 small interleave = record {
-  alike = record {
+  of_a = record {
     own_port = 0;
     peer_port = 0;
     limit = 576;
@@ -27,6 +28,27 @@ small interleave = record {
     partial = true;
     delay = false;
     standard_closing = false;
+    fast_retransmit = false;
+    least_wait = LEAST_WAIT;
+    congestion_control = false;
+    reset = false;
+  };
+  of_b = record {
+    own_port = 0;
+    peer_port = 0;
+    limit = 576;
+    fragment = 544;
+    buffer = 65536;
+    outbound = 1;
+    inbound = 1;
+    interleave = interleave;
+    partial = true;
+    delay = false;
+    standard_closing = false;
+    fast_retransmit = false;
+    least_wait = LEAST_WAIT;
+    congestion_control = false;
+    reset = false;
   };
   a_port = 5000;
   b_port = 5001;
@@ -76,8 +98,12 @@ open_world i = record (start (small i)) {
   openable = false;
 }
 
+like : (i : Bool) → are_alike (start (small i)).a.configuration (start (small i)).b.configuration ≡ true
+like true = refl
+like false = refl
+
 pub opens : (i : Bool) → Step (start (small i)) (OpenBoth of_a of_b) (Some Done) (open_world i)
-opens i = OpensBoth of_a of_b refl (drawn 7 100 (omega arith) (omega arith) (omega arith)) (drawn 9 200 (omega arith) (omega arith) (omega arith))
+opens i = OpensBoth of_a of_b (like i) refl (drawn 7 100 (omega arith) (omega arith) (omega arith)) (drawn 9 200 (omega arith) (omega arith) (omega arith))
 
 -- the world in which A's user has sent a message, or abandoned one
 abbrev pub after_send : World → Call → World

@@ -30,7 +30,7 @@ IsNumberFound f kept l n (Some xs) = IsWholeNumber f kept l n xs × IsLowest f k
 abbrev pub NumberIsComputed : Type 0
 NumberIsComputed = (f : Format) (kept : List Piece) (l : Lane) (n : ℕ) → IsNumberFound f kept l n (whole_number f kept l n)
 
--- and where kept chunks are apart there is no other
+-- and if kept chunks are apart there is no other
 abbrev pub NumberIsOne : Type 0
 NumberIsOne = (f : Format) (kept xs ys : List Piece) (l : Lane) (n : ℕ) → IsFilledOnce f kept →
     IsNumberFound f kept l n (Some xs) → IsNumberFound f kept l n (Some ys) → xs ≡ ys
@@ -44,7 +44,7 @@ IsWithFound f kept y (Some xs) = IsWholeWith f kept y xs
 abbrev pub WithIsComputed : Type 0
 WithIsComputed = (f : Format) (kept : List Piece) (y : Piece) → IsWithFound f kept y (whole_with f kept y)
 
--- and where kept chunks are apart there is no other
+-- and if kept chunks are apart there is no other
 abbrev pub WithIsOne : Type 0
 WithIsOne = (f : Format) (kept xs ys : List Piece) (y : Piece) → IsFilledOnce f kept → IsWholeWith f kept y xs → IsWholeWith f kept y ys → xs ≡ ys
 
@@ -55,7 +55,7 @@ abbrev pub DueIsComputed : Type 0
 DueIsComputed = (f : Format) (r : ReceiverView) (s depth n : ℕ) → max (r.skip (ordered_lane s)) (numbers r.kept) ≤ n + depth →
     IsDue f r s n (due_from f r.kept s (r.skip (ordered_lane s)) depth n).messages (due_from f r.kept s (r.skip (ordered_lane s)) depth n).next
 
--- and nothing else, where kept chunks are apart
+-- and nothing else, if kept chunks are apart
 abbrev pub DueIsOne : Type 0
 DueIsOne = (f : Format) (r : ReceiverView) (s n m o : ℕ) (ms os : List Handed) → IsFilledOnce f r.kept → IsDue f r s n ms m → IsDue f r s n os o →
     (ms ≡ os) × (m ≡ o)
@@ -71,7 +71,7 @@ abbrev pub PiecesAreTaken : Type 0
 PiecesAreTaken = (f : Format) (r : ReceiverView) (c : ℕ) (p : PieceMeaning) → IsCumulative r c →
     PieceTaken f r p (answer_to f r c p) (piece_step f r c p)
 
--- and in no other, where kept chunks are apart and were recorded
+-- and in no other, if kept chunks are apart and were recorded
 abbrev pub PiecesAreTakenSo : Type 0
 PiecesAreTakenSo = (f : Format) (r t : ReceiverView) (c : ℕ) (p : PieceMeaning) (a : PieceAnswer) → IsOrdinary f r → IsCumulative r c →
     PieceTaken f r p a t ↔ ((a ≡ answer_to f r c p) × (t ≡ piece_step f r c p))
@@ -81,7 +81,7 @@ abbrev pub ForwardsAreTaken : Type 0
 ForwardsAreTaken = (f : Format) (r : ReceiverView) (c : ℕ) (x : ForwardMeaning) → IsCumulative r c →
     ForwardTaken f r x (forward_answer r c x) (forward_step f r c x)
 
--- and in no other, where kept chunks are apart
+-- and in no other, if kept chunks are apart
 abbrev pub ForwardsAreTakenSo : Type 0
 ForwardsAreTakenSo = (f : Format) (r t : ReceiverView) (c : ℕ) (x : ForwardMeaning) (a : ForwardAnswer) → IsFilledOnce f r.kept → IsCumulative r c →
     ForwardTaken f r x a t ↔ ((a ≡ forward_answer r c x) × (t ≡ forward_step f r c x))

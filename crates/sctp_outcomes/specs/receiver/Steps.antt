@@ -13,7 +13,7 @@ use Rattle.sctp_outcomes.specs.receiver.Wholes.{whole_number, whole_with}
 
 -- ---- the cumulative index
 
--- on to the next index where it was recorded; else this one is the last
+-- on to the next index if it was recorded; else this one is the last
 abbrev pub next_if : Bool → ℕ → (ℕ → ℕ) → ℕ
 next_if true c more = more (suc c)
 next_if false c more = c
@@ -83,13 +83,13 @@ abbrev pub gives_all : Format → ℕ → ReceiverView → ReceiverView
 gives_all f zero r = r
 gives_all f (suc n) r = gives_ordered f n (gives_all f n r)
 
--- a whole unordered message, where there is one, waits for the user
+-- a whole unordered message, if there is one, waits for the user
 abbrev pub handed_if : Format → ReceiverView → Option (List Piece) → ReceiverView
 handed_if f r (Some (x ∷ xs)) = handed_unordered f r x xs
 handed_if f r (Some []) = r
 handed_if f r None = r
 
--- the whole message of an unordered chunk is handed over at once, where it is complete
+-- the whole message of an unordered chunk is handed over at once, if it is complete
 abbrev pub gives_unordered : Format → Piece → ReceiverView → ReceiverView
 gives_unordered f y r = handed_if f r (whole_with f r.kept y)
 

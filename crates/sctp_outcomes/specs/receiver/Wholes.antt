@@ -29,7 +29,7 @@ abbrev pub places : Format → List Piece → ℕ
 places f [] = 0
 places f (x ∷ xs) = max (suc (place_of f x)) (places f xs)
 
--- the lists that begin with this chunk, where it is wanted
+-- the lists that begin with this chunk, if it is wanted
 abbrev pub beginning : Bool → Piece → (Bool → Piece → List (List Piece)) → List (List Piece)
 beginning false y more = []
 beginning true y more = map (λ (ys : List Piece). y ∷ ys) (more y.end y)

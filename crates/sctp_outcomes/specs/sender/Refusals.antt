@@ -1,15 +1,17 @@
--- A message that the user hands in, refused or accepted, as a relation: of five reasons each counts where none before it holds.
-use Rattle.std.specs.Prelude.{◌≡◌, ◌↔◌, ℕ, suc, ◌+◌, ◌<◌, ◌≤◌, List, [], length, Some, None}
+-- A message that the user sends, refused or accepted, as a relation: of six reasons each counts if none before it holds.
+use Rattle.std.specs.Prelude.{◌≡◌, ◌↔◌, ℕ, suc, ◌+◌, ◌<◌, ◌≤◌, List, [], length, Some, None, true, false}
 use Rattle.sctp_model.specs.numbers.Limits.{LONGEST_MESSAGE, QUEUE_LIMIT, TICKET_LIMIT, TSN_LIMIT}
 use Rattle.sctp_model.specs.sender.SenderView.{SenderView}
-use Rattle.sctp_model.specs.sender.Queueing.{Refusal, NoSuchStream, Empty, TooLong, QueueFull, Spent, refusal, promised}
+use Rattle.sctp_model.specs.sender.Queueing.{Refusal, NoSuchStream, Empty, TooLong, QueueFull, Spent, refusal, promised, Resetting}
 use Rattle.sctp_outcomes.specs.sender.Cuts.{IsCut}
+use Rattle.sctp_model.specs.sender.Outgoing.{is_sending}
 
 -- ---- what is looked at, in turn
 
--- there is such a stream, and the message has a byte and no more than it may have
+-- there is such a stream, it takes messages, and the message has a byte, and no more bytes than it may have
 pub record IsSendable (v : SenderView) (stream : ℕ) (bytes : List ℕ) : Type 0 where
   pub there : stream < v.streams
+  pub sends : is_sending (v.resets.sending stream) ≡ true
   pub some : 0 < length bytes
   pub short : length bytes ≤ LONGEST_MESSAGE
 
@@ -26,11 +28,12 @@ pub record IsTooMuch (v : SenderView) (bytes : List ℕ) : Type 0 where
 
 -- ---- refused
 
--- for a stream that isn't there; empty; too long; as too many wait; as tickets, or TSNs, would run out
+-- the stream doesn't exist; it is being reset, or the peer refused to; the message is empty; it is too long; too many messages wait; tickets or TSNs would run out
 pub data IsRefused (v : SenderView) (stream : ℕ) (bytes : List ℕ) : Refusal → Type 0 where
   Has_no_stream : v.streams ≤ stream → IsRefused v stream bytes NoSuchStream
-  Has_no_byte : stream < v.streams → bytes ≡ [] → IsRefused v stream bytes Empty
-  Has_too_many : stream < v.streams → LONGEST_MESSAGE < length bytes → IsRefused v stream bytes TooLong
+  Is_reset : stream < v.streams → is_sending (v.resets.sending stream) ≡ false → IsRefused v stream bytes Resetting
+  Has_no_byte : stream < v.streams → is_sending (v.resets.sending stream) ≡ true → bytes ≡ [] → IsRefused v stream bytes Empty
+  Has_too_many : stream < v.streams → is_sending (v.resets.sending stream) ≡ true → LONGEST_MESSAGE < length bytes → IsRefused v stream bytes TooLong
   Has_no_place : IsSendable v stream bytes → QUEUE_LIMIT ≤ length v.queue → IsRefused v stream bytes QueueFull
   Has_no_ticket : MayWait v stream bytes → TICKET_LIMIT ≤ v.tickets → IsRefused v stream bytes Spent
   Has_no_numbers : MayWait v stream bytes → IsTooMuch v bytes → IsRefused v stream bytes Spent
@@ -43,7 +46,7 @@ pub record IsAccepted (v : SenderView) (stream : ℕ) (bytes : List ℕ) : Type 
   pub ticket : v.tickets < TICKET_LIMIT
   pub numbers : IsTooMuch v bytes → ⊥
 
--- ---- laws, where a fragment may have a byte
+-- ---- laws, if a fragment may have a byte
 
 -- the reason that is told is the one that there is
 abbrev pub RefusalIsTold : Type 0

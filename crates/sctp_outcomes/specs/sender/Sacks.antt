@@ -1,4 +1,4 @@
--- A SACK or a SHUTDOWN that comes to a sender, as a relation: the index that its TSN says, what is wrong with it, and what it covers
+-- A SACK or a SHUTDOWN that arrives at a sender, as a relation: the index of its TSN, its faults, and what it acknowledges
 -- (RFC 9260, 3.3.4, 6.2.1 and 9.2).
 use Rattle.std.specs.Prelude.{◌≡◌, ◌↔◌, ◌⊎◌, ℕ, ◌+◌, ◌^◌, ◌<◌, ◌≤◌, true, List, [], ◌∷◌, length}
 use Rattle.sctp_model.specs.numbers.Lists.{Has}
@@ -47,7 +47,7 @@ pub data IsShutdownFaulty (v : SenderView) (wire : ℕ) : SackFault → Type 0 w
 
 -- ---- what it leaves
 
--- the index is to be repeated where it was before, and isn't covered now
+-- the index is to be repeated if it was before, and isn't covered now
 abbrev pub KeepsMark : (v u : SenderView) → (index : ℕ) → Type 0
 KeepsMark v u i = (u.marked i ≡ true) ↔ ((v.marked i ≡ true) × (u.covered i ≡ true → ⊥))
 

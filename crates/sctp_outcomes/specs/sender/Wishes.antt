@@ -54,7 +54,7 @@ pub record IsFirstOn (s : ℕ) (q : Queued) (waiting left : List Queued) : Type 
   pub stream : q.lane.stream ≡ s
   pub first : (x : Queued) → Has ahead x → x.lane.stream ≡ s → ⊥
 
--- The stream goes on with its message in part; where it has none, it begins the message that has waited longest. The turn is then the next stream's.
+-- The stream goes on with its message in part; if it has none, it begins the message that has waited longest. The turn is then the next stream's.
 pub data SendsInTurn (v : SenderView) (s : ℕ) : SenderView → Type 0 where
   Goes_on : (l : Lane) (n k : ℕ) → HasMore v.plan s l n k
       → SendsInTurn v s (record v { plan = with_entry v.plan (Part l n (suc k)); turn = suc s % v.streams })
@@ -73,7 +73,7 @@ pub data TakesIndex (v : SenderView) : Format → SenderView → Type 0 where
 
 -- ---- the next wish
 
--- The lowest index to be repeated; where there is none, the lowest that is to go; where there is none either, what takes the next index.
+-- The lowest index to be repeated; if there is none, the lowest that is to go; if there is none either, what takes the next index.
 pub data IsNextWish (f : Format) (v : SenderView) : Wish → Type 0 where
   Repeats_one : (i : ℕ) → IsLowestSo v (IsToRepeat v) i → IsNextWish f v (record { index = i; view = v })
   Sends_one : (i : ℕ) → IsNoneSo v (IsToRepeat v) → IsLowestSo v (IsToGo v) i → IsNextWish f v (record { index = i; view = v })

@@ -13,7 +13,7 @@ use Rattle.sctp_model.specs.end.Options.{STATE_COOKIE, value_of, own_options, re
 use Rattle.sctp_model.specs.end.Opening.{introduction, body_for, init_ack_with, init_ack, terms_of_ack, terms_of_body}
 use Rattle.sctp_model.specs.world.World.{Side, A, B, Setup, configuration_of}
 use Rattle.sctp_safety.specs.Agreement.{AreAgreed}
-use Rattle.sctp_safety.proofs.machine.OwnOptions.{nothing_to_report, interleave_read, partial_read, cookie_read_back, interleave_behind, partial_behind}
+use Rattle.sctp_safety.proofs.machine.OwnOptions.{nothing_to_report, interleave_read, partial_read, cookie_read_back, interleave_behind, partial_behind, reset_read, reset_behind, both_ways}
 
 -- The INIT that a caller of this draw sends.
 abbrev pub init_of : Setup → Draw → InitMeaning
@@ -75,15 +75,16 @@ module _ (s : Setup) (configured : (x : Side) → IsConfiguration (configuration
           first_tsn_back = refl;
           streams = refl;
           streams_back = refl;
-          interleave = interleave_read (configuration_of s B) (configuration_of s A) refl refl ∙ sym (interleave_behind (configuration_of s A) (configuration_of s B) refl refl (s.sealing.sealed body) short);
-          partial = partial_read (configuration_of s B) (configuration_of s A) refl refl ∙ sym (partial_behind (configuration_of s A) (configuration_of s B) refl refl (s.sealing.sealed body) short);
+          interleave = interleave_read (configuration_of s B) (configuration_of s A) ∙ both_ways (configuration_of s B).interleave (configuration_of s A).interleave ∙ sym (interleave_behind (configuration_of s A) (configuration_of s B) (s.sealing.sealed body) short);
+          partial = partial_read (configuration_of s B) (configuration_of s A) ∙ both_ways (configuration_of s B).partial (configuration_of s A).partial ∙ sym (partial_behind (configuration_of s A) (configuration_of s B) (s.sealing.sealed body) short);
+          reset = reset_read (configuration_of s B) (configuration_of s A) ∙ both_ways (configuration_of s B).reset (configuration_of s A).reset ∙ sym (reset_behind (configuration_of s A) (configuration_of s B) (s.sealing.sealed body) short);
           some_streams = (both_some (configuration_of s A).outbound (configuration_of s B).inbound (a.outbound.0) (b.inbound.0), both_some (configuration_of s B).outbound (configuration_of s A).inbound (b.outbound.0) (a.inbound.0));
         }
 
     pub is_answer : Has drawn x.tag → IsAnswer s drawn d answer
     is_answer tag = record {
       body = body;
-      cookie = cookie_read_back (configuration_of s A) (configuration_of s B) refl refl (s.sealing.sealed body) short;
+      cookie = cookie_read_back (configuration_of s A) (configuration_of s B) (s.sealing.sealed body) short;
       opens = in_range;
       agreed = agreed;
       listener_tag = refl;

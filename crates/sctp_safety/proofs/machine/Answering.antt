@@ -9,7 +9,7 @@ use Rattle.sctp_model.specs.end.EndView.{Draw, Configuration, EndView}
 use Rattle.sctp_model.specs.end.Reports.{item, INVALID_PARAMETER}
 use Rattle.sctp_model.specs.end.PeerFaults.{Replies, packet_to, abort_for}
 use Rattle.sctp_model.specs.end.Opening.{RefusedAck, CookieRead, CookieOpens, CookieLate, Strange, cookie_read, has_no_stream, init_ack}
-use Rattle.sctp_model.specs.end.Acting.{Acts, PieceEmpty, WrongFormat, SackWrong, ShutdownWrong, AckCompletes, WrongKind, IsBad}
+use Rattle.sctp_model.specs.end.Acting.{IsUnknown, Acts, PieceEmpty, WrongFormat, SackWrong, ShutdownWrong, AckCompletes, WrongKind, IsBad}
 use Rattle.sctp_model.specs.end.Strays.{Verdict, Dropped, Answer, holds_abort, listens, init_verdict, cookie_verdict, echo_verdict, first_verdict, chunks_verdict, stray_verdict}
 use Rattle.sctp_model.specs.end.Arriving.{AllAct, NoneLeft, Next, Last, EndsAnswered, Stopped, Notes, noted, verdict_of}
 use Rattle.sctp_model.specs.end.Arriving.{Passes}
@@ -55,7 +55,7 @@ replies_nothing e tag (ForwardTsn m) t p (WrongKind u _ _ _ _) = one_chunk e.con
 replies_nothing e tag (ForwardTsn m) t p (IsBad u _ _ _ _ _ _) = one_chunk e.configuration u.peer _ refl
 replies_nothing e tag (IForwardTsn m) t p (WrongKind u _ _ _ _) = one_chunk e.configuration u.peer _ refl
 replies_nothing e tag (IForwardTsn m) t p (IsBad u _ _ _ _ _ _) = one_chunk e.configuration u.peer _ refl
-replies_nothing e tag (Unknown k f v) t p h = absurd (unknown_never_replies e t p k f v h)
+replies_nothing e tag (Unknown k f v) t p (IsUnknown _ off h) = absurd (unknown_never_replies e t p k f v h)
 
 no_answer : (b : Bool) (p : Packet) → verdict_of b ≡ Answer p → ⊥
 no_answer true p q = absurd (cc)

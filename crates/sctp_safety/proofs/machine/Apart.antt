@@ -8,6 +8,7 @@ use Rattle.sctp_model.specs.end.EndView.{Phase, Idle, Listening, Calling, Echoin
 use Rattle.sctp_model.specs.end.Configured.{IsConfiguration}
 use Rattle.sctp_model.specs.end.Opening.{init_ack, begun}
 use Rattle.sctp_model.specs.end.Strays.{Verdict, Taken, Dropped, Answer, stray_verdict}
+use Rattle.sctp_model.specs.end.Wearing.{missed_below, wearing}
 use Rattle.sctp_model.specs.end.Arriving.{AllAct, Arrives, Elsewhere, NotOurs, Stray, CookieBegins, Heard, Notes, no_notes, noted, packet_ended, urged}
 use Rattle.sctp_model.specs.end.Passing.{passes_chunks}
 use Rattle.sctp_model.specs.end.PeerFaults.{Unnoted}
@@ -16,7 +17,8 @@ use Rattle.sctp_safety.specs.States.{IsLaterEnd, has_agreed}
 use Rattle.sctp_safety.specs.Strangers.{IsDrawn}
 use Rattle.sctp_safety.specs.Agreement.{AreAgreed, AreEachOthers, was_open}
 use Rattle.sctp_safety.proofs.machine.Strangers.{IsFound, found_is, none_left, GoesBy, Zero, Tag, goes_by, passing_is_own, listener_is, nothing_found, stranger_stays}
-use Rattle.sctp_safety.proofs.machine.Turns.{Stays, plain_ended}
+use Rattle.sctp_safety.proofs.machine.Turns.{Stays, plain_on, plain_ended}
+use Rattle.sctp_safety.proofs.machine.TurnsOfTime.{plain_worn}
 use Rattle.sctp_safety.proofs.machine.Diagram.{acts_later, later_ended}
 use Rattle.sctp_safety.proofs.machine.AnswerToInit.{init_of, init_answered}
 use Rattle.sctp_safety.proofs.machine.Answering.{opens_association, OpensNothing, acts_answer, AnswersInit, stray_answer}
@@ -63,16 +65,18 @@ module _ (s : Setup) (drawn : List ℕ) (w : World) (ground : IsGrounded s drawn
 
   -- the listener's packet, at a caller that has called
   caller_hears : (q : Packet) (t : EndView) (n : Notes) (gap : Bool) (v : Verdict) (p : Packet) → Has w.from_b p → IsFront p q → has_association (end_now w A).phase ≡ true →
-      (xs : List ChunkMeaning) → q.chunks ≡ xs → passes_chunks (end_now w A).phase q.tag xs ≡ true → AllAct q.tag (end_now w A) no_notes xs t n v → IsCaller s drawn w.from_a w.from_b (packet_ended (urged gap n) t)
+      (xs : List ChunkMeaning) → q.chunks ≡ xs → passes_chunks (end_now w A).phase q.tag xs ≡ true → AllAct q.tag (end_now w A) no_notes xs t n v → IsCaller s drawn w.from_a w.from_b (packet_ended (urged gap n) (wearing (missed_below (end_now w A).pace) t))
   caller_hears q t n gap v p here f has [] same may acts = subst (IsCaller s drawn w.from_a w.from_b) (sym (none_left q.tag (end_now w A) t n gap v acts)) caller_now
   caller_hears q t n gap v p here f has (x ∷ xs) same may acts = by x refl (goes_by (end_now w A).phase x q.tag may)
     where
       held : (y : ChunkMeaning) → Has (x ∷ xs) y → Has p.chunks y
       held y h = f.chunks y (subst (λ (ys : List ChunkMeaning). Has ys y) (sym same) h)
 
-      by : (y : ChunkMeaning) → x ≡ y → GoesBy (end_now w A).phase q.tag y → IsCaller s drawn w.from_a w.from_b (packet_ended (urged gap n) t)
+      by : (y : ChunkMeaning) → x ≡ y → GoesBy (end_now w A).phase q.tag y → IsCaller s drawn w.from_a w.from_b (packet_ended (urged gap n) (wearing (missed_below (end_now w A).pace) t))
       by y e (Tag _ reflected through) =
-          caller_plain s drawn w.from_a w.from_b t (packet_ended (urged gap n) t) (plain_ended (urged gap n) t) (caller_acts s drawn w.from_a w.from_b p here
+          let k = missed_below (end_now w A).pace in
+          let u = wearing k t in
+          caller_plain s drawn w.from_a w.from_b t (packet_ended (urged gap n) u) (plain_on t u (packet_ended (urged gap n) u) (plain_worn k t) (plain_ended (urged gap n) u)) (caller_acts s drawn w.from_a w.from_b p here
           (subst (Has drawn) f.tag (apart.caller.drawn_tags q.tag (passing_is_own (end_now w A).phase reflected q.tag has through)))
           (λ h. no_cookie_ack (apart.answers p CookieAck here h)) q.tag (end_now w A) no_notes (x ∷ xs) t n v held has caller_now acts)
       by y e (Zero m) = absurd (no_init m (apart.answers p (Init m) here (held (Init m) (inl e))))

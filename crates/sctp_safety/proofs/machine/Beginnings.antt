@@ -11,6 +11,7 @@ use Rattle.sctp_model.specs.world.World.{Side, A, B, World, end_of, end_now, Set
 use Rattle.sctp_safety.specs.States.{has_agreed}
 use Rattle.sctp_safety.specs.Strangers.{IsDrawn}
 use Rattle.sctp_safety.specs.Agreement.{AreAgreed}
+use Rattle.sctp_safety.proofs.machine.Alike.{AreAlike}
 use Rattle.sctp_safety.proofs.machine.AnswerToInit.{both_some}
 use Rattle.sctp_safety.proofs.machine.CallerFacts.{InitFits, AckFits, IsFit, IsCaller}
 use Rattle.sctp_safety.proofs.machine.Ground.{IsGrounded}
@@ -18,24 +19,24 @@ use Rattle.sctp_safety.proofs.machine.Met.{IsMet}
 
 module _ (s : Setup) (drawn : List ℕ) (w : World) where
   -- the ends are opened without packets
-  pub opens : (ground : IsGrounded s drawn w) → ((x : Side) → IsConfiguration (configuration_of s x)) → (x y : Draw) → Has drawn x.tag → Has drawn y.tag → IsMet drawn (record w { a = opened w.a.configuration x y; b = opened w.b.configuration y x; openable = false })
-  opens ground configured x y hx hy = record {
+  pub opens : (ground : IsGrounded s drawn w) → ((x : Side) → IsConfiguration (configuration_of s x)) → AreAlike w.a.configuration w.b.configuration → (x y : Draw) → Has drawn x.tag → Has drawn y.tag → IsMet drawn (record w { a = opened w.a.configuration x y; b = opened w.b.configuration y x; openable = false })
+  opens ground configured like x y hx hy = record {
     met = record {
       caller = refl;
       listener = refl;
-      terms = subst (λ (c : Configuration). AreAgreed (terms_alike c x y) (terms_alike w.b.configuration y x)) (sym (ground.ends A).configuration)
-          (subst (λ (c : Configuration). AreAgreed (terms_alike (configuration_of s A) x y) (terms_alike c y x)) (sym (ground.ends B).configuration) alike);
+      terms = alike;
       tags = (refl, refl);
       closed_to_opening = refl;
     };
     tags = tags;
   }
     where
-      some : 0 < min (configuration_of s A).outbound (configuration_of s A).inbound
-      some = let c = configured A in both_some (configuration_of s A).outbound (configuration_of s A).inbound (c.outbound.0) (c.inbound.0)
+      some : 0 < min w.a.configuration.outbound w.a.configuration.inbound
+      some = subst (λ (k : Configuration). 0 < min k.outbound k.inbound) (sym (ground.ends A).configuration)
+          (let c = configured A in both_some (configuration_of s A).outbound (configuration_of s A).inbound (c.outbound.0) (c.inbound.0))
 
-      alike : AreAgreed (terms_alike (configuration_of s A) x y) (terms_alike (configuration_of s B) y x)
-      alike = record { first_tsn = refl; first_tsn_back = refl; streams = refl; streams_back = refl; interleave = refl; partial = refl; some_streams = (some, some) }
+      alike : AreAgreed (terms_alike w.a.configuration x y) (terms_alike w.b.configuration y x)
+      alike = record { first_tsn = refl; first_tsn_back = refl; streams = like.streams; streams_back = like.streams; interleave = like.interleave; partial = like.partial; reset = like.reset; some_streams = (some, some) }
 
       either : (n : ℕ) → Has (x.tag ∷ y.tag ∷ []) n → Has drawn n
       either n (inl e) = subst (Has drawn) e hx

@@ -12,12 +12,13 @@ use Rattle.sctp_model.specs.end.Strays.{Verdict}
 use Rattle.sctp_model.specs.end.Arriving.{AllAct, NoneLeft, Next, Last, EndsAnswered, Stopped, Arrives, Elsewhere, NotOurs, Stray, CookieBegins, Heard, Notes, no_notes, noted, packet_ended, urged}
 use Rattle.sctp_model.specs.end.Arriving.{Passes}
 use Rattle.sctp_model.specs.end.Moments.{ticked}
+use Rattle.sctp_model.specs.end.Wearing.{missed_below, wearing}
 use Rattle.sctp_model.specs.end.UserCalls.{called}
 use Rattle.sctp_model.specs.end.PeerFaults.{Unnoted}
 use Rattle.sctp_safety.specs.States.{IsTurn, ByCall, ByInitAck, ByCookieAck, ByCookie, ByPair, ByStage, ByEnd, IsPath, Here, On, has_begun, has_agreed, IsLaterEnd}
 use Rattle.sctp_safety.proofs.machine.Strangers.{found_is}
 use Rattle.sctp_safety.proofs.machine.Turns.{IsPlainTurn, Stays, Leaves, Goes, IsPlain, path_on, one_turn, begun_by_association, plain_rested, rested_has, IsLeft, Plainly, Accepts, Acked, goes_left, ends_plain, replies_plain, plain_ended}
-use Rattle.sctp_safety.proofs.machine.TurnsOfTime.{plain_ticked}
+use Rattle.sctp_safety.proofs.machine.TurnsOfTime.{plain_worn, plain_ticked}
 
 -- ---- later, and later again
 
@@ -166,4 +167,6 @@ arrives_later e d p t v (Stray ports passes none closed) = later_same e
 arrives_later e d p t v (CookieBegins b u n _ ports passes none opens acts gap _) =
     let f = found_is e p.tag p.chunks b opens in
     later_ended e u (urged gap n) (later_on e (begun b e) u (begun_later b e f.phase) (acts_later p.tag (begun b e) (noted Unnoted no_notes) (drop 1 p.chunks) u n v refl acts))
-arrives_later e d p t v (Heard u n _ ports passes has acts gap _) = later_ended e u (urged gap n) (acts_later p.tag e no_notes p.chunks u n v has acts)
+arrives_later e d p t v (Heard u n _ ports passes has acts gap _) =
+    let x = wearing (missed_below e.pace) u in
+    later_ended e x (urged gap n) (later_on e u x (acts_later p.tag e no_notes p.chunks u n v has acts) (plain_later u x (plain_worn (missed_below e.pace) u)))

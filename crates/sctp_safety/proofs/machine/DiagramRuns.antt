@@ -4,14 +4,14 @@ use Rattle.sctp_model.specs.wire.Packet.{Packet}
 use Rattle.sctp_model.specs.end.EndView.{Ended, has_association, Phase, Idle, Listening, Calling, Echoing, Open, Over, EndView}
 use Rattle.sctp_model.specs.end.Strays.{Verdict, Taken, Dropped, Answer}
 use Rattle.sctp_model.specs.end.Moments.{ticked}
-use Rattle.sctp_model.specs.end.UserCalls.{Called, connect_answer, called, send_answer, send_leaves, abandoned_at, shut, AbortAnswer, Aborts, NoPeer, TooLong, abort_answer, abort_leaves}
+use Rattle.sctp_model.specs.end.UserCalls.{reset_call, reset_leaves, reset_there, told_leaves, Called, connect_answer, called, send_answer, send_leaves, abandoned_at, shut, AbortAnswer, Aborts, NoPeer, TooLong, abort_answer, abort_leaves}
 use Rattle.sctp_model.specs.end.Arriving.{DroppedUnread, ReadAs, CutFirst, CutLater}
 use Rattle.sctp_model.specs.world.World.{Side, A, B, other, Log, World, end_of, with_end, with_packet, with_log, end_now, came, start}
 use Rattle.sctp_model.specs.world.Events.{with_verdict, with_abort, Event, Outcome}
-use Rattle.sctp_model.specs.world.Steps.{Step, OpensBoth, OpenRefused, TimePasses, Draws, Connects, ConnectRefused, BuildsOne, BuildsNone, PacketComes, IsAbsent, Sends, AbandonsOne, TakesOne, ShutsDown, AbortsIt, NoMemory, Run, Rest, Then, PacketCut}
+use Rattle.sctp_model.specs.world.Steps.{Step, OpensBoth, OpenRefused, TimePasses, Draws, Connects, ConnectRefused, BuildsOne, BuildsNone, PacketComes, IsAbsent, Sends, AbandonsOne, TakesOne, ResetsOne, TellsReset, ShutsDown, AbortsIt, NoMemory, Run, Rest, Then, PacketCut}
 use Rattle.sctp_safety.specs.States.{ClosedForGood, IsTurn, ByCall, ByInitAck, ByCookieAck, ByCookie, ByPair, ByStage, ByEnd, IsPath, Here, On, has_begun, IsLaterEnd, EndsFollowTheDiagram}
 use Rattle.sctp_safety.proofs.machine.Turns.{IsPlain, builds_plain}
-use Rattle.sctp_safety.proofs.machine.TurnsOfTime.{plain_ticked, plain_sent, plain_abandoned, plain_taken, plain_shut, plain_aborted}
+use Rattle.sctp_safety.proofs.machine.TurnsOfTime.{plain_ticked, plain_sent, plain_abandoned, plain_taken, plain_reset, plain_told, plain_shut, plain_aborted}
 use Rattle.sctp_safety.proofs.machine.Diagram.{later_same, later_on, plain_later, plain_unbegun, later_now, later_ticked, later_called, later_opened, arrives_later}
 
 -- while `open` is allowed nothing has begun
@@ -117,7 +117,7 @@ connect_idle (Open t g) e = absurd (cc)
 connect_idle (Over why) e = absurd (cc)
 
 pub step_onward : (w : World) (e : Event) (o : Option Outcome) (v : World) → IsFresh w → Step w e o v → IsOnward w v
-step_onward w e o v f (OpensBoth x y may dx dy) = record { later = later; fresh = λ q. absurd (cc) }
+step_onward w e o v f (OpensBoth x y like may dx dy) = record { later = later; fresh = λ q. absurd (cc) }
   where
     later : (z : Side) → IsLaterEnd (end_of w z) (end_of v z)
     later A = later_opened w.a x y w.a.phase refl (inl ((f may).0))
@@ -158,6 +158,8 @@ step_onward w e o v f (AbandonsOne s k) =
     onward_kept w (with_end w s (abandoned_at (end_of w s) k)) v
     (onward_plain w s (abandoned_at (end_of w s) k) f (plain_abandoned (end_of w s) k)) (kept_log (with_end w s (abandoned_at (end_of w s) k)) s _)
 step_onward w e o v f (TakesOne s n h t takes) = onward_plain w s t f (plain_taken (end_of w s) n h t takes)
+step_onward w e o v f (ResetsOne s n) = onward_plain w s (reset_leaves (reset_call (end_of w s) n) (end_of w s) n) f (plain_reset (end_of w s) (reset_call (end_of w s) n) n)
+step_onward w e o v f (TellsReset s) = onward_plain w s (told_leaves (reset_there (end_of w s)) (end_of w s)) f (plain_told (end_of w s) (reset_there (end_of w s)))
 step_onward w e o v f (ShutsDown s) = onward_plain w s (shut (end_of w s)) f (plain_shut (end_of w s))
 step_onward w e o v f (AbortsIt s r) =
     onward_kept w (with_end w s (abort_leaves (abort_answer (end_of w s) r) (end_of w s))) v

@@ -7,7 +7,7 @@ use Rattle.sctp_model.specs.end.Configured.{IsConfiguration}
 use Rattle.sctp_model.specs.world.World.{Side, A, B, World, end_of, Setup, configuration_of, start}
 use Rattle.sctp_model.specs.world.Events.{Event, Outcome}
 use Rattle.sctp_model.specs.world.Steps.{Step, Run, Rest, Then}
-use Rattle.sctp_model.specs.world.Premises.{draws_of, drawn_in, Premises}
+use Rattle.sctp_model.specs.world.Premises.{draws_of, drawn_in, FreshAndUnforged}
 use Rattle.sctp_safety.specs.Strangers.{IsDrawn}
 use Rattle.sctp_safety.specs.Agreement.{was_open, IsOpening, EndsAgree}
 use Rattle.sctp_safety.proofs.machine.DiagramRuns.{IsFresh, step_onward}
@@ -41,7 +41,7 @@ draws_within [] e none d h = elim none [ ]
 draws_within (x ∷ es) e (inl q) d h = has_before (draws_of x) _ d (subst (λ (y : Event). Has (draws_of y) d) (sym q) h)
 draws_within (x ∷ es) e (inr k) d h = has_behind (draws_of x) _ d (draws_within es e k d h)
 
-pub fine_by : (s : Setup) (es : List Event) → Premises s.sealing es → (e : Event) → Has es e → IsFine s (drawn_in es) e
+pub fine_by : (s : Setup) (es : List Event) → FreshAndUnforged s.sealing es → (e : Event) → Has es e → IsFine s (drawn_in es) e
 fine_by s es premises e here = record {
   draws = λ n h. inr (has_mapped (draws_of e) (joined (map draws_of es)) n (draws_within es e here) h);
   strangers = λ x p is. premises x p (subst (Has es) is here);

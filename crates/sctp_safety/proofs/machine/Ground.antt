@@ -11,16 +11,17 @@ use Rattle.sctp_model.specs.end.Strays.{Verdict}
 use Rattle.sctp_model.specs.end.Arriving.{AllAct, NoneLeft, Next, Last, EndsAnswered, Stopped, Arrives, Elsewhere, NotOurs, Stray, CookieBegins, Heard, DroppedUnread, ReadAs, CutFirst, CutLater, Notes, no_notes, noted, packet_ended, urged}
 use Rattle.sctp_model.specs.end.Arriving.{Passes}
 use Rattle.sctp_model.specs.end.Moments.{ticked}
+use Rattle.sctp_model.specs.end.Wearing.{missed_below, wearing}
 use Rattle.sctp_model.specs.end.Opening.{begun, opened}
-use Rattle.sctp_model.specs.end.UserCalls.{called, send_answer, shut, abort_answer, abort_leaves}
+use Rattle.sctp_model.specs.end.UserCalls.{reset_call, reset_leaves, reset_there, told_leaves, called, send_answer, shut, abort_answer, abort_leaves}
 use Rattle.sctp_model.specs.end.PeerFaults.{Unnoted}
 use Rattle.sctp_model.specs.world.World.{Side, A, B, World, end_of, end_now, Setup, configuration_of}
 use Rattle.sctp_model.specs.world.Events.{Event, Foreign, Outcome}
-use Rattle.sctp_model.specs.world.Steps.{Step, OpensBoth, OpenRefused, TimePasses, Draws, Connects, ConnectRefused, BuildsOne, BuildsNone, PacketComes, IsAbsent, Sends, AbandonsOne, TakesOne, ShutsDown, AbortsIt, NoMemory, PacketCut}
+use Rattle.sctp_model.specs.world.Steps.{Step, OpensBoth, OpenRefused, TimePasses, Draws, Connects, ConnectRefused, BuildsOne, BuildsNone, PacketComes, IsAbsent, Sends, AbandonsOne, TakesOne, ResetsOne, TellsReset, ShutsDown, AbortsIt, NoMemory, PacketCut}
 use Rattle.sctp_model.specs.world.Premises.{draws_of, IsStranger}
 use Rattle.sctp_safety.proofs.machine.Sides.{IsSameEnd, same_end, same_on, same_rested, goes_same, ends_same}
 use Rattle.sctp_safety.proofs.machine.Turns.{IsPlain, rested_has, builds_plain, replies_plain, goes_left, plain_ended}
-use Rattle.sctp_safety.proofs.machine.TurnsOfTime.{plain_ticked, plain_sent, plain_abandoned, plain_taken, plain_shut, plain_aborted}
+use Rattle.sctp_safety.proofs.machine.TurnsOfTime.{plain_worn, plain_ticked, plain_sent, plain_abandoned, plain_taken, plain_reset, plain_told, plain_shut, plain_aborted}
 use Rattle.sctp_safety.proofs.machine.Diagram.{left_has}
 use Rattle.sctp_safety.proofs.machine.OneEnd.{IsAt, at_end, at_log, at_packet, at_came, at_verdict, at_abort, answer_of, abort_of, both_ends}
 
@@ -55,7 +56,9 @@ arrives_same e d p t v (NotOurs ports tag) = same_end e
 arrives_same e d p t v (Stray ports tag none closed) = same_end e
 arrives_same e d p t v (CookieBegins b u n _ ports tag none opens acts gap _) =
     same_ended e u (urged gap n) (same_on e (begun b e) u (record { configuration = refl; role = refl; moment = refl }) (acts_same p.tag (begun b e) (noted Unnoted no_notes) _ u n v refl acts))
-arrives_same e d p t v (Heard u n _ ports tag has acts gap _) = same_ended e u (urged gap n) (acts_same p.tag e no_notes p.chunks u n v has acts)
+arrives_same e d p t v (Heard u n _ ports tag has acts gap _) =
+    let x = wearing (missed_below e.pace) u in
+    same_ended e x (urged gap n) (same_on e u x (acts_same p.tag e no_notes p.chunks u n v has acts) (plain_is_same u x (plain_worn (missed_below e.pace) u)))
 
 -- ---- an end
 
@@ -107,7 +110,7 @@ module _ (s : Setup) (drawn : List ℕ) where
       well_same s x (at_moment (end_of w x) n) (ticked (end_of w x) n) (plain_is_same _ _ (plain_ticked (end_of w x) n)) (well_now s x (end_of w x) n b (g.ends x))
 
   pub ground_step : (w : World) (e : Event) (o : Option Outcome) (v : World) → IsFine s drawn e → IsGrounded s drawn w → Step w e o v → IsGrounded s drawn v
-  ground_step w e o v fine g (OpensBoth x y may dx dy) = record { ends = ends; clock = g.clock; draw = g.draw; draw_tag = g.draw_tag }
+  ground_step w e o v fine g (OpensBoth x y like may dx dy) = record { ends = ends; clock = g.clock; draw = g.draw; draw_tag = g.draw_tag }
     where
       ends : (z : Side) → IsWell s z (end_of v z)
       ends A = well_opened s A w.a x y (g.ends A)
@@ -140,6 +143,8 @@ module _ (s : Setup) (drawn : List ℕ) where
   ground_step w e o v fine g (Sends x c) = ground_same w v x _ None g (at_log w x _ _) (plain_is_same _ _ (plain_sent (end_of w x) c (send_answer (end_of w x) c)))
   ground_step w e o v fine g (AbandonsOne x k) = ground_same w v x _ None g (at_log w x _ _) (plain_is_same _ _ (plain_abandoned (end_of w x) k))
   ground_step w e o v fine g (TakesOne x n h t takes) = ground_same w v x t None g (at_end w x t) (plain_is_same _ t (plain_taken (end_of w x) n h t takes))
+  ground_step w e o v fine g (ResetsOne x n) = ground_same w v x (reset_leaves (reset_call (end_of w x) n) (end_of w x) n) None g (at_end w x _) (plain_is_same _ _ (plain_reset (end_of w x) (reset_call (end_of w x) n) n))
+  ground_step w e o v fine g (TellsReset x) = ground_same w v x (told_leaves (reset_there (end_of w x)) (end_of w x)) None g (at_end w x _) (plain_is_same _ _ (plain_told (end_of w x) (reset_there (end_of w x))))
   ground_step w e o v fine g (ShutsDown x) = ground_same w v x (shut (end_of w x)) None g (at_end w x _) (plain_is_same _ _ (plain_shut (end_of w x)))
   ground_step w e o v fine g (AbortsIt x r) =
       ground_same w v x (abort_leaves (abort_answer (end_of w x) r) (end_of w x)) (abort_of (abort_answer (end_of w x) r)) g (at_abort w x _ _) (plain_is_same _ _ (plain_aborted (end_of w x) r))

@@ -5,15 +5,15 @@ use Rattle.sctp_model.specs.numbers.Numbers.{u16_bytes, u32_bytes, u16_at, u32_a
 use Rattle.sctp_model.specs.wire.Typed.{starts_typed, typed_of}
 use Rattle.sctp_model.specs.wire.Chunk.{InitAck, CookieEcho, CookieAck}
 use Rattle.sctp_model.specs.wire.Packet.{Packet, size_of_packet}
-use Rattle.sctp_model.specs.end.EndView.{Draw, Established, Open, InitAlarm, IsDraw}
-use Rattle.sctp_model.specs.end.Clock.{started, turned}
+use Rattle.sctp_model.specs.end.EndView.{Draw, Established, InitAlarm, IsDraw}
+use Rattle.sctp_model.specs.end.Clock.{started}
 use Rattle.sctp_model.specs.end.Closing.{with_due}
 use Rattle.sctp_model.specs.end.Configured.{IsConfiguration}
-use Rattle.sctp_model.specs.end.Opening.{body_for, AcceptedAck, CookieAcked}
+use Rattle.sctp_model.specs.end.Opening.{body_for, AcceptedAck, acknowledged_echo, CookieAcked}
 use Rattle.sctp_model.specs.end.Strays.{Taken, stray_verdict}
 use Rattle.sctp_model.specs.end.PeerFaults.{Unnoted}
 use Rattle.sctp_model.specs.end.Arriving.{Stray, CookieBegins, Heard, NoneLeft, Next, ReadAs, no_notes, noted}
-use Rattle.sctp_model.specs.end.Building.{EchoSlot, CookieAckSlot, HeartbeatSlot, ErrorSlot, SackSlot, ForwardSlot, ShutdownSlot, ShutdownAckSlot, EchoCookie, AckCookie, NoMore, NotDue, Put, Calls, Echoes, Fills, sent}
+use Rattle.sctp_model.specs.end.Building.{EchoSlot, CookieAckSlot, HeartbeatSlot, ErrorSlot, SackSlot, ForwardSlot, AnswerSlot, RequestSlot, ShutdownSlot, ShutdownAckSlot, EchoCookie, AckCookie, NoMore, NotDue, Put, Calls, Echoes, Fills, sent}
 use Rattle.sctp_model.specs.world.World.{Side, A, B, end_now, configuration_of}
 use Rattle.sctp_model.specs.world.Events.{told, OpenBoth, Drawing, Connect, Build, Deliver, Foreign, Done, Sent, Acted}
 use Rattle.sctp_model.specs.world.Steps.{Step, Draws, Connects, BuildsOne, FromBag, PacketComes, Run, Rest, Then}
@@ -62,18 +62,20 @@ step_7 = PacketComes (Deliver A 2) B (Some packet_3) begins Taken (FromBag A 2 p
 step_8 : Step w7 (Build B) (Some (Sent 2 (size_of_packet (CookieAck ∷ [])))) w8
 unfolding u16_bytes u32_bytes u16_at u32_at starts_typed typed_of
 step_8 = BuildsOne B CookieAck [] (sent acked (CookieAck ∷ [])) (Fills (record { own = 9; peer = 7 }) Established (CookieAck ∷ []) acked refl
-    (Put CookieAckSlot (HeartbeatSlot ∷ ErrorSlot ∷ SackSlot ∷ ForwardSlot ∷ ShutdownSlot ∷ ShutdownAckSlot ∷ []) (end_now w7 B) CookieAck [] (CookieAck ∷ []) false acked refl AckCookie refl
-    (NotDue HeartbeatSlot (ErrorSlot ∷ SackSlot ∷ ForwardSlot ∷ ShutdownSlot ∷ ShutdownAckSlot ∷ []) acked (CookieAck ∷ []) (CookieAck ∷ []) false acked refl
-    (NotDue ErrorSlot (SackSlot ∷ ForwardSlot ∷ ShutdownSlot ∷ ShutdownAckSlot ∷ []) acked (CookieAck ∷ []) (CookieAck ∷ []) false acked refl
-    (NotDue SackSlot (ForwardSlot ∷ ShutdownSlot ∷ ShutdownAckSlot ∷ []) acked (CookieAck ∷ []) (CookieAck ∷ []) false acked refl
-    (NotDue ForwardSlot (ShutdownSlot ∷ ShutdownAckSlot ∷ []) acked (CookieAck ∷ []) (CookieAck ∷ []) false acked refl
+    (Put CookieAckSlot (HeartbeatSlot ∷ ErrorSlot ∷ SackSlot ∷ ForwardSlot ∷ AnswerSlot ∷ RequestSlot ∷ ShutdownSlot ∷ ShutdownAckSlot ∷ []) (end_now w7 B) CookieAck [] (CookieAck ∷ []) false acked refl AckCookie refl
+    (NotDue HeartbeatSlot (ErrorSlot ∷ SackSlot ∷ ForwardSlot ∷ AnswerSlot ∷ RequestSlot ∷ ShutdownSlot ∷ ShutdownAckSlot ∷ []) acked (CookieAck ∷ []) (CookieAck ∷ []) false acked refl
+    (NotDue ErrorSlot (SackSlot ∷ ForwardSlot ∷ AnswerSlot ∷ RequestSlot ∷ ShutdownSlot ∷ ShutdownAckSlot ∷ []) acked (CookieAck ∷ []) (CookieAck ∷ []) false acked refl
+    (NotDue SackSlot (ForwardSlot ∷ AnswerSlot ∷ RequestSlot ∷ ShutdownSlot ∷ ShutdownAckSlot ∷ []) acked (CookieAck ∷ []) (CookieAck ∷ []) false acked refl
+    (NotDue ForwardSlot (AnswerSlot ∷ RequestSlot ∷ ShutdownSlot ∷ ShutdownAckSlot ∷ []) acked (CookieAck ∷ []) (CookieAck ∷ []) false acked refl
+    (NotDue AnswerSlot (RequestSlot ∷ ShutdownSlot ∷ ShutdownAckSlot ∷ []) acked (CookieAck ∷ []) (CookieAck ∷ []) false acked refl
+    (NotDue RequestSlot (ShutdownSlot ∷ ShutdownAckSlot ∷ []) acked (CookieAck ∷ []) (CookieAck ∷ []) false acked refl
     (NotDue ShutdownSlot (ShutdownAckSlot ∷ []) acked (CookieAck ∷ []) (CookieAck ∷ []) false acked refl
-    (NotDue ShutdownAckSlot [] acked (CookieAck ∷ []) (CookieAck ∷ []) false acked refl (NoMore acked (CookieAck ∷ []))))))))))
+    (NotDue ShutdownAckSlot [] acked (CookieAck ∷ []) (CookieAck ∷ []) false acked refl (NoMore acked (CookieAck ∷ []))))))))))))
 
 step_9 : Step w8 (Deliver B 2) (Some Acted) w9
 unfolding u16_bytes u32_bytes u16_at u32_at starts_typed typed_of
 step_9 =
-    let t = turned (Open tags_a Established) (end_now w8 A) in
+    let t = acknowledged_echo tags_a (end_now w8 A) in
     PacketComes (Deliver B 2) A (Some packet_4) t Taken (FromBag B 2 packet_4 refl) (ReadAs packet_4 t Taken (Heard t (noted Unnoted no_notes) Taken refl refl refl
     (Next (end_now w8 A) t t Unnoted no_notes (noted Unnoted no_notes) CookieAck [] Taken
     (CookieAcked tags_a cookie refl)

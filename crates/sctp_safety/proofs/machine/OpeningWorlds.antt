@@ -3,18 +3,19 @@ use Rattle.std.proofs.Common.{◌≡◌, ℕ, Bool, true, false, List, [], ◌�
 use Rattle.sctp_model.specs.wire.Chunk.{InitMeaning, ChunkMeaning, InitAck, CookieEcho, CookieAck}
 use Rattle.sctp_model.specs.wire.Packet.{Packet, size_of_packet}
 use Rattle.sctp_model.specs.end.Sealing.{Body, Sealing}
-use Rattle.sctp_model.specs.end.EndView.{Draw, Tags, Established, Open, EndView, InitAlarm, CookieAlarm}
-use Rattle.sctp_model.specs.end.Clock.{started, turned}
+use Rattle.sctp_model.specs.end.EndView.{Draw, Tags, EndView, InitAlarm, CookieAlarm}
+use Rattle.sctp_model.specs.end.Clock.{started}
 use Rattle.sctp_model.specs.end.Closing.{with_due}
 use Rattle.sctp_model.specs.end.Reports.{written, item}
 use Rattle.sctp_model.specs.end.Options.{STATE_COOKIE, own_options}
 use Rattle.sctp_model.specs.end.PeerFaults.{packet_to}
-use Rattle.sctp_model.specs.end.Opening.{own_init, body_for, echoing, begun}
+use Rattle.sctp_model.specs.end.Opening.{own_init, body_for, echoing, begun, acknowledged_echo}
 use Rattle.sctp_model.specs.end.Strays.{stray_verdict}
 use Rattle.sctp_model.specs.end.Building.{sent, packet_of}
 use Rattle.sctp_model.specs.end.UserCalls.{called}
 use Rattle.sctp_model.specs.world.World.{A, B, World, with_end, with_packet, end_now, came, Setup, configuration_of, start}
 use Rattle.sctp_model.specs.world.Events.{with_verdict, told, Event, Drawing, Connect, Build, Deliver, Outcome, Done, Sent, Acted}
+use Rattle.sctp_model.specs.numbers.Limits.{LEAST_WAIT}
 
 -- ---- a seal that hides nothing: the numbers of the body one after the other
 
@@ -25,10 +26,10 @@ bit false = 0
 abbrev pub numbers : Body → List ℕ
 numbers b =
     b.made ∷ b.listener.port ∷ b.caller.port ∷ b.listener.tag ∷ b.caller.tag ∷ b.listener.tsn ∷ b.caller.tsn ∷ b.rwnd
-    ∷ b.to_caller ∷ b.from_caller ∷ bit b.partial ∷ bit b.interleave ∷ replicate 60 0
+    ∷ b.to_caller ∷ b.from_caller ∷ bit b.partial ∷ bit b.interleave ∷ bit b.reset ∷ replicate 59 0
 
 abbrev pub read : List ℕ → Option Body
-read (made ∷ lp ∷ cp ∷ lt ∷ ct ∷ ln ∷ cn ∷ rwnd ∷ to ∷ from ∷ p ∷ i ∷ more) = Some (record {
+read (made ∷ lp ∷ cp ∷ lt ∷ ct ∷ ln ∷ cn ∷ rwnd ∷ to ∷ from ∷ p ∷ i ∷ z ∷ more) = Some (record {
   made = made;
   listener = record { port = lp; tag = lt; tsn = ln };
   caller = record { port = cp; tag = ct; tsn = cn };
@@ -37,13 +38,15 @@ read (made ∷ lp ∷ cp ∷ lt ∷ ct ∷ ln ∷ cn ∷ rwnd ∷ to ∷ from �
   from_caller = from;
   partial = p == 1;
   interleave = i == 1;
+  reset = z == 1;
 })
 read xs = None
 
 pub reads_back : (b : Body) → read (numbers b) ≡ Some b
 reads_back b =
-    ap (λ (p : Bool). Some (record b { partial = p; interleave = bit b.interleave == 1 })) (back b.partial)
-    ∙ ap (λ (i : Bool). Some (record b { interleave = i })) (back b.interleave)
+    ap (λ (p : Bool). Some (record b { partial = p; interleave = bit b.interleave == 1; reset = bit b.reset == 1 })) (back b.partial)
+    ∙ ap (λ (i : Bool). Some (record b { interleave = i; reset = bit b.reset == 1 })) (back b.interleave)
+    ∙ ap (λ (i : Bool). Some (record b { reset = i })) (back b.reset)
   where
     back : (x : Bool) → (bit x == 1) ≡ x
     back true = refl
@@ -56,7 +59,7 @@ open_seal = record { sealed = numbers; opened = read; size = λ b. refl; opens =
 
 abbrev pub two : Setup
 two = record {
-  alike = record {
+  of_a = record {
     own_port = 0;
     peer_port = 0;
     limit = 1200;
@@ -68,6 +71,27 @@ two = record {
     partial = true;
     delay = false;
     standard_closing = false;
+    fast_retransmit = false;
+    least_wait = LEAST_WAIT;
+    congestion_control = false;
+    reset = true;
+  };
+  of_b = record {
+    own_port = 0;
+    peer_port = 0;
+    limit = 1200;
+    fragment = 1000;
+    buffer = 65536;
+    outbound = 2;
+    inbound = 3;
+    interleave = true;
+    partial = true;
+    delay = false;
+    standard_closing = false;
+    fast_retransmit = false;
+    least_wait = LEAST_WAIT;
+    congestion_control = false;
+    reset = true;
   };
   a_port = 5000;
   b_port = 5001;
@@ -162,7 +186,7 @@ w8 = with_packet (with_end w7 B (sent acked (CookieAck ∷ []))) B packet_4
 
 -- and so does the caller
 abbrev pub w9 : World
-w9 = came w8 A (turned (Open tags_a Established) (end_now w8 A))
+w9 = came w8 A (acknowledged_echo tags_a (end_now w8 A))
 
 abbrev pub answers : List (Option Outcome)
 answers =

@@ -1,6 +1,7 @@
 -- What no chunk, moment or call changes of an end: how it was set up, and its role.
 use Rattle.std.proofs.Common.{◌≡◌, ℕ, Bool, true, false, List, refl, sym, subst, ◌∙◌}
 use Rattle.sctp_model.specs.wire.Chunk.{ChunkMeaning, Data, IData, Init, InitAck, Sack, Heartbeat, HeartbeatAck, Abort, Shutdown, ShutdownAck, Error, CookieEcho, CookieAck, ShutdownComplete, ForwardTsn, IForwardTsn, Unknown}
+use Rattle.sctp_model.specs.wire.Typed.{typed_in}
 use Rattle.sctp_model.specs.wire.Unknown.{chunk_rule}
 use Rattle.sctp_model.specs.wire.Packet.{Packet}
 use Rattle.sctp_model.specs.end.EndView.{Aborted, EndView}
@@ -9,7 +10,8 @@ use Rattle.sctp_model.specs.end.Reports.{with_causes}
 use Rattle.sctp_model.specs.end.Closing.{rested}
 use Rattle.sctp_model.specs.end.PeerFaults.{GoesOn, Ends, Replies, Note}
 use Rattle.sctp_model.specs.end.Opening.{AcceptedAck, EchoedAgain, CookieAcked}
-use Rattle.sctp_model.specs.end.Acting.{Acts, ForwardComes, PieceComes, IsOld, SackStale, ShutdownStale, HeartbeatCounts, SackCounts, ShutdownCounts, Closes, SaysNothing, Crosses, Again, CompleteCompleted, unknown_causes, unknown_leaves}
+use Rattle.sctp_model.specs.end.Acting.{ReconfigComes, IsUnknown, Acts, ForwardComes, PieceComes, IsOld, SackStale, ShutdownStale, HeartbeatCounts, SackCounts, ShutdownCounts, Closes, SaysNothing, Crosses, Again, CompleteCompleted, unknown_causes, unknown_leaves}
+use Rattle.sctp_safety.proofs.machine.Reconfigured.{parameters_same}
 use Rattle.sctp_safety.proofs.machine.EndWords.{rested_cases}
 
 -- the same end, as far as it was set up
@@ -79,7 +81,8 @@ goes_same e tag (ForwardTsn m) y t (IsOld _ _ _ _ _ _ _) = record { configuratio
 goes_same e tag (ForwardTsn m) y t (ForwardComes _ _ _ _ _ _ _) = record { configuration = refl; role = refl; moment = refl }
 goes_same e tag (IForwardTsn m) y t (IsOld _ _ _ _ _ _ _) = record { configuration = refl; role = refl; moment = refl }
 goes_same e tag (IForwardTsn m) y t (ForwardComes _ _ _ _ _ _ _) = record { configuration = refl; role = refl; moment = refl }
-goes_same e tag (Unknown k f v) y t h = let u = unknown_goes e y t k f v h in subst (IsSameEnd e) (sym u.same) (record { configuration = refl; role = refl; moment = refl })
+goes_same e tag (Unknown k f v) y t (ReconfigComes c takes cumulative) = let u = parameters_same c e (typed_in v) in record { configuration = u.configuration; role = u.role; moment = u.moment }
+goes_same e tag (Unknown k f v) y t (IsUnknown _ off h) = let u = unknown_goes e y t k f v h in subst (IsSameEnd e) (sym u.same) (record { configuration = refl; role = refl; moment = refl })
 
 pub ends_same : (e : EndView) (tag : ℕ) (x : ChunkMeaning) (t : EndView) → Acts e tag x (Ends t) → IsSameEnd e t
 ends_same e tag (Data p) t h = elim h [ ]
@@ -98,4 +101,4 @@ ends_same e tag CookieAck t h = elim h [ ]
 ends_same e tag (ShutdownComplete b) t (CompleteCompleted _) = record { configuration = refl; role = refl; moment = refl }
 ends_same e tag (ForwardTsn m) t h = elim h [ ]
 ends_same e tag (IForwardTsn m) t h = elim h [ ]
-ends_same e tag (Unknown k f v) t h = let u = unknown_ends e t k f v h in subst (IsSameEnd e) (sym u.same) (record { configuration = refl; role = refl; moment = refl })
+ends_same e tag (Unknown k f v) t (IsUnknown _ off h) = let u = unknown_ends e t k f v h in subst (IsSameEnd e) (sym u.same) (record { configuration = refl; role = refl; moment = refl })

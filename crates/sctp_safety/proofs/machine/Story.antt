@@ -11,16 +11,17 @@ use Rattle.sctp_model.specs.end.Arriving.{Arrives, DroppedUnread, ReadAs, CutFir
 use Rattle.sctp_model.specs.end.Building.{Builds, Sleeps, Waits, Calls, Echoes, Fills, packet_of}
 use Rattle.sctp_model.specs.end.Building.{EndsFull}
 use Rattle.sctp_model.specs.end.Moments.{ticked}
-use Rattle.sctp_model.specs.end.UserCalls.{send_answer, shut, Aborts, TooLong, abort_answer, abort_answer_to, abort_leaves, abort_packet, peer_tag}
+use Rattle.sctp_model.specs.end.UserCalls.{reset_call, reset_leaves, reset_there, told_leaves, send_answer, shut, Aborts, TooLong, abort_answer, abort_answer_to, abort_leaves, abort_packet, peer_tag}
 use Rattle.sctp_model.specs.world.World.{Side, A, B, World, end_of, end_now, came, Setup, configuration_of}
 use Rattle.sctp_model.specs.world.Events.{Event, Outcome, with_verdict}
 use Rattle.sctp_model.specs.end.Opening.{opened}
-use Rattle.sctp_model.specs.world.Steps.{Step, OpensBoth, OpenRefused, TimePasses, Draws, Connects, ConnectRefused, BuildsOne, BuildsNone, PacketComes, IsAbsent, Sends, AbandonsOne, TakesOne, ShutsDown, AbortsIt, NoMemory, PacketCut}
+use Rattle.sctp_model.specs.world.Steps.{Step, OpensBoth, OpenRefused, TimePasses, Draws, Connects, ConnectRefused, BuildsOne, BuildsNone, PacketComes, IsAbsent, Sends, AbandonsOne, TakesOne, ResetsOne, TellsReset, ShutsDown, AbortsIt, NoMemory, PacketCut}
 use Rattle.sctp_safety.specs.States.{has_begun, has_agreed}
 use Rattle.sctp_safety.specs.Strangers.{IsDrawn}
 use Rattle.sctp_safety.specs.Agreement.{AreAgreed, AreEachOthers, was_open}
+use Rattle.sctp_safety.proofs.machine.Alike.{alike_is}
 use Rattle.sctp_safety.proofs.machine.Turns.{IsPlainTurn, Stays, IsPlain, plain_same, builds_plain}
-use Rattle.sctp_safety.proofs.machine.TurnsOfTime.{plain_ticked, plain_sent, plain_abandoned, plain_taken, plain_shut, plain_aborted}
+use Rattle.sctp_safety.proofs.machine.TurnsOfTime.{plain_ticked, plain_sent, plain_abandoned, plain_taken, plain_reset, plain_told, plain_shut, plain_aborted}
 use Rattle.sctp_safety.proofs.machine.Diagram.{plain_unbegun}
 use Rattle.sctp_safety.proofs.machine.DiagramRuns.{IsFresh, connect_idle}
 use Rattle.sctp_safety.proofs.machine.Answering.{one_chunk}
@@ -168,7 +169,7 @@ module _ (s : Setup) (drawn : List ℕ) (w : World) (ground : IsGrounded s drawn
     closed_came B t = refl
 
     apart_step : (e : Event) (o : Option Outcome) (v : World) → IsFine s drawn e → Step w e o v → IsStory s drawn v
-    apart_step e o v fine (OpensBoth x y may dx dy) = HaveMet (opens s drawn w ground configured x y (fine.draws x.tag (inl refl)) (fine.draws y.tag (inr (inl refl))))
+    apart_step e o v fine (OpensBoth x y like may dx dy) = HaveMet (opens s drawn w ground configured (alike_is w.a.configuration w.b.configuration like) x y (fine.draws x.tag (inl refl)) (fine.draws y.tag (inr (inl refl))))
     apart_step e o v fine (OpenRefused x y closed) = AreApart apart
     apart_step e o v fine (TimePasses m small) = AreApart (record {
       listens = plain_unbegun w.b.phase _ (plain_ticked w.b (max w.clock m)).turn (subst (λ (h : Phase). has_begun h ≡ false) (sym apart.listens) refl) ∙ apart.listens;
@@ -192,6 +193,8 @@ module _ (s : Setup) (drawn : List ℕ) (w : World) (ground : IsGrounded s drawn
     apart_step e o v fine (Sends x c) = by_plain v x _ None (at_log w x _ _) (plain_sent (end_of w x) c (send_answer (end_of w x) c)) tt
     apart_step e o v fine (AbandonsOne x k) = by_plain v x _ None (at_log w x _ _) (plain_abandoned (end_of w x) k) tt
     apart_step e o v fine (TakesOne x n h t takes) = by_plain v x t None (at_end w x t) (plain_taken (end_of w x) n h t takes) tt
+    apart_step e o v fine (ResetsOne x n) = by_plain v x (reset_leaves (reset_call (end_of w x) n) (end_of w x) n) None (at_end w x _) (plain_reset (end_of w x) (reset_call (end_of w x) n) n) tt
+    apart_step e o v fine (TellsReset x) = by_plain v x (told_leaves (reset_there (end_of w x)) (end_of w x)) None (at_end w x _) (plain_told (end_of w x) (reset_there (end_of w x))) tt
     apart_step e o v fine (ShutsDown x) = by_plain v x (shut (end_of w x)) None (at_end w x _) (plain_shut (end_of w x)) tt
     apart_step e o v fine (AbortsIt x r) =
         by_plain v x (abort_leaves (abort_answer (end_of w x) r) (end_of w x)) (abort_of (abort_answer (end_of w x) r)) (at_abort w x _ _) (plain_aborted (end_of w x) r) (abort_quiet (end_of w x) r)

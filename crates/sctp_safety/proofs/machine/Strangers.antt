@@ -1,6 +1,6 @@
 -- A stranger's packet changes nothing at an end: under no tag of its own does it pass, an INIT is passed over, and no cookie of its making opens.
 use Rattle.std.proofs.Common.{◌≡◌, ℕ, nat_le, Bool, true, false, List, [], ◌∷◌, Option, Some, None, inl, inr, refl, sym, subst, ap, eqb-true}
-use Rattle.std.specs.Prelude.{if◌then◌else◌}
+use Rattle.std.specs.Prelude.{◌&&◌, if◌then◌else◌}
 use Rattle.sctp_model.specs.numbers.Lists.{Has}
 use Rattle.sctp_model.specs.numbers.Limits.{COOKIE_LIFE}
 use Rattle.sctp_model.specs.wire.Chunk.{InitMeaning, ChunkMeaning, Data, IData, Init, InitAck, Sack, Heartbeat, HeartbeatAck, Abort, Shutdown, ShutdownAck, Error, CookieEcho, CookieAck, ShutdownComplete, ForwardTsn, IForwardTsn, Unknown}
@@ -8,9 +8,11 @@ use Rattle.sctp_model.specs.wire.Packet.{Packet}
 use Rattle.sctp_model.specs.wire.Places.{ArePlaced}
 use Rattle.sctp_model.specs.end.Sealing.{Body, Sealing}
 use Rattle.sctp_model.specs.end.EndView.{Tags, Draw, Phase, Idle, Listening, Calling, Echoing, Open, Over, Role, Caller, Paired, Listener, EndView, has_association}
-use Rattle.sctp_model.specs.end.Opening.{CookieOpens, CookieLate, Strange, is_addressed, body_read, age}
+use Rattle.sctp_model.specs.end.Opening.{CookieOpens, CookieLate, Strange, is_addressed, is_formed, body_read, age}
 use Rattle.sctp_model.specs.end.Passing.{passes_tag, passes_first, passes_chunks}
 use Rattle.sctp_model.specs.end.Strays.{Verdict, holds_abort, seal_at, listens, body_of, body_in, body_among}
+use Rattle.sctp_model.specs.end.Wearing.{missed_below, wearing}
+use Rattle.sctp_model.proofs.PacedEnds.{nothing_missed}
 use Rattle.sctp_model.specs.end.Arriving.{AllAct, NoneLeft, Next, Last, EndsAnswered, Stopped, Arrives, Elsewhere, NotOurs, Stray, CookieBegins, Heard, Notes, no_notes, packet_ended, urged}
 use Rattle.sctp_model.specs.end.Arriving.{Passes}
 use Rattle.sctp_model.specs.world.Premises.{IsBody, IsStranger}
@@ -65,12 +67,12 @@ init_alone m [] placed = refl
 init_alone m (y ∷ ys) placed = absurd (cc)
 
 -- and is passed over where there is an association
-init_passed : (e t : EndView) (n : Notes) (gap : Bool) (tag : ℕ) (m : InitMeaning) (v : Verdict) → AllAct tag e no_notes (Init m ∷ []) t n v → packet_ended (urged gap n) t ≡ e
+init_passed : (e t : EndView) (n : Notes) (gap : Bool) (tag : ℕ) (m : InitMeaning) (v : Verdict) → AllAct tag e no_notes (Init m ∷ []) t n v → packet_ended (urged gap n) (wearing (missed_below e.pace) t) ≡ e
 init_passed e t n gap tag m v (Next _ _ _ _ _ _ _ _ _ act more) = absurd (cc)
-init_passed e t n gap tag m v (Passes _ _ _ _ _ _ _ act (NoneLeft _ _)) = refl
+init_passed e t n gap tag m v (Passes _ _ _ _ _ _ _ act (NoneLeft _ _)) = nothing_missed e
 init_passed e t n gap tag m v (Last _ _ _ _ _ act) = absurd (cc)
 init_passed e t n gap tag m v (EndsAnswered _ _ _ _ _ _ act) = absurd (cc)
-init_passed e t n gap tag m v (Stopped _ _ _ _ _ act) = refl
+init_passed e t n gap tag m v (Stopped _ _ _ _ _ act) = nothing_missed e
 
 -- ---- a cookie
 
@@ -84,6 +86,7 @@ pub record IsFound (e : EndView) (tag : ℕ) (xs : List ChunkMeaning) (b : Body)
   pub chunks : xs ≡ CookieEcho cookie ∷ behind
   pub opens : seal.opened cookie ≡ Some b
   pub addressed : is_addressed e tag b ≡ true
+  pub formed : is_formed e b ≡ true
 
 pub listener_is : (h : Phase) (r : Role) (z : Sealing) → seal_at h r ≡ Some z → (h ≡ Listening) × (r ≡ Listener z)
 listener_is Listening (Listener y) z e = let q : y ≡ z = cc in (refl, ap (λ (u : Sealing). Listener u) q)
@@ -95,17 +98,24 @@ listener_is (Echoing t xs) r z e = absurd (cc)
 listener_is (Open t g) r z e = absurd (cc)
 listener_is (Over w) r z e = absurd (cc)
 
-opens_is : (e : EndView) (tag : ℕ) (o : Option Body) (b : Body) → body_of (body_read e tag o) ≡ Some b → (o ≡ Some b) × (is_addressed e tag b ≡ true)
+both_tests : (a b : Bool) → (a && b) ≡ true → (a ≡ true) × (b ≡ true)
+both_tests true b h = (refl, h)
+both_tests false b h = absurd (cc)
+
+opens_is : (e : EndView) (tag : ℕ) (o : Option Body) (b : Body) → body_of (body_read e tag o) ≡ Some b → (o ≡ Some b) × (is_addressed e tag b ≡ true) × (is_formed e b ≡ true)
 opens_is e tag None b h = absurd (cc)
-opens_is e tag (Some x) b h = go (is_addressed e tag x) refl h
+opens_is e tag (Some x) b h = go (is_addressed e tag x && is_formed e x) refl h
   where
     inner : (c : Bool) → body_of (if c then CookieOpens x else CookieLate x) ≡ Some b → x ≡ b
     inner true q = cc
     inner false q = absurd (cc)
 
-    go : (a : Bool) → is_addressed e tag x ≡ a → body_of (if a then (if nat_le (age e.moment x) COOKIE_LIFE then CookieOpens x else CookieLate x) else Strange) ≡ Some b →
-        (Some x ≡ Some b) × (is_addressed e tag b ≡ true)
-    go true a q = let s = inner (nat_le (age e.moment x) COOKIE_LIFE) q in (ap (λ (y : Body). Some y) s, subst (λ (y : Body). is_addressed e tag y ≡ true) s a)
+    go : (a : Bool) → (is_addressed e tag x && is_formed e x) ≡ a → body_of (if a then (if nat_le (age e.moment x) COOKIE_LIFE then CookieOpens x else CookieLate x) else Strange) ≡ Some b →
+        (Some x ≡ Some b) × (is_addressed e tag b ≡ true) × (is_formed e b ≡ true)
+    go true a q =
+        let s = inner (nat_le (age e.moment x) COOKIE_LIFE) q in
+        let both = both_tests (is_addressed e tag x) (is_formed e x) a in
+        (ap (λ (y : Body). Some y) s, subst (λ (y : Body). is_addressed e tag y ≡ true) s both.0, subst (λ (y : Body). is_formed e y ≡ true) s both.1)
     go false a q = absurd (cc)
 
 pub found_is : (e : EndView) (tag : ℕ) (xs : List ChunkMeaning) (b : Body) → body_among e tag xs ≡ Some b → IsFound e tag xs b
@@ -116,7 +126,7 @@ found_is e tag (x ∷ xs) b h = go (holds_abort (x ∷ xs)) h
     by_chunk (Some z) is (CookieEcho cookie) q =
         let l = listener_is e.phase e.role z is in
         let o = opens_is e tag (z.opened cookie) b q in
-        record { seal = z; role = l.1; phase = l.0; cookie = cookie; behind = xs; chunks = refl; opens = o.0; addressed = o.1 }
+        record { seal = z; role = l.1; phase = l.0; cookie = cookie; behind = xs; chunks = refl; opens = o.0; addressed = o.1; formed = o.2 }
     by_chunk None is (CookieEcho cookie) q = absurd (cc)
     by_chunk (Some z) is y q = absurd (cc)
     by_chunk None is y q = absurd (cc)
@@ -127,8 +137,8 @@ found_is e tag (x ∷ xs) b h = go (holds_abort (x ∷ xs)) h
 
 -- ---- the law
 
-pub none_left : (tag : ℕ) (e t : EndView) (n : Notes) (gap : Bool) (v : Verdict) → AllAct tag e no_notes [] t n v → packet_ended (urged gap n) t ≡ e
-none_left tag e t n gap v (NoneLeft _ _) = refl
+pub none_left : (tag : ℕ) (e t : EndView) (n : Notes) (gap : Bool) (v : Verdict) → AllAct tag e no_notes [] t n v → packet_ended (urged gap n) (wearing (missed_below e.pace) t) ≡ e
+none_left tag e t n gap v (NoneLeft _ _) = nothing_missed e
 
 -- where a packet begins with an INIT, that is all of it
 abbrev pub IsInitAlone : List ChunkMeaning → Type 0
@@ -136,11 +146,11 @@ IsInitAlone ys = (m : InitMeaning) (xs : List ChunkMeaning) → ys ≡ Init m �
 
 module _ (s : Sealing) (drawn : List ℕ) (e t : EndView) (n : Notes) (gap : Bool) (p : Packet) (v : Verdict) (strange : IsStranger s drawn p) (own : IsDrawn drawn e.phase) where
   -- where there is an association
-  heard_stays : has_association e.phase ≡ true → (xs : List ChunkMeaning) → IsInitAlone xs → passes_chunks e.phase p.tag xs ≡ true → AllAct p.tag e no_notes xs t n v → packet_ended (urged gap n) t ≡ e
+  heard_stays : has_association e.phase ≡ true → (xs : List ChunkMeaning) → IsInitAlone xs → passes_chunks e.phase p.tag xs ≡ true → AllAct p.tag e no_notes xs t n v → packet_ended (urged gap n) (wearing (missed_below e.pace) t) ≡ e
   heard_stays has [] alone may all = none_left p.tag e t n gap v all
   heard_stays has (x ∷ xs) alone may all = by x (goes_by e.phase x p.tag may) alone all
     where
-      by : (y : ChunkMeaning) → GoesBy e.phase p.tag y → IsInitAlone (y ∷ xs) → AllAct p.tag e no_notes (y ∷ xs) t n v → packet_ended (urged gap n) t ≡ e
+      by : (y : ChunkMeaning) → GoesBy e.phase p.tag y → IsInitAlone (y ∷ xs) → AllAct p.tag e no_notes (y ∷ xs) t n v → packet_ended (urged gap n) (wearing (missed_below e.pace) t) ≡ e
       by y (Tag _ reflected through) stands acts = absurd (strange.untagged (own p.tag (passing_is_own e.phase reflected p.tag has through)))
       by y (Zero m) stands acts =
           init_passed e t n gap p.tag m v (subst (λ (ys : List ChunkMeaning). AllAct p.tag e no_notes (Init m ∷ ys) t n v) (stands m xs refl) acts)

@@ -33,6 +33,7 @@ body = record {
   from_caller = 2;
   partial = true;
   interleave = true;
+  reset = false;
 }
 
 -- ---- INIT

@@ -7,11 +7,14 @@ use Rattle.sctp_model.specs.end.Closing.{rested}
 use Rattle.sctp_model.specs.end.PeerFaults.{GoesOn, Ends, Note}
 use Rattle.sctp_model.specs.end.Options.{STATE_COOKIE, value_of}
 use Rattle.sctp_model.specs.end.Opening.{AcceptedAck, EchoedAgain, CookieAcked, echoing}
-use Rattle.sctp_model.specs.end.Acting.{IsBad, WrongKind, SackWrong, ShutdownWrong, WrongFormat, PieceEmpty, Acts, ForwardComes, PieceComes, IsOld, SackStale, ShutdownStale, HeartbeatCounts, SackCounts, ShutdownCounts, Closes, SaysNothing, Crosses, Again, AckCompletes, CompleteCompleted}
-use Rattle.sctp_model.specs.end.Building.{once_built, Slot, Puts, NoMore, NotDue, Put, IsFull, Builds, Sleeps, Waits, Calls, Echoes, Fills, EchoSlot, CookieAckSlot, HeartbeatSlot, ErrorSlot, SackSlot, ForwardSlot, ShutdownSlot, ShutdownAckSlot}
+use Rattle.sctp_model.specs.end.Acting.{ReconfigComes, IsUnknown, IsBad, WrongKind, SackWrong, ShutdownWrong, WrongFormat, PieceEmpty, Acts, ForwardComes, PieceComes, IsOld, SackStale, ShutdownStale, HeartbeatCounts, SackCounts, ShutdownCounts, Closes, SaysNothing, Crosses, Again, AckCompletes, CompleteCompleted}
+use Rattle.sctp_model.specs.end.Building.{once_built, Slot, Puts, NoMore, NotDue, Put, IsFull, Builds, Sleeps, Waits, Calls, Echoes, Fills, EchoSlot, CookieAckSlot, HeartbeatSlot, ErrorSlot, SackSlot, ForwardSlot, AnswerSlot, RequestSlot, ShutdownSlot, ShutdownAckSlot}
 use Rattle.sctp_model.specs.end.Building.{EndsFull}
 use Rattle.sctp_model.specs.end.Closing.{takes_acknowledgements}
 use Rattle.sctp_model.specs.wire.Packet.{Packet}
+use Rattle.sctp_model.specs.wire.Typed.{typed_in}
+use Rattle.sctp_model.specs.end.Reconfiguring.{asking}
+use Rattle.sctp_safety.proofs.machine.Reconfigured.{parameters_same, asking_same}
 use Rattle.sctp_model.specs.end.PeerFaults.{Replies}
 use Rattle.sctp_model.specs.end.Opening.{RefusedAck}
 use Rattle.sctp_model.specs.end.Arriving.{Notes, packet_ended}
@@ -130,7 +133,10 @@ goes_left e tag (ForwardTsn m) y t (IsOld _ _ _ _ _ _ _) = still e _ t refl refl
 goes_left e tag (ForwardTsn m) y t (ForwardComes _ _ _ _ _ _ _) = still e _ t refl refl refl refl refl
 goes_left e tag (IForwardTsn m) y t (IsOld _ _ _ _ _ _ _) = still e _ t refl refl refl refl refl
 goes_left e tag (IForwardTsn m) y t (ForwardComes _ _ _ _ _ _ _) = still e _ t refl refl refl refl refl
-goes_left e tag (Unknown k f v) y t h = let u = unknown_goes e y t k f v h in
+goes_left e tag (Unknown k f v) y t (ReconfigComes c takes cumulative) = let r = parameters_same c e (typed_in v) in
+    Plainly t (record { configuration = r.configuration; role = r.role; moment = r.moment; terms = r.terms; turn = subst (λ (h : Phase). IsPlainTurn e.phase h) (sym r.phase) (Stays e.phase) })
+    (λ has. subst (λ (h : Phase). has_association h ≡ true) (sym r.phase) has)
+goes_left e tag (Unknown k f v) y t (IsUnknown _ off h) = let u = unknown_goes e y t k f v h in
     Plainly t (subst (IsPlain e) (sym u.same) (record { configuration = refl; role = refl; moment = refl; terms = refl; turn = Stays e.phase }))
     (λ has. subst (λ (y : EndView). has_association y.phase ≡ true) (sym u.same) has)
 
@@ -155,7 +161,7 @@ ends_plain e tag CookieAck t has h = elim h [ ]
 ends_plain e tag (ShutdownComplete b) t has (CompleteCompleted _) = left_closed e Completed has
 ends_plain e tag (ForwardTsn m) t has h = elim h [ ]
 ends_plain e tag (IForwardTsn m) t has h = elim h [ ]
-ends_plain e tag (Unknown k f v) t has h = let u = unknown_ends e t k f v h in subst (IsPlain e) (sym u.same) (record { configuration = refl; role = refl; moment = refl; terms = refl; turn = Stays e.phase })
+ends_plain e tag (Unknown k f v) t has (IsUnknown _ off h) = let u = unknown_ends e t k f v h in subst (IsPlain e) (sym u.same) (record { configuration = refl; role = refl; moment = refl; terms = refl; turn = Stays e.phase })
 
 pub replies_plain : (e : EndView) (tag : ℕ) (x : ChunkMeaning) (t : EndView) (p : Packet) → has_association e.phase ≡ true → Acts e tag x (Replies t p) → IsPlain e t
 replies_plain e tag (Data q) t p has (PieceEmpty _ _ _ _ _) = left_closed e AbortedHere has
@@ -178,7 +184,7 @@ replies_plain e tag (ForwardTsn m) t p has (WrongKind _ _ _ _ _) = left_closed e
 replies_plain e tag (ForwardTsn m) t p has (IsBad _ _ _ _ _ _ _) = left_closed e AbortedHere has
 replies_plain e tag (IForwardTsn m) t p has (WrongKind _ _ _ _ _) = left_closed e AbortedHere has
 replies_plain e tag (IForwardTsn m) t p has (IsBad _ _ _ _ _ _ _) = left_closed e AbortedHere has
-replies_plain e tag (Unknown k f v) t p has h = absurd (unknown_never_replies e t p k f v h)
+replies_plain e tag (Unknown k f v) t p has (IsUnknown _ off h) = absurd (unknown_never_replies e t p k f v h)
 
 pub plain_ended : (n : Notes) (e : EndView) → IsPlain e (packet_ended n e)
 plain_ended n e = ended_cases (IsPlain e) n e (plain_same e) (λ t g is. record { configuration = refl; role = refl; moment = refl; terms = refl; turn = Stays e.phase })
@@ -194,8 +200,16 @@ built_plain HeartbeatSlot e = record { configuration = refl; role = refl; moment
 built_plain ErrorSlot e = record { configuration = refl; role = refl; moment = refl; terms = refl; turn = Stays e.phase }
 built_plain SackSlot e = record { configuration = refl; role = refl; moment = refl; terms = refl; turn = Stays e.phase }
 built_plain ForwardSlot e = record { configuration = refl; role = refl; moment = refl; terms = refl; turn = Stays e.phase }
+built_plain AnswerSlot e = record { configuration = refl; role = refl; moment = refl; terms = refl; turn = Stays e.phase }
+built_plain RequestSlot e = record { configuration = refl; role = refl; moment = refl; terms = refl; turn = Stays e.phase }
 built_plain ShutdownSlot e = record { configuration = refl; role = refl; moment = refl; terms = refl; turn = Stays e.phase }
 built_plain ShutdownAckSlot e = record { configuration = refl; role = refl; moment = refl; terms = refl; turn = Stays e.phase }
+
+-- a request is made first
+asking_plain : (e : EndView) → IsPlain e (asking e)
+asking_plain e =
+    let r = asking_same e in
+    record { configuration = r.configuration; role = r.role; moment = r.moment; terms = r.terms; turn = subst (λ (h : Phase). IsPlainTurn e.phase h) (sym r.phase) (Stays e.phase) }
 
 pub puts_plain : (ss : List Slot) (e : EndView) (xs zs : List ChunkMeaning) (full : Bool) (t : EndView) → Puts ss e xs zs full t → IsPlain e t
 puts_plain ss e xs zs full t (NoMore _ _) = plain_same e
@@ -209,6 +223,6 @@ builds_plain e xs t (Sleeps _) = plain_same e
 builds_plain e xs t (Waits _ _ _) = plain_same e
 builds_plain e xs t (Calls _ _ _) = record { configuration = refl; role = refl; moment = refl; terms = refl; turn = Stays e.phase }
 builds_plain e xs t (Echoes _ _ _ full _ is puts) = puts_plain _ e [] xs full t puts
-builds_plain e xs t (EndsFull _ _ _ _ is puts) = puts_plain _ e [] xs true t puts
+builds_plain e xs t (EndsFull _ _ _ _ is puts) = plain_on e (asking e) t (asking_plain e) (puts_plain _ (asking e) [] xs true t puts)
 builds_plain e xs t (Fills _ _ zs x is puts) =
-    plain_on e x _ (puts_plain _ e [] zs false x puts) (record { configuration = refl; role = refl; moment = refl; terms = refl; turn = Stays x.phase })
+    plain_on e x _ (plain_on e (asking e) x (asking_plain e) (puts_plain _ (asking e) [] zs false x puts)) (record { configuration = refl; role = refl; moment = refl; terms = refl; turn = Stays x.phase })

@@ -3,17 +3,18 @@ use Rattle.std.proofs.Common.{◌≡◌, ℕ, ◌⊎◌, inl, inr, not, ◌||◌
 use Rattle.sctp_model.specs.world.Calls.{Call}
 use Rattle.sctp_model.specs.receiver.ReceiverView.{Handed}
 use Rattle.sctp_model.specs.sender.SenderView.{SenderView}
-use Rattle.sctp_model.specs.end.EndView.{Established, ShutdownPending, ShutdownSent, ShutdownReceived, ShutdownAckSent, AbortedHere, TimedOut, Phase, Idle, Listening, Calling, Echoing, Open, Over, Alarm, InitAlarm, CookieAlarm, DataAlarm, ShutdownAlarm, AckAlarm, EndView, has_association}
+use Rattle.sctp_model.specs.end.EndView.{Established, ShutdownPending, ShutdownSent, ShutdownReceived, ShutdownAckSent, AbortedHere, TimedOut, Phase, Idle, Listening, Calling, Echoing, Open, Over, Alarm, InitAlarm, CookieAlarm, DataAlarm, ShutdownAlarm, AckAlarm, ResetAlarm, EndView, has_association}
 use Rattle.sctp_model.specs.end.Clock.{settled, turned, is_over_at, repeats_of, closed, at_moment, with_timer}
 use Rattle.sctp_model.specs.end.Clock.{expired_timer}
 use Rattle.sctp_model.specs.wire.Packet.{size_of_packet}
-use Rattle.sctp_model.specs.sender.Abandoning.{abandon_after}
+use Rattle.sctp_model.specs.sender.Abandoning.{abandon_after, worn}
 use Rattle.sctp_model.specs.sender.Readers.{point}
-use Rattle.sctp_model.specs.sender.Abandoning.{expired as expired_messages}
 use Rattle.std.specs.Prelude.{if◌then◌else◌, nat_lt, nat_le}
 use Rattle.sctp_model.specs.end.Closing.{rested}
-use Rattle.sctp_model.specs.end.Moments.{after_abandoning, due_again, rung, ring, rung_all, all_alarms, passed, ticked, waited_in, waited}
-use Rattle.sctp_model.specs.end.UserCalls.{SendAnswer, Ticket, Refused, NotOpen, send_leaves, is_open, abandoned_at, UserTakes, shut_in, shut, Aborts, TooLong, abort_answer, abort_answer_to, abort_leaves, abort_packet, peer_tag}
+use Rattle.sctp_model.specs.end.Moments.{after_abandoning, is_data_due, given_up, due_again, rung, ring, rung_all, all_alarms, passed, ticked, waited_in, waited}
+use Rattle.sctp_model.specs.end.Wearing.{wearing}
+use Rattle.sctp_model.proofs.PacedEnds.{worn_cases}
+use Rattle.sctp_model.specs.end.UserCalls.{SendAnswer, Ticket, Refused, NotOpen, send_leaves, is_open, abandoned_at, UserTakes, ResetCall, Begun, NotAgreed, NoStream, reset_leaves, told_leaves, shut_in, shut, Aborts, TooLong, abort_answer, abort_answer_to, abort_leaves, abort_packet, peer_tag}
 use Rattle.sctp_safety.specs.States.{UserShuts}
 use Rattle.sctp_safety.proofs.machine.Turns.{rested_has, by_stage, IsPlainTurn, IsPlain, Stays, plain_same, plain_on, plain_rested, goes_from, left_closed}
 
@@ -24,11 +25,16 @@ plain_after_abandoning e v =
     let mid = settled (record e { sender = v; due = record e.due { forward = e.due.forward || not (point v == point e.sender) } }) in
     plain_on e mid (after_abandoning e v) (record { configuration = refl; role = refl; moment = refl; terms = refl; turn = Stays e.phase }) (plain_rested mid)
 
+-- at the end of a packet
+pub plain_worn : (from : ℕ) (e : EndView) → IsPlain e (wearing from e)
+plain_worn from e = worn_cases (IsPlain e) from e (plain_same e) (λ test on. plain_after_abandoning e (worn test e.sender))
+
 plain_again : (a : Alarm) (e : EndView) → IsPlain e (due_again a e)
 plain_again InitAlarm e = record { configuration = refl; role = refl; moment = refl; terms = refl; turn = Stays e.phase }
 plain_again CookieAlarm e = record { configuration = refl; role = refl; moment = refl; terms = refl; turn = Stays e.phase }
 plain_again DataAlarm e = record { configuration = refl; role = refl; moment = refl; terms = refl; turn = Stays e.phase }
 plain_again ShutdownAlarm e = record { configuration = refl; role = refl; moment = refl; terms = refl; turn = Stays e.phase }
+plain_again ResetAlarm e = record { configuration = refl; role = refl; moment = refl; terms = refl; turn = Stays e.phase }
 plain_again AckAlarm e = record { configuration = refl; role = refl; moment = refl; terms = refl; turn = Stays e.phase }
 
 -- it has an association still, or a timer gave up
@@ -63,6 +69,7 @@ rung_on true a e has = go (nat_lt (e.timers a).repeats (repeats_of a))
     again DataAlarm t h = h
     again ShutdownAlarm t h = h
     again AckAlarm t h = h
+    again ResetAlarm t h = h
 
     go : (c : Bool) → IsRung (if c then due_again a (with_timer a (expired_timer (e.timers a)) e) else closed TimedOut e)
     go true = again a (with_timer a (expired_timer (e.timers a)) e) has
@@ -84,9 +91,9 @@ plain_ticked e now = go (has_association e.phase) refl
     go : (b : Bool) → has_association e.phase ≡ b → IsPlain (at_moment e now) (if b then passed (at_moment e now) else at_moment e now)
     go false is = plain_same (at_moment e now)
     go true is =
-        let mid = settled (record (at_moment e now) { sender = expired_messages (at_moment e now).sender (at_moment e now).moment; due = record e.due { forward = e.due.forward || not (point (expired_messages (at_moment e now).sender (at_moment e now).moment) == point e.sender) } }) in
-        let u = after_abandoning (at_moment e now) (expired_messages (at_moment e now).sender (at_moment e now).moment) in
-        let g = plain_after_abandoning (at_moment e now) (expired_messages (at_moment e now).sender (at_moment e now).moment) in
+        let mid = settled (record (at_moment e now) { sender = given_up (is_data_due (at_moment e now)) (at_moment e now).sender (at_moment e now).moment; due = record e.due { forward = e.due.forward || not (point (given_up (is_data_due (at_moment e now)) (at_moment e now).sender (at_moment e now).moment) == point e.sender) } }) in
+        let u = after_abandoning (at_moment e now) (given_up (is_data_due (at_moment e now)) (at_moment e now).sender (at_moment e now).moment) in
+        let g = plain_after_abandoning (at_moment e now) (given_up (is_data_due (at_moment e now)) (at_moment e now).sender (at_moment e now).moment) in
         let r = rung_all all_alarms u in
         plain_on (at_moment e now) r (waited r) (plain_on (at_moment e now) u r g (all_plain all_alarms u (inl (rested_has mid is)))) (waited_plain (is_over_at r.moment r.delayed) r)
 
@@ -106,6 +113,15 @@ plain_abandoned e k = go (is_open e.phase)
 
 pub plain_taken : (e : EndView) (n : ℕ) (h : Option Handed) (t : EndView) → UserTakes e n h t → IsPlain e t
 plain_taken e n h t k = subst (IsPlain e) (sym k.leaves) (record { configuration = refl; role = refl; moment = refl; terms = refl; turn = Stays e.phase })
+
+pub plain_reset : (e : EndView) (c : ResetCall) (n : ℕ) → IsPlain e (reset_leaves c e n)
+plain_reset e Begun n = record { configuration = refl; role = refl; moment = refl; terms = refl; turn = Stays e.phase }
+plain_reset e NotAgreed n = plain_same e
+plain_reset e NoStream n = plain_same e
+
+pub plain_told : (e : EndView) (o : Option ℕ) → IsPlain e (told_leaves o e)
+plain_told e None = plain_same e
+plain_told e (Some n) = record { configuration = refl; role = refl; moment = refl; terms = refl; turn = Stays e.phase }
 
 pub plain_shut : (e : EndView) → IsPlain e (shut e)
 plain_shut e = go e.phase refl

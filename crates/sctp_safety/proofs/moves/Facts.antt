@@ -9,7 +9,7 @@ use Rattle.sctp_model.specs.messages.Forward.{Skip, Forward}
 use Rattle.sctp_model.specs.receiver.ReceiverView.{Handed, ReceiverView, handed, Reaches}
 use Rattle.sctp_model.specs.messages.Acknowledgement.{Acknowledgement, covers}
 use Rattle.sctp_model.specs.world.Calls.{Asked, call_at}
-use Rattle.sctp_model.specs.world.Safe.{IsRising, AreDifferent, IsSent, WasHanded}
+use Rattle.sctp_model.specs.world.Safe.{IsRising, AreDifferent, IsSent, WasHanded, IsGivenUp}
 use Rattle.sctp_safety.specs.Way.{Way}
 
 -- the receiver is done with the number, where there is one
@@ -111,7 +111,7 @@ IsQueue (q ∷ qs) = ((x : Queued) → Has qs x → q.message.ticket < x.message
 
 -- the call with the message's ticket asked for just this message
 abbrev pub IsCalled : Asked → Lane → Message → Type 0
-IsCalled u l m = call_at u m.ticket ≡ Some (record { lane = l; payload = m.payload; bytes = bytes_of m; until = m.until })
+IsCalled u l m = call_at u m.ticket ≡ Some (record { lane = l; payload = m.payload; bytes = bytes_of m; until = m.until; limit = m.limit })
 
 -- What waits for a number.
 pub record Waits (streams : ℕ) (p : Plan) (u : Asked) (qs : List Queued) : Type 0 where
@@ -123,15 +123,11 @@ pub record Waits (streams : ℕ) (p : Plan) (u : Asked) (qs : List Queued) : Typ
       m.ticket < q.message.ticket
   pub different : (q : Queued) (l : Lane) (n : ℕ) (m : Message) → Has qs q → message_at p l n ≡ Some m → m.ticket ≡ q.message.ticket → ⊥
 
--- the user named the message's ticket, or its time is past
-abbrev pub IsAskedFor : Asked → Message → Type 0
-IsAskedFor u m = (u.named m.ticket ≡ true) ⊎ ((t : ℕ) × (m.until ≡ Some t) × (t ≤ u.clock))
-
 -- The plan holds what was asked for, and what is abandoned is a message that was to be.
 pub record IsAskedPlan (streams : ℕ) (a : SenderView) (u : Asked) : Type 0 where
   pub streamed : (l : Lane) (n : ℕ) (m : Message) → message_at a.plan l n ≡ Some m → l.stream < streams
   pub called : (l : Lane) (n : ℕ) (m : Message) → message_at a.plan l n ≡ Some m → IsCalled u l m
-  pub abandoned : (l : Lane) (n : ℕ) → a.abandoned l n ≡ true → (m : Message) × (message_at a.plan l n ≡ Some m) × IsAskedFor u m
+  pub abandoned : (l : Lane) (n : ℕ) → a.abandoned l n ≡ true → (m : Message) × (message_at a.plan l n ≡ Some m) × IsGivenUp a u l n m
   pub ended : (i : ℕ) (l : Lane) (n : ℕ) → entry_at a.plan i ≡ Some (End l n) → a.abandoned l n ≡ true
 
 -- What lies between the two ends, and what the sender took from there.

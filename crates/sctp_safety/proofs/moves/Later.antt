@@ -7,7 +7,8 @@ use Rattle.sctp_model.specs.messages.Pieces.{Piece, IsFragment}
 use Rattle.sctp_model.specs.sender.SenderView.{SenderView}
 use Rattle.sctp_model.specs.messages.Forward.{Skip, Forward}
 use Rattle.sctp_model.specs.receiver.ReceiverView.{Handed, ReceiverView, handed, Reaches}
-use Rattle.sctp_model.specs.world.Safe.{IsSent, WasHanded}
+use Rattle.sctp_model.specs.world.Calls.{Asked}
+use Rattle.sctp_model.specs.world.Safe.{IsSent, WasHanded, IsGivenUp}
 use Rattle.sctp_safety.proofs.moves.Facts.{IsHandedRightly, IsDone, IsLost, IsLostBy, IsAllSeen, MayPass, IsRetired, IsAhead, IsSendersForward, IsHonest}
 
 -- the plan gained entries and messages, and lost none
@@ -18,6 +19,7 @@ pub record Extends (p q : Plan) : Type 0 where
 pub record Grows (a b : SenderView) : Type 0 where
   pub plan : Extends a.plan b.plan
   pub abandoned : (l : Lane) (n : ℕ) → a.abandoned l n ≡ true → b.abandoned l n ≡ true
+  pub repeats : (i : ℕ) → a.repeats i ≤ b.repeats i
 
 pub record Learns (r t : ReceiverView) : Type 0 where
   pub seen : (i : ℕ) → r.seen i ≡ true → t.seen i ≡ true
@@ -29,7 +31,14 @@ pub Extends-refl : (p : Plan) → Extends p p
 Extends-refl p = record { entries = λ i e h. h; messages = λ l n m h. h }
 
 pub Grows-refl : (a : SenderView) → Grows a a
-Grows-refl a = record { plan = Extends-refl a.plan; abandoned = λ l n h. h }
+Grows-refl a = record { plan = Extends-refl a.plan; abandoned = λ l n h. h; repeats = λ i. le_refl (a.repeats i) }
+
+-- what the user gave up stays given up
+pub IsGivenUp-later : (a b : SenderView) (u : Asked) (l : Lane) (n : ℕ) (m : Message) → Grows a b → IsGivenUp a u l n m → IsGivenUp b u l n m
+IsGivenUp-later a b u l n m grows (inl named) = inl named
+IsGivenUp-later a b u l n m grows (inr (inl late)) = inr (inl late)
+IsGivenUp-later a b u l n m grows (inr (inr (k, limit, (i, e, here, of, times)))) =
+    let more = grows.repeats i in inr (inr (k, limit, (i, e, grows.plan.entries i e here, of, omega (arith, times, more))))
 
 pub Learns-refl : (r : ReceiverView) → Learns r r
 Learns-refl r = record { seen = λ i h. h; jump = le_refl r.jump; next = λ s. le_refl (r.next s); skip = λ l. le_refl (r.skip l) }

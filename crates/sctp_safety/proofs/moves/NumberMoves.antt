@@ -1,5 +1,5 @@
 -- What the plan gains keeps every fact: a message takes its number and first indexes, goes on with further ones, is ended.
-use Rattle.std.proofs.Common.{◌≡◌, ℕ, zero, suc, ◌+◌, ◌<◌, ◌⊎◌, true, List, [], ◌∷◌, ◌++◌, length, slice_get, Some, inl, inr, refl, sym, subst, ap, arith}
+use Rattle.std.proofs.Common.{◌≡◌, ℕ, zero, suc, ◌+◌, ◌<◌, ◌⊎◌, true, List, [], ◌∷◌, ◌++◌, length, slice_get, Some, inl, inr, refl, sym, subst, ap, arith, le_refl}
 use Rattle.sctp_model.specs.numbers.Lists.{Has}
 use Rattle.sctp_model.specs.messages.Format.{Lane}
 use Rattle.sctp_model.specs.messages.Plan.{Message, Entry, Part, End, Plan, entry_at, message_at, IsAssigned, HasEnd, IsClosed, parts_from}
@@ -7,6 +7,7 @@ use Rattle.sctp_model.specs.sender.SenderView.{Queued, SenderView}
 use Rattle.sctp_safety.specs.Way.{Way, Number, Continue, Mark, Step, numbered, with_sender}
 use Rattle.sctp_safety.proofs.lists.Basics.{slice_get-within, Has-cases, Has-right, item_at-left, item_at-cases}
 use Rattle.sctp_safety.proofs.moves.Facts.{IsOrderedPlan, IsCalled, Waits, Good}
+use Rattle.sctp_safety.proofs.moves.Later.{Grows, IsGivenUp-later}
 use Rattle.sctp_safety.proofs.moves.MovesBySide.{by_sender}
 use Rattle.sctp_safety.proofs.plan.PlanLemmas.{renamed, parts_get}
 use Rattle.sctp_safety.proofs.plan.PlanGrows.{grown, IsLatest}
@@ -17,7 +18,7 @@ use Rattle.sctp_safety.proofs.plan.QueueLemmas.{queue_around, waits_without}
 pub kept_by-Number : (w v : Way) (before : List Queued) (q : Queued) (rest : List Queued) (count : ℕ) →
     Good w → Step w (Number before q rest count) v → Good v
 kept_by-Number w v before q rest count g (queue, none, closed, some, bound, all, e) = subst Good (sym e)
-    (by_sender w b w.asked g (record { plan = record { entries = λ i x h. item_at-left p.entries run i x h; messages = latest.keeps }; abandoned = λ l n h. h })
+    (by_sender w b w.asked g grows
     (run_keeps w.format p (b.plan.messages) l n 0 count m g.arranged latest some (omega arith) free
     (λ c s. absurd (omega arith)) no_end (λ s. (refl, all s)))
     (record {
@@ -31,7 +32,7 @@ kept_by-Number w v before q rest count g (queue, none, closed, some, bound, all,
     (record {
       streamed = λ k o y h. streamed k o y (latest.gains k o y h);
       called = λ k o y h. called k o y (latest.gains k o y h);
-      abandoned = λ k o h. let r = g.sound.abandoned k o h in (r.0, latest.keeps k o r.0 r.1, r.2);
+      abandoned = λ k o h. let r = g.sound.abandoned k o h in (r.0, latest.keeps k o r.0 r.1, IsGivenUp-later w.sender b w.asked k o r.0 grows r.2);
       ended = λ i k o h. ended i k o (item_at-cases p.entries run i (End k o) h);
     })
     g.between.covered g.between.cum)
@@ -66,6 +67,13 @@ kept_by-Number w v before q rest count g (queue, none, closed, some, bound, all,
     latest : IsLatest p b.plan.messages l n m
     latest = latest_new w.format p g.arranged l m (λ k o x h s. waits.later q k o x has h s) (λ k o x h t. waits.different q k o x has h t)
         closed (waits.filled q has)
+
+    grows : Grows w.sender b
+    grows = record {
+      plan = record { entries = λ i x h. item_at-left p.entries run i x h; messages = latest.keeps };
+      abandoned = λ k o h. h;
+      repeats = λ i. le_refl (w.sender.repeats i);
+    }
 
     unnamed : (x : Message) → message_at p l n ≡ Some x → ⊥
     unnamed x h = let r : n < length (p.messages l) = slice_get-within (p.messages l) n x h in absurd (omega arith)
@@ -117,7 +125,7 @@ gains_entries : (w : Way) (new : List Entry) → Good w → IsOrderedPlan w.form
     ((j : ℕ) (l : Lane) (n : ℕ) → slice_get new j ≡ Some (End l n) → w.sender.abandoned l n ≡ true) →
     Good (with_sender w (record w.sender { plan = grown w.sender.plan w.sender.plan.messages new }))
 gains_entries w new g arranged marks = by_sender w (record w.sender { plan = grown p p.messages new }) w.asked g
-    (record { plan = record { entries = λ i x h. item_at-left p.entries new i x h; messages = λ l n m h. h }; abandoned = λ l n h. h })
+    grows
     arranged
     (record {
       rising = g.waits.rising;
@@ -130,13 +138,23 @@ gains_entries w new g arranged marks = by_sender w (record w.sender { plan = gro
     (record {
       streamed = g.sound.streamed;
       called = g.sound.called;
-      abandoned = g.sound.abandoned;
+      abandoned = λ l n h. let r = g.sound.abandoned l n h in (r.0, r.1, IsGivenUp-later w.sender b w.asked l n r.0 grows r.2);
       ended = λ i l n h. ended i l n (item_at-cases p.entries new i (End l n) h);
     })
     g.between.covered g.between.cum
   where
     p : Plan
     p = w.sender.plan
+
+    b : SenderView
+    b = record w.sender { plan = grown p p.messages new }
+
+    grows : Grows w.sender b
+    grows = record {
+      plan = record { entries = λ i x h. item_at-left p.entries new i x h; messages = λ l n m h. h };
+      abandoned = λ l n h. h;
+      repeats = λ i. le_refl (w.sender.repeats i);
+    }
 
     ended : (i : ℕ) (l : Lane) (n : ℕ) → (entry_at p i ≡ Some (End l n)) ⊎ ((j : ℕ) × (i ≡ suc (length p.entries) + j) × (slice_get new j ≡ Some (End l n))) →
         w.sender.abandoned l n ≡ true

@@ -4,6 +4,7 @@ use Rattle.std.proofs.lemmas.Bool.{cases_eq}
 use Rattle.sctp_model.specs.numbers.Lists.{Has, at}
 use Rattle.sctp_model.specs.messages.Format.{Format, Lane, ordered_lane}
 use Rattle.sctp_model.specs.sender.SenderView.{SenderView}
+use Rattle.sctp_model.specs.receiver.Incoming.{Incoming}
 use Rattle.sctp_model.specs.receiver.ReceiverView.{Handed, ReceiverView, handed}
 use Rattle.sctp_model.specs.world.Safe.{IsRising, AreDifferent, WasHanded}
 use Rattle.sctp_safety.specs.Way.{Way, Take, Note_duplicates, Step, with_receiver}
@@ -14,9 +15,9 @@ use Rattle.sctp_safety.proofs.moves.MovesBySide.{by_receiver}
 use Rattle.sctp_safety.proofs.moves.Settled.{settled_on}
 
 -- What is handed over stays the same, and so does all else but the duplicates.
-module _ (w : Way) (taken waiting : ℕ → List Handed) (duplicates : List ℕ) where
+module _ (w : Way) (taken waiting : ℕ → List Handed) (duplicates : List ℕ) (resets : Incoming) where
   abbrev moved : ReceiverView
-  moved = record w.receiver { taken = taken; waiting = waiting; duplicates = duplicates }
+  moved = record w.receiver { taken = taken; waiting = waiting; duplicates = duplicates; resets = resets }
 
   by_same : Good w → ((u : ℕ) → taken u ++ waiting u ≡ handed w.receiver u) → Good (with_receiver w moved)
   by_same g same = by_receiver w t g learns (record {
@@ -68,7 +69,7 @@ module _ (w : Way) (taken waiting : ℕ → List Handed) (duplicates : List ℕ)
       passed u n (inr k) = inr k
 
 pub kept_by-Take : (w v : Way) (s : ℕ) (h : Handed) (rest : List Handed) → Good w → Step w (Take s h rest) v → Good v
-kept_by-Take w v s h rest g (some, e) = subst Good (sym e) (by_same w taken waiting r.duplicates g (λ u. same u (cases_eq u s)))
+kept_by-Take w v s h rest g (some, e) = subst Good (sym e) (by_same w taken waiting r.duplicates r.resets g (λ u. same u (cases_eq u s)))
   where
     r : ReceiverView
     r = w.receiver
@@ -85,4 +86,4 @@ kept_by-Take w v s h rest g (some, e) = subst Good (sym e) (by_same w taken wait
 
 pub kept_by-Note_duplicates : (w v : Way) (t : ReceiverView) → Good w → Step w (Note_duplicates t) v → Good v
 kept_by-Note_duplicates w v t g (same, e) = subst Good (sym e) (subst (λ (r : ReceiverView). Good (with_receiver w r)) (sym same)
-    (by_same w w.receiver.taken w.receiver.waiting t.duplicates g (λ u. refl)))
+    (by_same w w.receiver.taken w.receiver.waiting t.duplicates t.resets g (λ u. refl)))

@@ -5,16 +5,17 @@ use Rattle.sctp_model.specs.messages.Format.{Lane}
 use Rattle.sctp_model.specs.messages.Plan.{Message, bytes_of, message_at}
 use Rattle.sctp_model.specs.sender.SenderView.{Queued}
 use Rattle.sctp_model.specs.world.Calls.{Call, Asked}
+use Rattle.sctp_model.specs.world.Safe.{IsGivenUp}
 use Rattle.sctp_safety.specs.Way.{Way, Send, Name, Time_passes, Step}
 use Rattle.sctp_safety.proofs.lists.Basics.{at_cases, Has-push}
-use Rattle.sctp_safety.proofs.moves.Facts.{IsCalled, IsAskedFor, Good}
+use Rattle.sctp_safety.proofs.moves.Facts.{IsCalled, Good}
 use Rattle.sctp_safety.proofs.moves.Later.{Grows-refl}
 use Rattle.sctp_safety.proofs.moves.MovesBySide.{by_sender}
 use Rattle.sctp_safety.proofs.plan.QueueLemmas.{called_new, IsQueue-push, called_within, called_later}
 
 pub kept_by-Send : (w v : Way) (call : Call) (fragments : List (List ℕ)) → Good w → Step w (Send call fragments) v → Good v
 kept_by-Send w v call fragments g (stream, some, full, bytes, e) = subst Good (sym e)
-    (by_sender w (record w.sender { queue = w.sender.queue ++ q ∷ [] }) u g (record { plan = record { entries = λ i x h. h; messages = λ l n m h. h }; abandoned = λ l n h. h })
+    (by_sender w (record w.sender { queue = w.sender.queue ++ q ∷ [] }) u g (record { plan = record { entries = λ i x h. h; messages = λ l n m h. h }; abandoned = λ l n h. h; repeats = λ i. le_refl (w.sender.repeats i) })
     g.arranged
     (record {
       rising = IsQueue-push w.sender.queue q g.waits.rising (λ x h. called_within w.asked x.lane x.message (g.waits.called x h));
@@ -33,7 +34,7 @@ kept_by-Send w v call fragments g (stream, some, full, bytes, e) = subst Good (s
     g.between.covered g.between.cum)
   where
     m : Message
-    m = record { ticket = suc (length w.asked.calls); payload = call.payload; fragments = fragments; until = call.until }
+    m = record { ticket = suc (length w.asked.calls); payload = call.payload; fragments = fragments; until = call.until; limit = call.limit }
 
     q : Queued
     q = record { lane = call.lane; message = m }
@@ -81,17 +82,18 @@ asks_more w u g calls named clock = by_sender w w.sender u g (Grows-refl w.sende
     (record {
       streamed = g.sound.streamed;
       called = λ l n m h. called l m (g.sound.called l n m h);
-      abandoned = λ l n h. let r = g.sound.abandoned l n h in (r.0, r.1, asked r.0 r.2);
+      abandoned = λ l n h. let r = g.sound.abandoned l n h in (r.0, r.1, asked l n r.0 r.2);
       ended = g.sound.ended;
     })
     g.between.covered g.between.cum
   where
     called : (l : Lane) (m : Message) → IsCalled w.asked l m → IsCalled u l m
-    called l m h = subst (λ (cs : List Call). item_at cs m.ticket ≡ Some (record { lane = l; payload = m.payload; bytes = bytes_of m; until = m.until })) (sym calls) h
+    called l m h = subst (λ (cs : List Call). item_at cs m.ticket ≡ Some (record { lane = l; payload = m.payload; bytes = bytes_of m; until = m.until; limit = m.limit })) (sym calls) h
 
-    asked : (m : Message) → IsAskedFor w.asked m → IsAskedFor u m
-    asked m (inl h) = inl (named m.ticket h)
-    asked m (inr (t, until, past)) = inr (t, until, omega (arith, clock))
+    asked : (l : Lane) (n : ℕ) (m : Message) → IsGivenUp w.sender w.asked l n m → IsGivenUp w.sender u l n m
+    asked l n m (inl h) = inl (named m.ticket h)
+    asked l n m (inr (inl (t, until, past))) = inr (inl (t, until, omega (arith, clock)))
+    asked l n m (inr (inr h)) = inr (inr h)
 
 pub kept_by-Name : (w v : Way) (ticket : ℕ) → Good w → Step w (Name ticket) v → Good v
 kept_by-Name w v ticket g e = subst Good (sym e)

@@ -1,5 +1,5 @@
 -- Ways that moves lead to from a start, and what a call leaves: moves joined, and what a sender's view keeps beside the facts.
-use Rattle.std.proofs.Common.{◌≡◌, ℕ, [], length, true, refl, sym, subst, ap, ◌∙◌}
+use Rattle.std.proofs.Common.{◌≡◌, ℕ, [], length, true, refl, sym, subst, ap, ◌∙◌, ◌≤◌}
 use Rattle.sctp_model.specs.messages.Plan.{Plan}
 use Rattle.sctp_model.specs.sender.SenderView.{SenderView}
 use Rattle.sctp_safety.specs.Way.{Way, Change_sending, with_sender}
@@ -46,9 +46,9 @@ nothing_moved w order = record { leads = ([], refl); order = order; constants = 
 
 -- a change of what moves don't speak of
 pub retuned : (w : Way) (b : SenderView) → b.queue ≡ w.sender.queue → b.plan ≡ w.sender.plan → b.cum ≡ w.sender.cum →
-    b.covered ≡ w.sender.covered → b.abandoned ≡ w.sender.abandoned → Leads w (with_sender w b)
-retuned w b queue plan cum covered abandoned = leads_by w (with_sender w b) (Change_sending b)
-    (record { queue = queue; plan = plan; cum = cum; covered = covered; abandoned = abandoned }, refl)
+    b.covered ≡ w.sender.covered → b.abandoned ≡ w.sender.abandoned → ((i : ℕ) → w.sender.repeats i ≤ b.repeats i) → Leads w (with_sender w b)
+retuned w b queue plan cum covered abandoned repeats = leads_by w (with_sender w b) (Change_sending b)
+    (record { queue = queue; plan = plan; cum = cum; covered = covered; abandoned = abandoned; repeats = repeats }, refl)
 
 -- the same plan and tickets, and no mark more
 pub order_fewer : (w v : Way) → v.sender.plan ≡ w.sender.plan → ((i : ℕ) → v.sender.marked i ≡ true → w.sender.marked i ≡ true) →

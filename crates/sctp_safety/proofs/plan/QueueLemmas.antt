@@ -44,15 +44,15 @@ waits_without streams p u before q rest w = record {
 -- a message's ticket is that of a call there was
 pub called_within : (u : Asked) (l : Lane) (m : Message) → IsCalled u l m → m.ticket < suc (length u.calls)
 called_within u l m h =
-    let r : m.ticket ≤ length u.calls = item_at-within u.calls m.ticket (record { lane = l; payload = m.payload; bytes = bytes_of m; until = m.until }) h in
+    let r : m.ticket ≤ length u.calls = item_at-within u.calls m.ticket (record { lane = l; payload = m.payload; bytes = bytes_of m; until = m.until; limit = m.limit }) h in
     omega arith
 
 pub called_later : (u : Asked) (call : Call) (l : Lane) (m : Message) → IsCalled u l m → IsCalled (record u { calls = u.calls ++ call ∷ [] }) l m
-called_later u call l m h = item_at-left u.calls (call ∷ []) m.ticket (record { lane = l; payload = m.payload; bytes = bytes_of m; until = m.until }) h
+called_later u call l m h = item_at-left u.calls (call ∷ []) m.ticket (record { lane = l; payload = m.payload; bytes = bytes_of m; until = m.until; limit = m.limit }) h
 
 -- the new call has the next ticket
 pub called_new : (u : Asked) (call : Call) (bytes : List ℕ) → call.bytes ≡ bytes →
-    item_at (u.calls ++ call ∷ []) (suc (length u.calls)) ≡ Some (record { lane = call.lane; payload = call.payload; bytes = bytes; until = call.until })
+    item_at (u.calls ++ call ∷ []) (suc (length u.calls)) ≡ Some (record { lane = call.lane; payload = call.payload; bytes = bytes; until = call.until; limit = call.limit })
 called_new u call bytes e = subst
-    (λ (xs : List ℕ). item_at (u.calls ++ call ∷ []) (suc (length u.calls)) ≡ Some (record { lane = call.lane; payload = call.payload; bytes = xs; until = call.until }))
+    (λ (xs : List ℕ). item_at (u.calls ++ call ∷ []) (suc (length u.calls)) ≡ Some (record { lane = call.lane; payload = call.payload; bytes = xs; until = call.until; limit = call.limit }))
     e (slice_get-end u.calls call)

@@ -17,19 +17,21 @@ use Rattle.sctp_model.proofs.receiver.Giving.{IsGiving, all_served}
 use Rattle.sctp_model.proofs.receiver.ForwardAtRest.{moved_idle, let_go_is}
 use Rattle.sctp_safety.specs.Way.{Way, IsSkippedBy, Forward_comes, Let_go, with_receiver}
 use Rattle.sctp_safety.specs.SenderLaws.{IsUsual}
-use Rattle.sctp_safety.specs.ReceiverLaws.{IsJoined, IsCounted, IsIndexNear, IsReceived, IsForwardSaid, ForwardTakenIsMoves}
+use Rattle.sctp_safety.specs.ReceiverLaws.{IsJoined, IsCounted, IsIndexNear, IsReceived, IsForwardSaid, AreBased, ForwardTakenIsMoves}
 use Rattle.sctp_safety.proofs.moves.Facts.{Good, IsSendersForward, MayPass}
 use Rattle.sctp_safety.proofs.moves.Taken.{leads_on, leads_by, giving_all_is_moves}
 use Rattle.sctp_safety.proofs.moves.UsualLemmas.{good_usual}
 use Rattle.sctp_safety.proofs.receiving.NearReads.{ahead_is}
 use Rattle.sctp_safety.proofs.receiving.NumberReads.{largest_reads}
 use Rattle.sctp_safety.proofs.receiving.PieceAnswers.{ahead_of}
+use Rattle.sctp_safety.proofs.receiving.PieceReads.{counted_again, based_past}
 use Rattle.sctp_safety.proofs.receiving.SkipReads.{ReadsSkip, counting, read_again, counting_skips}
 
 -- ---- the answer
 
 module _ (w : Way) (m : ForwardMeaning) (usual : IsUsual w) (joined : IsJoined w) (counted : IsCounted w.sender) (idle : IsIdle w.format w.receiver)
-    (said : IsForwardSaid w.format w.sender.initial w.sender.plan w.forwards m) (near : IsIndexNear w.receiver said.forward.point) where
+    (said : IsForwardSaid w.format w.sender.initial w.sender.plan w.forwards m) (near : IsIndexNear w.receiver said.forward.point)
+    (based : AreBased w.format w.receiver said.base said.forward) where
   g : Good w
   g = good_usual w usual
 
@@ -58,18 +60,20 @@ module _ (w : Way) (m : ForwardMeaning) (usual : IsUsual w) (joined : IsJoined w
       past = let z = new_tsn.0 in let i = index in omega (arith, z, i)
 
   -- each number listed is read again: it is the largest of its lane up to the point
-  skip_reads : (c : ℕ) → IsCumulative w.receiver c → c < x.point → (y : Skip) → Has x.skips y → ReadsSkip w.format w.receiver y
+  skip_reads : (c : ℕ) → IsCumulative w.receiver c → c < x.point → (y : Skip) → Has x.skips y → ReadsSkip w.format w.receiver said.base y
   skip_reads c cumulative past y has = go (named (fair.listed y has y.number (le_refl y.number)))
     where
       named : MayPass w.sender w.receiver y.lane y.number → (q : Message) × (message_at w.sender.plan y.lane y.number ≡ Some q)
       named (inl gone) = let z = g.sound.abandoned y.lane y.number gone in (z.0, z.1)
       named (inr seen) = (seen.message, seen.named)
 
-      go : (q : Message) × (message_at w.sender.plan y.lane y.number ≡ Some q) → ReadsSkip w.format w.receiver y
+      go : (q : Message) × (message_at w.sender.plan y.lane y.number ≡ Some q) → ReadsSkip w.format w.receiver said.base y
       go (q, there) =
           let first = g.arranged.begun y.lane y.number q there in
-          largest_reads w g idle counted c cumulative y.lane (fair.numbered y has) first.0 y.number (Part y.lane y.number 0) first.1 (refl, refl) x.point past
-          (λ j o d. said.topped y j o d has)
+          counted_again w.format w.receiver said.base y.lane y.number ((based y has).low (fair.numbered y has))
+          (based_past w.format w.receiver said.base c x.point y.lane y.number cumulative past (fair.numbered y has) (based y has))
+          (largest_reads w g idle counted c cumulative y.lane (fair.numbered y has) (said.base y.lane) first.0 y.number (Part y.lane y.number 0) first.1 (refl, refl) x.point past
+          (λ j o d. said.topped y j o d has))
 
   same : IsReceived w w.receiver
   same = record { leads = ([], refl); idle = idle; initial = refl; streams = refl; buffer = refl }
@@ -89,7 +93,7 @@ module _ (w : Way) (m : ForwardMeaning) (usual : IsUsual w) (joined : IsJoined w
     buffer = given.buffer;
   }
     where
-      reads : (y : Skip) → Has x.skips y → ReadsSkip w.format w.receiver y
+      reads : (y : Skip) → Has x.skips y → ReadsSkip w.format w.receiver said.base y
       reads = skip_reads c cumulative past
 
       skip : Lane → ℕ
@@ -106,7 +110,7 @@ module _ (w : Way) (m : ForwardMeaning) (usual : IsUsual w) (joined : IsJoined w
       Low i ys = let_go w.format (record w.receiver { jump = max w.receiver.jump i; skip = skipped w.receiver.skip ys })
 
       entries : skips_read w.format w.receiver m.skips ≡ counting w.receiver x.skips
-      entries = ap (skips_read w.format w.receiver) said.skips ∙ read_again w.format w.receiver x.skips reads
+      entries = ap (skips_read w.format w.receiver) said.skips ∙ read_again w.format w.receiver said.base x.skips reads
 
       all : GivesAll w.format w.receiver.streams low t
       all = subst (λ (v : ReceiverView). GivesAll w.format w.receiver.streams v t) (λ i. Low (index i) (entries i)) gives
@@ -127,4 +131,4 @@ module _ (w : Way) (m : ForwardMeaning) (usual : IsUsual w) (joined : IsJoined w
       moved taken.c t taken.cumulative (index_read taken.c taken.cumulative new.0) parts.1 taken.leaves
 
 pub forward_taken_is_moves : ForwardTakenIsMoves
-forward_taken_is_moves w m a t usual joined counted idle said near taken = received w m usual joined counted idle said near a t taken
+forward_taken_is_moves w m a t usual joined counted idle said near based taken = received w m usual joined counted idle said near based a t taken

@@ -62,22 +62,22 @@ module _ (w : Way) (g : Good w) (idle : IsIdle w.format w.receiver) where
     abbrev reference : ℕ
     reference = reference_in w.receiver l.stream l.kind
 
-    -- the number is read again
-    abbrev IsRead : ℕ → Type 0
-    IsRead n = number_near w.format l.kind (wire_number w.format l.kind n) reference ≡ Some n
+    -- the number, counted from a base, is read again
+    abbrev IsRead : ℕ → ℕ → Type 0
+    IsRead b n = number_near w.format l.kind (wire_number w.format l.kind (n - b)) (reference - b) ≡ Some (n - b)
 
     window : length w.sender.plan.entries ≤ c + WINDOW
     window = let a = counted.window in let b = cum_within w g c cumulative in omega (arith, a, b)
 
-    reads : (i n : ℕ) (e : Entry) → entry_at w.sender.plan i ≡ Some e → IsOf l n e → reference ≤ n + WINDOW → IsRead n
-    reads i n e here own low = close_reads w.format l.kind n reference numbered close small
+    reads : (b i n : ℕ) (e : Entry) → entry_at w.sender.plan i ≡ Some e → IsOf l n e → reference ≤ n + WINDOW → IsRead b n
+    reads b i n e here own low = close_reads w.format l.kind (n - b) (reference - b) numbered close small
       where
-        close : IsClose n reference
+        close : IsClose (n - b) (reference - b)
         close =
             let high = above l.stream l.kind numbered c WINDOW cumulative.reached window i n e here own in
             record { above = omega (arith, high); below = omega (arith, low) }
 
-        small : n < COUNTS - 1
+        small : n - b < COUNTS - 1
         small =
             let named = message_of w.format w.sender.plan g.arranged i e l n here own in
             let within = number_within w g l n named.0 named.1 in
@@ -85,13 +85,13 @@ module _ (w : Way) (g : Good w) (idle : IsIdle w.format w.receiver) where
             omega (arith, within, counts)
 
     -- The number of an entry past the cumulative index.
-    pub entry_reads : (i n : ℕ) (e : Entry) → entry_at w.sender.plan i ≡ Some e → IsOf l n e → c < i → IsRead n
-    entry_reads i n e here own past = reads i n e here own (below l.stream l.kind numbered c WINDOW window i n e here own past)
+    pub entry_reads : (b i n : ℕ) (e : Entry) → entry_at w.sender.plan i ≡ Some e → IsOf l n e → c < i → IsRead b n
+    entry_reads b i n e here own past = reads b i n e here own (below l.stream l.kind numbered c WINDOW window i n e here own past)
 
     -- The largest number that has an entry up to a point past the cumulative index: the one after it begins past the point.
-    pub largest_reads : (i n : ℕ) (e : Entry) → entry_at w.sender.plan i ≡ Some e → IsOf l n e → (p : ℕ) → c < p →
-        ((j o : ℕ) (d : Entry) → j ≤ p → entry_at w.sender.plan j ≡ Some d → IsOf l o d → o ≤ n) → IsRead n
-    largest_reads i n e here own p past largest = reads i n e here own (low (cases_lt (suc n) reference))
+    pub largest_reads : (b i n : ℕ) (e : Entry) → entry_at w.sender.plan i ≡ Some e → IsOf l n e → (p : ℕ) → c < p →
+        ((j o : ℕ) (d : Entry) → j ≤ p → entry_at w.sender.plan j ≡ Some d → IsOf l o d → o ≤ n) → IsRead b n
+    largest_reads b i n e here own p past largest = reads b i n e here own (low (cases_lt (suc n) reference))
       where
         by : (j : ℕ) → entry_at w.sender.plan j ≡ Some (Part l (suc n) 0) → (p < j) ⊎ (j ≤ p) → reference ≤ n + WINDOW
         by j there (inl later) =

@@ -1,6 +1,6 @@
 -- A data chunk of the bag is read as its piece, whatever is answered to it, and what its answer leaves is moves.
 use Rattle.std.proofs.Common.{◌≡◌, ℕ, ◌+◌, ◌<◌, ◌≤◌, ◌⊎◌, nat_le, true, false, [], Option, Some, None, inl, inr, refl, sym, subst, ap, arith, ◌∙◌}
-use Rattle.std.specs.Prelude.{if◌then◌else◌}
+use Rattle.std.specs.Prelude.{if◌then◌else◌, option_map, ◌-◌, suc}
 use Rattle.std.proofs.lemmas.Bool.{cases_Bool}
 use Rattle.sctp_model.specs.numbers.Serial.{tsn, ahead, half_space}
 use Rattle.sctp_model.specs.wire.Chunk.{PieceMeaning}
@@ -10,7 +10,7 @@ use Rattle.sctp_model.specs.messages.Plan.{Message, Part}
 use Rattle.sctp_model.specs.messages.Pieces.{Piece, piece_of, number_of, IsFragment}
 use Rattle.sctp_model.specs.receiver.ReceiverView.{ReceiverView, IsCumulative}
 use Rattle.sctp_model.specs.receiver.Receiving.{recorded, IsPassed, TakesPiece}
-use Rattle.sctp_model.specs.sender.SentChunks.{is_unordered, piece_said}
+use Rattle.sctp_model.specs.sender.SentChunks.{is_unordered, number_said, piece_said}
 use Rattle.sctp_model.specs.receiver.Reading.{offset, index_at, is_behind, reference_in, number_in, lane_of, piece_at}
 use Rattle.sctp_model.specs.receiver.PieceTaken.{PieceAnswer, Duplicate, Ahead, NoSuchStream, Passed, NoRoom, Kept, is_passed, noted, PieceTaken}
 use Rattle.sctp_model.specs.receiver.Laws.{IsIdle}
@@ -19,7 +19,7 @@ use Rattle.sctp_model.proofs.receiver.AtRest.{takes_giving}
 use Rattle.sctp_model.proofs.receiver.OneKept.{takes_idle}
 use Rattle.sctp_safety.specs.Way.{Way, Note_duplicates, with_receiver}
 use Rattle.sctp_safety.specs.SenderLaws.{IsUsual}
-use Rattle.sctp_safety.specs.ReceiverLaws.{IsJoined, IsCounted, IsIndexNear, IsReceived, IsPieceSaid, PieceTakenIsMoves}
+use Rattle.sctp_safety.specs.ReceiverLaws.{IsJoined, IsCounted, IsIndexNear, IsReceived, IsPieceSaid, IsBased, PieceTakenIsMoves}
 use Rattle.sctp_safety.proofs.moves.Facts.{Good}
 use Rattle.sctp_safety.proofs.plan.OneMessage.{number_counts}
 use Rattle.sctp_safety.proofs.moves.Settled.{all_numbered}
@@ -40,13 +40,28 @@ kind_reads l = go l.kind refl
     go Ordered e = ap (λ (k : Kind). record { stream = l.stream; kind = k }) (sym e)
     go Unordered e = ap (λ (k : Kind). record { stream = l.stream; kind = k }) (sym e)
 
+-- a number counted from a base is read again by one that counts from there too
+pub counted_again : (f : Format) (r : ReceiverView) (base : Lane → ℕ) (l : Lane) (n : ℕ) → base l ≤ n → base l ≡ r.resets.base l →
+    number_near f l.kind (wire_number f l.kind (n - base l)) (reference_in r l.stream l.kind - base l) ≡ Some (n - base l) → number_in f r l (number_said f base l n) ≡ Some n
+counted_again f r base l n low same near =
+    ap (λ (b : ℕ). option_map (λ (k : ℕ). b + k) (number_near f l.kind (wire_number f l.kind (n - base l)) (reference_in r l.stream l.kind - b))) (sym same)
+    ∙ ap (option_map (λ (k : ℕ). base l + k)) near
+    ∙ ap (λ (k : ℕ). Some k) (let e : base l + (n - base l) ≡ n = omega (arith, low) in e)
+
+-- one that isn't past all that is reached is counted from where the receiver counts
+pub based_past : (f : Format) (r : ReceiverView) (base : Lane → ℕ) (c i : ℕ) (l : Lane) (n : ℕ) → IsCumulative r c → c < i → is_numbered f l.kind ≡ true → IsBased f r base i l n → base l ≡ r.resets.base l
+based_past f r base c i l n cumulative past numbered b = elim (b.same numbered) [
+  | inr same ↦ same
+  | inl reached ↦ absurd (cumulative.open_end (reached (suc c) (omega arith) (omega (arith, past))))
+]
+
 -- a chunk reads as its piece where its index and its number do
-piece_reads : (f : Format) (r : ReceiverView) (c initial i : ℕ) (l : Lane) (n k : ℕ) (m : Message) → index_at r c (tsn initial i) ≡ i →
-    number_near f l.kind (wire_number f l.kind n) (reference_in r l.stream l.kind) ≡ number_of f l n →
-    piece_at f r c (piece_said f initial i (Part l n k) (Some m)) ≡ piece_of f i l n k m
-piece_reads f r c initial i l n k m index number =
-    ap (λ (y : Lane). record it { index = index_at r c (tsn initial i); lane = y; number = number_in f r y (wire_number f l.kind n) }) (kind_reads l)
-    ∙ ap (λ (j : ℕ). record it { index = j; number = number_in f r l (wire_number f l.kind n) }) index
+piece_reads : (f : Format) (r : ReceiverView) (c initial : ℕ) (base : Lane → ℕ) (i : ℕ) (l : Lane) (n k : ℕ) (m : Message) → index_at r c (tsn initial i) ≡ i →
+    number_in f r l (number_said f base l n) ≡ number_of f l n →
+    piece_at f r c (piece_said f initial base i (Part l n k) (Some m)) ≡ piece_of f i l n k m
+piece_reads f r c initial base i l n k m index number =
+    ap (λ (y : Lane). record it { index = index_at r c (tsn initial i); lane = y; number = number_in f r y (number_said f base l n) }) (kind_reads l)
+    ∙ ap (λ (j : ℕ). record it { index = j; number = number_in f r l (number_said f base l n) }) index
     ∙ ap (λ (o : Option ℕ). record it { number = o }) number
   where
     it : Piece
@@ -59,7 +74,8 @@ unnumbered_kept Plain r x e = rw e refl
 unnumbered_kept Interleaved r x e = absurd (let h = all_numbered x.lane.kind in cc)
 
 module _ (w : Way) (p : PieceMeaning) (usual : IsUsual w) (joined : IsJoined w) (counted : IsCounted w.sender) (idle : IsIdle w.format w.receiver)
-    (said : IsPieceSaid w.format w.sender.initial w.pieces p) (near : IsIndexNear w.receiver said.index) where
+    (said : IsPieceSaid w.format w.sender.initial w.pieces p) (near : IsIndexNear w.receiver said.index)
+    (based : IsBased w.format w.receiver said.base said.index said.lane said.number) where
   g : Good w
   g = good_usual w usual
 
@@ -99,21 +115,25 @@ module _ (w : Way) (p : PieceMeaning) (usual : IsUsual w) (joined : IsJoined w) 
   piece_read : (c : ℕ) → IsCumulative w.receiver c → is_behind w.receiver c p.tsn ≡ false → piece_at w.format w.receiver c p ≡ x
   piece_read c cumulative new =
       ap (λ (y : PieceMeaning). piece_at w.format w.receiver c y) said.same
-      ∙ piece_reads w.format w.receiver c w.sender.initial said.index said.lane said.number said.fragment said.message
+      ∙ piece_reads w.format w.receiver c w.sender.initial said.base said.index said.lane said.number said.fragment said.message
       (subst (λ (y : ℕ). index_at w.receiver c y ≡ said.index) (ap (λ (y : PieceMeaning). y.tsn) said.same) (index_read c cumulative new).0)
       (number (cases_Bool (is_numbered w.format said.lane.kind)))
     where
       Reads : ℕ → Type 0
-      Reads n = number_near w.format said.lane.kind (wire_number w.format said.lane.kind n) (reference_in w.receiver said.lane.stream said.lane.kind) ≡ number_of w.format said.lane n
+      Reads n = number_in w.format w.receiver said.lane (number_said w.format said.base said.lane n) ≡ number_of w.format said.lane n
 
       number : (is_numbered w.format said.lane.kind ≡ true) ⊎ (is_numbered w.format said.lane.kind ≡ false) → Reads said.number
       number (inl e) = subst Reads (same_number_said e)
-          (entry_reads w g idle counted c cumulative said.lane e said.index fragment.number (Part said.lane fragment.number fragment.fragment) fragment.here (refl, refl) (index_read c cumulative new).1
+          (counted_again w.format w.receiver said.base said.lane fragment.number
+          (subst (λ (n : ℕ). said.base said.lane ≤ n) (sym (same_number_said e)) (based.low e))
+          (based_past w.format w.receiver said.base c said.index said.lane said.number cumulative (index_read c cumulative new).1 e based)
+          (entry_reads w g idle counted c cumulative said.lane e (said.base said.lane) said.index fragment.number (Part said.lane fragment.number fragment.fragment) fragment.here (refl, refl) (index_read c cumulative new).1)
           ∙ sym (number_counts w.format said.lane fragment.number e))
       number (inr e) = none w.format said.lane.kind e
         where
           none : (f : Format) (k : Kind) → is_numbered f k ≡ false →
-              number_near f k (wire_number f k said.number) (reference_in w.receiver said.lane.stream k) ≡ (if is_numbered f k then Some said.number else None)
+              option_map (λ (n : ℕ). w.receiver.resets.base said.lane + n) (number_near f k (wire_number f k (said.number - said.base said.lane)) (reference_in w.receiver said.lane.stream k - w.receiver.resets.base said.lane))
+              ≡ (if is_numbered f k then Some said.number else None)
           none Plain Ordered h = absurd (cc)
           none Plain Unordered h = refl
           none Interleaved Ordered h = absurd (cc)
@@ -178,4 +198,4 @@ module _ (w : Way) (p : PieceMeaning) (usual : IsUsual w) (joined : IsJoined w) 
       }
 
 pub piece_taken_is_moves : PieceTakenIsMoves
-piece_taken_is_moves w p a t usual joined counted idle said near taken = received w p usual joined counted idle said near a t taken
+piece_taken_is_moves w p a t usual joined counted idle said near based taken = received w p usual joined counted idle said near based a t taken

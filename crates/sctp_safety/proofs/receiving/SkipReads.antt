@@ -5,11 +5,10 @@ use Rattle.std.proofs.lemmas.Bool.{cases_lt}
 use Rattle.std.proofs.lemmas.Bool.Decides.{nat_tests}
 use Rattle.sctp_model.specs.numbers.Lists.{Has}
 use Rattle.sctp_model.specs.messages.Format.{Format, Kind, Ordered, Unordered, Lane}
-use Rattle.sctp_model.specs.messages.Framing.{wire_number, number_near}
 use Rattle.sctp_model.specs.messages.Forward.{Skip, skipped}
 use Rattle.sctp_model.specs.receiver.ReceiverView.{ReceiverView}
-use Rattle.sctp_model.specs.sender.SentChunks.{skip_said}
-use Rattle.sctp_model.specs.receiver.Reading.{reference_in, number_in, lowest_in, is_late}
+use Rattle.sctp_model.specs.sender.SentChunks.{number_said, skip_said}
+use Rattle.sctp_model.specs.receiver.Reading.{number_in, lowest_in, is_late}
 use Rattle.sctp_model.specs.receiver.ForwardTaken.{with_skip, skips_read}
 use Rattle.sctp_safety.specs.Way.{IsSkippedBy}
 use Rattle.sctp_safety.proofs.lists.Basics.{at_lane_cases}
@@ -18,21 +17,21 @@ use Rattle.sctp_safety.proofs.receiving.PieceReads.{kind_reads}
 
 -- ---- the entries read again
 
--- an entry is read as its number
-abbrev pub ReadsSkip : Format → ReceiverView → Skip → Type 0
-ReadsSkip f r y = number_near f y.lane.kind (wire_number f y.lane.kind y.number) (reference_in r y.lane.stream y.lane.kind) ≡ Some y.number
+-- an entry, whose number is counted from this base, is read as its number
+abbrev pub ReadsSkip : Format → ReceiverView → (base : Lane → ℕ) → Skip → Type 0
+ReadsSkip f r base y = number_in f r y.lane (number_said f base y.lane y.number) ≡ Some y.number
 
 -- of these entries, those whose numbers aren't late
 abbrev pub counting : ReceiverView → List Skip → List Skip
 counting r [] = []
 counting r (y ∷ ys) = if is_late r y.lane (Some y.number) then counting r ys else y ∷ counting r ys
 
-pub read_again : (f : Format) (r : ReceiverView) (ys : List Skip) → ((y : Skip) → Has ys y → ReadsSkip f r y) → skips_read f r (map (skip_said f) ys) ≡ counting r ys
-read_again f r [] reads = refl
-read_again f r (y ∷ ys) reads =
-    ap (λ (l : Lane). with_skip r l (number_in f r l (wire_number f y.lane.kind y.number)) (skips_read f r (map (skip_said f) ys))) (kind_reads y.lane)
-    ∙ ap (λ (o : Option ℕ). with_skip r y.lane o (skips_read f r (map (skip_said f) ys))) (reads y (inl refl))
-    ∙ ap (with_skip r y.lane (Some y.number)) (read_again f r ys (λ z h. reads z (inr h)))
+pub read_again : (f : Format) (r : ReceiverView) (base : Lane → ℕ) (ys : List Skip) → ((y : Skip) → Has ys y → ReadsSkip f r base y) → skips_read f r (map (skip_said f base) ys) ≡ counting r ys
+read_again f r base [] reads = refl
+read_again f r base (y ∷ ys) reads =
+    ap (λ (l : Lane). with_skip r l (number_in f r l (number_said f base y.lane y.number)) (skips_read f r (map (skip_said f base) ys))) (kind_reads y.lane)
+    ∙ ap (λ (o : Option ℕ). with_skip r y.lane o (skips_read f r (map (skip_said f base) ys))) (reads y (inl refl))
+    ∙ ap (with_skip r y.lane (Some y.number)) (read_again f r base ys (λ z h. reads z (inr h)))
 
 -- ---- the numbers that are skipped then
 

@@ -7,7 +7,7 @@ use Rattle.sctp_model.specs.end.EndView.{Draw, EndView}
 use Rattle.sctp_model.specs.end.PeerFaults.{TAG, STATE, Replies, packet_to, abort_for, Unnoted}
 use Rattle.sctp_model.specs.end.Reports.{item, INVALID_PARAMETER}
 use Rattle.sctp_model.specs.end.Opening.{RefusedAck, CookieRead, CookieOpens, CookieLate, Strange, cookie_read, has_no_stream, init_ack}
-use Rattle.sctp_model.specs.end.Acting.{Acts, PieceEmpty, WrongFormat, WrongKind, IsBad, SackWrong, ShutdownWrong, AckCompletes}
+use Rattle.sctp_model.specs.end.Acting.{IsUnknown, Acts, PieceEmpty, WrongFormat, WrongKind, IsBad, SackWrong, ShutdownWrong, AckCompletes}
 use Rattle.sctp_model.specs.end.Strays.{Verdict, Dropped, Answer, holds_abort, listens, init_verdict, cookie_verdict, echo_verdict, first_verdict, chunks_verdict}
 use Rattle.sctp_model.specs.end.Arriving.{Arrives, Elsewhere, NotOurs, Stray, CookieBegins, Heard, noted, no_notes}
 use Rattle.sctp_safety.proofs.machine.Sides.{unknown_never_replies}
@@ -45,7 +45,7 @@ reply_opens e tag (ForwardTsn d) t r (WrongKind _ _ _ _ _) = one_opening _ refl
 reply_opens e tag (ForwardTsn d) t r (IsBad _ _ _ _ _ _ _) = one_opening _ refl
 reply_opens e tag (IForwardTsn d) t r (WrongKind _ _ _ _ _) = one_opening _ refl
 reply_opens e tag (IForwardTsn d) t r (IsBad _ _ _ _ _ _ _) = one_opening _ refl
-reply_opens e tag (Unknown k f w) t r h = absurd (unknown_never_replies e t r k f w h)
+reply_opens e tag (Unknown k f w) t r (IsUnknown _ off h) = absurd (unknown_never_replies e t r k f w h)
 
 any_chunk : (tag : ℕ) → Keeps tag (λ (e : EndView). Unit {0}) (λ (x : ChunkMeaning). Unit {0}) (λ (r : Packet). AreOpening r.chunks)
 any_chunk tag = record {

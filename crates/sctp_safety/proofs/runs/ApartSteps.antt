@@ -11,19 +11,20 @@ use Rattle.sctp_model.specs.end.Strays.{Verdict}
 use Rattle.sctp_model.specs.end.Arriving.{AllAct, Arrives, Elsewhere, NotOurs, Stray, CookieBegins, Heard, DroppedUnread, ReadAs, CutFirst, CutLater, cut_to, Notes, no_notes, noted, packet_ended, urged}
 use Rattle.sctp_model.specs.end.Building.{Builds, packet_of}
 use Rattle.sctp_model.specs.end.Moments.{ticked}
-use Rattle.sctp_model.specs.end.UserCalls.{called, abandoned_at, shut, abort_answer, abort_leaves}
+use Rattle.sctp_model.specs.end.UserCalls.{reset_call, reset_leaves, reset_there, told_leaves, called, abandoned_at, shut, abort_answer, abort_leaves}
 use Rattle.sctp_model.specs.end.PeerFaults.{Unnoted}
 use Rattle.sctp_model.specs.world.World.{Side, A, B, World, end_of, bag_of, log_of, with_end, end_now, came, logged, logged_one, Setup}
 use Rattle.sctp_model.specs.world.Events.{Event, with_verdict, Outcome}
-use Rattle.sctp_model.specs.world.Steps.{named_at, Step, OpensBoth, OpenRefused, TimePasses, Draws, Connects, ConnectRefused, BuildsOne, BuildsNone, PacketComes, IsAbsent, Sends, AbandonsOne, TakesOne, ShutsDown, AbortsIt, NoMemory, PacketCut}
+use Rattle.sctp_model.specs.world.Steps.{named_at, Step, OpensBoth, OpenRefused, TimePasses, Draws, Connects, ConnectRefused, BuildsOne, BuildsNone, PacketComes, IsAbsent, Sends, AbandonsOne, TakesOne, ResetsOne, TellsReset, ShutsDown, AbortsIt, NoMemory, PacketCut}
 use Rattle.sctp_model.specs.world.Premises.{asked_at}
 use Rattle.sctp_safety.specs.Agreement.{IsOpening}
+use Rattle.sctp_safety.proofs.machine.Alike.{alike_is}
 use Rattle.sctp_safety.proofs.machine.EndWords.{all_act_keeps}
 use Rattle.sctp_safety.proofs.machine.Strangers.{IsFound, found_is, stranger_stays}
 use Rattle.sctp_safety.proofs.machine.Ground.{IsFine}
 use Rattle.sctp_safety.proofs.machine.Fronts.{item_has, Brought, ByPeer, ByStranger, brought_whole, brought_cut}
 use Rattle.sctp_safety.proofs.machine.Turns.{builds_plain}
-use Rattle.sctp_safety.proofs.machine.TurnsOfTime.{plain_ticked, plain_abandoned, plain_taken, plain_shut, plain_aborted}
+use Rattle.sctp_safety.proofs.machine.TurnsOfTime.{plain_ticked, plain_abandoned, plain_taken, plain_reset, plain_told, plain_shut, plain_aborted}
 use Rattle.sctp_safety.proofs.runs.Bags.{chunks_in, chunk_of_bag}
 use Rattle.sctp_safety.proofs.runs.Dates.{dated}
 use Rattle.sctp_safety.proofs.runs.DatedBags.{Dates, dated_bag, bag_has, IsYoungIn, AreKept}
@@ -34,7 +35,7 @@ use Rattle.sctp_safety.proofs.runs.Pairs.{IsPair, pair_round, pair_acts, pair_en
 use Rattle.sctp_safety.proofs.runs.Answers.{OpensOrEnds, answer_opens}
 use Rattle.sctp_safety.proofs.runs.Brought.{unmet_arrives}
 use Rattle.sctp_safety.proofs.runs.Unmet.{IsUnmet}
-use Rattle.sctp_safety.proofs.runs.Waiting.{waits_ticked, waits_built, waits_abandoned, waits_taken, waits_shut, waits_aborted, waits_called, waits_longer}
+use Rattle.sctp_safety.proofs.runs.Waiting.{waits_ticked, waits_built, waits_abandoned, waits_taken, waits_reset, waits_told, waits_shut, waits_aborted, waits_called, waits_longer}
 use Rattle.sctp_safety.proofs.runs.Meeting.{IsUnclosed, unmet_unclosed, ends_meet}
 use Rattle.sctp_safety.proofs.runs.MetWorld.{Before, IsMetWorld, told_of, only_came}
 use Rattle.sctp_safety.proofs.runs.ApartWorld.{Stands, IsApartWorld, apart_end, apart_same, apart_came, apart_log, apart_packet, apart_verdict, apart_abort, now_unmet, stands_on, stands_now, apart_sent, AreSetUp, some_fragment, dated_opening, opened_meet}
@@ -173,7 +174,7 @@ module _ (s : Setup) (drawn : List ℕ) (d : Dates) (w : World) (opening : IsOpe
       (m.0, m.1, stands_on w x t.phase k (builds_plain (end_now w x) zs t b).turn)
 
   pub apart_step : (caller : w.a.phase ≡ Listening → ⊥) (e : Event) (o : Option Outcome) (v : World) → AreKept d w e v → IsFine s drawn e → Step w e o v → IsApartWorld v ⊎ IsMetWorld d v
-  apart_step caller e o v dates fine (OpensBoth x y may dx dy) = inr (opened_meet s d w x y set k)
+  apart_step caller e o v dates fine (OpensBoth x y like may dx dy) = inr (opened_meet s d w x y set (alike_is w.a.configuration w.b.configuration like) k)
   apart_step caller e o v dates fine (OpenRefused x y off) = inl k
   apart_step caller e o v dates fine (TimePasses n small) = inl (passes n)
   apart_step caller e o v dates fine (Draws c dd) = inl (apart_same w v refl refl refl refl refl refl refl k)
@@ -195,6 +196,10 @@ module _ (s : Setup) (drawn : List ℕ) (d : Dates) (w : World) (opening : IsOpe
       (apart_end w x (abandoned_at (end_of w x) n) k (waits_abandoned w.clock (end_of w x) n (k.ends x)) (stands_on w x _ k (plain_abandoned (end_of w x) n).turn)))
   apart_step caller e o v dates fine (TakesOne x n h t takes) =
       inl (apart_end w x t k (waits_taken w.clock (end_of w x) n h t (k.ends x) takes) (stands_on w x t.phase k (plain_taken (end_of w x) n h t takes).turn))
+  apart_step caller e o v dates fine (ResetsOne x n) =
+      inl (apart_end w x (reset_leaves (reset_call (end_of w x) n) (end_of w x) n) k (waits_reset w.clock (end_of w x) n (k.ends x)) (stands_on w x _ k (plain_reset (end_of w x) (reset_call (end_of w x) n) n).turn))
+  apart_step caller e o v dates fine (TellsReset x) =
+      inl (apart_end w x (told_leaves (reset_there (end_of w x)) (end_of w x)) k (waits_told w.clock (end_of w x) (k.ends x)) (stands_on w x _ k (plain_told (end_of w x) (reset_there (end_of w x))).turn))
   apart_step caller e o v dates fine (ShutsDown x) =
       inl (apart_end w x (shut (end_of w x)) k (waits_shut w.clock (end_of w x) (k.ends x)) (stands_on w x _ k (plain_shut (end_of w x)).turn))
   apart_step caller e o v dates fine (AbortsIt x r) =

@@ -15,6 +15,7 @@ use Rattle.sctp_model.specs.world.Steps.{accepted}
 use Rattle.sctp_model.specs.world.Premises.{asked_at}
 use Rattle.sctp_safety.specs.States.{has_begun}
 use Rattle.sctp_safety.specs.Agreement.{AreAgreed}
+use Rattle.sctp_safety.proofs.machine.Alike.{AreAlike}
 use Rattle.sctp_safety.proofs.lists.Basics.{Has-cases}
 use Rattle.sctp_safety.proofs.machine.Turns.{IsPlainTurn}
 use Rattle.sctp_safety.proofs.machine.Diagram.{plain_unbegun}
@@ -176,20 +177,18 @@ pub record AreSetUp (s : Setup) (w : World) : Type 0 where
 pub some_fragment : (s : Setup) (w : World) (x : Side) → AreSetUp s w → 0 < (end_of w x).configuration.fragment
 some_fragment s w x c = subst (λ (k : Configuration). 0 < k.fragment) (sym (c.alike x)) (let f = (c.within x).fragment.0 in omega (arith, f))
 
-opened_agree : (s : Setup) (w : World) (x y : Draw) → AreSetUp s w → AreAgreed (opened w.a.configuration x y).terms (opened w.b.configuration y x).terms
-opened_agree s w x y c = record {
+opened_agree : (s : Setup) (w : World) (x y : Draw) → AreSetUp s w → AreAlike w.a.configuration w.b.configuration → AreAgreed (opened w.a.configuration x y).terms (opened w.b.configuration y x).terms
+opened_agree s w x y c like = record {
   first_tsn = refl;
   first_tsn_back = refl;
-  streams = same (λ k. min k.outbound k.inbound) refl;
-  streams_back = same (λ k. min k.outbound k.inbound) refl;
-  interleave = same (λ k. k.interleave) refl;
-  partial = same (λ k. k.partial) refl;
+  streams = like.streams;
+  streams_back = like.streams;
+  interleave = like.interleave;
+  partial = like.partial;
+  reset = like.reset;
   some_streams = (some, some);
 }
   where
-    same : {T : Type 0} (f : Configuration → T) → f (configuration_of s B) ≡ f (configuration_of s A) → f w.b.configuration ≡ f w.a.configuration
-    same f e = ap f (c.alike B) ∙ e ∙ sym (ap f (c.alike A))
-
     some : 0 < min w.a.configuration.outbound w.a.configuration.inbound
     some = subst (λ (k : Configuration). 0 < min k.outbound k.inbound) (sym (c.alike A))
         (let o = (c.within A).outbound.0 in let i = (c.within A).inbound.0 in omega (arith, o, i))
@@ -206,13 +205,13 @@ opened_unclosed c own peer = record {
 pub dated_opening : (d : Dates) (w : World) (x : Side) → IsApartWorld w → AreOpening (undated (dated_bag d w x))
 dated_opening d w x k = subst AreOpening (sym (undated_bag (d x) 0 (bag_of w x))) (k.opening x)
 
-pub opened_meet : (s : Setup) (d : Dates) (w : World) (x y : Draw) → AreSetUp s w → IsApartWorld w →
+pub opened_meet : (s : Setup) (d : Dates) (w : World) (x y : Draw) → AreSetUp s w → AreAlike w.a.configuration w.b.configuration → IsApartWorld w →
     IsMetWorld d (record w { a = opened w.a.configuration x y; b = opened w.b.configuration y x; openable = false })
-opened_meet s d w x y c k = record {
+opened_meet s d w x y c like k = record {
   closed = refl;
   met = ends_meet (opened w.a.configuration x y) (opened w.b.configuration y x) (asked_at w A) (asked_at w B) (dated_bag d w A) (dated_bag d w B)
       (k.calls A) (k.calls B)
       (record { rwnd = w.a.configuration.buffer; sender = refl; receiver = refl }) (record { rwnd = w.b.configuration.buffer; sender = refl; receiver = refl })
-      (opened_agree s w x y c) refl refl (omega arith) (omega arith) (some_fragment s w A c) (some_fragment s w B c) (dated_opening d w A k) (dated_opening d w B k)
+      (opened_agree s w x y c like) refl refl (omega arith) (omega arith) (some_fragment s w A c) (some_fragment s w B c) (dated_opening d w A k) (dated_opening d w B k)
       (opened_unclosed w.a.configuration x y) (opened_unclosed w.b.configuration y x);
 }

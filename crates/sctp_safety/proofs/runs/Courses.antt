@@ -7,11 +7,11 @@ use Rattle.sctp_model.specs.end.EndView.{Draw}
 use Rattle.sctp_model.specs.end.Sealing.{Sealing}
 use Rattle.sctp_model.specs.world.World.{Side, World, FIRST_DRAW, start}
 use Rattle.sctp_model.specs.world.Events.{Event, Deliver, Foreign, Outcome}
-use Rattle.sctp_model.specs.world.Steps.{Run, Rest, Then, PassesThrough, last_of}
+use Rattle.sctp_model.specs.world.Steps.{Rest, Then, PassesThrough, last_of}
 use Rattle.sctp_model.specs.world.Aged.{assigned, ComesInTime, AllComeInTime}
 use Rattle.sctp_model.specs.world.Premises.{draws_of, drawn_in, IsTheirs}
 use Rattle.sctp_model.proofs.sender.WordLaws.{has_left}
-use Rattle.sctp_safety.specs.Runs.{PassingIsARun, RunsHaveWorlds, RunsGoOn, BeginningsAreRuns, BeginningsMeetThePremises, PassingGoesOn, BeginningsAreAged, AreAllSafe, EachWorldIsSafe, AssignFewer, ShortRunsAreAged}
+use Rattle.sctp_safety.specs.Runs.{PassingIsARun, RunsHaveWorlds, RunsGoOn, BeginningsAreRuns, BeginningsMeetThePremises, PassingGoesOn, BeginningsAreAged, KeepBothPromises, EachWorldIsSafe, AssignFewer, ShortRunsAreAged}
 use Rattle.sctp_safety.proofs.runs.Safety.{all_safe_in_time}
 
 -- ---- worlds
@@ -129,7 +129,7 @@ short_runs_are_aged w (e ∷ es) [] few = tt
 -- ---- each world
 
 -- the worlds behind the first of these
-safe_behind : (w : World) (past vs : List World) → AreAllSafe (w ∷ (past ++ vs)) → AreAllSafe (last_of w past ∷ vs)
+safe_behind : (w : World) (past vs : List World) → KeepBothPromises (w ∷ (past ++ vs)) → KeepBothPromises (last_of w past ∷ vs)
 safe_behind w [] vs all = all
 safe_behind w (v ∷ past) vs all = safe_behind v past vs all.1
 

@@ -1,20 +1,20 @@
 -- The dates of a run: each packet has that of the first world that has it. Where AGED holds of the run, or neither end assigns half the space of TSNs in it, whatever comes
 -- is young.
-use Rattle.std.proofs.Common.{◌≡◌, ℕ, zero, suc, ◌<◌, ◌≤◌, ◌⊎◌, nat_le, Bool, true, false, if◌then◌else◌, List, [], ◌∷◌, length, length-append, Option, Some, None, inl, inr, refl, sym, subst, ap, arith, ◌∙◌}
+use Rattle.std.proofs.Common.{◌≡◌, ℕ, zero, suc, ◌<◌, ◌≤◌, ◌⊎◌, nat_le, true, false, if◌then◌else◌, List, [], ◌∷◌, length, length-append, Option, Some, None, inl, inr, refl, sym, subst, ap, arith, ◌∙◌}
 use Rattle.std.proofs.lemmas.Bool.{cases_lt}
 use Rattle.std.proofs.lemmas.Bool.Decides.{nat_tests}
-use Rattle.sctp_model.specs.numbers.Lists.{Has, item_at}
+use Rattle.sctp_model.specs.numbers.Lists.{item_at}
 use Rattle.sctp_model.specs.numbers.Serial.{half_space}
 use Rattle.sctp_model.specs.wire.Packet.{Packet}
 use Rattle.sctp_model.specs.end.EndView.{EndView}
 use Rattle.sctp_model.specs.world.World.{Side, A, B, other, World, bag_of, start, Setup}
 use Rattle.sctp_model.specs.world.Events.{Event, Deliver, Outcome}
-use Rattle.sctp_model.specs.world.Steps.{Step, OpensBoth, OpenRefused, TimePasses, Draws, Connects, ConnectRefused, BuildsOne, BuildsNone, PacketComes, IsAbsent, Sends, AbandonsOne, TakesOne, ShutsDown, AbortsIt, NoMemory, PacketCut, PassesThrough}
-use Rattle.sctp_model.specs.world.Aged.{assigned, ComesInTime, AllComeInTime, Aged}
+use Rattle.sctp_model.specs.world.Steps.{Step, OpensBoth, OpenRefused, TimePasses, Draws, Connects, ConnectRefused, BuildsOne, BuildsNone, PacketComes, IsAbsent, Sends, AbandonsOne, TakesOne, ResetsOne, TellsReset, ShutsDown, AbortsIt, NoMemory, PacketCut, PassesThrough}
+use Rattle.sctp_model.specs.world.Aged.{ComesInTime, AllComeInTime, Aged}
 use Rattle.sctp_safety.specs.Runs.{AssignFewer}
 use Rattle.sctp_safety.proofs.lists.Basics.{item_at-above, item_at-within}
 use Rattle.sctp_safety.proofs.machine.OneEnd.{bag_with, IsAt, at_end, at_log, at_packet, at_came, at_verdict, at_abort}
-use Rattle.sctp_safety.proofs.runs.Dates.{Date, IsYoung}
+use Rattle.sctp_safety.proofs.runs.Dates.{Date}
 use Rattle.sctp_safety.proofs.runs.DatedBags.{Dates, date_in, IsYoungIn, AreKept}
 use Rattle.sctp_safety.proofs.runs.Direction.{entry_there}
 use Rattle.sctp_safety.proofs.runs.Meeting.{nothing_stands}
@@ -39,7 +39,7 @@ same_bags w v a b A = let e = ap length a in omega (arith, e)
 same_bags w v a b B = let e = ap length b in omega (arith, e)
 
 pub bags_grow : (w : World) (e : Event) (o : Option Outcome) (v : World) → Step w e o v → IsLonger w v
-bags_grow w e o v (OpensBoth x y may dx dy) = same_bags w v refl refl
+bags_grow w e o v (OpensBoth x y like may dx dy) = same_bags w v refl refl
 bags_grow w e o v (OpenRefused x y off) = same_bags w w refl refl
 bags_grow w e o v (TimePasses n small) = same_bags w v refl refl
 bags_grow w e o v (Draws d dd) = same_bags w v refl refl
@@ -52,6 +52,8 @@ bags_grow w e o v (IsAbsent x n none) = same_bags w w refl refl
 bags_grow w e o v (Sends x c) = longer_at w v x _ _ (at_log w x _ _)
 bags_grow w e o v (AbandonsOne x k) = longer_at w v x _ _ (at_log w x _ _)
 bags_grow w e o v (TakesOne x n h t takes) = longer_at w v x t _ (at_end w x t)
+bags_grow w e o v (ResetsOne x n) = longer_at w v x _ _ (at_end w x _)
+bags_grow w e o v (TellsReset x) = longer_at w v x _ _ (at_end w x _)
 bags_grow w e o v (ShutsDown x) = longer_at w v x _ _ (at_end w x _)
 bags_grow w e o v (AbortsIt x r) = longer_at w v x _ _ (at_abort w x _ _)
 bags_grow w e o v (PacketCut _ x _ t brings cut) = longer_at w v x t _ (at_came w x t)

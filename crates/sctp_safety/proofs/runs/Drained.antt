@@ -1,5 +1,5 @@
 -- A drained sender stays drained: it takes no index, and nothing of it is left to be given up. Only `send` could undo that.
-use Rattle.std.proofs.Common.{◌≡◌, ℕ, ◌<◌, ◌⊎◌, Bool, true, false, List, [], ◌∷◌, Some, inl, inr, sym, subst, ap, if◌then◌else◌}
+use Rattle.std.proofs.Common.{◌≡◌, ℕ, ◌<◌, ◌⊎◌, Bool, true, false, List, [], ◌∷◌, Some, inl, inr, sym, subst, ap, if◌then◌else◌, length}
 use Rattle.std.specs.Prelude.{fold}
 use Rattle.sctp_model.specs.messages.Format.{Format}
 use Rattle.sctp_model.specs.messages.Plan.{Plan}
@@ -8,9 +8,11 @@ use Rattle.sctp_model.specs.sender.Words.{some_passes, count_up}
 use Rattle.sctp_model.specs.sender.Entries.{is_of, is_in_part}
 use Rattle.sctp_model.specs.sender.Assigning.{first_on}
 use Rattle.sctp_model.specs.sender.Filling.{Wish, next_wish, gone, Follows, fill}
-use Rattle.sctp_model.specs.sender.Abandoning.{Name, waits, with_abandoned, abandon_after, is_overdue, expire_one, expired, timed_out}
+use Rattle.sctp_model.specs.sender.Abandoning.{Name, waits, with_abandoned, abandon_after, is_overdue, expire_one, expired, worn, timed_out}
 use Rattle.sctp_model.specs.sender.Readers.{drained}
 use Rattle.sctp_model.specs.sender.Reached.{IsReached, Goes, Abandons}
+use Rattle.sctp_model.specs.end.Moments.{given_up}
+use Rattle.sctp_model.proofs.sender.WornLaws.{wears_each}
 use Rattle.sctp_model.proofs.sender.AbandonCases.{after_abandon, after_end}
 use Rattle.sctp_model.proofs.sender.CountLaws.{name_found, is_named}
 use Rattle.sctp_model.proofs.sender.FillLaws.{fill_is_fill, goes_parts}
@@ -69,6 +71,16 @@ expires_dry f v now (t ∷ ts) (reached, empty) = expires_dry f (expire_one now 
 
 pub drained_expired : (f : Format) (v : SenderView) (now : ℕ) → IsReached f v → drained v ≡ true → drained (expired v now) ≡ true
 drained_expired f v now h empty = (expires_dry f v now (count_up 1 v.tickets) (h, empty)).1
+
+pub drained_worn : (f : Format) (test : ℕ → Bool) (v : SenderView) → IsReached f v → drained v ≡ true → drained (worn test v) ≡ true
+drained_worn f test v h empty =
+    (wears_each (IsDry f) (λ u t k. (Abandons u t k.0, drained_abandoned f u t k.0 k.1)) test v (count_up 1 (length v.plan.entries)) (h, empty)).1
+
+pub drained_given_up : (f : Format) (rings : Bool) (v : SenderView) (now : ℕ) → IsReached f v → drained v ≡ true → drained (given_up rings v now) ≡ true
+drained_given_up f true v now h empty =
+    let dry : IsDry f (expired v now) = expires_dry f v now (count_up 1 v.tickets) (h, empty) in
+    drained_worn f (λ i. true) (expired v now) dry.0 dry.1
+drained_given_up f false v now h empty = drained_expired f v now h empty
 
 pub drained_timed_out : (v : SenderView) → drained v ≡ true → drained (timed_out v) ≡ true
 drained_timed_out v empty = empty

@@ -2,6 +2,7 @@
 use Rattle.std.proofs.Common.{◌≡◌, ℕ, true, false, List, refl, sym, subst, ◌∙◌}
 use Rattle.sctp_model.specs.numbers.Lists.{Has}
 use Rattle.sctp_model.specs.wire.Chunk.{ChunkMeaning, Data, IData, Init, InitAck, Sack, Heartbeat, HeartbeatAck, Abort, Shutdown, ShutdownAck, Error, CookieEcho, CookieAck, ShutdownComplete, ForwardTsn, IForwardTsn, Unknown}
+use Rattle.sctp_model.specs.wire.Typed.{typed_in}
 use Rattle.sctp_model.specs.wire.Packet.{Packet}
 use Rattle.sctp_model.specs.sender.SenderView.{SenderView}
 use Rattle.sctp_model.specs.sender.Readers.{drained}
@@ -10,9 +11,10 @@ use Rattle.sctp_model.specs.end.Clock.{is_home, closed}
 use Rattle.sctp_model.specs.end.Closing.{hears, takes_acknowledgements, awaits_ack, awaits_complete, answers_shutdown}
 use Rattle.sctp_model.specs.end.PeerFaults.{GoesOn, Ends, Replies, Note}
 use Rattle.sctp_model.specs.end.Opening.{AcceptedAck, RefusedAck, EchoedAgain, CookieAcked}
-use Rattle.sctp_model.specs.end.Acting.{Acts, PieceEmpty, WrongFormat, ForwardComes, PieceComes, WrongKind, IsBad, IsOld, SackStale, ShutdownStale, SackWrong, ShutdownWrong, HeartbeatCounts, SackCounts, ShutdownCounts, Closes, SaysNothing, Crosses, Again, AckCompletes, CompleteCompleted, shutdown_counted}
+use Rattle.sctp_model.specs.end.Acting.{ReconfigComes, IsUnknown, Acts, PieceEmpty, WrongFormat, ForwardComes, PieceComes, WrongKind, IsBad, IsOld, SackStale, ShutdownStale, SackWrong, ShutdownWrong, HeartbeatCounts, SackCounts, ShutdownCounts, Closes, SaysNothing, Crosses, Again, AckCompletes, CompleteCompleted, shutdown_counted}
 use Rattle.sctp_model.specs.end.Arriving.{Notes, acknowledges, packet_ended, delays, kept_going}
 use Rattle.sctp_safety.specs.States.{has_agreed}
+use Rattle.sctp_safety.proofs.machine.Reconfigured.{parameters_same}
 use Rattle.sctp_safety.proofs.machine.EndWords.{ended_cases}
 use Rattle.sctp_safety.proofs.machine.Sides.{unknown_goes, unknown_ends, unknown_never_replies}
 use Rattle.sctp_safety.proofs.runs.Acted.{not_calling}
@@ -121,13 +123,19 @@ module _ (p : EndView) (out back : List ChunkMeaning) where
   goes e tag (Error xs) y t has m c (SaysNothing off) = c
   goes e tag (CookieEcho xs) y t has m c (EchoedAgain _ _ _ _ _ _ _) = still e t c (home_like e _ c.this.home refl refl refl refl refl) refl refl
   goes e tag CookieAck y t has m c (CookieAcked k xs is) = ending_still e p t out back c (onward_open p out back e t k Established
-      (λ last. let q : false ≡ true = subst (λ (h : Phase). is_last h ≡ true) is last in absurd (cc)) (home_turned (Open k Established) e) refl (λ off. absurd (cc)) (λ off. absurd (cc)))
+      (λ last. let q : false ≡ true = subst (λ (h : Phase). is_last h ≡ true) is last in absurd (cc))
+      (let h = home_turned (Open k Established) e in record { shutdown = h.shutdown; ack = h.ack; shutdown_runs = h.shutdown_runs; ack_runs = h.ack_runs }) refl
+      (λ off. absurd (cc)) (λ off. absurd (cc)))
   goes e tag (ShutdownComplete b) y t has m c h = elim h [ ]
   goes e tag (ForwardTsn d) y t has m c (IsOld k g r is hears may taken) = still e t c (home_like e _ c.this.home refl refl refl refl refl) refl refl
   goes e tag (ForwardTsn d) y t has m c (ForwardComes k g r is hears may taken) = still e t c (home_like e _ c.this.home refl refl refl refl refl) refl refl
   goes e tag (IForwardTsn d) y t has m c (IsOld k g r is hears may taken) = still e t c (home_like e _ c.this.home refl refl refl refl refl) refl refl
   goes e tag (IForwardTsn d) y t has m c (ForwardComes k g r is hears may taken) = still e t c (home_like e _ c.this.home refl refl refl refl refl) refl refl
-  goes e tag (Unknown k f w) y t has m c h = subst Ending (sym (unknown_goes e y t k f w h).same) (still e _ c (home_like e _ c.this.home refl refl refl refl refl) refl refl)
+  goes e tag (Unknown k f w) y t has m c (ReconfigComes n takes cumulative) =
+      let u = parameters_same n e (typed_in w) in
+      ending_still e p t out back c (onward_same p out back e t c (home_like e t c.this.home u.phase u.shutdown u.ack u.shutdown_timer u.ack_timer) u.phase
+      (λ on. subst (λ (a : SenderView). drained a ≡ true) (sym u.sender.1) on))
+  goes e tag (Unknown k f w) y t has m c (IsUnknown _ off h) = subst Ending (sym (unknown_goes e y t k f w h).same) (still e _ c (home_like e _ c.this.home refl refl refl refl refl) refl refl)
 
   pub ends : (e : EndView) (tag : ℕ) (x : ChunkMeaning) (t : EndView) → Ending e → Acts e tag x (Ends t) → Ending t
   ends e tag (Data d) t c h = elim h [ ]
@@ -149,7 +157,7 @@ module _ (p : EndView) (out back : List ChunkMeaning) where
       complete e c (done_by_ack e c last.0) (c.there.said (Shutdown told.0) told.1 refl)
   ends e tag (ForwardTsn d) t c h = elim h [ ]
   ends e tag (IForwardTsn d) t c h = elim h [ ]
-  ends e tag (Unknown k f w) t c h = subst Ending (sym (unknown_ends e t k f w h).same) (still e _ c (home_like e _ c.this.home refl refl refl refl refl) refl refl)
+  ends e tag (Unknown k f w) t c (IsUnknown _ off h) = subst Ending (sym (unknown_ends e t k f w h).same) (still e _ c (home_like e _ c.this.home refl refl refl refl refl) refl refl)
 
   fault : (e : EndView) → Ending e → Ending (closed AbortedHere e)
   fault e c = over e AbortedHere (λ z. absurd (cc)) c
@@ -176,7 +184,7 @@ module _ (p : EndView) (out back : List ChunkMeaning) where
   replies e tag (ForwardTsn d) t r has c (IsBad _ _ _ _ _ _ _) = fault e c
   replies e tag (IForwardTsn d) t r has c (WrongKind _ _ _ _ _) = fault e c
   replies e tag (IForwardTsn d) t r has c (IsBad _ _ _ _ _ _ _) = fault e c
-  replies e tag (Unknown k f w) t r has c h = absurd (unknown_never_replies e t r k f w h)
+  replies e tag (Unknown k f w) t r has c (IsUnknown _ off h) = absurd (unknown_never_replies e t r k f w h)
 
   -- ---- the end of a packet
 

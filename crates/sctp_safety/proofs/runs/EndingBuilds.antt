@@ -1,24 +1,25 @@
 -- A packet that is built says that its end is done only where it is.
-use Rattle.std.proofs.Common.{◌≡◌, ◌-◌, Bool, true, false, List, [], ◌∷◌, ◌++◌, append_assoc, append-nil, inl, inr, refl, sym, subst, ℕ}
+use Rattle.std.proofs.Common.{◌≡◌, Bool, true, false, List, [], ◌∷◌, ◌++◌, append_assoc, append-nil, inl, inr, refl, sym, subst, ℕ}
 use Rattle.sctp_model.specs.numbers.Lists.{Has}
 use Rattle.sctp_model.specs.wire.Chunk.{ChunkMeaning}
-use Rattle.sctp_model.specs.wire.Packet.{size_of_packet}
 use Rattle.sctp_model.specs.messages.Format.{Format, Plain, Interleaved}
 use Rattle.sctp_model.specs.sender.SenderView.{SenderView}
 use Rattle.sctp_model.specs.sender.Filling.{Wish}
 use Rattle.sctp_model.specs.sender.SentChunks.{chunk_of, forward_chunk_to, forward_end}
 use Rattle.sctp_model.specs.sender.Readers.{drained}
-use Rattle.sctp_model.specs.sender.Reached.{IsReached}
+use Rattle.sctp_model.specs.sender.Reached.{IsReached, Rebases}
 use Rattle.sctp_model.specs.end.EndView.{Terms, Established, ShutdownPending, ShutdownReceived, ShutdownSent, ShutdownAckSent, Phase, Idle, Listening, Calling, Echoing, Open, Over, ShutdownAlarm, AckAlarm, EndView, format_for, format_of}
 use Rattle.sctp_model.specs.end.Clock.{is_home}
 use Rattle.sctp_model.specs.end.Closing.{hears, awaits_ack}
-use Rattle.sctp_model.specs.end.Building.{Slot, is_due, Wants, EchoCookie, AckCookie, AckHeartbeat, ReportCauses, Acknowledge, PassOn, SayShutdown, AnswerShutdown, Puts, NoMore, NotDue, Put, IsFull, echoing_slots, open_slots, filled_behind, sent, fragments, Builds, Sleeps, Waits, Calls, Echoes, EndsFull, Fills, EchoSlot, CookieAckSlot, HeartbeatSlot, ErrorSlot, SackSlot, ForwardSlot, ShutdownSlot, ShutdownAckSlot, once_built}
+use Rattle.sctp_model.specs.end.Building.{Slot, is_due, Wants, EchoCookie, AckCookie, AckHeartbeat, ReportCauses, Acknowledge, PassOn, SayShutdown, AnswerShutdown, Puts, NoMore, NotDue, Put, IsFull, echoing_slots, open_slots, filled_behind, sent, fragments, Builds, Sleeps, Waits, Calls, Echoes, EndsFull, Fills, EchoSlot, CookieAckSlot, HeartbeatSlot, ErrorSlot, SackSlot, ForwardSlot, AnswerSlot, RequestSlot, AnswerReset, AskReset, ShutdownSlot, ShutdownAckSlot, once_built, room_behind}
+use Rattle.sctp_model.specs.end.Reconfiguring.{asking}
 use Rattle.sctp_safety.specs.States.{has_agreed}
 use Rattle.sctp_safety.proofs.runs.Sending.{Has-map}
 use Rattle.sctp_safety.proofs.runs.Acted.{not_calling}
 use Rattle.sctp_safety.proofs.runs.Drained.{drained_fill}
 use Rattle.sctp_safety.proofs.runs.Homes.{home_like, IsHome}
-use Rattle.sctp_safety.proofs.runs.Ending.{IsDone, is_shutting, last_by_ack, AreEnding, ending_on, onward_same}
+use Rattle.sctp_safety.proofs.runs.Ending.{IsDone, is_shutting, last_by_ack, AreEnding, ending_on, ending_still, onward_same}
+use Rattle.sctp_safety.proofs.machine.Reconfigured.{asking_same}
 
 -- the states that send SHUTDOWN and SHUTDOWN ACK wait for the answer
 home_awaits : (h : Phase) → is_home ShutdownAlarm h ≡ true → hears awaits_ack h ≡ true
@@ -74,6 +75,8 @@ module _ (p : EndView) (back : List ChunkMeaning) where
   put_one s out e x c due ReportCauses = put out e (once_built ErrorSlot e) x c (home_like e _ c.this.home refl refl refl refl refl) refl refl (λ on. absurd (cc))
   put_one s out e x c due (Acknowledge made is) = put out e (once_built SackSlot e) x c (home_like e _ c.this.home refl refl refl refl refl) refl refl (λ on. absurd (cc))
   put_one s out e x c due PassOn = put out e (once_built ForwardSlot e) x c (home_like e _ c.this.home refl refl refl refl refl) refl refl (λ on. absurd (let off = forward_is_other (format_of e) e.sender (forward_end (format_of e) e.configuration.limit e.sender) in cc))
+  put_one s out e x c due AnswerReset = put out e (once_built AnswerSlot e) x c (home_like e _ c.this.home refl refl refl refl refl) refl refl (λ on. absurd (cc))
+  put_one s out e x c due (AskReset _ _) = put out e (once_built RequestSlot e) x c (home_like e _ c.this.home refl refl refl refl refl) refl refl (λ on. absurd (cc))
   put_one s out e x c due (SayShutdown k is) = put out e (once_built ShutdownSlot e) x c (record {
     shutdown = λ on. absurd (cc);
     ack = c.this.home.ack;
@@ -98,7 +101,7 @@ module _ (p : EndView) (back : List ChunkMeaning) where
   fill_keeps : (out : List ChunkMeaning) (e : EndView) (zs : List ChunkMeaning) → IsReached (format_of e) e.sender → Ending (out ++ zs) e → Ending (out ++ (zs ++ fragments e zs)) (sent e zs)
   fill_keeps out e zs reached c = subst (λ (ys : List ChunkMeaning). Ending ys (sent e zs)) (append_assoc out zs (fragments e zs))
       (ending_on e p (sent e zs) (out ++ zs) back (fragments e zs) c
-      (onward_same p (out ++ zs) back e (sent e zs) c (home_like e _ c.this.home refl refl refl refl refl) refl (drained_fill (format_of e) (e.configuration.limit - size_of_packet zs) e.sender reached)) others)
+      (onward_same p (out ++ zs) back e (sent e zs) c (home_like e _ c.this.home refl refl refl refl refl) refl (drained_fill (format_of e) (room_behind e zs) e.sender reached)) others)
     where
       others : (x : ChunkMeaning) → Has (fragments e zs) x → is_shutting x ≡ true → IsDone (sent e zs)
       others x has on =
@@ -114,6 +117,8 @@ module _ (p : EndView) (back : List ChunkMeaning) where
   built_sender ErrorSlot e = (refl, refl)
   built_sender SackSlot e = (refl, refl)
   built_sender ForwardSlot e = (refl, refl)
+  built_sender AnswerSlot e = (refl, refl)
+  built_sender RequestSlot e = (refl, refl)
   built_sender ShutdownSlot e = (refl, refl)
   built_sender ShutdownAckSlot e = (refl, refl)
 
@@ -131,6 +136,19 @@ module _ (p : EndView) (back : List ChunkMeaning) where
       puts_reached more (once_built s e) (xs ++ x ∷ []) zs full t (built_reached e (once_built s e) (built_sender s e) h) rest
   puts_reached ss e xs zs full t h (IsFull _ _ _ _ _ due wants room) = h
 
+  -- a request is made first, and that alone changes
+  asking_reached : (e : EndView) → Reached e → Reached (asking e)
+  asking_reached e h =
+      let u = asking_same e in
+      subst (λ (x : Terms). IsReached (format_for x.interleave) (asking e).sender) (sym u.terms)
+      (subst (λ (a : SenderView). IsReached (format_of e) a) (sym u.sender.1) (Rebases e.sender u.sender.0 h))
+
+  ending_asking : (out : List ChunkMeaning) (e : EndView) → Ending out e → Ending out (asking e)
+  ending_asking out e c =
+      let u = asking_same e in
+      ending_still e p (asking e) out back c (onward_same p out back e (asking e) c (home_like e (asking e) c.this.home u.phase u.shutdown u.ack u.shutdown_timer u.ack_timer) u.phase
+      (λ on. subst (λ (a : SenderView). drained a ≡ true) (sym u.sender.1) on))
+
   pub ending_built : (out : List ChunkMeaning) (e : EndView) (zs : List ChunkMeaning) (t : EndView) → has_agreed e.phase ≡ true → Reached e → Ending out e → Builds e zs t → Ending (out ++ zs) t
   ending_built out e zs t agreed h c (Sleeps none) = subst (λ (ys : List ChunkMeaning). Ending ys e) (sym (append-nil out)) c
   ending_built out e zs t agreed h c (Waits d is off) = absurd (not_calling e.phase d is agreed)
@@ -138,7 +156,7 @@ module _ (p : EndView) (back : List ChunkMeaning) where
   ending_built out e zs t agreed h c (Echoes k cookie _ full _ is puts) =
       puts_keep out echoing_slots e [] zs full t (subst (λ (ys : List ChunkMeaning). Ending ys e) (sym (append-nil out)) c) puts
   ending_built out e zs t agreed h c (EndsFull k g _ _ is puts) =
-      puts_keep out open_slots e [] zs true t (subst (λ (ys : List ChunkMeaning). Ending ys e) (sym (append-nil out)) c) puts
+      puts_keep out open_slots (asking e) [] zs true t (subst (λ (ys : List ChunkMeaning). Ending ys (asking e)) (sym (append-nil out)) (ending_asking out e c)) puts
   ending_built out e zs t agreed h c (Fills k g xs x is puts) =
-      fill_keeps out x xs (puts_reached open_slots e [] xs false x h puts)
-      (puts_keep out open_slots e [] xs false x (subst (λ (ys : List ChunkMeaning). Ending ys e) (sym (append-nil out)) c) puts)
+      fill_keeps out x xs (puts_reached open_slots (asking e) [] xs false x (asking_reached e h) puts)
+      (puts_keep out open_slots (asking e) [] xs false x (subst (λ (ys : List ChunkMeaning). Ending ys (asking e)) (sym (append-nil out)) (ending_asking out e c)) puts)

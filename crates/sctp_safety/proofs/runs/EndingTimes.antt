@@ -5,16 +5,18 @@ use Rattle.sctp_model.specs.sender.SenderView.{SenderView}
 use Rattle.sctp_model.specs.receiver.ReceiverView.{Handed}
 use Rattle.sctp_model.specs.world.Calls.{Call}
 use Rattle.sctp_model.specs.sender.Queueing.{Refusal, refusal, queued}
-use Rattle.sctp_model.specs.sender.Abandoning.{abandon_after, expired}
+use Rattle.sctp_model.specs.sender.Abandoning.{abandon_after, worn}
 use Rattle.sctp_model.specs.sender.Readers.{point, drained}
 use Rattle.sctp_model.specs.sender.Reached.{IsReached}
-use Rattle.sctp_model.specs.end.EndView.{TimedOut, Established, ShutdownPending, ShutdownSent, ShutdownReceived, ShutdownAckSent, AbortedHere, Phase, Idle, Listening, Calling, Echoing, Open, Over, Alarm, InitAlarm, CookieAlarm, DataAlarm, ShutdownAlarm, AckAlarm, EndView, format_of, has_association}
+use Rattle.sctp_model.specs.end.EndView.{TimedOut, Established, ShutdownPending, ShutdownSent, ShutdownReceived, ShutdownAckSent, AbortedHere, Phase, Idle, Listening, Calling, Echoing, Open, Over, Alarm, InitAlarm, CookieAlarm, DataAlarm, ShutdownAlarm, AckAlarm, ResetAlarm, EndView, format_of, has_association}
 use Rattle.sctp_model.specs.end.Clock.{repeats_of, is_over_at, with_timer, turned, closed, at_moment, settled}
 use Rattle.sctp_model.specs.end.Clock.{expired_timer}
 use Rattle.sctp_model.specs.end.Closing.{hears}
-use Rattle.sctp_model.specs.end.Moments.{after_abandoning, due_again, rung, ring, rung_all, all_alarms, passed, ticked, waited_in}
-use Rattle.sctp_model.specs.end.UserCalls.{NotOpen, is_established, answer_for, send_answer, send_leaves, is_open, abandoned_at, UserTakes, shut_in, shut, AbortAnswer, Aborts, NoPeer, TooLong, abort_leaves}
-use Rattle.sctp_safety.proofs.runs.Drained.{drained_abandoned, drained_expired, drained_timed_out}
+use Rattle.sctp_model.specs.end.Moments.{after_abandoning, is_data_due, given_up, due_again, rung, ring, rung_all, all_alarms, passed, ticked, waited_in}
+use Rattle.sctp_model.specs.end.Wearing.{wearing}
+use Rattle.sctp_model.proofs.PacedEnds.{worn_cases}
+use Rattle.sctp_model.specs.end.UserCalls.{NotOpen, is_established, answer_for, send_answer, send_leaves, is_open, abandoned_at, UserTakes, ResetCall, Begun, NotAgreed, NoStream, reset_leaves, told_leaves, shut_in, shut, AbortAnswer, Aborts, NoPeer, TooLong, abort_leaves}
+use Rattle.sctp_safety.proofs.runs.Drained.{drained_abandoned, drained_worn, drained_given_up, drained_timed_out}
 use Rattle.sctp_safety.proofs.runs.Homes.{home_like, IsHome, home_turned}
 use Rattle.sctp_safety.proofs.runs.Ending.{is_last, last_by_ack, AreEnding, ending_still, onward_same, onward_over, onward_open, ending_rested}
 
@@ -39,12 +41,17 @@ module _ (p : EndView) (out back : List ChunkMeaning) where
       ending_rested p out back (settled (record e { sender = a; due = record e.due { forward = e.due.forward || not (point a == point e.sender) } }))
       (still e _ c (home_like e _ c.this.home refl refl refl refl refl) refl keeps)
 
+  -- at the end of a packet
+  pub ending_worn : (from : ℕ) (e : EndView) → IsReached (format_of e) e.sender → Ending e → Ending (wearing from e)
+  ending_worn from e h c = worn_cases Ending from e c (λ test on. becomes_abandoned e (worn test e.sender) c (drained_worn (format_of e) test e.sender h))
+
   -- ---- timers
 
   again : (a : Alarm) (e : EndView) → Ending e → is_over_at e.moment (e.timers a).expiry ≡ true → Ending (due_again a (with_timer a (expired_timer (e.timers a)) e))
   again InitAlarm e c on = still e _ c (home_like e _ c.this.home refl refl refl refl refl) refl (λ y. y)
   again CookieAlarm e c on = still e _ c (home_like e _ c.this.home refl refl refl refl refl) refl (λ y. y)
   again DataAlarm e c on = still e _ c (home_like e _ c.this.home refl refl refl refl refl) refl (drained_timed_out e.sender)
+  again ResetAlarm e c on = still e _ c (home_like e _ c.this.home refl refl refl refl refl) refl (λ y. y)
   again ShutdownAlarm e c on = still e _ c (record {
     shutdown = λ z. let r = was_running e.moment (e.timers ShutdownAlarm).expiry on in c.this.home.shutdown_runs r.0 r.1;
     ack = c.this.home.ack;
@@ -83,10 +90,10 @@ module _ (p : EndView) (out back : List ChunkMeaning) where
       go : (b : Bool) → Ending (if b then passed (at_moment e now) else at_moment e now)
       go false = there
       go true =
-          let u = after_abandoning (at_moment e now) (expired e.sender (at_moment e now).moment) in
+          let u = after_abandoning (at_moment e now) (given_up (is_data_due (at_moment e now)) e.sender (at_moment e now).moment) in
           let r = rung_all all_alarms u in
           waits (is_over_at r.moment r.delayed) r (all_ring all_alarms u
-          (becomes_abandoned (at_moment e now) (expired e.sender (at_moment e now).moment) there (drained_expired (format_of e) e.sender (at_moment e now).moment h)))
+          (becomes_abandoned (at_moment e now) (given_up (is_data_due (at_moment e now)) e.sender (at_moment e now).moment) there (drained_given_up (format_of e) (is_data_due (at_moment e now)) e.sender (at_moment e now).moment h)))
 
   -- ---- the user
 
@@ -106,7 +113,7 @@ module _ (p : EndView) (out back : List ChunkMeaning) where
       early (Echoing t xs) on last = absurd (cc)
       early (Over why) on last = absurd (cc)
 
-      more : hears is_established e.phase ≡ true → Ending (record e { sender = queued e.sender c.lane c.payload c.bytes c.until })
+      more : hears is_established e.phase ≡ true → Ending (record e { sender = queued e.sender c.lane c.payload c.bytes c.until c.limit })
       more on = ending_still e p _ out back k (record {
         home = record { shutdown = k.this.home.shutdown; ack = k.this.home.ack; shutdown_runs = k.this.home.shutdown_runs; ack_runs = k.this.home.ack_runs };
         empty = λ late. absurd (early e.phase on (last_by_ack e.phase late));
@@ -132,6 +139,15 @@ module _ (p : EndView) (out back : List ChunkMeaning) where
 
   pub ending_taken : (e : EndView) (s : ℕ) (h : Option Handed) (t : EndView) → Ending e → UserTakes e s h t → Ending t
   ending_taken e s h t c k = subst Ending (sym k.leaves) (still e (record e { receiver = k.receiver }) c (home_like e _ c.this.home refl refl refl refl refl) refl (λ on. on))
+
+  pub ending_reset : (e : EndView) (a : ResetCall) (s : ℕ) → Ending e → Ending (reset_leaves a e s)
+  ending_reset e Begun s c = still e (reset_leaves Begun e s) c (home_like e _ c.this.home refl refl refl refl refl) refl (λ on. on)
+  ending_reset e NotAgreed s c = c
+  ending_reset e NoStream s c = c
+
+  pub ending_told : (e : EndView) (o : Option ℕ) → Ending e → Ending (told_leaves o e)
+  ending_told e None c = c
+  ending_told e (Some s) c = still e (told_leaves (Some s) e) c (home_like e _ c.this.home refl refl refl refl refl) refl (λ on. on)
 
   pub ending_shut : (e : EndView) → Ending e → Ending (shut e)
   ending_shut e c = go e.phase refl

@@ -24,7 +24,7 @@ move_lasts w v (Number before q rest count) (a, b, c, d, f, g, e) =
     same_plan w _ v e (λ i x h. item_at-left w.sender.plan.entries (parts_from q.lane _ 0 count) i x h)
 move_lasts w v (Continue l n k count) (m, a, b, c, d, f, g, e) =
     same_plan w _ v e (λ i x h. item_at-left w.sender.plan.entries (parts_from l n _ count) i x h)
-move_lasts w v (Withdraw before q rest) (a, e) = same_plan w _ v e (λ i x h. h)
+move_lasts w v (Withdraw before q rest) (a, b, e) = same_plan w _ v e (λ i x h. h)
 move_lasts w v (Abandon l n) (m, a, b, e) = same_plan w _ v e (λ i x h. h)
 move_lasts w v (Mark l n) (m, a, b, c, e) = same_plan w _ v e (λ i x h. item_at-left w.sender.plan.entries (End l n ∷ []) i x h)
 move_lasts w v (Change_sending b) (same, e) = same_plan w _ v e (subst (λ (p : Plan). IsPrefix w.sender.plan p) (sym same.plan) (λ i x h. h))

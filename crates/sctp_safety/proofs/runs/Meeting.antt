@@ -1,8 +1,12 @@
 -- Two ends meet: both are new and agree, so both directions start.
-use Rattle.std.proofs.Common.{false, ◌≡◌, ℕ, zero, suc, ◌≤◌, ◌<◌, Bool, true, List, [], length, Some, refl, sym, subst, ap}
-use Rattle.sctp_model.specs.numbers.Lists.{item_at}
+use Rattle.std.proofs.Common.{false, ◌≡◌, ℕ, zero, suc, ◌≤◌, ◌<◌, Bool, true, List, [], length, Some, None, arith, ◌∙◌, inl, refl, sym, subst, ap}
+use Rattle.sctp_model.specs.numbers.Lists.{Has, item_at}
 use Rattle.sctp_model.specs.wire.Chunk.{ChunkMeaning}
 use Rattle.sctp_model.specs.messages.Format.{Format}
+use Rattle.sctp_model.specs.wire.Reconfig.{BadNumber, InProgress}
+use Rattle.sctp_model.specs.sender.Outgoing.{Outgoing, no_outgoing}
+use Rattle.sctp_model.specs.receiver.Incoming.{Incoming, no_incoming}
+use Rattle.sctp_safety.proofs.runs.ResetFacts.{AreInStep}
 use Rattle.sctp_model.specs.sender.SenderView.{SenderView, fresh_sender}
 use Rattle.sctp_model.specs.receiver.ReceiverView.{ReceiverView, fresh_receiver}
 use Rattle.sctp_model.specs.world.Calls.{Asked}
@@ -34,6 +38,34 @@ nothing_stands zero x h = cc
 nothing_stands (suc i) x h = cc
 
 -- ---- a direction from new views
+
+-- of two views that know of no reset
+new_step : (f : Format) (a : SenderView) (r : ReceiverView) → a.resets ≡ no_outgoing → r.resets ≡ no_incoming → AreInStep f a r
+new_step f a r sending receiving = record {
+  few = omega (arith, made);
+  taken = omega (arith, made, taken);
+  next = omega (arith, made, taken);
+  answered = λ none. taken ∙ sym made;
+  finished = λ none is. not_progress is;
+  fresh = λ q some low is. not_progress is;
+  waiting = λ q some. absurd (let h = pending in cc);
+  bases = inl (λ l numbered. ap (λ (x : Outgoing). x.base l) sending ∙ sym (ap (λ (x : Incoming). x.base l) receiving), λ q some. absurd (let h = pending in cc));
+  old = λ l n below. let h = ap (λ (x : Outgoing). x.base l) sending in absurd (omega (arith, below, h));
+  answers = λ x has. absurd (subst (λ (y : Incoming). Has y.answers x) receiving has);
+  typed = λ x has. absurd (subst (λ (y : Incoming). Has y.answers x) receiving has);
+}
+  where
+    made : a.resets.made ≡ 0
+    made = ap (λ (x : Outgoing). x.made) sending
+
+    taken : r.resets.taken ≡ 0
+    taken = ap (λ (x : Incoming). x.taken) receiving
+
+    pending : a.resets.pending ≡ None
+    pending = ap (λ (x : Outgoing). x.pending) sending
+
+    not_progress : r.resets.result ≡ InProgress → ⊥
+    not_progress is = let h : BadNumber ≡ InProgress = sym (ap (λ (x : Incoming). x.result) receiving) ∙ is in cc
 
 module _ (f : Format) (tsn peer_tsn outbound inbound fragment rwnd buffer : ℕ) (partial : Bool) (u : Asked) (none : u.calls ≡ []) where
   abbrev a : SenderView
@@ -68,8 +100,9 @@ module _ (f : Format) (tsn peer_tsn outbound inbound fragment rwnd buffer : ℕ)
     initial = same;
     outbound = refl;
     inbound = streams;
-    said = λ x has. quiet_says f tsn a.plan no_bags x.date.own x.chunk (opening_quiet x.chunk (opening x.chunk (has_undated out x has)));
-    said_back = λ x has. quiet_says_back peer_tsn no_bags x.date.there x.chunk (opening_quiet_back x.chunk (opening_back x.chunk (has_undated back x has)));
+    step = new_step f a r refl refl;
+    said = λ x has. quiet_says f tsn a r no_bags x.date.own x.chunk (opening_quiet x.chunk (opening x.chunk (has_undated out x has)));
+    said_back = λ x has. quiet_says_back peer_tsn r no_bags x.date.there x.chunk (opening_quiet_back x.chunk (opening_back x.chunk (has_undated back x has)));
   }
 
 -- ---- between two ends

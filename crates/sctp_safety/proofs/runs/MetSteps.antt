@@ -7,11 +7,11 @@ use Rattle.sctp_model.specs.end.EndView.{Phase, Idle, Listening, Calling, Echoin
 use Rattle.sctp_model.specs.end.Strays.{Verdict}
 use Rattle.sctp_model.specs.end.Arriving.{Arrives, DroppedUnread, ReadAs, CutFirst, CutLater, cut_to}
 use Rattle.sctp_model.specs.end.Building.{Builds, packet_of}
-use Rattle.sctp_model.specs.end.UserCalls.{connect_answer, Called, abort_answer, abort_leaves, shut}
+use Rattle.sctp_model.specs.end.UserCalls.{reset_call, reset_leaves, reset_there, told_leaves, connect_answer, Called, abort_answer, abort_leaves, shut}
 use Rattle.sctp_model.specs.world.World.{Side, A, B, other, World, end_of, bag_of, with_end, with_packet, end_now, Setup}
 use Rattle.sctp_model.specs.world.Events.{Event, Deliver, Outcome}
 use Rattle.sctp_model.specs.world.Aged.{assigned}
-use Rattle.sctp_model.specs.world.Steps.{Step, OpensBoth, OpenRefused, TimePasses, Draws, Connects, ConnectRefused, BuildsOne, BuildsNone, PacketComes, IsAbsent, Sends, AbandonsOne, TakesOne, ShutsDown, AbortsIt, NoMemory, PacketCut}
+use Rattle.sctp_model.specs.world.Steps.{Step, OpensBoth, OpenRefused, TimePasses, Draws, Connects, ConnectRefused, BuildsOne, BuildsNone, PacketComes, IsAbsent, Sends, AbandonsOne, TakesOne, ResetsOne, TellsReset, ShutsDown, AbortsIt, NoMemory, PacketCut}
 use Rattle.sctp_model.specs.world.Premises.{asked_at}
 use Rattle.sctp_safety.specs.States.{has_agreed}
 use Rattle.sctp_safety.specs.Agreement.{IsOpening}
@@ -21,7 +21,7 @@ use Rattle.sctp_safety.proofs.machine.Fronts.{back_again, Brought, ByPeer, ByStr
 use Rattle.sctp_safety.proofs.runs.Dates.{Date, IsYoung, Dated, dated, all_dated}
 use Rattle.sctp_safety.proofs.runs.DatedBags.{Dates, dated_bag, bag_has, date_in, AreKept}
 use Rattle.sctp_safety.proofs.runs.Acted.{Comes}
-use Rattle.sctp_safety.proofs.runs.Pairs.{IsPair, date_at, pair_arrives, pair_built, pair_taken, pair_shut, pair_aborted}
+use Rattle.sctp_safety.proofs.runs.Pairs.{IsPair, date_at, pair_arrives, pair_built, pair_taken, pair_reset, pair_told, pair_shut, pair_aborted}
 use Rattle.sctp_safety.proofs.runs.Answers.{answer_opens}
 use Rattle.sctp_safety.proofs.runs.MetWorld.{MetAt, MetWith, Before, IsMetWorld, at_side, from_side, now_at, put_end, put_both, told_of, only_came, put_abort, sent_at, abandoned_there, passes_at, closed_abort, closed_end, closed_packet, closed_log}
 
@@ -96,7 +96,7 @@ module _ (s : Setup) (drawn : List ℕ) (d : Dates) (w : World) (opening : IsOpe
   with_other x t k = record { closed = closed_end w x t ∙ m.closed; met = from_side d (with_end w x t) x (put_end d w x t k) }
 
   pub met_step : (e : Event) (o : Option Outcome) (v : World) → AreKept d w e v → IsFine s drawn e → Step w e o v → IsMetWorld d v
-  met_step e o v dates fine (OpensBoth x y may dx dy) = absurd (let q = m.closed in cc)
+  met_step e o v dates fine (OpensBoth x y like may dx dy) = absurd (let q = m.closed in cc)
   met_step e o v dates fine (OpenRefused x y off) = m
   met_step e o v dates fine (TimePasses n small) = record { closed = m.closed; met = passes_at d w n m.met }
   met_step e o v dates fine (Draws c dd) = record { closed = m.closed; met = m.met }
@@ -116,6 +116,12 @@ module _ (s : Setup) (drawn : List ℕ) (d : Dates) (w : World) (opening : IsOpe
   met_step e o v dates fine (AbandonsOne x k) = record { closed = closed_log w x _ _ ∙ m.closed; met = from_side d v x (abandoned_there d w x k (at x)) }
   met_step e o v dates fine (TakesOne x n h t takes) =
       with_other x t (pair_taken (end_of w (other x)) (asked_at w x) (asked_at w (other x)) (dated_bag d w x) (dated_bag d w (other x)) (end_of w x) n h t (at x) takes)
+  met_step e o v dates fine (ResetsOne x n) =
+      with_other x (reset_leaves (reset_call (end_of w x) n) (end_of w x) n)
+      (pair_reset (end_of w (other x)) (asked_at w x) (asked_at w (other x)) (dated_bag d w x) (dated_bag d w (other x)) (end_of w x) (reset_call (end_of w x) n) n (at x))
+  met_step e o v dates fine (TellsReset x) =
+      with_other x (told_leaves (reset_there (end_of w x)) (end_of w x))
+      (pair_told (end_of w (other x)) (asked_at w x) (asked_at w (other x)) (dated_bag d w x) (dated_bag d w (other x)) (end_of w x) (reset_there (end_of w x)) (at x))
   met_step e o v dates fine (ShutsDown x) =
       with_other x (shut (end_of w x))
       (pair_shut (end_of w (other x)) (asked_at w x) (asked_at w (other x)) (dated_bag d w x) (dated_bag d w (other x)) (end_of w x) (at x))

@@ -1,10 +1,9 @@
 -- A packet that an end builds keeps both directions: what stands in it is said.
 use Rattle.sctp_model.proofs.sender.ForwardEnd.{end_from, end_upto}
-use Rattle.std.proofs.Common.{◌≡◌, ℕ, ◌+◌, ◌-◌, ◌≤◌, Bool, true, false, List, [], ◌∷◌, ◌++◌, length, append_assoc, append-nil, inl, inr, refl, sym, subst, ap, arith, ◌∙◌}
+use Rattle.std.proofs.Common.{◌≡◌, ℕ, ◌+◌, ◌≤◌, ◌&&◌, Bool, true, false, List, [], ◌∷◌, ◌++◌, length, append_assoc, append-nil, inl, inr, refl, sym, subst, ap, arith, ◌∙◌}
 use Rattle.sctp_model.specs.numbers.Limits.{WINDOW}
 use Rattle.sctp_model.specs.numbers.Lists.{Has}
 use Rattle.sctp_model.specs.wire.Chunk.{ChunkMeaning, Sack}
-use Rattle.sctp_model.specs.wire.Packet.{size_of_packet}
 use Rattle.sctp_model.specs.messages.Format.{Format, Plain, Interleaved}
 use Rattle.sctp_model.specs.sender.SenderView.{SenderView}
 use Rattle.sctp_model.specs.receiver.ReceiverView.{ReceiverView}
@@ -13,12 +12,21 @@ use Rattle.sctp_safety.proofs.runs.Dates.{Date, Dated, dated, all_dated, dated_o
 use Rattle.sctp_safety.proofs.runs.Direction.{Direction}
 use Rattle.sctp_model.specs.world.Calls.{Asked}
 use Rattle.sctp_model.specs.sender.Filling.{Wish, fill}
-use Rattle.sctp_model.specs.sender.Reached.{IsReached}
+use Rattle.sctp_model.specs.sender.Reached.{IsReached, Rebases}
 use Rattle.sctp_model.specs.sender.SentChunks.{chunk_of, forward_chunk_to, forward_end}
 use Rattle.sctp_model.proofs.sender.FillLaws.{fill_is_fill}
 use Rattle.sctp_model.proofs.sender.OwedLaws.{is_windowed}
-use Rattle.sctp_model.specs.end.EndView.{Terms, Phase, EndView, format_for, format_of}
-use Rattle.sctp_model.specs.end.Building.{Slot, Wants, EchoCookie, AckCookie, AckHeartbeat, ReportCauses, Acknowledge, PassOn, SayShutdown, AnswerShutdown, Puts, NoMore, NotDue, Put, IsFull, echoing_slots, open_slots, filled_behind, sent, fragments, Builds, Sleeps, Waits, Calls, Echoes, EndsFull, Fills, EchoSlot, CookieAckSlot, HeartbeatSlot, ErrorSlot, SackSlot, ForwardSlot, ShutdownSlot, ShutdownAckSlot, once_built}
+use Rattle.sctp_model.specs.end.EndView.{Terms, Phase, ResetAlarm, EndView, format_for, format_of}
+use Rattle.sctp_model.specs.end.Building.{Slot, Wants, EchoCookie, AckCookie, AckHeartbeat, ReportCauses, Acknowledge, PassOn, SayShutdown, AnswerShutdown, Puts, NoMore, NotDue, Put, IsFull, echoing_slots, open_slots, filled_behind, sent, fragments, Builds, Sleeps, Waits, Calls, Echoes, EndsFull, Fills, EchoSlot, CookieAckSlot, HeartbeatSlot, ErrorSlot, SackSlot, ForwardSlot, AnswerSlot, RequestSlot, AnswerReset, AskReset, ShutdownSlot, ShutdownAckSlot, once_built, room_behind}
+use Rattle.sctp_model.specs.numbers.Serial.{tsn}
+use Rattle.std.proofs.lemmas.Bool.{and_parts}
+use Rattle.sctp_model.specs.sender.Resetting.{may_ask, asked, request_said}
+use Rattle.sctp_model.specs.receiver.ResetTaken.{with_answers}
+use Rattle.sctp_model.specs.end.Clock.{is_home}
+use Rattle.sctp_model.specs.end.Reconfiguring.{asking_now, asking}
+use Rattle.sctp_safety.proofs.machine.Reconfigured.{asking_same}
+use Rattle.sctp_safety.proofs.runs.Asking.{after_asked}
+use Rattle.sctp_safety.proofs.runs.ResetsBuilt.{after_answers, answers_ask_nothing, after_request_built, request_answers_nothing}
 use Rattle.sctp_safety.specs.States.{has_agreed}
 use Rattle.sctp_safety.proofs.runs.Sending.{after_fill, follows_reached, Has-map}
 use Rattle.sctp_safety.proofs.runs.PastCum.{follows_past}
@@ -46,6 +54,8 @@ once_sends HeartbeatSlot e = record { terms = refl; sender = refl }
 once_sends ErrorSlot e = record { terms = refl; sender = refl }
 once_sends SackSlot e = record { terms = refl; sender = refl }
 once_sends ForwardSlot e = record { terms = refl; sender = refl }
+once_sends AnswerSlot e = record { terms = refl; sender = refl }
+once_sends RequestSlot e = record { terms = refl; sender = refl }
 once_sends ShutdownSlot e = record { terms = refl; sender = refl }
 once_sends ShutdownAckSlot e = record { terms = refl; sender = refl }
 
@@ -113,6 +123,15 @@ module _ (p : EndView) (u v : Asked) (back : List Dated) (k : Date) (by_then : k
       let going = after_forward (format_of e) e.terms.outbound e.sender u p.receiver out back q (end_from (format_of e) e.configuration.limit e.sender) (end_upto (format_of e) e.configuration.limit e.sender)
       m.met.going k m.window in
       put out e (once_built ForwardSlot e) x m e.receiver going (coming_quiet out e x m (forward_is_quiet_back (format_of e) e.sender q)) (record { terms = refl; sender = refl; receiver = refl; moment = refl }) refl
+  put_one s out e x m AnswerReset = put out e (once_built AnswerSlot e) x m (with_answers e.receiver [])
+      (answers_ask_nothing (format_of e) e.terms.outbound e.sender u p.receiver out back m.met.going k e.receiver.resets.answers m.met.coming.step.typed)
+      (after_answers (format_of p) p.terms.outbound p.sender v e.receiver back out m.met.coming k) (record { terms = refl; sender = refl; receiver = refl; moment = refl }) refl
+  put_one s out e x m (AskReset q is) =
+      let answered = tsn e.receiver.initial e.receiver.resets.taken in
+      put out e (once_built RequestSlot e) x m e.receiver
+      (after_request_built (format_of e) e.terms.outbound e.sender u p.receiver out back m.met.going k q is answered)
+      (request_answers_nothing (format_of p) p.terms.outbound p.sender v e.receiver back out m.met.coming k answered (request_said e.sender q) (m.met.going.step.waiting q is).few)
+      (record { terms = refl; sender = refl; receiver = refl; moment = refl }) refl
   put_one s out e x m (SayShutdown c is) = put out e (once_built ShutdownSlot e) x m e.receiver (going_quiet out e x m refl)
       (after_shutdown_made (format_of p) p.terms.outbound p.sender v e.receiver back out m.met.coming c k by_then is) (record { terms = refl; sender = refl; receiver = refl; moment = refl }) refl
   put_one s out e x m AnswerShutdown = put_quiet out e (once_built ShutdownAckSlot e) x m refl refl (record { terms = refl; sender = refl; receiver = refl; moment = refl }) refl
@@ -137,8 +156,8 @@ module _ (p : EndView) (u v : Asked) (back : List Dated) (k : Date) (by_then : k
   fill_keeps out e zs m = subst (λ (ys : List Dated). IsMet (sent e zs) p u v ys back) (behind out zs (fragments e zs))
       (met_same (record e { sender = (filled_behind e zs).view }) (sent e zs) p u v ((out ++ all_dated k zs) ++ all_dated k (fragments e zs)) back
       (met_views e p u v (out ++ all_dated k zs) back ((out ++ all_dated k zs) ++ all_dated k (fragments e zs)) m.met (filled_behind e zs).view e.receiver
-      (after_fill (format_of e) e.terms.outbound e.sender u p.receiver (out ++ all_dated k zs) back m.met.going (e.configuration.limit - size_of_packet zs)
-      (filled_behind e zs).wishes (filled_behind e zs).view k m.window (fill_is_fill (format_of e) (e.configuration.limit - size_of_packet zs) e.sender))
+      (after_fill (format_of e) e.terms.outbound e.sender u p.receiver (out ++ all_dated k zs) back m.met.going (room_behind e zs)
+      (filled_behind e zs).wishes (filled_behind e zs).view k m.window (fill_is_fill (format_of e) (room_behind e zs) e.sender))
       (quiet_back_more (format_of p) p.terms.outbound p.sender v e.receiver back (out ++ all_dated k zs) m.met.coming (all_dated k (fragments e zs))
       (each_dated (λ y. is_quiet_back y.chunk ≡ true) k (fragments e zs) quiet)))
       (record { terms = refl; sender = refl; receiver = refl; moment = refl }) m.met.phase)
@@ -156,6 +175,18 @@ module _ (p : EndView) (u v : Asked) (back : List Dated) (k : Date) (by_then : k
   first : (out : List Dated) (e : EndView) → IsMet e p u v out back → k.own ≤ e.sender.cum + WINDOW → IsBuilding (out ++ all_dated k []) e
   first out e m window = record { met = subst (λ (ys : List Dated). IsMet e p u v ys back) (sym (append-nil out)) m; window = window }
 
+  -- but that a request may be made
+  first_asks : (out : List Dated) (e : EndView) → IsMet e p u v out back → k.own ≤ e.sender.cum + WINDOW → IsBuilding (out ++ all_dated k []) (asking e)
+  first_asks out e m window = go (e.terms.reset && (is_home ResetAlarm e.phase && may_ask e.sender)) refl
+    where
+      go : (b : Bool) → (e.terms.reset && (is_home ResetAlarm e.phase && may_ask e.sender)) ≡ b → IsBuilding (out ++ all_dated k []) (asking_now b e)
+      go false off = first out e m window
+      go true on =
+          let may = (and_parts (is_home ResetAlarm e.phase) (may_ask e.sender) (and_parts e.terms.reset (is_home ResetAlarm e.phase && may_ask e.sender) on).1).1 in
+          first out (asking_now true e) (met_same (record e { sender = asked e.sender }) (asking_now true e) p u v out back
+          (met_views e p u v out back out m (asked e.sender) e.receiver (after_asked (format_of e) e.terms.outbound e.sender u p.receiver out back m.going may) m.coming)
+          (record { terms = refl; sender = refl; receiver = refl; moment = refl }) m.phase) window
+
   -- A packet that is built keeps both directions, and its chunks say what lies between the ends.
   pub builds_keep : (out : List Dated) (e : EndView) (zs : List ChunkMeaning) (t : EndView) → IsMet e p u v out back → k.own ≤ e.sender.cum + WINDOW → Builds e zs t →
       IsMet t p u v (out ++ all_dated k zs) back
@@ -163,8 +194,8 @@ module _ (p : EndView) (u v : Asked) (back : List Dated) (k : Date) (by_then : k
   builds_keep out e zs t m window (Waits d is off) = absurd (not_calling e.phase d is m.phase)
   builds_keep out e zs t m window (Calls d is on) = absurd (not_calling e.phase d is m.phase)
   builds_keep out e zs t m window (Echoes g cookie _ full _ is puts) = (puts_keep out echoing_slots e [] zs full t (first out e m window) puts).met
-  builds_keep out e zs t m window (EndsFull h g _ _ is puts) = (puts_keep out open_slots e [] zs true t (first out e m window) puts).met
-  builds_keep out e zs t m window (Fills h g xs x is puts) = fill_keeps out x xs (puts_keep out open_slots e [] xs false x (first out e m window) puts)
+  builds_keep out e zs t m window (EndsFull h g _ _ is puts) = (puts_keep out open_slots (asking e) [] zs true t (first_asks out e m window) puts).met
+  builds_keep out e zs t m window (Fills h g xs x is puts) = fill_keeps out x xs (puts_keep out open_slots (asking e) [] xs false x (first_asks out e m window) puts)
 
 -- ---- how much is assigned by then
 
@@ -182,6 +213,15 @@ fill_window f room a reached =
 unfilled_window : (e t : EndView) → IsReached (format_of e) e.sender → IsSendingAs e t → length t.sender.plan.entries ≤ e.sender.cum + WINDOW
 unfilled_window e t reached same = subst (λ (a : SenderView). length a.plan.entries ≤ e.sender.cum + WINDOW) (sym same.sender) (reached_window (format_of e) e.sender reached)
 
+-- a request that is made first changes neither
+asking_reached : (e : EndView) → IsReached (format_of e) e.sender → IsReached (format_of (asking e)) (asking e).sender
+asking_reached e h =
+    let r = asking_same e in
+    subst (λ (x : Terms). IsReached (format_for x.interleave) (asking e).sender) (sym r.terms) (subst (λ (a : SenderView). IsReached (format_of e) a) (sym r.sender.1) (Rebases e.sender r.sender.0 h))
+
+asked_window : (e : EndView) (many : ℕ) → many ≤ (asking e).sender.cum + WINDOW → many ≤ e.sender.cum + WINDOW
+asked_window e many h = let same = ap (λ (a : SenderView). a.cum) (asking_same e).sender.1 in omega (arith, h, same)
+
 -- Once a packet is built, its end has assigned no more than the window holds past the CUM from before.
 pub built_window : (e : EndView) (zs : List ChunkMeaning) (t : EndView) → IsReached (format_of e) e.sender → has_agreed e.phase ≡ true → Builds e zs t →
     length t.sender.plan.entries ≤ e.sender.cum + WINDOW
@@ -189,10 +229,10 @@ built_window e zs t reached agreed (Sleeps none) = reached_window (format_of e) 
 built_window e zs t reached agreed (Waits d is off) = absurd (not_calling e.phase d is agreed)
 built_window e zs t reached agreed (Calls d is on) = absurd (not_calling e.phase d is agreed)
 built_window e zs t reached agreed (Echoes g cookie _ full _ is puts) = unfilled_window e t reached (puts_send echoing_slots e [] zs full t puts)
-built_window e zs t reached agreed (EndsFull h g _ _ is puts) = unfilled_window e t reached (puts_send open_slots e [] zs true t puts)
+built_window e zs t reached agreed (EndsFull h g _ _ is puts) = asked_window e (length t.sender.plan.entries) (unfilled_window (asking e) t (asking_reached e reached) (puts_send open_slots (asking e) [] zs true t puts))
 built_window e zs t reached agreed (Fills h g xs x is puts) =
-    let same = puts_send open_slots e [] xs false x puts in
+    let same = puts_send open_slots (asking e) [] xs false x puts in
     let there : IsReached (format_of x) x.sender =
-    subst (λ (y : Terms). IsReached (format_for y.interleave) x.sender) (sym same.terms) (subst (λ (a : SenderView). IsReached (format_of e) a) (sym same.sender) reached) in
-    let w = fill_window (format_of x) (x.configuration.limit - size_of_packet xs) x.sender there in
-    subst (λ (a : SenderView). length (filled_behind x xs).view.plan.entries ≤ a.cum + WINDOW) same.sender w
+    subst (λ (y : Terms). IsReached (format_for y.interleave) x.sender) (sym same.terms) (subst (λ (a : SenderView). IsReached (format_of (asking e)) a) (sym same.sender) (asking_reached e reached)) in
+    let w = fill_window (format_of x) (room_behind x xs) x.sender there in
+    asked_window e (length (filled_behind x xs).view.plan.entries) (subst (λ (a : SenderView). length (filled_behind x xs).view.plan.entries ≤ a.cum + WINDOW) same.sender w)

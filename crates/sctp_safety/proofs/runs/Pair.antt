@@ -1,9 +1,8 @@
 -- Two ends that have met: both directions between them, and what each end's chunks say of both.
 use Rattle.std.proofs.Common.{◌≡◌, ℕ, ◌≤◌, ◌⊎◌, Bool, true, false, List, ◌++◌, inl, inr, refl, sym, subst}
 use Rattle.sctp_model.specs.numbers.Lists.{Has}
-use Rattle.sctp_model.specs.wire.Chunk.{ChunkMeaning, Data, IData, Init, InitAck, Sack, Abort, Shutdown, Error, CookieEcho, ShutdownComplete, ForwardTsn, IForwardTsn}
+use Rattle.sctp_model.specs.wire.Chunk.{ChunkMeaning, Data, IData, Init, InitAck, Sack, Abort, Shutdown, Error, CookieEcho, ShutdownComplete, ForwardTsn, IForwardTsn, Unknown}
 use Rattle.sctp_model.specs.messages.Format.{Format}
-use Rattle.sctp_model.specs.messages.Plan.{Plan}
 use Rattle.sctp_model.specs.sender.SenderView.{SenderView}
 use Rattle.sctp_model.specs.receiver.ReceiverView.{ReceiverView}
 use Rattle.sctp_model.specs.world.Calls.{Asked}
@@ -24,12 +23,14 @@ is_quiet (Data p) = false
 is_quiet (IData p) = false
 is_quiet (ForwardTsn m) = false
 is_quiet (IForwardTsn m) = false
+is_quiet (Unknown k f v) = false
 is_quiet x = true
 
 -- the other way: neither a SACK nor a SHUTDOWN
 abbrev pub is_quiet_back : ChunkMeaning → Bool
 is_quiet_back (Sack s) = false
 is_quiet_back (Shutdown n) = false
+is_quiet_back (Unknown k f v) = false
 is_quiet_back x = true
 
 -- those of an opening, and those that end an association: neither way
@@ -46,28 +47,32 @@ opens_or_ends x = false
 abbrev pub AreOpening : List ChunkMeaning → Type 0
 AreOpening xs = (x : ChunkMeaning) → Has xs x → opens_or_ends x ≡ true
 
-pub quiet_says : (f : Format) (i : ℕ) (p : Plan) (b : Bags) (since : ℕ) (x : ChunkMeaning) → is_quiet x ≡ true → IsSaid f i p b since x
-quiet_says f i p b since (Data m) h = absurd (cc)
-quiet_says f i p b since (IData m) h = absurd (cc)
-quiet_says f i p b since (ForwardTsn m) h = absurd (cc)
-quiet_says f i p b since (IForwardTsn m) h = absurd (cc)
-quiet_says f i p b since x h = tt
+pub quiet_says : (f : Format) (i : ℕ) (p : SenderView) (r : ReceiverView) (b : Bags) (since : ℕ) (x : ChunkMeaning) → is_quiet x ≡ true → IsSaid f i p r b since x
+quiet_says f i p r b since (Data m) h = absurd (cc)
+quiet_says f i p r b since (IData m) h = absurd (cc)
+quiet_says f i p r b since (ForwardTsn m) h = absurd (cc)
+quiet_says f i p r b since (IForwardTsn m) h = absurd (cc)
+quiet_says f i p r b since (Unknown k g v) h = absurd (cc)
+quiet_says f i p r b since x h = tt
 
-pub quiet_says_back : (i : ℕ) (b : Bags) (since : ℕ) (x : ChunkMeaning) → is_quiet_back x ≡ true → IsSaidBack i b since x
-quiet_says_back i b since (Sack s) h = absurd (cc)
-quiet_says_back i b since (Shutdown n) h = absurd (cc)
-quiet_says_back i b since x h = tt
+pub quiet_says_back : (i : ℕ) (r : ReceiverView) (b : Bags) (since : ℕ) (x : ChunkMeaning) → is_quiet_back x ≡ true → IsSaidBack i r b since x
+quiet_says_back i r b since (Sack s) h = absurd (cc)
+quiet_says_back i r b since (Shutdown n) h = absurd (cc)
+quiet_says_back i r b since (Unknown k g v) h = absurd (cc)
+quiet_says_back i r b since x h = tt
 
 pub opening_quiet : (x : ChunkMeaning) → opens_or_ends x ≡ true → is_quiet x ≡ true
 opening_quiet (Data m) h = absurd (cc)
 opening_quiet (IData m) h = absurd (cc)
 opening_quiet (ForwardTsn m) h = absurd (cc)
 opening_quiet (IForwardTsn m) h = absurd (cc)
+opening_quiet (Unknown k f v) h = absurd (cc)
 opening_quiet x h = refl
 
 pub opening_quiet_back : (x : ChunkMeaning) → opens_or_ends x ≡ true → is_quiet_back x ≡ true
 opening_quiet_back (Sack s) h = absurd (cc)
 opening_quiet_back (Shutdown n) h = absurd (cc)
+opening_quiet_back (Unknown k f v) h = absurd (cc)
 opening_quiet_back x h = refl
 
 -- chunks more that the receiver's end built, and that say nothing of the direction
@@ -75,14 +80,14 @@ pub quiet_back_more : (f : Format) (n : ℕ) (a : SenderView) (u : Asked) (r : R
     (xs : List Dated) → ((x : Dated) → Has xs x → is_quiet_back x.chunk ≡ true) → Direction f n a u r out (back ++ xs)
 quiet_back_more f n a u r out back d xs quiet = with_chunks f n a u r out back d out (back ++ xs) d.said (λ x has. which x (Has-cases back xs x has))
   where
-    which : (x : Dated) → Has back x ⊎ Has xs x → IsSaidBack r.initial d.bags x.date.there x.chunk
+    which : (x : Dated) → Has back x ⊎ Has xs x → IsSaidBack r.initial r d.bags x.date.there x.chunk
     which x (inl h) = d.said_back x h
-    which x (inr h) = quiet_says_back r.initial d.bags x.date.there x.chunk (quiet x h)
+    which x (inr h) = quiet_says_back r.initial r d.bags x.date.there x.chunk (quiet x h)
 
 -- and such that the sender's end built
 pub quiet_more : (f : Format) (n : ℕ) (a : SenderView) (u : Asked) (r : ReceiverView) (out back : List Dated) → Direction f n a u r out back →
     (xs : List Dated) → ((x : Dated) → Has xs x → is_quiet x.chunk ≡ true) → Direction f n a u r (out ++ xs) back
-quiet_more f n a u r out back d xs quiet = said_more f n a u r out back d xs (λ x has. quiet_says f a.initial a.plan d.bags x.date.own x.chunk (quiet x has))
+quiet_more f n a u r out back d xs quiet = said_more f n a u r out back d xs (λ x has. quiet_says f a.initial a r d.bags x.date.own x.chunk (quiet x has))
 
 -- ---- both directions
 

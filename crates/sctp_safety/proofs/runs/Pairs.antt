@@ -14,8 +14,9 @@ use Rattle.sctp_model.specs.end.Closing.{rested}
 use Rattle.sctp_model.specs.end.Moments.{ticked}
 use Rattle.sctp_model.specs.end.PeerFaults.{GoesOn, Ends, Replies, Note}
 use Rattle.sctp_model.specs.end.Acting.{Acts}
-use Rattle.sctp_model.specs.end.UserCalls.{send_answer, send_leaves, abandoned_at, UserTakes, shut, AbortAnswer, abort_leaves}
+use Rattle.sctp_model.specs.end.UserCalls.{send_answer, send_leaves, abandoned_at, UserTakes, ResetCall, reset_leaves, told_leaves, shut, AbortAnswer, abort_leaves}
 use Rattle.sctp_model.specs.end.Strays.{Verdict}
+use Rattle.sctp_model.specs.end.Wearing.{missed_below, wearing}
 use Rattle.sctp_model.specs.end.Arriving.{Arrives, Elsewhere, NotOurs, Stray, CookieBegins, Heard, Notes, no_notes, packet_ended, urged}
 use Rattle.sctp_safety.proofs.machine.EndWords.{Keeps, all_act_keeps}
 use Rattle.sctp_safety.proofs.machine.Strangers.{found_is}
@@ -24,12 +25,12 @@ use Rattle.sctp_safety.proofs.runs.Pair.{opens_or_ends, AreOpening, IsMet, views
 use Rattle.sctp_safety.proofs.runs.Acted.{Comes, IsMetWith, goes as met_goes, ends as met_ends, replies as met_replies, met_ended}
 use Rattle.sctp_safety.proofs.runs.Answers.{reply_opens}
 use Rattle.sctp_safety.proofs.runs.Packets.{builds_keep, built_window}
-use Rattle.sctp_safety.proofs.runs.Timed.{met_now, met_ticked, met_taken, met_shut, met_aborted, met_sent, met_abandoned, met_clock, asked_more}
+use Rattle.sctp_safety.proofs.runs.Timed.{met_worn, met_now, met_ticked, met_taken, met_reset, met_told, met_shut, met_aborted, met_sent, met_abandoned, met_clock, asked_more}
 use Rattle.sctp_safety.proofs.runs.Brought.{listens_not}
 use Rattle.sctp_safety.proofs.runs.Ending.{is_shutting, AreEnding, ending_round, ending_on, onward_same, ending_rested}
 use Rattle.sctp_safety.proofs.runs.EndingActs.{goes, ends, replies, ending_ended}
 use Rattle.sctp_safety.proofs.runs.EndingBuilds.{ending_built}
-use Rattle.sctp_safety.proofs.runs.EndingTimes.{ending_now, ending_ticked, ending_sent, ending_abandoned, ending_taken, ending_shut, ending_aborted}
+use Rattle.sctp_safety.proofs.runs.EndingTimes.{ending_worn, ending_now, ending_ticked, ending_sent, ending_abandoned, ending_taken, ending_reset, ending_told, ending_shut, ending_aborted}
 
 pub record IsPair (e p : EndView) (u v : Asked) (out back : List Dated) : Type 0 where
   pub met : IsMet e p u v out back
@@ -120,6 +121,13 @@ pair_ended p u v out back n e k = record {
   ending = ending_ended p (undated out) (undated back) n e k.ending;
 }
 
+-- at the end of a packet
+pair_worn : (p : EndView) (u v : Asked) (out back : List Dated) (from : ℕ) (e : EndView) → IsPair e p u v out back → IsPair (wearing from e) p u v out back
+pair_worn p u v out back from e k = record {
+  met = met_worn p u v out back from e k.met;
+  ending = ending_worn p (undated out) (undated back) from e (reached_by e p u v out back k) k.ending;
+}
+
 pub pair_arrives : (e p : EndView) (u v : Asked) (out back : List Dated) (d : Draw) (k : Packet) (t : EndView) (o : Verdict) → IsPair e p u v out back →
     ((x : ChunkMeaning) → Has k.chunks x → Comes p (length e.sender.plan.entries) back x) → Arrives e d k t o → IsPair t p u v out back
 pair_arrives e p u v out back d k t o m comes (Elsewhere ports) = m
@@ -127,8 +135,8 @@ pair_arrives e p u v out back d k t o m comes (NotOurs ports passes) = m
 pair_arrives e p u v out back d k t o m comes (Stray ports passes none closed) = m
 pair_arrives e p u v out back d k t o m comes (CookieBegins b _ _ _ ports passes none opens acts gap _) = absurd (listens_not e.phase (found_is e k.tag k.chunks b opens).phase m.met.phase)
 pair_arrives e p u v out back d k t o m comes (Heard w n _ ports passes has acts gap _) =
-    pair_ended p u v out back (urged gap n) w
-    (all_act_keeps k.tag _ _ _ (pair_acts p u v out back k.tag (length e.sender.plan.entries)) e no_notes k.chunks w n o comes (record { pair = m; assigned = refl }) acts).0.pair
+    pair_ended p u v out back (urged gap n) (wearing (missed_below e.pace) w) (pair_worn p u v out back (missed_below e.pace) w
+    (all_act_keeps k.tag _ _ _ (pair_acts p u v out back k.tag (length e.sender.plan.entries)) e no_notes k.chunks w n o comes (record { pair = m; assigned = refl }) acts).0.pair)
 
 -- ---- what is built, called, and passes
 
@@ -153,6 +161,12 @@ module _ (p : EndView) (u v : Asked) (out back : List Dated) where
 
   pub pair_taken : (e : EndView) (s : ℕ) (h : Option Handed) (t : EndView) → IsPair e p u v out back → UserTakes e s h t → IsPair t p u v out back
   pair_taken e s h t k takes = record { met = met_taken p u v out back e s h t k.met takes; ending = ending_taken p (undated out) (undated back) e s h t k.ending takes }
+
+  pub pair_reset : (e : EndView) (a : ResetCall) (s : ℕ) → IsPair e p u v out back → IsPair (reset_leaves a e s) p u v out back
+  pair_reset e a s k = record { met = met_reset p u v out back e a s k.met; ending = ending_reset p (undated out) (undated back) e a s k.ending }
+
+  pub pair_told : (e : EndView) (o : Option ℕ) → IsPair e p u v out back → IsPair (told_leaves o e) p u v out back
+  pair_told e o k = record { met = met_told p u v out back e o k.met; ending = ending_told p (undated out) (undated back) e o k.ending }
 
   pub pair_shut : (e : EndView) → IsPair e p u v out back → IsPair (shut e) p u v out back
   pair_shut e k = record { met = met_shut p u v out back e k.met; ending = ending_shut p (undated out) (undated back) e k.ending }

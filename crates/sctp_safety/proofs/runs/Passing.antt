@@ -24,7 +24,8 @@ use Rattle.sctp_safety.proofs.moves.Built.{forward_is_allowed}
 use Rattle.sctp_safety.proofs.moves.Taken.{leads_by}
 use Rattle.sctp_safety.proofs.runs.Dates.{Date, Dated, dated}
 use Rattle.sctp_safety.proofs.runs.Direction.{Bags, way_of, IsForwardIn, IsSaid, Direction}
-use Rattle.sctp_safety.proofs.runs.Sending.{good_here, sender_moved, said_more}
+use Rattle.sctp_safety.proofs.runs.StillStreams.{fewer_wait}
+use Rattle.sctp_safety.proofs.runs.Sending.{good_here, sender_moved, said_more, written_readable}
 
 -- ---- each lane is listed once
 
@@ -92,6 +93,9 @@ after_forward f n a u r out back p from upto d k window = said_more f n a u r ou
     is : IsForward f a.plan a.cum p (forward_to f a p)
     is = forward_is_forward f a p d.reached
 
+    upto_there : p ≤ length a.plan.entries
+    upto_there = let top = point_within f a n u r out back d in omega (arith, top, upto)
+
     bags : Bags
     bags = record d.bags { forwards = forward_to f a p ∷ d.bags.forwards }
 
@@ -102,25 +106,27 @@ after_forward f n a u r out back p from upto d k window = said_more f n a u r ou
               (forward_is_allowed (way_of f n a u r d.bags) (point a) p (forward_to f a p) (point_is_point a) from upto is);
           order = record { ends = d.usual.order.ends; marked = d.usual.order.marked; tickets = d.usual.order.tickets };
           constants = record { initial = refl; streams = refl; fragment = refl; partial = refl };
-        })
+        }) refl (λ s off h. fewer_wait s a a refl h.queue h)
 
-    within : IsForwardIn f a.initial a.plan bags.forwards k.own (forward_said f a p)
+    within : IsForwardIn f a.initial a r bags.forwards k.own (forward_said f a p)
     within = record {
       said = record {
         forward = forward_to f a p;
+        base = a.resets.base;
         put = inl refl;
         cumulative = refl;
         skips = refl;
         topped = forward_topped f a.plan a.cum p (forward_to f a p) good.arranged is;
       };
-      within = let top = point_within f a n u r out back d in omega (arith, top, upto);
+      within = upto_there;
       window = omega (arith, window, from);
+      readable = λ y has. let z = is.stands y has in written_readable f a r d.step z.0 z.1 y.lane y.number z.4 z.5 z.2 p upto_there;
     }
 
-    by_format : (g : Format) → IsForwardIn f a.initial a.plan bags.forwards k.own (forward_said g a p) → IsSaid f a.initial a.plan bags k.own (forward_chunk_to g a p)
+    by_format : (g : Format) → IsForwardIn f a.initial a r bags.forwards k.own (forward_said g a p) → IsSaid f a.initial a r bags k.own (forward_chunk_to g a p)
     by_format Plain h = h
     by_format Interleaved h = h
 
-    says : (x : Dated) → Has (dated k (forward_chunk_to f a p) ∷ []) x → IsSaid f a.initial a.plan bags x.date.own x.chunk
-    says x (inl e) = subst (λ (y : Dated). IsSaid f a.initial a.plan bags y.date.own y.chunk) e (by_format f within)
+    says : (x : Dated) → Has (dated k (forward_chunk_to f a p) ∷ []) x → IsSaid f a.initial a r bags x.date.own x.chunk
+    says x (inl e) = subst (λ (y : Dated). IsSaid f a.initial a r bags y.date.own y.chunk) e (by_format f within)
     says x (inr h) = absurd h

@@ -1,8 +1,9 @@
 -- SAFE and CLOSING in every world of every run: each step keeps the ends apart, or lets them meet, or keeps what they have since they met.
-use Rattle.std.proofs.Common.{arith, ◌≡◌, ℕ, List, [], ◌∷◌, Option, Some, inl, inr, refl, subst, ◌⊎◌}
+use Rattle.std.proofs.Common.{arith, ◌≡◌, ℕ, true, List, [], ◌∷◌, Option, Some, inl, inr, refl, subst, ◌⊎◌}
 use Rattle.sctp_model.specs.numbers.Lists.{Has}
 use Rattle.sctp_model.specs.messages.Plan.{entry_at}
 use Rattle.sctp_model.specs.sender.SenderView.{SenderView}
+use Rattle.sctp_model.specs.sender.Readers.{drained}
 use Rattle.sctp_model.specs.world.Calls.{Asked}
 use Rattle.sctp_model.specs.world.Safe.{Safe}
 use Rattle.sctp_model.specs.end.EndView.{Over, Completed, Phase, Listening, EndView, format_of}
@@ -11,10 +12,10 @@ use Rattle.sctp_model.specs.world.World.{Side, A, B, World, end_of, bag_of, log_
 use Rattle.sctp_model.specs.world.Events.{Event, Outcome}
 use Rattle.sctp_model.specs.world.Steps.{Step, PassesThrough, last_of}
 use Rattle.sctp_model.specs.world.Aged.{Aged}
-use Rattle.sctp_model.specs.world.Premises.{drawn_in, asked_at, Premises, IsSafeWorld, IsAllArrived, IsClosedWorld, IsReachedInTime}
+use Rattle.sctp_model.specs.world.Premises.{drawn_in, asked_at, FreshAndUnforged, IsSafeWorld, IsAllArrived, IsClosedWorld, IsReachedInTime}
 use Rattle.sctp_safety.specs.States.{IsTurn, ByCall, ByInitAck, ByCookieAck, ByCookie, ByPair, ByStage, ByEnd, IsPath, Here, On}
 use Rattle.sctp_safety.specs.Agreement.{IsOpening}
-use Rattle.sctp_safety.specs.Runs.{TwoEndsAreSafe, NothingIsMissing, AreAllSafe, ShortRunsAreSafe}
+use Rattle.sctp_safety.specs.Runs.{NothingWaits, TwoEndsAreSafe, NothingIsMissing, KeepBothPromises, ShortRunsAreSafe}
 use Rattle.sctp_safety.proofs.machine.Ground.{IsFine}
 use Rattle.sctp_safety.proofs.machine.EndsAgree.{fine_by, IsSound, sound_step, sound_start, opening_of}
 use Rattle.sctp_safety.proofs.moves.SafeWhenGood.{safe_when_good}
@@ -26,7 +27,7 @@ use Rattle.sctp_safety.proofs.runs.DatedBags.{Dates, dated_bag, AreKept}
 use Rattle.sctp_safety.proofs.runs.Dating.{dates_of, AllKept, kept_in_time, kept_by_few}
 use Rattle.sctp_safety.proofs.runs.Direction.{way_of, Direction}
 use Rattle.sctp_safety.proofs.runs.Pair.{AreOpening}
-use Rattle.sctp_safety.proofs.runs.Unmet.{IsBlank, IsUnmet}
+use Rattle.sctp_safety.proofs.runs.Unmet.{IsBlank, IsUnmet, never_opened}
 use Rattle.sctp_safety.proofs.runs.Arrived.{drained_arrives}
 use Rattle.sctp_safety.proofs.runs.Ending.{IsDone}
 use Rattle.sctp_safety.proofs.runs.Pairs.{IsPair, pair_round}
@@ -77,6 +78,18 @@ kept_closed d w (inr m) s over = arrived (done s over)
       done_arrived w.b w.a (asked_at w B) (asked_at w A) (dated_bag d w B) (dated_bag d w A)
           (pair_round w.a w.b (asked_at w A) (asked_at w B) (dated_bag d w A) (dated_bag d w B) m.met) db,
     )
+
+-- once an end has completed both are drained
+kept_drained : (d : Dates) (w : World) → IsKept d w → (x : Side) → (end_of w x).phase ≡ Over Completed → (drained w.a.sender ≡ true) × (drained w.b.sender ≡ true)
+kept_drained d w (inl k) x over = absurd (let q : never_opened (Over Completed) ≡ true = subst (λ (h : Phase). never_opened h ≡ true) over (k.ends x).unopened in cc)
+kept_drained d w (inr m) x over = both (done x over)
+  where
+    done : (y : Side) → (end_of w y).phase ≡ Over Completed → IsDone w.a × IsDone w.b
+    done A is = m.met.ending.this.completed is
+    done B is = let both = m.met.ending.there.completed is in (both.1, both.0)
+
+    both : IsDone w.a × IsDone w.b → (drained w.a.sender ≡ true) × (drained w.b.sender ≡ true)
+    both (da, db) = (da.empty, db.empty)
 
 -- ---- how the ends of a run are set up
 
@@ -142,7 +155,7 @@ module _ (s : Setup) (drawn : List ℕ) (within : (x : Side) → IsConfiguration
 
   -- each world of a run whose dates are kept
   all_steady : (w : World) (es : List Event) (os : List (Option Outcome)) (vs : List World) → ((e : Event) → Has es e → IsFine s drawn e) → PassesThrough w es os vs → AllKept d w es vs →
-      IsSteady s drawn d w → AreAllSafe (w ∷ vs)
+      IsSteady s drawn d w → KeepBothPromises (w ∷ vs)
   all_steady w [] [] [] fine passes kept i = (steady_safe w i, tt)
   all_steady w (e ∷ es) (o ∷ os) (v ∷ vs) fine (step, more) (now, later) i =
       (steady_safe w i, all_steady v es os vs (λ x h. fine x (inr h)) more later (steady_step w v e o now (fine e (inl refl)) i step))
@@ -151,9 +164,21 @@ module _ (s : Setup) (drawn : List ℕ) (within : (x : Side) → IsConfiguration
   all_steady w (e ∷ es) [] vs fine passes kept i = absurd passes
   all_steady w (e ∷ es) (o ∷ os) [] fine passes kept i = absurd passes
 
+-- the last of them
+module _ (s : Setup) (drawn : List ℕ) (within : (x : Side) → IsConfiguration (configuration_of s x)) (d : Dates) where
+  last_kept : (w : World) (es : List Event) (os : List (Option Outcome)) (vs : List World) → ((e : Event) → Has es e → IsFine s drawn e) → PassesThrough w es os vs → AllKept d w es vs →
+      IsSteady s drawn d w → IsKept d (last_of w vs)
+  last_kept w [] [] [] fine passes kept i = i.kept
+  last_kept w (e ∷ es) (o ∷ os) (v ∷ vs) fine (step, more) (now, later) i =
+      last_kept v es os vs (λ x h. fine x (inr h)) more later (steady_step s drawn within d w v e o now (fine e (inl refl)) i step)
+  last_kept w [] (o ∷ os) vs fine passes kept i = absurd passes
+  last_kept w [] [] (v ∷ vs) fine passes kept i = absurd passes
+  last_kept w (e ∷ es) [] vs fine passes kept i = absurd passes
+  last_kept w (e ∷ es) (o ∷ os) [] fine passes kept i = absurd passes
+
 -- a run from the start
 all_safe : (s : Setup) (es : List Event) (os : List (Option Outcome)) (vs : List World) → ((x : Side) → IsConfiguration (configuration_of s x)) → PassesThrough (start s) es os vs →
-    Premises s.sealing es → AllKept (dates_of (start s) vs) (start s) es vs → AreAllSafe (start s ∷ vs)
+    FreshAndUnforged s.sealing es → AllKept (dates_of (start s) vs) (start s) es vs → KeepBothPromises (start s ∷ vs)
 all_safe s es os vs within passes premises kept =
     all_steady s (drawn_in es) within (dates_of (start s) vs) (start s) es os vs (fine_by s es premises) passes kept
     (record { sound = sound_start s (drawn_in es) (inl refl); caller = λ q. absurd (cc); kept = kept_start s (dates_of (start s) vs) })
@@ -162,14 +187,14 @@ all_safe s es os vs within passes premises kept =
 
 -- In each world of a run that meets the premises both hold.
 pub all_safe_in_time : (s : Setup) (es : List Event) (os : List (Option Outcome)) (vs : List World) → ((x : Side) → IsConfiguration (configuration_of s x)) →
-    PassesThrough (start s) es os vs → Premises s.sealing es → Aged (start s) es vs → AreAllSafe (start s ∷ vs)
+    PassesThrough (start s) es os vs → FreshAndUnforged s.sealing es → Aged (start s) es vs → KeepBothPromises (start s ∷ vs)
 all_safe_in_time s es os vs within passes premises aged = all_safe s es os vs within passes premises (kept_in_time s es os vs passes aged)
 
 -- And in each world of a run that meets FRESH and UNFORGED, and in which neither end assigns half the space of TSNs.
 pub short_runs_are_safe : ShortRunsAreSafe
 short_runs_are_safe s es os vs within passes premises few = all_safe s es os vs within passes premises (kept_by_few s es os vs passes few)
 
-last_safe : (w : World) (vs : List World) → AreAllSafe (w ∷ vs) → IsSafeWorld (last_of w vs) × IsClosedWorld (last_of w vs)
+last_safe : (w : World) (vs : List World) → KeepBothPromises (w ∷ vs) → IsSafeWorld (last_of w vs) × IsClosedWorld (last_of w vs)
 last_safe w [] h = h.0
 last_safe w (v ∷ vs) h = last_safe v vs h.1
 
@@ -183,3 +208,13 @@ two_ends_are_safe s events w r = (reached_safe s events w r).0
 
 pub nothing_is_missing : NothingIsMissing
 nothing_is_missing s events w r = (reached_safe s events w r).1
+
+-- a world that a run reaches in time: its ends are apart, or have met
+pub reached_kept : (s : Setup) (events : List Event) (w : World) → (r : IsReachedInTime s events w) → IsKept (dates_of (start s) r.worlds) w
+reached_kept s events w r =
+    let d = dates_of (start s) r.worlds in
+    subst (IsKept d) r.ends (last_kept s (drawn_in events) r.configured d (start s) events r.answers r.worlds (fine_by s events r.premises) r.run (kept_in_time s events r.answers r.worlds r.run r.aged)
+    (record { sound = sound_start s (drawn_in events) (inl refl); caller = λ q. absurd (cc); kept = kept_start s d }))
+
+pub nothing_waits : NothingWaits
+nothing_waits s events w r x over = kept_drained (dates_of (start s) r.worlds) w (reached_kept s events w r) x over

@@ -5,18 +5,24 @@ use Rattle.sctp_model.specs.sender.SenderView.{SenderView}
 use Rattle.sctp_model.specs.receiver.ReceiverView.{Handed}
 use Rattle.sctp_model.specs.world.Calls.{Call, Asked}
 use Rattle.sctp_model.specs.sender.Queueing.{Refusal, refusal, queued}
-use Rattle.sctp_model.specs.sender.Abandoning.{abandon_after, expired, timed_out}
+use Rattle.sctp_model.specs.sender.Abandoning.{abandon_after, expired, worn, timed_out}
 use Rattle.sctp_model.specs.sender.Readers.{point}
-use Rattle.sctp_model.specs.end.EndView.{TimedOut, Established, ShutdownPending, ShutdownSent, ShutdownReceived, ShutdownAckSent, AbortedHere, Phase, Idle, Listening, Calling, Echoing, Open, Over, Alarm, InitAlarm, CookieAlarm, DataAlarm, ShutdownAlarm, AckAlarm, EndView, format_of, has_association}
+use Rattle.sctp_model.specs.end.EndView.{TimedOut, Established, ShutdownPending, ShutdownSent, ShutdownReceived, ShutdownAckSent, AbortedHere, Phase, Idle, Listening, Calling, Echoing, Open, Over, Alarm, InitAlarm, CookieAlarm, DataAlarm, ShutdownAlarm, AckAlarm, ResetAlarm, EndView, format_of, has_association}
 use Rattle.sctp_model.specs.end.Clock.{repeats_of, is_over_at, with_timer, turned, closed, at_moment, settled}
 use Rattle.sctp_model.specs.end.Clock.{expired_timer}
 use Rattle.sctp_model.specs.end.Closing.{hears}
-use Rattle.sctp_model.specs.end.Moments.{after_abandoning, due_again, rung, ring, rung_all, all_alarms, passed, ticked, waited_in}
-use Rattle.sctp_model.specs.end.UserCalls.{SendAnswer, Ticket, Refused, NotOpen, is_established, answer_for, send_answer, send_leaves, is_open, abandoned_at, UserTakes, shut_in, shut, AbortAnswer, Aborts, NoPeer, TooLong, abort_leaves}
+use Rattle.sctp_model.specs.end.Moments.{after_abandoning, is_data_due, given_up, due_again, rung, ring, rung_all, all_alarms, passed, ticked, waited_in}
+use Rattle.sctp_model.specs.end.Wearing.{wearing}
+use Rattle.sctp_model.proofs.PacedEnds.{worn_cases}
+use Rattle.sctp_model.specs.end.UserCalls.{SendAnswer, Ticket, Refused, NotOpen, is_established, answer_for, send_answer, send_leaves, is_open, abandoned_at, UserTakes, ResetCall, Begun, NotAgreed, NoStream, reset_leaves, told_leaves, shut_in, shut, AbortAnswer, Aborts, NoPeer, TooLong, abort_leaves}
+use Rattle.sctp_model.specs.sender.Resetting.{resetting}
+use Rattle.sctp_model.specs.receiver.ResetTaken.{told_of}
+use Rattle.sctp_safety.proofs.runs.Asking.{after_resetting}
+use Rattle.sctp_safety.proofs.runs.Renumbering.{after_told}
 use Rattle.sctp_safety.specs.States.{has_agreed}
 use Rattle.sctp_safety.proofs.runs.Dates.{Dated}
 use Rattle.sctp_safety.proofs.runs.Direction.{Direction}
-use Rattle.sctp_safety.proofs.runs.Sending.{after_queue, after_abandon, after_expiry, after_timeout, after_tick}
+use Rattle.sctp_safety.proofs.runs.Sending.{after_queue, after_abandon, after_expiry, after_wear, after_marking, after_tick}
 use Rattle.sctp_safety.proofs.runs.Hearing.{after_take}
 use Rattle.sctp_safety.proofs.runs.Pair.{met_views, IsMet, AreViews, met_same, met_rested}
 
@@ -49,14 +55,20 @@ module _ (p : EndView) (u v : Asked) (out back : List Dated) where
       met_rested (settled (record e { sender = a; due = record e.due { forward = e.due.forward || not (point a == point e.sender) } })) p u v out back
       (still (record e { sender = a }) _ (with_sender e a m d) (record { terms = refl; sender = refl; receiver = refl; moment = refl }) m.phase)
 
+  -- at the end of a packet
+  pub met_worn : (from : ℕ) (e : EndView) → Met e → Met (wearing from e)
+  met_worn from e m = worn_cases Met from e m (λ test on. met_after_abandoning e (worn test e.sender) m
+      (after_wear (format_of e) e.terms.outbound e.sender u p.receiver out back m.going test))
+
   met_again : (a : Alarm) (e : EndView) → Met e → Met (due_again a e)
   met_again InitAlarm e m = still e _ m (record { terms = refl; sender = refl; receiver = refl; moment = refl }) m.phase
   met_again CookieAlarm e m = still e _ m (record { terms = refl; sender = refl; receiver = refl; moment = refl }) m.phase
   met_again DataAlarm e m =
       still (record e { sender = timed_out e.sender }) _
-      (with_sender e (timed_out e.sender) m (after_timeout (format_of e) e.terms.outbound e.sender u p.receiver out back m.going))
+      (with_sender e (timed_out e.sender) m (after_marking (format_of e) e.terms.outbound e.sender u p.receiver out back m.going (λ i. true)))
       (record { terms = refl; sender = refl; receiver = refl; moment = refl }) m.phase
   met_again ShutdownAlarm e m = still e _ m (record { terms = refl; sender = refl; receiver = refl; moment = refl }) m.phase
+  met_again ResetAlarm e m = still e _ m (record { terms = refl; sender = refl; receiver = refl; moment = refl }) m.phase
   met_again AckAlarm e m = still e _ m (record { terms = refl; sender = refl; receiver = refl; moment = refl }) m.phase
 
   met_rung : (b : Bool) (a : Alarm) (e : EndView) → Met e → Met (rung b a e)
@@ -82,20 +94,37 @@ module _ (p : EndView) (u v : Asked) (out back : List Dated) where
       there : Met (at_moment e now)
       there = met_now e now m le
 
+      late : Direction (format_of e) e.terms.outbound (expired e.sender (at_moment e now).moment) u p.receiver out back
+      late = after_expiry (format_of e) e.terms.outbound e.sender u p.receiver out back m.going (at_moment e now).moment there.moment
+
+      gives_up : (b : Bool) → Direction (format_of e) e.terms.outbound (given_up b e.sender (at_moment e now).moment) u p.receiver out back
+      gives_up true = after_wear (format_of e) e.terms.outbound (expired e.sender (at_moment e now).moment) u p.receiver out back late (λ i. true)
+      gives_up false = late
+
       go : (b : Bool) → Met (if b then passed (at_moment e now) else at_moment e now)
       go false = there
       go true =
-          let x = after_abandoning (at_moment e now) (expired e.sender (at_moment e now).moment) in
+          let x = after_abandoning (at_moment e now) (given_up (is_data_due (at_moment e now)) e.sender (at_moment e now).moment) in
           let r = rung_all all_alarms x in
           met_waited (is_over_at r.moment r.delayed) r (met_rung_all all_alarms x
-          (met_after_abandoning (at_moment e now) (expired e.sender (at_moment e now).moment) there
-          (after_expiry (format_of e) e.terms.outbound e.sender u p.receiver out back m.going (at_moment e now).moment there.moment)))
+          (met_after_abandoning (at_moment e now) (given_up (is_data_due (at_moment e now)) e.sender (at_moment e now).moment) there
+          (gives_up (is_data_due (at_moment e now)))))
 
   -- ---- calls that change nothing of the sender
 
   pub met_taken : (e : EndView) (s : ℕ) (h : Option Handed) (t : EndView) → Met e → UserTakes e s h t → Met t
   met_taken e s h t m k = subst Met (sym k.leaves)
       (met_views e p u v out back out m e.sender k.receiver m.going (after_take (format_of p) p.terms.outbound p.sender v e.receiver back out m.coming s h k.receiver k.takes))
+
+  pub met_reset : (e : EndView) (c : ResetCall) (s : ℕ) → Met e → Met (reset_leaves c e s)
+  met_reset e Begun s m = with_sender e (resetting e.sender s) m (after_resetting (format_of e) e.terms.outbound e.sender u p.receiver out back m.going s)
+  met_reset e NotAgreed s m = m
+  met_reset e NoStream s m = m
+
+  pub met_told : (e : EndView) (o : Option ℕ) → Met e → Met (told_leaves o e)
+  met_told e None m = m
+  met_told e (Some s) m = met_views e p u v out back out m e.sender (told_of e.receiver s) m.going
+      (after_told (format_of p) p.terms.outbound p.sender v e.receiver back out m.coming s)
 
   pub met_shut : (e : EndView) → Met e → Met (shut e)
   met_shut e m = go e.phase
@@ -145,7 +174,7 @@ pub met_sent : (e p : EndView) (u v : Asked) (out back : List Dated) (c : Call) 
 met_sent e p u v out back c m = go (hears is_established e.phase)
   where
     by : (o : Option Refusal) → refusal e.sender c.lane.stream c.bytes ≡ o → IsMet (send_leaves (answer_for e o) e c) p (asked_more u (answer_for e o) c) v out back
-    by None none = met_asked e p u (record u { calls = u.calls ++ c ∷ [] }) v (queued e.sender c.lane c.payload c.bytes c.until) out back m refl
+    by None none = met_asked e p u (record u { calls = u.calls ++ c ∷ [] }) v (queued e.sender c.lane c.payload c.bytes c.until c.limit) out back m refl
         (after_queue (format_of e) e.terms.outbound e.sender u p.receiver out back m.going c none)
     by (Some r) some = m
 

@@ -11,6 +11,8 @@ use Rattle.sctp_model.specs.end.Closing.{awaits_complete, hears, rested}
 use Rattle.sctp_model.specs.end.PeerFaults.{GoesOn, Ends, Replies, Note}
 use Rattle.sctp_model.specs.end.Opening.{echoing, terms_of_ack, joined, AcceptedAck, RefusedAck, EchoedAgain}
 use Rattle.sctp_model.specs.end.Acting.{Acts, Closes, SaysNothing, CompleteCompleted}
+use Rattle.sctp_model.specs.end.Wearing.{wearing}
+use Rattle.sctp_model.proofs.PacedEnds.{worn_cases}
 use Rattle.sctp_model.specs.end.Arriving.{Notes, packet_ended, kept_going}
 use Rattle.sctp_safety.proofs.machine.EndWords.{rested_cases, Keeps, ended_cases}
 use Rattle.sctp_safety.proofs.runs.Homes.{IsHome, home_turned, home_closed, home_renewed}
@@ -176,3 +178,15 @@ module _ (clock : ℕ) where
   unmet_ended n e m =
       ended_cases Unmet n e m (λ t g is. absurd (open_now e.phase t g is m.unopened)) (λ t g is. absurd (open_now e.phase t g is m.unopened))
       (λ x k. still x (kept_going true x) k (alike x (kept_going true x) refl refl refl refl refl) k.unopened (home_renewed x k.home))
+
+  -- no open end was never opened
+  pub unmet_worn : (from : ℕ) (e : EndView) → Unmet e → Unmet (wearing from e)
+  unmet_worn from e m = worn_cases Unmet from e m (λ test on. absurd (by e.phase on m.unopened))
+    where
+      by : (h : Phase) → hears (λ g. true) h ≡ true → never_opened h ≡ true → ⊥
+      by (Open t g) on off = absurd (cc)
+      by Idle on off = absurd (cc)
+      by Listening on off = absurd (cc)
+      by (Calling d) on off = absurd (cc)
+      by (Echoing t xs) on off = absurd (cc)
+      by (Over why) on off = absurd (cc)

@@ -1,21 +1,23 @@
 -- What a moment, a packet to be built and the calls of its user do to an end that isn't open: its views stay new.
-use Rattle.std.proofs.Common.{◌≡◌, ℕ, ◌≤◌, ◌||◌, nat_lt, Bool, true, false, not, ◌==◌, List, [], ◌∷◌, ◌++◌, Option, Some, None, inl, inr, refl, sym, subst, ap, arith, ◌∙◌, ◌⊎◌, if◌then◌else◌}
+use Rattle.std.proofs.Common.{◌≡◌, ℕ, ◌≤◌, ◌||◌, nat_lt, Bool, true, false, not, ◌==◌, ◌&&◌, List, [], ◌∷◌, ◌++◌, Option, Some, None, inl, inr, refl, sym, subst, ap, arith, ◌∙◌, ◌⊎◌, if◌then◌else◌}
 use Rattle.sctp_model.specs.numbers.Lists.{Has}
 use Rattle.sctp_model.specs.wire.Chunk.{ChunkMeaning}
 use Rattle.sctp_model.specs.sender.SenderView.{SenderView}
 use Rattle.sctp_model.specs.receiver.ReceiverView.{Handed, ReceiverView}
 use Rattle.sctp_model.specs.world.Calls.{Call}
-use Rattle.sctp_model.specs.sender.Abandoning.{abandon_after, expired, timed_out}
+use Rattle.sctp_model.specs.sender.Abandoning.{abandon_after, timed_out}
 use Rattle.sctp_model.specs.sender.Readers.{point}
 use Rattle.sctp_model.specs.receiver.SackMade.{TakeLeaves}
-use Rattle.sctp_model.specs.end.EndView.{Draw, AbortedHere, TimedOut, Phase, Idle, Listening, Calling, Echoing, Open, Over, Alarm, InitAlarm, CookieAlarm, DataAlarm, ShutdownAlarm, AckAlarm, EndView, has_association}
+use Rattle.sctp_model.specs.end.EndView.{Draw, AbortedHere, TimedOut, Phase, Idle, Listening, Calling, Echoing, Open, Over, Alarm, InitAlarm, CookieAlarm, DataAlarm, ShutdownAlarm, AckAlarm, ResetAlarm, EndView, has_association}
 use Rattle.sctp_model.specs.end.Clock.{is_home, repeats_of, is_over_at, with_timer, closed, at_moment, settled}
 use Rattle.sctp_model.specs.end.Clock.{expired_timer}
-use Rattle.sctp_model.specs.end.Building.{Slot, EchoSlot, CookieAckSlot, HeartbeatSlot, ErrorSlot, SackSlot, ForwardSlot, ShutdownSlot, ShutdownAckSlot, Wants, EchoCookie, AckCookie, AckHeartbeat, ReportCauses, Acknowledge, PassOn, SayShutdown, AnswerShutdown, Puts, NoMore, NotDue, Put, IsFull, echoing_slots, Builds, Sleeps, Waits, Calls, Echoes, Fills, once_built}
+use Rattle.sctp_model.specs.end.Building.{Slot, EchoSlot, CookieAckSlot, HeartbeatSlot, ErrorSlot, SackSlot, ForwardSlot, AnswerSlot, RequestSlot, AnswerReset, AskReset, ShutdownSlot, ShutdownAckSlot, Wants, EchoCookie, AckCookie, AckHeartbeat, ReportCauses, Acknowledge, PassOn, SayShutdown, AnswerShutdown, Puts, NoMore, NotDue, Put, IsFull, echoing_slots, Builds, Sleeps, Waits, Calls, Echoes, Fills, once_built}
 use Rattle.sctp_model.specs.end.Building.{EndsFull}
 use Rattle.sctp_model.specs.end.Closing.{hears}
-use Rattle.sctp_model.specs.end.Moments.{after_abandoning, due_again, rung, ring, rung_all, all_alarms, passed, ticked, waited_in}
-use Rattle.sctp_model.specs.end.UserCalls.{NotOpen, is_established, send_answer, is_open, abandoned_at, UserTakes, shut_in, shut, AbortAnswer, Aborts, NoPeer, TooLong, abort_leaves, called}
+use Rattle.sctp_model.specs.end.Moments.{after_abandoning, is_data_due, given_up, due_again, rung, ring, rung_all, all_alarms, passed, ticked, waited_in}
+use Rattle.std.specs.Prelude.{find, nat_le, is_some}
+use Rattle.sctp_model.specs.sender.Words.{count_up}
+use Rattle.sctp_model.specs.end.UserCalls.{Begun, NotAgreed, NoStream, reset_call, reset_leaves, reset_there, told_leaves, NotOpen, is_established, send_answer, is_open, abandoned_at, UserTakes, shut_in, shut, AbortAnswer, Aborts, NoPeer, TooLong, abort_leaves, called}
 use Rattle.sctp_safety.proofs.lists.Basics.{Has-cases}
 use Rattle.sctp_safety.proofs.runs.Homes.{home_like, home_turned}
 use Rattle.sctp_safety.proofs.runs.EndingTimes.{was_running}
@@ -26,8 +28,9 @@ use Rattle.sctp_safety.proofs.runs.Unmet.{never_opened, IsBlank, IsUnmet, alike,
 -- ---- time
 
 -- giving up finds no message of a new sender, and neither does the data timer
-none_expires : (e : EndView) → IsBlank e → (now : ℕ) → expired e.sender now ≡ e.sender
-none_expires e b now = ap (λ (a : SenderView). expired a now) b.sender ∙ sym b.sender
+none_expires : (e : EndView) → IsBlank e → (rings : Bool) (now : ℕ) → given_up rings e.sender now ≡ e.sender
+none_expires e b true now = ap (λ (a : SenderView). given_up true a now) b.sender ∙ sym b.sender
+none_expires e b false now = ap (λ (a : SenderView). given_up false a now) b.sender ∙ sym b.sender
 
 none_is_abandoned : (e : EndView) → IsBlank e → (k : ℕ) → abandon_after e.sender k ≡ e.sender
 none_is_abandoned e b k = ap (λ (a : SenderView). abandon_after a k) b.sender ∙ sym b.sender
@@ -73,6 +76,7 @@ module _ (clock : ℕ) where
   again InitAlarm e m on = still clock e _ m (alike e _ refl refl refl refl refl) m.unopened (home_like e _ m.home refl refl refl refl refl)
   again CookieAlarm e m on = still clock e _ m (alike e _ refl refl refl refl refl) m.unopened (home_like e _ m.home refl refl refl refl refl)
   again DataAlarm e m on = still clock e _ m (alike e _ refl refl (none_marked e m.blank) refl refl) m.unopened (home_like e _ m.home refl refl refl refl refl)
+  again ResetAlarm e m on = still clock e _ m (alike e _ refl refl refl refl refl) m.unopened (home_like e _ m.home refl refl refl refl refl)
   again ShutdownAlarm e m on = absurd (let r = was_running e.moment (e.timers ShutdownAlarm).expiry on in no_shutdown_timer e.phase m.unopened (m.home.shutdown_runs r.0 r.1))
   again AckAlarm e m on = absurd (let r = was_running e.moment (e.timers AckAlarm).expiry on in no_ack_timer e.phase m.unopened (m.home.ack_runs r.0 r.1))
 
@@ -101,10 +105,10 @@ module _ (clock : ℕ) where
       go : (b : Bool) → Unmet (if b then passed (at_moment e now) else at_moment e now)
       go false = there
       go true =
-          let u = after_abandoning (at_moment e now) (expired e.sender (at_moment e now).moment) in
+          let u = after_abandoning (at_moment e now) (given_up (is_data_due (at_moment e now)) e.sender (at_moment e now).moment) in
           let r = rung_all all_alarms u in
           waits_on (is_over_at r.moment r.delayed) r (all_ring all_alarms u
-          (becomes_abandoned (at_moment e now) (expired e.sender (at_moment e now).moment) there (none_expires e m.blank (at_moment e now).moment)))
+          (becomes_abandoned (at_moment e now) (given_up (is_data_due (at_moment e now)) e.sender (at_moment e now).moment) there (none_expires e m.blank (is_data_due (at_moment e now)) (at_moment e now).moment)))
 
   -- ---- a packet
 
@@ -116,6 +120,8 @@ module _ (clock : ℕ) where
   is_echo_slot HeartbeatSlot = false
   is_echo_slot SackSlot = false
   is_echo_slot ForwardSlot = false
+  is_echo_slot AnswerSlot = false
+  is_echo_slot RequestSlot = false
   is_echo_slot ShutdownSlot = false
   is_echo_slot ShutdownAckSlot = false
 
@@ -127,6 +133,8 @@ module _ (clock : ℕ) where
   one_put s e x on m ReportCauses = (still clock e (once_built ErrorSlot e) m (alike e (once_built ErrorSlot e) refl refl refl refl refl) m.unopened (home_like e _ m.home refl refl refl refl refl), refl)
   one_put s e x on m (Acknowledge _ _) = absurd (cc)
   one_put s e x on m PassOn = absurd (cc)
+  one_put s e x on m AnswerReset = absurd (cc)
+  one_put s e x on m (AskReset _ _) = absurd (cc)
   one_put s e x on m (SayShutdown _ _) = absurd (cc)
   one_put s e x on m AnswerShutdown = absurd (cc)
 
@@ -187,6 +195,28 @@ module _ (clock : ℕ) where
       go : (o : Option Handed) → TakeLeaves e.receiver s o k.receiver → Unmet t
       go None (none, same) = subst Unmet (sym k.leaves) (still clock e (record e { receiver = k.receiver }) m (alike e _ refl refl refl same refl) m.unopened (home_like e _ m.home refl refl refl refl refl))
       go (Some x) (rest, there, same) = absurd (let q : e.receiver.waiting s ≡ [] = ap (λ (r : ReceiverView). r.waiting s) m.blank.receiver in cc)
+
+  pub waits_reset : (e : EndView) (n : ℕ) → Unmet e → Unmet (reset_leaves (reset_call e n) e n)
+  waits_reset e n m = go e.terms.reset (hears is_established e.phase) (nat_le e.sender.streams n) (not_established e.phase m.unopened)
+    where
+      go : (b h s : Bool) → h ≡ false → Unmet (reset_leaves (if not (b && h) then NotAgreed else if s then NoStream else Begun) e n)
+      go true false s off = m
+      go false false s off = m
+      go b true s off = absurd (cc)
+
+  pub waits_told : (e : EndView) → Unmet e → Unmet (told_leaves (reset_there e) e)
+  waits_told e m = go (reset_there e) none
+    where
+      none_of : (xs : List ℕ) → find (λ (s : ℕ). false) xs ≡ None
+      none_of [] = refl
+      none_of (x ∷ xs) = none_of xs
+
+      none : reset_there e ≡ None
+      none = ap (λ (r : ReceiverView). find (λ (s : ℕ). is_some (r.resets.told s)) (count_up 0 r.streams)) m.blank.receiver ∙ none_of (count_up 0 e.terms.inbound)
+
+      go : (o : Option ℕ) → o ≡ None → Unmet (told_leaves o e)
+      go None is = m
+      go (Some s) is = absurd (cc)
 
   pub waits_shut : (e : EndView) → Unmet e → Unmet (shut e)
   waits_shut e m = go e.phase m.unopened

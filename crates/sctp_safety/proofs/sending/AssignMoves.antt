@@ -1,5 +1,5 @@
 -- What is assigned next is assigned by moves: a message takes its number and its first indexes, or goes on with its next one.
-use Rattle.std.proofs.Common.{◌≡◌, ℕ, zero, suc, ◌+◌, ◌<◌, ◌≤◌, ◌⊎◌, true, Bool, List, [], ◌∷◌, ◌++◌, length, slice_get, Some, None, inl, inr, refl, sym, subst, arith, ◌∙◌, eqb-true}
+use Rattle.std.proofs.Common.{◌≡◌, ℕ, zero, suc, ◌+◌, ◌<◌, ◌≤◌, ◌⊎◌, true, Bool, List, [], ◌∷◌, ◌++◌, length, slice_get, Some, None, inl, inr, refl, sym, subst, arith, ◌∙◌, eqb-true, le_refl}
 use Rattle.std.proofs.lemmas.Bool.{eqb-false}
 use Rattle.sctp_model.specs.numbers.Lists.{Has, item_at}
 use Rattle.sctp_model.specs.messages.Format.{Format, Plain, Interleaved, Lane}
@@ -85,7 +85,7 @@ begins w before q rest d turn g order may = record {
   moved = record {
     leads = leads_on w numbered (with_sender w after)
         (leads_by w numbered (Number before q rest (suc d)) (may.queue, may.none, may.closed, omega arith, may.within, may.all, refl))
-        (retuned numbered after refl refl refl refl refl);
+        (retuned numbered after refl refl refl refl refl (λ i. le_refl (w.sender.repeats i)));
     order = order_stays w after q.lane n 0 (suc d) order (unmarked w g q.lane) refl refl refl;
     constants = record { initial = refl; streams = refl; fragment = refl; partial = refl };
   };
@@ -120,7 +120,7 @@ continues w s turn e order m = subst (λ (x : Entry). Assigns w (after x)) m.sam
   moved = record {
     leads = leads_on w longer (with_sender w (after part))
         (leads_by w longer (Continue m.lane m.number m.fragment 1) (m.message, m.named, omega arith, m.has, m.free, m.no_end, bound, refl))
-        (retuned longer (after part) refl refl refl refl refl);
+        (retuned longer (after part) refl refl refl refl refl (λ i. le_refl (w.sender.repeats i)));
     order = order_stays w (after part) m.lane m.number (suc m.fragment) 1 order m.no_end refl refl refl;
     constants = record { initial = refl; streams = refl; fragment = refl; partial = refl };
   };

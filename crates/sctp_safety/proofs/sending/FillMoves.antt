@@ -1,5 +1,5 @@
 -- What goes into a packet goes out by moves: a fragment takes its index where it has none yet, its chunk comes between the ends, and it counts as sent.
-use Rattle.std.proofs.Common.{◌≡◌, ℕ, ◌-◌, not, true, false, Bool, List, [], ◌∷◌, Some, inl, inr, refl, sym, subst, ◌∙◌}
+use Rattle.std.proofs.Common.{◌≡◌, ℕ, suc, ◌≤◌, arith, le_refl, if◌then◌else◌, ◌-◌, not, true, false, Bool, List, [], ◌∷◌, Some, inl, inr, refl, sym, subst, ◌∙◌}
 use Rattle.std.proofs.lemmas.Bool.{and_parts}
 use Rattle.sctp_model.specs.numbers.Lists.{Has}
 use Rattle.sctp_model.specs.messages.Format.{Lane}
@@ -7,7 +7,7 @@ use Rattle.sctp_model.specs.messages.Plan.{Message, Entry, Part, End, entry_at, 
 use Rattle.sctp_model.specs.messages.Pieces.{Piece, piece_of}
 use Rattle.sctp_model.specs.sender.SenderView.{SenderView}
 use Rattle.sctp_model.specs.sender.Entries.{is_wanted, is_unsent}
-use Rattle.sctp_model.specs.sender.Filling.{Wish, standing, newcomer, Follows, gone, next_wish, room_of}
+use Rattle.sctp_model.specs.sender.Filling.{Wish, standing, newcomer, Follows, repeats_then, with_sent, gone, next_wish, room_of}
 use Rattle.sctp_model.proofs.sender.WordLaws.{some_is}
 use Rattle.sctp_model.proofs.sender.WishCases.{assigned_cases, IsWished, Repeated, Unsent, New, wished_ways}
 use Rattle.sctp_model.proofs.sender.FillLaws.{goes_parts}
@@ -20,6 +20,14 @@ use Rattle.sctp_safety.proofs.sending.AssignMoves.{assigns}
 use Rattle.sctp_safety.proofs.moves.UsualLemmas.{leads_good, good_usual, moved_on, nothing_moved, retuned}
 
 -- ---- a wish
+
+-- what goes out was repeated as often as before, or once more
+pub sent_repeats : (v : SenderView) (i j : ℕ) → v.repeats j ≤ (with_sent v i).repeats j
+sent_repeats v i j = at_cases (λ (n : ℕ). v.repeats j ≤ n) v.repeats i (repeats_then v i) j (λ same. subst (λ (k : ℕ). v.repeats k ≤ repeats_then v i) (sym same) (by_sent (v.sent i))) (λ other. le_refl (v.repeats j))
+  where
+    by_sent : (b : Bool) → v.repeats i ≤ (if b then suc (v.repeats i) else v.repeats i)
+    by_sent true = omega arith
+    by_sent false = le_refl (v.repeats i)
 
 -- what one wish does: its piece comes to the others between the ends
 record Goes (w : Way) (x : Wish) : Type 0 where
@@ -35,7 +43,7 @@ sent_on w x l n k m moved here named = record {
   moved = moved_on w (with_sender w x.view) out moved (record {
     leads = leads_on (with_sender w x.view) put out
         (leads_by (with_sender w x.view) put (Put_piece x.index) (l, n, k, m, here, named, refl))
-        (retuned put (gone x) refl refl refl refl refl);
+        (retuned put (gone x) refl refl refl refl refl (sent_repeats x.view x.index));
     order = record {
       ends = moved.order.ends;
       marked = λ j. at_cases (λ (b : Bool). b ≡ true → HasPart x.view.plan j) x.view.marked x.index false j (λ same on. absurd (cc)) (λ other on. moved.order.marked j on);

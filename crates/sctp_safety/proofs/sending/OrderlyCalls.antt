@@ -1,6 +1,6 @@
 -- Every view that a sender's calls reach has an orderly plan, whatever SACKs came: what is covered doesn't matter to the plan, so the calls are moves of a
 -- direction in which nothing was ever acknowledged.
-use Rattle.std.proofs.Common.{◌≡◌, ℕ, suc, ◌<◌, not, ◌&&◌, ◌||◌, true, false, Bool, List, [], ◌∷◌, ◌++◌, length, Option, Some, None, inl, refl, sym, subst, ◌∙◌, zero}
+use Rattle.std.proofs.Common.{◌≡◌, ℕ, suc, ◌<◌, not, ◌&&◌, ◌||◌, true, false, Bool, List, [], ◌∷◌, ◌++◌, length, Option, Some, None, inl, refl, sym, subst, ◌∙◌, zero, ◌≤◌, le_refl}
 use Rattle.std.proofs.lemmas.Bool.{and_parts}
 use Rattle.sctp_model.specs.numbers.Lists.{at}
 use Rattle.sctp_model.specs.messages.Format.{Format, Lane}
@@ -11,11 +11,12 @@ use Rattle.sctp_model.specs.receiver.ReceiverView.{fresh_receiver}
 use Rattle.sctp_model.specs.world.Calls.{Call}
 use Rattle.sctp_model.specs.sender.Entries.{is_of_abandoned, is_wanted, is_unsettled}
 use Rattle.sctp_model.specs.sender.Queueing.{refusal, queued}
-use Rattle.sctp_model.specs.sender.Filling.{Wish, next_wish, with_sent, gone}
+use Rattle.sctp_model.specs.sender.Filling.{Wish, next_wish, repeats_then, with_sent, gone}
 use Rattle.sctp_model.specs.sender.SackTaken.{covered_by}
-use Rattle.sctp_model.specs.sender.Abandoning.{name_of, waits, without, with_abandoned, timed_out, unsettled_at}
+use Rattle.sctp_model.specs.sender.Abandoning.{name_of, waits, without, with_abandoned, is_worn, is_to_repeat, marking, unsettled_at}
 use Rattle.sctp_model.specs.sender.Abandoning.{Name as Named}
-use Rattle.sctp_model.specs.sender.Reached.{IsReached, Begins, Queues, Goes, Covers, Closes, Abandons, Repeats}
+use Rattle.sctp_model.specs.sender.Outgoing.{Outgoing}
+use Rattle.sctp_model.specs.sender.Reached.{IsReached, Begins, Queues, Goes, Covers, Closes, Abandons, Repeats, Rebases}
 use Rattle.sctp_model.proofs.sender.WordLaws.{some_is}
 use Rattle.sctp_model.proofs.sender.WishCases.{IsAssigned, Whole, Begun, Continued, assigned_cases, IsWished, Repeated, Unsent, New, wished_ways}
 use Rattle.sctp_model.proofs.sender.AbandonCases.{after_abandon}
@@ -29,7 +30,7 @@ use Rattle.sctp_safety.proofs.moves.GoodStart.{new_ends_start}
 use Rattle.sctp_safety.proofs.plan.OrderlyPlan.{orderly_when_arranged}
 use Rattle.sctp_safety.proofs.moves.UsualLemmas.{good_usual, usual_moved, constants_same, retuned}
 use Rattle.sctp_safety.proofs.sending.AssignMoves.{assigns}
-use Rattle.sctp_safety.proofs.sending.FillMoves.{wanted_part}
+use Rattle.sctp_safety.proofs.sending.FillMoves.{wanted_part, sent_repeats}
 use Rattle.sctp_safety.proofs.sending.GivingMoves.{abandoned_moved, withdrawn_moved, Bears, name_bears}
 use Rattle.sctp_safety.proofs.sending.QueueMoves.{queue_is_moves}
 
@@ -50,10 +51,10 @@ shadow_moved f v u h streams moved =
     record { base = h.base; usual = usual_moved (with_sender h.base (shadow v)) (with_sender h.base (shadow u)) h.usual moved; format = h.format; streams = h.streams ∙ sym streams }
 
 -- a change of what goes out, of marks and of the peer's window
-shadow_tuned : (f : Format) (v : SenderView) (sent marked : ℕ → Bool) (c r : ℕ) (covered : ℕ → Bool) → (h : IsShadowed f v) → ((i : ℕ) → marked i ≡ true → HasPart v.plan i)
-    → IsShadowed f (record v { sent = sent; marked = marked; rwnd = r; cum = c; covered = covered })
-shadow_tuned f v sent marked c r covered h parts = shadow_moved f v (record v { sent = sent; marked = marked; rwnd = r; cum = c; covered = covered }) h refl (record {
-  leads = retuned (with_sender h.base (shadow v)) (record (shadow v) { sent = sent; marked = marked; rwnd = r }) refl refl refl refl refl;
+shadow_tuned : (f : Format) (v : SenderView) (sent marked : ℕ → Bool) (repeats : ℕ → ℕ) (c r : ℕ) (covered : ℕ → Bool) → (h : IsShadowed f v) → ((i : ℕ) → v.repeats i ≤ repeats i)
+    → ((i : ℕ) → marked i ≡ true → HasPart v.plan i) → IsShadowed f (record v { sent = sent; marked = marked; repeats = repeats; rwnd = r; cum = c; covered = covered })
+shadow_tuned f v sent marked repeats c r covered h more parts = shadow_moved f v (record v { sent = sent; marked = marked; repeats = repeats; rwnd = r; cum = c; covered = covered }) h refl (record {
+  leads = retuned (with_sender h.base (shadow v)) (record (shadow v) { sent = sent; marked = marked; repeats = repeats; rwnd = r }) refl refl refl refl refl more;
   order = record { ends = h.usual.order.ends; marked = parts; tickets = h.usual.order.tickets };
   constants = record { initial = refl; streams = refl; fragment = refl; partial = refl };
 })
@@ -102,7 +103,7 @@ same_streams _ v _ (Begun s q low idle first) = refl
 same_streams _ v _ (Continued s e low on) = refl
 
 sends : (f : Format) (v : SenderView) (i : ℕ) → IsShadowed f v → IsShadowed f (with_sent v i)
-sends f v i h = shadow_tuned f v (at v.sent i true) (at v.marked i false) v.cum v.rwnd v.covered h
+sends f v i h = shadow_tuned f v (at v.sent i true) (at v.marked i false) (at v.repeats i (repeats_then v i)) v.cum v.rwnd v.covered h (sent_repeats v i)
     (λ j. at_cases (λ (b : Bool). b ≡ true → HasPart v.plan j) v.marked i false j (λ same on. absurd (cc)) (λ other on. h.usual.order.marked j on))
 
 takes : (f : Format) (v u : SenderView) → (h : IsShadowed f v) → IsAssigned v f u → IsShadowed f u
@@ -147,47 +148,76 @@ becomes_abandoned f v t n h is = record { base = asked; usual = usual_moved way 
     led = abandoned_moved way n b.message (good_usual way named) named.order b.named (inl (subst (λ (k : ℕ). at h.base.asked.named t true k ≡ true) (sym b.ticket) (at_same h.base.asked.named t true)))
 
 withdraws : (f : Format) (v : SenderView) (t : ℕ) → (h : IsShadowed f v) → waits t v.queue ≡ true → IsShadowed f (record v { queue = without t v.queue })
-withdraws f v t h on = shadow_moved f v (record v { queue = without t v.queue }) h refl (withdrawn_moved (with_sender h.base (shadow v)) t h.usual.order on)
+withdraws f v t h on = record { base = asked; usual = usual_moved way (with_sender asked (shadow (record v { queue = without t v.queue }))) named led; format = h.format; streams = h.streams }
+  where
+    before : Way
+    before = with_sender h.base (shadow v)
+
+    asked : Way
+    asked = record h.base { asked = record h.base.asked { named = at h.base.asked.named t true } }
+
+    way : Way
+    way = with_sender asked (shadow v)
+
+    named : IsUsual way
+    named = usual_moved before way h.usual (record {
+      leads = leads_by before way (Name t) refl;
+      order = record { ends = h.usual.order.ends; marked = h.usual.order.marked; tickets = h.usual.order.tickets };
+      constants = constants_same (shadow v);
+    })
+
+    led : IsMoved way (with_sender way (record (shadow v) { queue = without t v.queue }))
+    led = withdrawn_moved way t named.order (λ q has ticket. inl (subst (λ (k : ℕ). at h.base.asked.named t true k ≡ true) (sym ticket) (at_same h.base.asked.named t true))) on
 
 -- ---- the other calls
 
-queues : (f : Format) (v : SenderView) (l : Lane) (payload : ℕ) (bytes : List ℕ) (until : Option ℕ) → 0 < v.fragment → (h : IsShadowed f v) → refusal v l.stream bytes ≡ None → IsShadowed f (queued v l payload bytes until)
-queues f v l payload bytes until size h free = record {
+queues : (f : Format) (v : SenderView) (l : Lane) (payload : ℕ) (bytes : List ℕ) (until limit : Option ℕ) → 0 < v.fragment → (h : IsShadowed f v) → refusal v l.stream bytes ≡ None → IsShadowed f (queued v l payload bytes until limit)
+queues f v l payload bytes until limit size h free = record {
   base = called;
-  usual = usual_moved (with_sender h.base (shadow v)) (with_sender called (shadow (queued v l payload bytes until))) h.usual (queue_is_moves (with_sender h.base (shadow v)) call h.usual size (sym h.streams) free);
+  usual = usual_moved (with_sender h.base (shadow v)) (with_sender called (shadow (queued v l payload bytes until limit))) h.usual (queue_is_moves (with_sender h.base (shadow v)) call h.usual size (sym h.streams) free);
   format = h.format;
   streams = h.streams;
 }
   where
     call : Call
-    call = record { lane = l; payload = payload; bytes = bytes; until = until }
+    call = record { lane = l; payload = payload; bytes = bytes; until = until; limit = limit }
 
     called : Way
     called = record h.base { asked = record h.base.asked { calls = h.base.asked.calls ++ call ∷ [] } }
 
 -- a mark is a fragment's: what is unsettled isn't given up
-times : (f : Format) (v : SenderView) → IsShadowed f v → IsShadowed f (timed_out v)
-times f v h = shadow_tuned f v v.sent (timed_out v).marked v.cum v.rwnd v.covered h (λ i on. by_mark i (v.marked i) refl on)
+marks : (f : Format) (v : SenderView) (test : ℕ → Bool) → IsShadowed f v → IsShadowed f (marking v test)
+marks f v test h = shadow_tuned f v v.sent (marking v test).marked v.repeats v.cum v.rwnd v.covered h (λ i. le_refl (v.repeats i)) (λ i on. by_mark i (v.marked i) refl on)
   where
-    by_mark : (i : ℕ) (b : Bool) → v.marked i ≡ b → (b || unsettled_at v i (entry_at v.plan i)) ≡ true → HasPart v.plan i
+    by_mark : (i : ℕ) (b : Bool) → v.marked i ≡ b → (b || (test i && unsettled_at v i (entry_at v.plan i))) ≡ true → HasPart v.plan i
     by_mark i true before on = h.usual.order.marked i before
     by_mark i false before on =
-        let there = some_is (is_unsettled v i) (entry_at v.plan i) on in
-        let wanted = (and_parts (v.sent i) (is_wanted v i there.0) there.2).1 in
+        let there = some_is (is_to_repeat v i) (entry_at v.plan i) (and_parts (test i) (unsettled_at v i (entry_at v.plan i)) on).1 in
+        let unsettled = (and_parts (is_unsettled v i there.0) (not (is_worn v i there.0)) there.2).0 in
+        let wanted = (and_parts (v.sent i) (is_wanted v i there.0) unsettled).1 in
         let kept = (and_parts (not (v.covered i)) (not (is_of_abandoned v there.0)) wanted).1 in
         wanted_part (with_sender h.base (shadow v)) (good_usual (with_sender h.base (shadow v)) h.usual) i there.0 there.1 kept
 
 covers : (f : Format) (v : SenderView) (c r : ℕ) (covered : ℕ → Bool) → IsShadowed f v → IsShadowed f (record (covered_by v c covered) { rwnd = r })
-covers f v c r covered h = shadow_tuned f v v.sent (λ i. v.marked i && not (covered i)) c r covered h (λ i on. h.usual.order.marked i (and_parts (v.marked i) (not (covered i)) on).0)
+covers f v c r covered h = shadow_tuned f v v.sent (λ i. v.marked i && not (covered i)) v.repeats c r covered h (λ i. le_refl (v.repeats i)) (λ i on. h.usual.order.marked i (and_parts (v.marked i) (not (covered i)) on).0)
+
+-- what is known of resets
+rebases : (f : Format) (v : SenderView) (x : Outgoing) → IsShadowed f v → IsShadowed f (record v { resets = x })
+rebases f v x h = shadow_moved f v (record v { resets = x }) h refl (record {
+  leads = retuned (with_sender h.base (shadow v)) (record (shadow v) { resets = x }) refl refl refl refl refl (λ i. le_refl (v.repeats i));
+  order = record { ends = h.usual.order.ends; marked = h.usual.order.marked; tickets = h.usual.order.tickets };
+  constants = record { initial = refl; streams = refl; fragment = refl; partial = refl };
+})
 
 pub is_shadowed : (f : Format) (v : SenderView) → IsReached f v → IsShadowed f v
 is_shadowed f _ (Begins i s b r p large) = begins f i s b r p
-is_shadowed f _ (Queues v l p b u h free) = queues f v l p b u (is_set f v h).fragment (is_shadowed f v h) free
+is_shadowed f _ (Queues v l p b u n h free) = queues f v l p b u n (is_set f v h).fragment (is_shadowed f v h) free
 is_shadowed f _ (Goes v room w h next may) = goes_on f v w (is_shadowed f v h) next
 is_shadowed f _ (Covers v x h none) = covers f v _ _ _ (is_shadowed f v h)
 is_shadowed f _ (Closes v x h none) = covers f v _ v.rwnd _ (is_shadowed f v h)
 is_shadowed f _ (Abandons v t h) = let k = is_shadowed f v h in after_abandon (IsShadowed f) v t k (λ on. withdraws f v t k on) (λ n is kept. becomes_abandoned f v t n k is)
-is_shadowed f _ (Repeats v h) = times f v (is_shadowed f v h)
+is_shadowed f _ (Repeats v test h) = marks f v test (is_shadowed f v h)
+is_shadowed f _ (Rebases v x h) = rebases f v x (is_shadowed f v h)
 
 pub plan_stays_orderly : PlanStaysOrderly
 plan_stays_orderly f v h =

@@ -1,5 +1,5 @@
 -- A message that is accepted is the move of a call: its stream is there, and its fragments, none empty, are its bytes.
-use Rattle.std.proofs.Common.{◌≡◌, ℕ, suc, ◌<◌, List, [], ◌∷◌, ◌++◌, length, refl, sym, subst, ap, ◌∙◌}
+use Rattle.std.proofs.Common.{◌≡◌, ℕ, suc, ◌<◌, List, [], ◌∷◌, ◌++◌, length, refl, sym, subst, ap, ◌∙◌, le_refl}
 use Rattle.sctp_model.specs.numbers.Lists.{Has}
 use Rattle.sctp_model.specs.world.Calls.{Call}
 use Rattle.sctp_model.specs.sender.SenderView.{SenderView}
@@ -15,7 +15,7 @@ pub queue_is_moves : QueueIsMoves
 queue_is_moves w c usual size streams none = record {
   leads = leads_on w mid out
       (leads_by w mid (Send c (cut w.sender.fragment c.bytes)) (stream, cut_some w.sender.fragment c.bytes size is.some, full, sym (joined_cut w.sender.fragment c.bytes size), refl))
-      (leads_same mid (with_sender mid tuned) out (retuned mid tuned refl refl refl refl refl) same);
+      (leads_same mid (with_sender mid tuned) out (retuned mid tuned refl refl refl refl refl (λ i. le_refl (w.sender.repeats i))) same);
   order = record { ends = usual.order.ends; marked = usual.order.marked; tickets = ap suc usual.order.tickets ∙ sym (length_more w.asked.calls) };
   constants = record { initial = refl; streams = refl; fragment = refl; partial = refl };
 }
@@ -31,7 +31,7 @@ queue_is_moves w c usual size streams none = record {
 
     with_ticket : ℕ → SenderView
     with_ticket t = record w.sender {
-      queue = w.sender.queue ++ record { lane = c.lane; message = record { ticket = t; payload = c.payload; fragments = cut w.sender.fragment c.bytes; until = c.until } } ∷ [];
+      queue = w.sender.queue ++ record { lane = c.lane; message = record { ticket = t; payload = c.payload; fragments = cut w.sender.fragment c.bytes; until = c.until; limit = c.limit } } ∷ [];
     }
 
     mid : Way
@@ -41,7 +41,7 @@ queue_is_moves w c usual size streams none = record {
     tuned = record (with_ticket (suc (length w.asked.calls))) { tickets = suc w.sender.tickets }
 
     out : Way
-    out = record w { sender = queued w.sender c.lane c.payload c.bytes c.until; asked = record w.asked { calls = w.asked.calls ++ c ∷ [] } }
+    out = record w { sender = queued w.sender c.lane c.payload c.bytes c.until c.limit; asked = record w.asked { calls = w.asked.calls ++ c ∷ [] } }
 
     same : with_sender mid tuned ≡ out
     same = ap (λ (t : ℕ). with_sender mid (record (with_ticket (suc t)) { tickets = suc w.sender.tickets })) (sym usual.order.tickets)

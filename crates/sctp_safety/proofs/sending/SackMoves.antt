@@ -1,5 +1,5 @@
 -- A SACK that is taken is a move, and so is the cumulative TSN of a SHUTDOWN, as long as counts lie less than half the space apart.
-use Rattle.std.proofs.Common.{◌≡◌, ℕ, ◌+◌, not, ◌||◌, nat_le, false, Bool, List, [], ◌∷◌, Option, None, refl, sym, subst, arith}
+use Rattle.std.proofs.Common.{◌≡◌, ℕ, ◌+◌, not, ◌||◌, nat_le, false, Bool, List, [], ◌∷◌, Option, None, refl, sym, subst, arith, le_refl}
 use Rattle.std.proofs.lemmas.Bool.{and_parts}
 use Rattle.std.proofs.lemmas.Bool.Decides.{nat_tests}
 use Rattle.sctp_model.specs.numbers.Serial.{IsWithinHalf, tsn, ahead, before}
@@ -35,7 +35,7 @@ read_as v i wire is near fresh =
 acknowledged : (w : Way) (cum : ℕ) (covered : ℕ → Bool) (rwnd : ℕ) → IsUsual w → Leads w (with_sender w (record w.sender { cum = cum; covered = covered }))
     → IsMoved w (with_sender w (record (covered_by w.sender cum covered) { rwnd = rwnd }))
 acknowledged w cum covered rwnd usual led = record {
-  leads = leads_on w moved after led (retuned moved after.sender refl refl refl refl refl);
+  leads = leads_on w moved after led (retuned moved after.sender refl refl refl refl refl (λ i. le_refl (w.sender.repeats i)));
   order = order_fewer w after refl (λ i on. (and_parts (w.sender.marked i) (not (covered i)) on).0) refl refl usual.order;
   constants = record { initial = refl; streams = refl; fragment = refl; partial = refl };
 }

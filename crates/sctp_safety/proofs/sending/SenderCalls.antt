@@ -1,12 +1,12 @@
 -- Laws of a sender's calls: what they abandon, that each has one result, and when the sender is drained.
 use Rattle.sctp_model.proofs.sender.ForwardEnd.{end_from, end_upto, end_fits, end_behind, is_end}
 use Rattle.std.proofs.Common.{◌≡◌, ℕ, zero, suc, max, take, drop, ◌+◌, ◌-◌, ◌<◌, ◌⊎◌, ◌==◌, ◌&&◌, true, false, Bool, List, [], ◌∷◌, length, Option, Some, None, inl, inr, refl, sym, subst, ap, arith, ◌∙◌}
-use Rattle.std.specs.Prelude.{slice_get}
+use Rattle.std.specs.Prelude.{slice_get, option_and_then}
 use Rattle.std.proofs.lemmas.Bool.{and_parts}
 use Rattle.std.proofs.lemmas.Bool.Decides.{nat_tests}
 use Rattle.sctp_model.specs.numbers.Lists.{Has}
 use Rattle.sctp_model.specs.messages.Format.{Format, Lane, Ordered, Unordered}
-use Rattle.sctp_model.specs.messages.Plan.{Entry, Part, Plan, entry_at, IsAssigned, IsInPart}
+use Rattle.sctp_model.specs.messages.Plan.{Message, Entry, Part, Plan, entry_at, IsAssigned, IsInPart}
 use Rattle.sctp_model.specs.messages.Forward.{Skip, Forward, IsLaneBefore, IsListed, IsForward}
 use Rattle.sctp_model.specs.sender.SenderView.{Queued, SenderView, IsDrained, IsPoint}
 use Rattle.sctp_model.specs.sender.Entries.{entry_lane, continued, one_if_some, sum_below, in_part}
@@ -15,18 +15,20 @@ use Rattle.sctp_model.specs.sender.Readers.{point, drained}
 use Rattle.sctp_model.specs.sender.Forwarding.{skips_below}
 use Rattle.sctp_model.specs.sender.Reached.{IsReached, Goes}
 use Rattle.sctp_model.proofs.sender.WordLaws.{sum-zero}
+use Rattle.sctp_model.proofs.sender.WornLaws.{limit_of, is_limited}
 use Rattle.sctp_model.proofs.sender.FillLaws.{goes_parts, one_fill, fill_is_fill}
 use Rattle.sctp_model.proofs.sender.PointLaws.{point_is_point}
 use Rattle.sctp_model.proofs.sender.ForwardLaws.{forward_between, forward_is_forward, named_at}
 use Rattle.sctp_model.proofs.sender.CountLaws.{is_named}
 use Rattle.sctp_model.proofs.sender.AbandonedLaws.{filling_abandons_none, sack_abandons_none, shutdown_abandons_none, abandons_by_ticket, expires_past_alone}
 use Rattle.sctp_safety.specs.Way.{with_sender}
-use Rattle.sctp_safety.specs.SenderCalls.{SameAbandoned, AbandonedOnlyAsked, EachViewHasOneFill, EachViewHasOnePoint, EachPlanHasOneForward, ForwardIsGiven, ForwardEndIsGiven, DrainedIsTold}
+use Rattle.sctp_safety.specs.SenderCalls.{SameAbandoned, AbandonedOnlyAsked, EachViewHasOneFill, EachViewHasOnePoint, EachPlanHasOneForward, ForwardIsGiven, ForwardEndIsGiven, DrainedIsTold, NoneGoesTooOften}
 use Rattle.sctp_safety.proofs.moves.Facts.{Good}
 use Rattle.sctp_safety.proofs.plan.PlanLemmas.{assigned_below}
 use Rattle.sctp_safety.proofs.plan.InPart.{idle_closed, goes_on_with, not_closed}
 use Rattle.sctp_safety.proofs.moves.UsualLemmas.{good_usual}
 use Rattle.sctp_safety.proofs.sending.OrderlyCalls.{shadow, IsShadowed, is_shadowed}
+use Rattle.sctp_model.proofs.sender.WornAlone.{wears_used_alone}
 
 -- ---- what is abandoned
 
@@ -38,13 +40,14 @@ follows_abandon_none f v u room (w ∷ ws) h (first, rest) =
 
 pub abandoned_only_asked : AbandonedOnlyAsked
 abandoned_only_asked f v h = record {
-  queueing = λ l payload bytes until. refl;
+  queueing = λ l payload bytes until limit. refl;
   filling = λ room. follows_abandon_none f v (fill f room v).view room (fill f room v).wishes h (fill_is_fill f room v).follows;
   sack = sack_abandons_none v;
   shutdown = shutdown_abandons_none v;
-  timer = refl;
+  marks = λ test. refl;
   abandoning = λ t. abandons_by_ticket f v t h;
   expiring = λ now l n on. elim (expires_past_alone f v now h l n on) [ inl before ↦ inl before | inr past ↦ inr (past.message, past.named, past.past) ];
+  wearing = λ test l n on. elim (wears_used_alone f v test h l n on) [ inl before ↦ inl before | inr used ↦ inr (used.message, used.named, (used.limit, used.limited, used.repeated)) ];
 }
 
 -- ---- one FORWARD
@@ -224,3 +227,10 @@ drained_is_told f v h = (told, holds)
         let last = d.acknowledged in
         let self : (length v.plan.entries == length v.plan.entries) ≡ true = grind (arith, nat_tests) in
         rw (empty, parts, last, self) refl
+
+-- ---- limits
+
+pub none_goes_too_often : NoneGoesTooOften
+none_goes_too_often f v i k e m h on here named limit =
+    (is_limited f v h).most on i k
+    (ap (limit_of v.plan) here ∙ ap (λ (o : Option Message). option_and_then (λ x. x.limit) o) named ∙ limit)

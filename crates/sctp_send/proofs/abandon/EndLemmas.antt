@@ -126,6 +126,7 @@ keeps_abandoned f s v t n k m off partial none =
       over = record { within = k.over.within; each = λ x le. let o = k.over.each x le in record { queue = o.queue; tracks = o.tracks; items = same_items x (abandoned_item t) s.items (abandoned_message t) ∙ o.items } };
       due = record { many = k.due.many; each = λ x now lt. let i = k.due.each x now lt in record { queue = i.queue; items = λ on. late_abandoned now x t s.asleep s.items (i.items on); tracks = i.tracks } };
       forward = still_forward f v.streams v.plan.entries [] u.plan.entries s.forward (entries ∙ sym (append-nil v.plan.entries)) k.forward;
+      unreset = k.unreset;
       reached = rw after at reached;
     })
 
@@ -221,6 +222,7 @@ keeps_ended f s v t n r tracks k m off partial ends =
               };
         };
         forward = still_forward f v.streams v.plan.entries (End n.lane n.number ∷ []) u.plan.entries s.forward (ap (λ (p : Plan). p.entries) plan) k.forward;
+        unreset = k.unreset;
         reached = rw after at reached;
       }),
     )

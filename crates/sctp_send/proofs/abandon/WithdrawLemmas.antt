@@ -126,5 +126,6 @@ keeps_withdrawn f s v t k on =
       over = record { within = k.over.within; each = λ x le. let o = k.over.each x le in record { queue = not_waiting_without x t s.queue o.queue; tracks = o.tracks; items = o.items } };
       due = record { many = k.due.many; each = λ x now lt. let i = k.due.each x now lt in record { queue = late_without now x t s.queue i.queue; items = i.items; tracks = i.tracks } };
       forward = k.forward;
+      unreset = k.unreset;
       reached = rw after at reached;
     })

@@ -198,6 +198,7 @@ begun_kept f s v q rest d turn capacity room x k taken idle low first space =
             };
       };
       forward = still_forward f v.streams v.plan.entries (parts_from q.lane (length (v.plan.messages q.lane)) 0 (suc d)) u.plan.entries s.forward refl k.forward;
+      unreset = k.unreset;
       reached = Goes v room (newcomer v u) k.reached parts.0 parts.1;
     }
 
@@ -262,6 +263,7 @@ continued_kept f s v j turn capacity room e x k low on first space =
             };
       };
       forward = still_forward f v.streams v.plan.entries (e ∷ []) u.plan.entries s.forward refl k.forward;
+      unreset = k.unreset;
       reached = Goes v room (newcomer v u) k.reached parts.0 parts.1;
     }
 

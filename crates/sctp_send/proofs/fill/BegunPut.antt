@@ -25,7 +25,7 @@ use Rattle.sctp_model.proofs.sender.QueueLaws.{IsTaken, taken_head, taken_first}
 use Rattle.sctp_packet.specs.Draft.{Draft as PacketDraft, room_in, has_room, with_chunks}
 use Rattle.sctp_send.specs.SenderKept.{Item, Track, Kept}
 use Rattle.sctp_send.specs.SenderStands.{track_here, Keeps}
-use Rattle.sctp_send.specs.OutstandingFields.{item_meaning, lane_meaning, message_meaning, queued_meaning}
+use Rattle.sctp_send.specs.OutstandingFields.{item_meaning, lane_meaning, message_meaning, queued_meaning, no_base}
 use Rattle.sctp_send.specs.SenderFields.{queued_by, track_meaning}
 use Rattle.sctp_send.specs.inner.Walks.{total, one_if_rest}
 use Rattle.sctp_send.specs.inner.Newcomers.{gone_item, new_item, new_items, begun_items, number_in, begun_track, rest_at, has_rest, one_if, without_place, fresh_track, number_on, begun, IsBegun}
@@ -146,7 +146,7 @@ module _ (f : Format) (s : Kept) (v : SenderView) (old : Stock) (m : MessageFiel
       let q = queued_meaning s.fragment m in
       let long = length-map old.outstanding.items (item_meaning s.fragment) in
       chunk_begun f (stocked s old) v q (without_place place v.queue) by.less turn fresh_track k by.low
-      ∙ ap (λ (n : ℕ). data_chunk f (piece_said f s.initial (suc (s.cum + n)) (Part q.lane (number_on (stocked s old).tracks (lane_meaning m)) 0) (Some q.message))) long
+      ∙ ap (λ (n : ℕ). data_chunk f (piece_said f s.initial no_base (suc (s.cum + n)) (Part q.lane (number_on (stocked s old).tracks (lane_meaning m)) 0) (Some q.message))) long
       ∙ ap (λ (n : ℕ). fragment_chunk f s.fragment s.initial (suc (s.cum + length old.outstanding.items)) m n (Fragment 0)) (sym its)
 
   begun_may : (p : PacketDraft) → may_go f (room_in p) (newcomer v led)

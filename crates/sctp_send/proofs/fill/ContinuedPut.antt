@@ -20,7 +20,7 @@ use Rattle.sctp_model.proofs.sender.FillLaws.{goes_is, goes_not}
 use Rattle.sctp_packet.specs.Draft.{Draft as PacketDraft, room_in, has_room, with_chunks}
 use Rattle.sctp_send.specs.SenderKept.{Item, Rest, Track, Kept}
 use Rattle.sctp_send.specs.SenderStands.{rest_here, track_here, Keeps}
-use Rattle.sctp_send.specs.OutstandingFields.{item_meaning, lane_meaning, message_meaning}
+use Rattle.sctp_send.specs.OutstandingFields.{item_meaning, lane_meaning, message_meaning, no_base}
 use Rattle.sctp_send.specs.SenderFields.{number_left, track_meaning, rest_meaning}
 use Rattle.sctp_send.specs.inner.Walks.{total, one_if_rest}
 use Rattle.sctp_send.specs.inner.Newcomers as kept
@@ -101,8 +101,8 @@ module _ (f : Format) (s : Kept) (v : SenderView) (old : Stock) (t : Track) (r :
   continued_chunk : chunk_of f (newcomer v led) ≡ fragment_chunk f s.fragment s.initial (suc (s.cum + length old.outstanding.items)) r.message.value (number_left t r) (Fragment r.fragment)
   continued_chunk =
       let long = length-map old.outstanding.items (item_meaning s.fragment) in
-      chunk_continued f (stocked s old) v e (stream_after v stream) k ∙ ap (λ (n : ℕ). data_chunk f (piece_said f s.initial (suc (s.cum + n)) e (entry_message v.plan e))) long
-      ∙ ap (λ (x : Option Message). data_chunk f (piece_said f s.initial (suc (s.cum + length old.outstanding.items)) e x)) (sym left.message)
+      chunk_continued f (stocked s old) v e (stream_after v stream) k ∙ ap (λ (n : ℕ). data_chunk f (piece_said f s.initial no_base (suc (s.cum + n)) e (entry_message v.plan e))) long
+      ∙ ap (λ (x : Option Message). data_chunk f (piece_said f s.initial no_base (suc (s.cum + length old.outstanding.items)) e x)) (sym left.message)
 
   continued_may : (p : PacketDraft) → may_go f (room_in p) (newcomer v led)
       ≡ ((flows s old (bytes_in e (Some (message_meaning s.fragment r.message.value)))

@@ -31,6 +31,7 @@ use Rattle.sctp_send.specs.declared.kept.message.Message.{Message as MessageFiel
 use Rattle.sctp_send.specs.declared.kept.entry.Content.{Content}
 use Rattle.sctp_send.specs.declared.kept.entry.Content.TheVariants.{Fragment, EndMark}
 use Rattle.sctp_values.specs.declared.ticket.Ticket.{Ticket}
+use Rattle.sctp_send.proofs.UnresetLemmas.{from_zero}
 use Rattle.sctp_send.proofs.WalkLemmas.{none_behind}
 use Rattle.sctp_send.proofs.fill.ChunkLemmas.{fragment_is}
 
@@ -121,10 +122,10 @@ pub same_chunk : (f : Format) (size initial i n tsn fragment count number word s
     ≡ fragment_chunk f size initial i m n p
 same_chunk f size initial i n tsn fragment count number word stream payload unordered m (Fragment k) bytes at is many wire said on named flag range =
     let one : fragment + 1 ≡ suc k = omega (arith, is (lane_meaning m) n) in
-    rw (one, many, wire, said, range (lane_meaning m) n, at, on, named, is (lane_meaning m) n, said_unordered unordered (kind_meaning m.kind) flag) refl
+    rw (one, many, wire ∙ sym (from_zero f (lane_meaning m) n), said, range (lane_meaning m) n, at, on, named, is (lane_meaning m) n, said_unordered unordered (kind_meaning m.kind) flag) refl
 same_chunk f size initial i n tsn fragment count number word stream payload unordered m EndMark bytes at is many wire said on named flag range =
     let one : fragment + 1 ≡ 1 = omega (arith, is (lane_meaning m) n) in
-    rw (one, many, wire, said, range (lane_meaning m) n, at, on, named, is (lane_meaning m) n, said_unordered unordered (kind_meaning m.kind) flag) refl
+    rw (one, many, wire ∙ sym (from_zero f (lane_meaning m) n), said, range (lane_meaning m) n, at, on, named, is (lane_meaning m) n, said_unordered unordered (kind_meaning m.kind) flag) refl
 
 -- ---- tickets
 

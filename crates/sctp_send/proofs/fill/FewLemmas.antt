@@ -7,7 +7,7 @@ use Rattle.sctp_model.specs.messages.Plan.{Message, Entry, End, Plan, parts_from
 use Rattle.sctp_model.specs.sender.SenderView.{Queued, SenderView}
 use Rattle.sctp_model.specs.sender.Entries.{entry_fragment, fragments_in, continued}
 use Rattle.sctp_model.specs.sender.Assigning.{with_message, with_entry, is_on, first_on, without_first}
-use Rattle.sctp_model.specs.sender.Reached.{IsReached, Begins, Queues, Goes, Covers, Closes, Abandons, Repeats}
+use Rattle.sctp_model.specs.sender.Reached.{IsReached, Begins, Queues, Goes, Covers, Closes, Abandons, Repeats, Rebases}
 use Rattle.sctp_model.proofs.sender.WishCases.{IsAssigned, Whole, Begun, Continued, after_wish}
 use Rattle.sctp_model.proofs.sender.AbandonCases.{after_abandon, after_end}
 use Rattle.sctp_model.proofs.sender.SetLaws.{AllFilled, is_filled, accepted, is_set}
@@ -44,14 +44,15 @@ indexes_assigned _ v _ full h (Continued s e lt on) = indexes_more v e h
 
 has_indexes : (f : Format) (v : SenderView) → IsReached f v → HasIndexes v
 has_indexes f _ (Begins i s b r p large) = λ l. omega arith
-has_indexes f _ (Queues v l p b u h free) = has_indexes f v h
+has_indexes f _ (Queues v l p b u x h free) = has_indexes f v h
 has_indexes f _ (Goes v room w h next may) = after_wish HasIndexes f v w (has_indexes f v h) (λ u a. indexes_assigned f v u (is_filled f v h) (has_indexes f v h) a) (λ u i k. k) next
 has_indexes f _ (Covers v x h none) = has_indexes f v h
 has_indexes f _ (Closes v x h none) = has_indexes f v h
 has_indexes f _ (Abandons v t h) =
     let before = has_indexes f v h in
     after_abandon HasIndexes v t before (λ on. before) (λ n is kept. after_end (λ (p : Plan). (l : Lane) → length (p.messages l) ≤ length p.entries) v n (λ off. before) (λ on. indexes_more v (End n.lane n.number) before))
-has_indexes f _ (Repeats v h) = has_indexes f v h
+has_indexes f _ (Repeats v test h) = has_indexes f v h
+has_indexes f _ (Rebases v x h) = has_indexes f v h
 
 -- the code counts them in 64 bits
 pub few_messages : (f : Format) (v : SenderView) (l : Lane) → IsReached f v → suc (length (v.plan.messages l)) < 2 ^ 64
@@ -116,7 +117,7 @@ short_assigned _ v _ h (Continued s e lt on) = h
 
 are_short : (f : Format) (v : SenderView) → IsReached f v → IsShort v
 are_short f _ (Begins i s b r p large) = (tt, λ l. tt)
-are_short f _ (Queues v l p b u h free) =
+are_short f _ (Queues v l p b u x h free) =
     let k = are_short f v h in
     let bytes = (accepted v l.stream b free).short in
     let cut = cut_short v.fragment b (is_set f v h).fragment in
@@ -128,7 +129,8 @@ are_short f _ (Abandons v t h) =
     let k = are_short f v h in
     after_abandon IsShort v t k (λ on. (short_rest _ v.queue k.0, k.1))
     (λ n is kept. (k.0, after_end (λ (p : Plan). (l : Lane) → AllShort itself (p.messages l)) v n (λ off. k.1) (λ on. k.1)))
-are_short f _ (Repeats v h) = are_short f v h
+are_short f _ (Repeats v test h) = are_short f v h
+are_short f _ (Rebases v x h) = are_short f v h
 
 -- the code counts those of a message in part in 32 bits
 pub few_fragments : (f : Format) (v : SenderView) (s : ℕ) (e : Entry) → IsReached f v → continued v.plan s ≡ Some e → suc (entry_fragment e) < 2 ^ 32

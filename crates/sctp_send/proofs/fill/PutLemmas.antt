@@ -17,7 +17,7 @@ use Rattle.sctp_packet.specs.Draft.{Draft as PacketDraft, room_in, has_room, wit
 use Rattle.sctp_send.specs.SenderKept.{Item, Kept}
 use Rattle.sctp_send.specs.SenderStands.{item_here, Keeps}
 use Rattle.sctp_send.specs.PartsKept.{OutstandingKept, changed_at, changed}
-use Rattle.sctp_send.specs.OutstandingFields.{item_meaning, lane_meaning, message_meaning, entry_meaning}
+use Rattle.sctp_send.specs.OutstandingFields.{item_meaning, lane_meaning, message_meaning, entry_meaning, no_base}
 use Rattle.sctp_send.specs.inner.Wishing.{first_offset, is_item_marked, is_item_unsent, item_flight, lets_flow}
 use Rattle.sctp_send.specs.inner.Newcomers.{gone_item}
 use Rattle.sctp_send.specs.inner.Stocking.{numbers_of, stocked, fragment_chunk, item_chunk, went_out, IsPut, IsStopped, IsRefused, IsTried, PutAnswer, IsNextEntry, IsNextUnsent, NothingStands}
@@ -114,7 +114,7 @@ standing_chunk : (f : Format) (s : Kept) (v : SenderView) (old : Stock) (at : �
 standing_chunk f s v old at x k low read =
     let long = length-map old.outstanding.items (item_meaning s.fragment) in
     let item = item_read s.fragment old.outstanding.items at x read in
-    chunk_standing f (stocked s old) v at (item_meaning s.fragment x) k (omega arith) ∙ ap (λ (y : Item). data_chunk f (piece_said f s.initial (suc (s.cum + at)) y.entry y.message)) item
+    chunk_standing f (stocked s old) v at (item_meaning s.fragment x) k (omega arith) ∙ ap (λ (y : Item). data_chunk f (piece_said f s.initial no_base (suc (s.cum + at)) y.entry y.message)) item
 
 -- what a stock keeps when the entry at this offset went out
 abbrev pub with_gone : Kept → Stock → (at : ℕ) → EntryFields → Kept

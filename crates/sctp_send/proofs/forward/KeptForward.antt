@@ -10,19 +10,20 @@ use Rattle.sctp_model.specs.numbers.Serial.{tsn}
 use Rattle.sctp_model.specs.wire.Chunk.{SkipMeaning}
 use Rattle.sctp_model.specs.sender.SenderView.{SenderView}
 use Rattle.sctp_model.specs.sender.Readers.{point}
-use Rattle.sctp_model.specs.sender.Forwarding.{skips_below, entries_to, forward_to}
-use Rattle.sctp_model.specs.sender.SentChunks.{skip_said, forward_chunk_to, forward_end, forward_chunk_of}
+use Rattle.sctp_model.specs.sender.Forwarding.{skips_below, forward_to}
+use Rattle.sctp_model.specs.sender.SentChunks.{skip_said, forward_said, forward_chunk_to, forward_end, forward_chunk_of}
 use Rattle.sctp_wire.specs.Skips.{skip_size, skips_in}
 use Rattle.sctp_framing.specs.SkipForms.{skip_form}
 use Rattle.sctp_send.specs.SenderKept.{Kept}
-use Rattle.sctp_send.specs.SenderStands.{Holds, Keeps}
-use Rattle.sctp_send.specs.OutstandingFields.{item_meaning, entries_of}
+use Rattle.sctp_send.specs.SenderStands.{Keeps}
+use Rattle.sctp_send.specs.OutstandingFields.{item_meaning, entries_of, no_base}
 use Rattle.sctp_send.specs.ForwardKept.{IsBuilt, IsLastForward, IsForwardKept}
 use Rattle.sctp_send.specs.inner.Walks.{abandoned_items}
 use Rattle.sctp_send.specs.inner.Lanes.{passed_meaning, forward_of_list}
 use Rattle.sctp_send.specs.declared.kept.last_forward.LastForward.{LastForward}
 use Rattle.sctp_send.specs.declared.forward.lanes.Passed.{Passed}
 use Rattle.sctp_send.specs.declared.kept.entry.Entry.{Entry as EntryFields}
+use Rattle.sctp_send.proofs.UnresetLemmas.{unreset_skips}
 use Rattle.sctp_send.proofs.KeepLemmas.{kept_length}
 use Rattle.sctp_send.proofs.HeldLemmas.{held_forward}
 use Rattle.sctp_send.proofs.forward.ForwardLemmas.{is_passed, first_entries, first_kept}
@@ -36,6 +37,7 @@ keeps_forward f s v o k built = record {
   over = record { within = k.over.within; each = λ t le. let x = k.over.each t le in record { queue = x.queue; tracks = x.tracks; items = x.items } };
   due = record { many = k.due.many; each = λ t now lt. let i = k.due.each t now lt in record { queue = i.queue; items = i.items; tracks = i.tracks } };
   forward = built;
+  unreset = k.unreset;
   reached = k.reached;
 }
 
@@ -60,12 +62,12 @@ forward_made f s v size streams cum run es (Some l) k items same at within first
 pub built_is : (f : Format) (streams size most : ℕ) (es : List EntryFields) (lanes : List Passed) (l : LastForward) → 20 ≤ l.limit → most ≡ (l.limit - 20) / skip_size (skip_form f) → (l.passed ≡ 0 → ⊥) → l.passed ≤ l.run
     → map passed_meaning lanes ≡ skips_below f (entries_of (map (item_meaning size) (take l.passed es))) streams → length lanes ≤ most
     → (l.passed < l.run → most < length (skips_below f (entries_of (map (item_meaning size) (take (l.passed + 1) es))) streams))
-    → skips_in (skip_form f) l.list.items ≡ map (skip_said f) (map passed_meaning lanes) → IsBuilt f streams (entries_of (map (item_meaning size) (take l.run es))) l
+    → skips_in (skip_form f) l.list.items ≡ map (skip_said f no_base) (map passed_meaning lanes) → IsBuilt f streams (entries_of (map (item_meaning size) (take l.run es))) l
 built_is f streams size most es lanes l least limit some within is few last said = record {
   least = least;
   some = omega (arith, some);
   within = within;
-  skips = said ∙ ap (map (skip_said f)) (is ∙ below l.passed within);
+  skips = said ∙ ap (map (skip_said f no_base)) (is ∙ below l.passed within);
   few = let same = ap (λ (xs : List Skip). length xs) (is ∙ below l.passed within) in let long = length-map lanes passed_meaning in omega (arith, same, long, few, limit);
   last = λ lt.
       let one : l.passed + 1 ≡ suc l.passed = omega arith in
@@ -134,7 +136,7 @@ module _ (f : Format) (s : Kept) (v : SenderView) (limit run : ℕ) (l : LastFor
       let same = this.long ∙ this.here in
       let there : (l.cum + l.passed) % 2 ^ 64 ≡ v.cum + l.passed = omega (arith, inside, within, cum, was, same) in
       let at : cumulative ≡ tsn v.initial (v.cum + l.passed) = said ∙ rw (k.holds.initial, there) refl in
-      let skips : skips_in (skip_form f) l.list.items ≡ map (skip_said f) (forward_to f v (v.cum + l.passed)).skips = b.skips ∙ ap (map (skip_said f)) (first l.passed within) in
+      let skips : skips_in (skip_form f) l.list.items ≡ (forward_said f v (v.cum + l.passed)).skips = b.skips ∙ ap (map (skip_said f no_base)) (first l.passed within) ∙ unreset_skips f s v (v.cum + l.passed) k in
       ap (λ (c : ℕ). forward_of_list f c l.list.items) at
       ∙ ap (λ (xs : List SkipMeaning). forward_chunk f (record { cumulative = tsn v.initial (v.cum + l.passed); skips = xs })) skips
       ∙ sym (ap (forward_chunk_to f v) kept_end)

@@ -20,10 +20,11 @@ use Rattle.sctp_wire.specs.Skips.{skip_size}
 use Rattle.sctp_framing.specs.SkipForms.{skip_form}
 use Rattle.sctp_send.specs.SenderKept.{Kept}
 use Rattle.sctp_send.specs.SenderStands.{Keeps}
-use Rattle.sctp_send.specs.OutstandingFields.{item_meaning, entries_of}
+use Rattle.sctp_send.specs.OutstandingFields.{item_meaning, entries_of, no_base}
 use Rattle.sctp_send.specs.inner.Lanes.{passed_meaning, noted, noted_entry, forward_of_lanes}
 use Rattle.sctp_send.specs.declared.forward.lanes.Passed.{Passed}
 use Rattle.sctp_send.specs.declared.kept.entry.Entry.{Entry as EntryFields}
+use Rattle.sctp_send.proofs.UnresetLemmas.{unreset_skips}
 use Rattle.sctp_send.proofs.forward.LaneLemmas.{skips_more}
 use Rattle.sctp_send.proofs.forward.LaneWalks.{skips_longer, none_below}
 use Rattle.sctp_send.proofs.forward.ForwardLemmas.{forward_size, is_passed, first_to}
@@ -34,7 +35,7 @@ use Rattle.sctp_send.proofs.forward.ForwardLemmas.{forward_size, is_passed, firs
 small_by_lanes : (f : Format) (limit p : ℕ) (v : SenderView) → fits_forward f limit v p ≡ nat_le (20 + skip_size (skip_form f) * length (forward_to f v p).skips) limit
 small_by_lanes f limit p v =
     let x : ForwardMeaning = forward_said f v p in
-    let count : length x.skips ≡ length (forward_to f v p).skips = length-map (forward_to f v p).skips (skip_said f) in
+    let count : length x.skips ≡ length (forward_to f v p).skips = length-map (forward_to f v p).skips (skip_said f v.resets.base) in
     let chunk : size_of_chunk (forward_chunk f x) ≡ 8 + skip_size (skip_form f) * length (forward_to f v p).skips = forward_size f x ∙ ap (λ (n : ℕ). 8 + skip_size (skip_form f) * n) count in
     ap (λ (n : ℕ). nat_le n limit) (omega (arith, chunk))
 
@@ -155,7 +156,7 @@ sent_forward f s v size limit n cumulative es lanes k items end is said =
     let there : (s.cum + n) % 2 ^ 64 ≡ v.cum + n = omega (arith, p.point, p.within, upto, end, cum) in
     let first : cumulative ≡ tsn v.initial (v.cum + n) = said ∙ rw (k.holds.initial, there) refl in
     let streams = k.holds.streams in
-    let skips : map (skip_said f) (map passed_meaning lanes) ≡ (forward_said f v (v.cum + n)).skips = ap (map (skip_said f)) (is ∙ rw (first_to f s v size n es k items, streams) refl) in
+    let skips : map (skip_said f no_base) (map passed_meaning lanes) ≡ (forward_said f v (v.cum + n)).skips = ap (map (skip_said f no_base)) (is ∙ rw (first_to f s v size n es k items, streams) refl) ∙ unreset_skips f s v (v.cum + n) k in
     ap (λ (c : ℕ). forward_of_lanes f c lanes) first
     ∙ ap (λ (xs : List SkipMeaning). forward_chunk f (record { cumulative = tsn v.initial (v.cum + n); skips = xs })) skips
     ∙ sym (ap (forward_chunk_to f v) end)

@@ -11,7 +11,7 @@ use Rattle.sctp_model.specs.messages.Format.{Format}
 use Rattle.sctp_model.specs.sender.SenderView.{Queued, SenderView}
 use Rattle.sctp_model.specs.sender.Assigning.{is_on, without_first}
 use Rattle.sctp_model.specs.sender.Queueing.{cut}
-use Rattle.sctp_model.specs.sender.Reached.{IsReached, Begins, Queues, Goes, Covers, Closes, Abandons, Repeats}
+use Rattle.sctp_model.specs.sender.Reached.{IsReached, Begins, Queues, Goes, Covers, Closes, Abandons, Repeats, Rebases}
 use Rattle.sctp_model.proofs.sender.AbandonCases.{after_abandon}
 use Rattle.sctp_model.proofs.sender.CutLaws.{joined_cut}
 use Rattle.sctp_model.proofs.sender.SetLaws.{accepted, is_set}
@@ -97,19 +97,20 @@ few_assigned _ v _ h (Continued s e lt on) = h
 
 are_few : (f : Format) (v : SenderView) → IsReached f v → AreQueuedFew v
 are_few f _ (Begins i s b r p large) = record { many = omega arith; light = tt }
-are_few f _ (Queues v l p b u h free) =
+are_few f _ (Queues v l p b u x h free) =
     let k = are_few f v h in
     let a = accepted v l.stream b free in
     let bytes : length (joined (cut v.fragment b)) ≡ length b = ap (λ (bs : List ℕ). length bs) (joined_cut v.fragment b (is_set f v h).fragment) in
     record {
-      many = let more = length-append v.queue (record { lane = l; message = record { ticket = suc v.tickets; payload = p; fragments = cut v.fragment b; until = u } } ∷ []) in omega (arith, more, a.waits);
+      many = let more = length-append v.queue (record { lane = l; message = record { ticket = suc v.tickets; payload = p; fragments = cut v.fragment b; until = u; limit = x } } ∷ []) in omega (arith, more, a.waits);
       light = light_push v.queue _ k.light (omega (arith, bytes, a.short));
     }
 are_few f _ (Goes v room w h next may) = after_wish AreQueuedFew f v w (are_few f v h) (λ u a. few_assigned f v u (are_few f v h) a) (λ u i k. k) next
 are_few f _ (Covers v x h none) = are_few f v h
 are_few f _ (Closes v x h none) = are_few f v h
 are_few f _ (Abandons v t h) = let k = are_few f v h in after_abandon AreQueuedFew v t k (λ on. few_rest _ v.queue k) (λ n is kept. k)
-are_few f _ (Repeats v h) = are_few f v h
+are_few f _ (Repeats v test h) = are_few f v h
+are_few f _ (Rebases v x h) = are_few f v h
 
 light_sum : (qs : List Queued) → AllLight qs → waiting_bytes qs ≤ length qs * LONGEST_MESSAGE
 light_sum [] h = omega arith

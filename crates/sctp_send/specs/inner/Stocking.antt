@@ -18,7 +18,7 @@ use Rattle.sctp_send.specs.SenderKept.{Item, Rest, Track, Kept}
 use Rattle.sctp_send.specs.SenderStands.{Keeps}
 use Rattle.sctp_send.specs.PartsKept.{StreamsKept}
 use Rattle.sctp_send.specs.inner.Walks.{total, one_if_rest}
-use Rattle.sctp_send.specs.OutstandingFields.{was_sent, is_marked, item_meaning, lane_meaning, message_meaning, entry_meaning}
+use Rattle.sctp_send.specs.OutstandingFields.{was_sent, is_marked, item_meaning, lane_meaning, message_meaning, entry_meaning, no_base}
 use Rattle.sctp_send.specs.SenderFields.{queued_by, track_meaning}
 use Rattle.sctp_send.specs.inner.Newcomers.{counted_in, IsBegun, IsContinued, IsTurnBegun, IsTurnContinued}
 use Rattle.sctp_send.specs.declared.fill.assigning.Next.{Next}
@@ -92,7 +92,7 @@ ends_of w = total (λ t. one_if_rest t.rest) (map (track_meaning w.size) w.items
 
 -- the chunk of a message's entry at an index
 abbrev pub said_chunk : Format → (initial i : ℕ) → Entry → Option Message → ChunkMeaning
-said_chunk f initial i e m = data_chunk f (piece_said f initial i e m)
+said_chunk f initial i e m = data_chunk f (piece_said f initial no_base i e m)
 
 -- the same of what is kept of the index
 abbrev pub item_chunk : Format → (initial i : ℕ) → Item → ChunkMeaning

@@ -4,23 +4,42 @@ use Rattle.sctp_model.specs.world.World.{World}
 use Rattle.sctp_words.specs.declared.line_fault.LineFault.TheVariants.{PairOrder}
 use Rattle.sctp_text.specs.declared.line_reader.ReadFault.{ReadFault}
 use Rattle.sctp_text.specs.declared.line_reader.ReadFault.TheVariants as read
-use Rattle.sctp_script.specs.Grammar.{IsFirstFaultOf}
+use Rattle.sctp_script.specs.Grammar.{Fault}
+use Rattle.std.specs.Option.{is_some}
+use Rattle.sctp_script.specs.PlacedAnswer.{place_at}
+use Rattle.sctp_script.specs.Places.{Plain, SaysAt}
 use Rattle.sctp_text.specs.TextLines.{HasGiven, lines_of}
 use Rattle.sctp_script.specs.ReportText.{report}
+use Rattle.sctp_model.specs.end.Sealing.{Sealing}
+use Rattle.sctp_cookie.specs.Seals.{IsUnder}
+use Rattle.sctp_events.specs.declared.two_configs.TwoConfigs.{TwoConfigs}
 use Rattle.sctp_pair.specs.declared.pair.Pair.{Pair}
 use Rattle.sctp_trace.specs.declared.script.Running.{Running}
 use Rattle.sctp_trace.specs.declared.script.ScriptFault.{ScriptFault}
 use Rattle.sctp_trace.specs.declared.script.ScriptFault.TheVariants.{Read, Write, NoMemory, Line}
 use Rattle.sctp_pair.specs.PairStands.{PairStands}
-use Rattle.sctp_trace.specs.Script.{is_paired, LineActs, Goes, IsFront, IsOutput, BeginsOutput, FaultsFirst}
+use Rattle.sctp_trace.specs.Stages.{LISTENER_KEY, Stage, Unpaired, SetUp, place_of, world_of}
+use Rattle.sctp_trace.specs.Script.{LineActs, Goes, IsFront, IsOutput, BeginsOutput, FaultsFirst}
 use Rattle.sctp_text.specs.declared.limits.TheConstants.{LONGEST_TEXT}
 
--- the pair, if there is one, stands for the state
+-- the pair, if there is one, stands for the world, if there is one
 abbrev pub StandsAt : Option Pair → Option World → Type 0
 StandsAt None None = Unit {0}
 StandsAt None (Some w) = ⊥
 StandsAt (Some pair) None = ⊥
 StandsAt (Some pair) (Some w) = PairStands pair w
+
+-- the pair stands for the world of a stage, and the next line has its place
+abbrev pub Stand : Option Pair → Option TwoConfigs → Stage → Type 0
+Stand pair fresh stage = StandsAt pair (world_of stage) × (place_at (is_some pair) fresh ≡ place_of stage)
+
+-- two endpoints were set up with these configurations, unless an allocation failed
+abbrev pub IsSetUp : Result (Unit {0}) ScriptFault → TwoConfigs → Option Pair → Option TwoConfigs → Type 0
+IsSetUp (Ok _) configs pair fresh = (s : Sealing) × IsUnder LISTENER_KEY s × Stand pair fresh (SetUp configs.a configs.b s)
+IsSetUp (Err Read) configs pair fresh = ⊥
+IsSetUp (Err Write) configs pair fresh = ⊥
+IsSetUp (Err NoMemory) configs pair fresh = Unit {0}
+IsSetUp (Err (Line n fault)) configs pair fresh = ⊥
 
 -- why no line could be read
 abbrev pub fault_of : ReadFault → ScriptFault
@@ -52,12 +71,12 @@ IsPassedOn (Err NoMemory) gathered written rest = ⊥
 IsPassedOn (Err (Line n fault)) gathered written rest = ⊥
 
 -- what the line with this number leaves
-abbrev pub LineLeaves : Result (Unit {0}) ScriptFault → ℕ → Option World → List ℕ → List ℕ → Option Pair → Type 0
-LineLeaves (Ok _) n state line here pair = (after : Option World) × LineActs state line here after × StandsAt pair after
-LineLeaves (Err Read) n state line here pair = ⊥
-LineLeaves (Err Write) n state line here pair = ⊥
-LineLeaves (Err NoMemory) n state line here pair = here ≡ []
-LineLeaves (Err (Line m fault)) n state line here pair = (m ≡ n) × (here ≡ []) × IsFirstFaultOf (is_paired state) line fault
+abbrev pub LineLeaves : Result (Unit {0}) ScriptFault → ℕ → Stage → List ℕ → List ℕ → Option Pair → Option TwoConfigs → Type 0
+LineLeaves (Ok _) n stage line here pair fresh = (after : Stage) × LineActs stage line here after × Stand pair fresh after
+LineLeaves (Err Read) n stage line here pair fresh = ⊥
+LineLeaves (Err Write) n stage line here pair fresh = ⊥
+LineLeaves (Err NoMemory) n stage line here pair fresh = here ≡ []
+LineLeaves (Err (Line m fault)) n stage line here pair fresh = (m ≡ n) × (here ≡ []) × SaysAt (place_of stage) line (Plain (Fault fault))
 
 -- what is gathered at the end of a script
 abbrev pub Closes : Result (Unit {0}) ScriptFault → Option World → List ℕ → Type 0
@@ -74,22 +93,22 @@ IsClosed ended result gathered written =
     ⊎ (((result ≡ Err Write) ⊎ ((result ≡ ended) × (ended ≡ Err Read))) × ((more : List ℕ) × (gathered ≡ written ++ more)))
 
 -- Of a text that was read these lines were given and acted, and wrote this.
-pub record IsSoFar (s : Running) (text done : List ℕ) (lines : List (List ℕ)) (state : Option World) : Type 0 where
+pub record IsSoFar (s : Running) (text done : List ℕ) (lines : List (List ℕ)) (stage : Stage) : Type 0 where
   pub given : HasGiven text lines s.lines
-  pub goes : Goes None lines done state
-  pub stands : StandsAt s.pair state
+  pub goes : Goes Unpaired lines done stage
+  pub stands : Stand s.pair s.fresh stage
   pub number : s.number ≡ suc (length lines)
 
 -- All lines of a text that was read acted, and wrote this.
-pub record IsOver (s : Running) (text done : List ℕ) (state : Option World) : Type 0 where
+pub record IsOver (s : Running) (text done : List ℕ) (stage : Stage) : Type 0 where
   pub small : length text ≤ LONGEST_TEXT
-  pub goes : Goes None (lines_of text) done state
-  pub stands : StandsAt s.pair state
+  pub goes : Goes Unpaired (lines_of text) done stage
+  pub stands : StandsAt s.pair (world_of stage)
 
 -- a beginning of what first lines write
 abbrev pub BeginsFront : List ℕ → List ℕ → Type 0
 BeginsFront text written =
-    (front : List (List ℕ)) × (rest outcomes more : List ℕ) × (state : Option World) × IsFront text front rest outcomes state
+    (front : List (List ℕ)) × (rest outcomes more : List ℕ) × (stage : Stage) × IsFront text front rest outcomes stage
     × (outcomes ≡ written ++ more)
 
 -- what an answer says of the bytes so far, whatever lines follow those that acted; `end` says that all input was read
@@ -102,6 +121,6 @@ EndsAs end (Err (Line n fault)) read written = FaultsFirst end read n fault writ
 
 -- what reading and running one line leaves; true says that the input may go on
 abbrev pub RunsOn : Type 0 → Result Bool ScriptFault → Running → List ℕ → List ℕ → Type 0
-RunsOn end (Ok true) s text done = (lines : List (List ℕ)) × (state : Option World) × IsSoFar s text done lines state
-RunsOn end (Ok false) s text done = end × ((state : Option World) × IsOver s text done state)
+RunsOn end (Ok true) s text done = (lines : List (List ℕ)) × (stage : Stage) × IsSoFar s text done lines stage
+RunsOn end (Ok false) s text done = end × ((stage : Stage) × IsOver s text done stage)
 RunsOn end (Err fault) s text done = EndsAs end (Err fault) text done

@@ -1,7 +1,8 @@
 use Rattle.std.proofs.Common.{◌∙◌, ap, sym}
 use Rattle.std.proofs.lemmas.Bool.{false≢true}
 use Rattle.sctp_model.specs.end.EndView.{Configuration}
-use Rattle.sctp_association.proofs.BuildLemmas.{waits, init_fits, calls_packet}
+use Rattle.sctp_association.proofs.InitLemmas.{init_fits}
+use Rattle.sctp_association.proofs.BuildLemmas.{waits, calls_packet}
 use Rattle.sctp_association.proofs.build.pack_init.Goals as goal
 
 pub returns-then-not-packing : goal.returns-then-not-packing

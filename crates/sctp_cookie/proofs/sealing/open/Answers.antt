@@ -1,4 +1,4 @@
-use Rattle.std.proofs.Common.{arith, ap, sym, ◌∙◌, subst, Result}
+use Rattle.std.proofs.Common.{false, arith, ap, sym, ◌∙◌, subst, Result}
 use Rattle.sctp_model.specs.end.Sealing.{Body}
 use Rattle.sctp_cookie.specs.Opens.{Opened}
 use Rattle.sctp_cookie.specs.CookieTree.{opened_meaning}
@@ -9,15 +9,15 @@ use Rattle.sctp_cookie.proofs.sealing.open.Goals as goal
 pub returns-clause-meaning : goal.returns-clause-meaning
 returns-clause-meaning c =
     let a = c.args in
-    subst (λ (r : Result Body CookieFault). Opened a.key.now a.bytes.now a.now a.ports a.tag r) (sym c.checked_body.ensures)
-    (open_answer-Opened a.key.now a.bytes.now a.now a.ports a.tag (λ i. omega (arith, c.type_inv.bytes i)))
+    subst (λ (r : Result Body CookieFault). Opened false a.key.now a.bytes.now a.now a.ports a.tag r) (sym c.checked_body.ensures)
+    (open_answer-Opened false a.key.now a.bytes.now a.now a.ports a.tag (λ i. omega (arith, c.type_inv.bytes i)))
 
 pub returns-clause-only : goal.returns-clause-only
 returns-clause-only c = λ outcome opened.
     let a = c.args in
-    c.checked_body.ensures ∙ Opened-open_answer a.key.now a.bytes.now a.now a.ports a.tag (λ i. omega (arith, c.type_inv.bytes i)) outcome opened
+    c.checked_body.ensures ∙ Opened-open_answer false a.key.now a.bytes.now a.now a.ports a.tag (λ i. omega (arith, c.type_inv.bytes i)) outcome opened
 
 pub returns-clause-stale : goal.returns-clause-stale
 returns-clause-stale c = λ microseconds stale.
     let a = c.args in
-    stale-opens a.key.now a.bytes.now a.now a.ports a.tag (λ i. omega (arith, c.type_inv.bytes i)) microseconds (sym c.checked_body.ensures ∙ ap opened_meaning stale)
+    stale-opens false a.key.now a.bytes.now a.now a.ports a.tag (λ i. omega (arith, c.type_inv.bytes i)) microseconds (sym c.checked_body.ensures ∙ ap opened_meaning stale)

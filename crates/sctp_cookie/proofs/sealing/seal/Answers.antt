@@ -1,8 +1,8 @@
-use Rattle.std.proofs.Common.{sym, ◌∙◌}
+use Rattle.std.proofs.Common.{◌≡◌, Bool, true, false, refl, sym, ◌∙◌}
 use Rattle.sctp_cookie.specs.CookieBody.{body_bytes}
 use Rattle.sctp_cookie.specs.CookieTree.{body_meaning}
 use Rattle.sctp_cookie.specs.Hmac.{hmac}
-use Rattle.sctp_cookie.specs.Opens.{sealed}
+use Rattle.sctp_cookie.specs.Opens.{is_made, sealed}
 use Rattle.sctp_cookie.proofs.BodyRoundTrip.{length-body_bytes}
 use Rattle.sctp_cookie.proofs.Filling.{placed_behind}
 use Rattle.sctp_cookie.proofs.Opening.{sealed-one, sealed-opens}
@@ -16,8 +16,12 @@ returns-clause-sealed c =
     (placed_behind (body_bytes body) (hmac c.args.key.now (body_bytes body)) (length-body_bytes body))
 
 pub returns-clause-opens : goal.returns-clause-opens
-returns-clause-opens c = λ now young.
-    rw (returns-clause-sealed c) (sealed-opens c.args.key.now now (body_meaning c.args.body.now) c.body_bytes-body.ensures.in_range young)
+returns-clause-opens c = λ resets now young.
+    rw (returns-clause-sealed c) (sealed-opens resets c.args.key.now now (body_meaning c.args.body.now) c.body_bytes-body.ensures.in_range (all resets) young)
+  where
+    all : (r : Bool) → is_made r (body_meaning c.args.body.now) ≡ true
+    all true = refl
+    all false = refl
 
 pub returns-clause-one : goal.returns-clause-one
 returns-clause-one c = λ other other_in_range same.

@@ -24,7 +24,7 @@ pub returns-then-has_association : goal.returns-then-has_association
 returns-then-has_association c = λ e now stands.
     arrived_heard e now _ _
     (record { ports = sym (c.has_ports.ensures _ stands) ∙ c.if-not-has_ports.false; tag = sym (c.passes.ensures _ stands) ∙ c.if-not-passes.false })
-    (sym (c.has_association.ensures _ stands) ∙ c.if-has_association.true) _ _ _ c.none.ensures (c.hear.ensures _ stands)
+    (sym (c.has_association.ensures _ stands) ∙ c.if-has_association.true) _ _ _ _ c.none.ensures (c.missed_below-from.ensures _ stands) (c.hear.ensures _ stands)
 
 pub returns : goal.returns
 returns c = λ e now stands.

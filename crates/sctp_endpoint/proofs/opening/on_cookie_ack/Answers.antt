@@ -1,7 +1,5 @@
 use Rattle.std.proofs.Common.{◌∙◌, sym}
-use Rattle.sctp_model.specs.end.EndView.{Open, Established}
-use Rattle.sctp_model.specs.end.Clock.{turned}
-use Rattle.sctp_model.specs.end.Opening.{NotEchoing, CookieAcked}
+use Rattle.sctp_model.specs.end.Opening.{acknowledged_echo, NotEchoing, CookieAcked}
 use Rattle.sctp_endpoint.proofs.OpeningLemmas.{echoing_there}
 use Rattle.sctp_endpoint.proofs.opening.on_cookie_ack.Goals as goal
 
@@ -11,4 +9,4 @@ returns-then-not-is_echoing c = λ v stands. (NotEchoing (sym (c.is_echoing.ensu
 pub returns : goal.returns
 returns c = λ v stands.
     let at = echoing_there v.phase (sym (c.is_echoing.ensures v stands) ∙ c.if-not-is_echoing.false) in
-    (turned (Open at.0 Established) v, CookieAcked at.0 at.1 at.2, c.establish.ensures v at.0 at.1 stands at.2)
+    (acknowledged_echo at.0 v, CookieAcked at.0 at.1 at.2, c.establish.ensures v at.0 at.1 stands at.2)

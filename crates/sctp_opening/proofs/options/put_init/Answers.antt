@@ -1,4 +1,4 @@
-use Rattle.std.proofs.Common.{◌≡◌, ◌+◌, ◌<◌, ◌≤◌, ◌^◌, [], ◌∷◌, length, refl, subst, sym, ◌∙◌, ap, arith, List, ℕ, Bool}
+use Rattle.std.proofs.Common.{◌≡◌, ◌<◌, [], length, subst, sym, ◌∙◌, ap, arith, List, ℕ}
 use Rattle.std.specs.Prelude.{IfOk}
 use Rattle.sctp_model.specs.wire.Chunk.{InitMeaning, ChunkMeaning, Init}
 use Rattle.sctp_model.specs.wire.Typed.{WritesTyped}

@@ -1,5 +1,4 @@
-use Rattle.std.proofs.Common.{◌≡◌, ◌+◌, [], length, arith}
-use Rattle.sctp_model.specs.wire.Typed.{WritesTyped}
+use Rattle.std.proofs.Common.{[]}
 use Rattle.sctp_model.specs.end.Reports.{item}
 use Rattle.sctp_model.proofs.TypedLemmas.{length-item}
 use Rattle.sctp_opening.proofs.ListLemmas.{empty_list, written_list}

@@ -1,8 +1,14 @@
-use Rattle.sctp_outcomes.proofs.logs.Called.{connect_keeps_logs, shutdown_keeps_logs, abort_keeps_logs, abandon_keeps_logs, send_gives_tickets, take_takes_one}
+use Rattle.sctp_outcomes.proofs.logs.Called.{connect_keeps_logs, shutdown_keeps_logs, abort_keeps_logs, abandon_keeps_logs, send_gives_tickets, take_takes_one, reset_keeps_logs, told_keeps_logs}
 use Rattle.sctp_outcomes.proofs.kept.calls_note_their_own.Goals as goal
 
 pub returns-clause-connect : goal.returns-clause-connect
 returns-clause-connect c = connect_keeps_logs
+
+pub returns-clause-reset : goal.returns-clause-reset
+returns-clause-reset c = reset_keeps_logs
+
+pub returns-clause-told : goal.returns-clause-told
+returns-clause-told c = told_keeps_logs
 
 pub returns-clause-shutdown : goal.returns-clause-shutdown
 returns-clause-shutdown c = shutdown_keeps_logs

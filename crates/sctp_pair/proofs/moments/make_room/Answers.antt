@@ -1,15 +1,13 @@
 use Rattle.std.proofs.Common.{◌<◌, length, arith}
 use Rattle.std.proofs.lemmas.Grind.{common_steps}
 use Rattle.sctp_pair.specs.Sides.{SideStands}
-use Rattle.sctp_pair.proofs.AbandonedLemmas.{watched_is}
 use Rattle.sctp_pair.proofs.LateLemmas.{late_some}
 use Rattle.sctp_pair.proofs.MemoryLemmas.{anyway}
 use Rattle.sctp_pair.proofs.moments.make_room.Goals as goal
 
-pub returns-clause-watched : goal.returns-clause-watched
+pub returns-clause-late : goal.returns-clause-late
 unfolding SideStands
-returns-clause-watched c = λ v stands reached.
-    watched_is v.end c.args.now c.in_ok-before.before.items (c.sound.ensures _ stands.end) reached (c.in_ok-before.ensures.tickets v.end stands.end)
+returns-clause-late c = λ v stands. c.in_ok-before.ensures.tickets v.end stands.end
 
 pub returns-in_err-before-clause-memory : goal.returns-in_err-before-clause-memory
 unfolding SideStands

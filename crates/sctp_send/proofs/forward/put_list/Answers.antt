@@ -1,7 +1,6 @@
-use Rattle.std.proofs.Common.{◌≡◌, ◌∙◌, ap, sym, refl, subst, arith}
+use Rattle.std.proofs.Common.{sym, subst, arith}
 use Rattle.sctp_model.specs.wire.Chunk.{ChunkMeaning}
 use Rattle.sctp_wire.specs.Layouts.{Fits}
-use Rattle.sctp_send.specs.inner.Lanes.{forward_of_list}
 use Rattle.sctp_send.proofs.forward.ForwardLemmas.{forward_fits}
 use Rattle.sctp_send.proofs.forward.put_list.Goals as goal
 

@@ -1,4 +1,3 @@
-use Rattle.std.proofs.Common.{rules}
 use Rattle.sctp_terms.proofs.FaultLemmas.{without_fault}
 use Rattle.sctp_terms.proofs.laws.faultless_is_configured.Goals as goal
 

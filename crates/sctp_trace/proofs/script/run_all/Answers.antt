@@ -1,6 +1,7 @@
 use Rattle.std.proofs.Common.{◌≡◌, ◌++◌, Err, ap, ◌∙◌, arith}
 use Rattle.std.proofs.lemmas.Result.{err_from_is_err_and}
 use Rattle.std.proofs.lemmas.Grind.{common_steps}
+use Rattle.sctp_trace.specs.Stages.{world_of}
 use Rattle.sctp_trace.proofs.ScriptLemmas.{lines_within, closed}
 use Rattle.sctp_trace.proofs.ScriptGathered.{behind_gathered}
 use Rattle.sctp_trace.proofs.script.run_all.Goals as goal
@@ -49,7 +50,7 @@ returns-clause-answer g c =
     let ran = rw c.if-branch.false at (c.in_ok-run_line.ensures.runs so.0 so.1 so.2 so.3 so.6) in
     let last = ran.4 in
     let over = last.1 in
-    let close = c.finish.ensures.closes over.0 over.1.stands in (
+    let close = c.finish.ensures.closes (world_of over.0) over.1.stands in (
       so.0 ++ ran.0,
       so.1 ++ ran.1,
       g.met.R.Source.reads_more _ _ _ _ _ so.4 ran.2,

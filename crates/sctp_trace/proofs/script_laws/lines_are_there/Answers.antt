@@ -4,7 +4,7 @@ use Rattle.sctp_trace.proofs.script_laws.lines_are_there.Goals as goal
 pub returns : goal.returns
 returns c = λ text front rest written state is.
     let there = lines_behind (record {
-      one_meaning = c.one_meaning.ensures;
+      one_meaning = c.one_meaning_at.ensures;
       events_follow = c.events_follow_the_pair.ensures;
       splits = c.lines_in_one_way.ensures.split;
       lines = c.lines_in_one_way.ensures.exist;

@@ -1,7 +1,9 @@
-use Rattle.std.proofs.Common.{◌≡◌, ◌∙◌, ℕ, ◌-◌, ◌++◌, nat_lt, Bool, map, refl, ap, subst}
+use Rattle.std.proofs.Common.{◌≡◌, ◌∙◌, ℕ, ◌-◌, ◌++◌, nat_lt, Bool, map, refl, ap, sym, subst}
+use Rattle.std.specs.Prelude.{Option}
 use Rattle.sctp_model.specs.wire.Packet.{size_of_packet}
 use Rattle.sctp_model.specs.sender.Filling.{Fill, fill, chunk_of, newly_numbered}
 use Rattle.sctp_model.specs.end.EndView.{Alarm, format_of}
+use Rattle.sctp_model.specs.end.Pacing.{Pace, room_by}
 use Rattle.sctp_model.specs.end.Building.{filled_behind}
 use Rattle.sctp_model.proofs.sender.FillLaws.{fill_is_fill}
 use Rattle.sctp_packet.specs.Draft.{Draft, room_in, with_chunks}
@@ -12,7 +14,7 @@ use Rattle.sctp_association.proofs.RoomLemmas.{some_wish, less_room, fragments_a
 use Rattle.sctp_association.proofs.build.filling.fill_rest.Goals as goal
 
 pub returns-clause-filled : goal.returns-clause-filled
-returns-clause-filled c = λ e m n stands packet starting.
+returns-clause-filled c = λ e m n stands quiet packet starting.
     let w = c.args.writer.now in
     let f = format_of e in
     let v = e.sender in
@@ -20,7 +22,7 @@ returns-clause-filled c = λ e m n stands packet starting.
     let zs = w.chunks in
     let room = room_in w in
     let went = fill f room v in
-    let same : went ≡ filled_behind x zs = ap (λ (l : ℕ). fill f (l - size_of_packet zs) v) packet.limit in
+    let same : went ≡ filled_behind x zs = ap (λ (l : ℕ). fill f (l - size_of_packet zs) v) packet.limit ∙ sym (ap (λ (o : Option Pace). fill f (room_by o f (e.configuration.limit - size_of_packet zs) v) v) quiet.pace) in
     let after = c.in_ok-filled.ensures.chunks f v e.receiver stands in
     let less = less_room f v went.view w.limit zs went.wishes (fill_is_fill f room v).follows in
     let went_out : nat_lt c.room.result c.room-before.result ≡ some_wish (filled_behind x zs).wishes =

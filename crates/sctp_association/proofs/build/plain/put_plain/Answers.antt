@@ -7,17 +7,17 @@ use Rattle.sctp_association.proofs.PlainLemmas.{plain_at, all_slots, plain_fills
 use Rattle.sctp_association.proofs.build.plain.put_plain.Goals as goal
 
 pub returns-then-not-branch-clause-packed : goal.returns-then-not-branch-clause-packed
-returns-then-not-branch-clause-packed c = λ e t g d phase plain stands empty.
+returns-then-not-branch-clause-packed c = λ e t g d phase plain quiet stands empty.
     let one = subst (λ (b : Bool). PutsAt (SackSlot ∷ []) e (plain_at d c.args.writer.now c.args.sack false) (plain_at d c.put_due_sack.new.writer (still_due b c.args.sack) false) b)
     c.if-not-branch.true (c.in_ok-put_due_sack.ensures e (plain_marks d c.args.sack false) stands empty.packet) in
-    let puts = all_slots e d plain c.args.writer.now c.put_due_sack.new.writer c.args.sack c.args.sack false empty.packet one in
-    (e.sender, full_packet e t g _ _ false c.new.result phase empty refl puts c.new.ensures.items, stands)
+    let puts = all_slots e d plain quiet c.args.writer.now c.put_due_sack.new.writer c.args.sack c.args.sack false empty.packet one in
+    (e.sender, full_packet e t g _ _ false c.new.result phase quiet empty refl puts c.new.ensures.items, stands)
 
 pub returns-clause-packed : goal.returns-clause-packed
-returns-clause-packed c = λ e t g d phase plain stands empty.
+returns-clause-packed c = λ e t g d phase plain quiet stands empty.
     let one = subst (λ (b : Bool). PutsAt (SackSlot ∷ []) e (plain_at d c.args.writer.now c.args.sack false) (plain_at d c.put_due_sack.new.writer (still_due b c.args.sack) false) b)
     c.if-not-branch.false (c.in_ok-put_due_sack.ensures e (plain_marks d c.args.sack false) stands empty.packet) in
-    let puts = all_slots e d plain c.args.writer.now c.put_due_sack.new.writer c.args.sack false true empty.packet one in
+    let puts = all_slots e d plain quiet c.args.writer.now c.put_due_sack.new.writer c.args.sack false true empty.packet one in
     let x = c.in_ok-fragments.fragments in
-    plain_fills e t g d c.args.writer.now c.put_due_sack.new.writer c.fill_rest.new.writer c.args.sack x.some c.fill_rest.new.traffic x.tickets phase empty puts
-    (c.in_ok-fragments.ensures.filled e (plain_marks d false false) (fragments_alone x.some) stands puts.packet (starts_alone x.some))
+    plain_fills e t g d c.args.writer.now c.put_due_sack.new.writer c.fill_rest.new.writer c.args.sack x.some c.fill_rest.new.traffic x.tickets phase quiet empty puts
+    (c.in_ok-fragments.ensures.filled e (plain_marks d false false) (fragments_alone x.some) stands quiet puts.packet (starts_alone x.some))

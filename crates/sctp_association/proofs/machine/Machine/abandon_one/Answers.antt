@@ -23,4 +23,4 @@ pub returns-in-Joined-clause-step : goal.returns-in-Joined-clause-step
 unfolding MachineStands
 returns-in-Joined-clause-step c = λ v stands.
     with_traffic _ _ _ v (abandon_after v.sender c.args.ticket.0) v.receiver c.in-Joined.is stands
-    (c.abandon.ensures.step _ v.sender v.receiver (joined _ _ v c.in-Joined.is stands).traffic) refl
+    (c.abandon.ensures.step _ v.sender v.receiver (joined _ _ v c.in-Joined.is stands).traffic) refl refl

@@ -15,4 +15,5 @@ returns c = λ r stands. record {
   phase = refl;
   life = record { terms = refl; sender = refl; receiver = refl };
   room = none_kept c.new.result _ c.new.ensures.capacity;
+  pace = refl;
 }

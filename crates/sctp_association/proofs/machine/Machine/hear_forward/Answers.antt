@@ -11,7 +11,7 @@ returns-in-Unjoined-clause-step c = λ v t g stands phase. absurd (never_open c.
 pub returns-in-Joined-clause-step : goal.returns-in-Joined-clause-step
 unfolding MachineStands
 returns-in-Joined-clause-step c = λ v t g stands phase.
-    forward_taken _ _ _ v (forward_meaning c.args.forward.now) c.on_forward.result c.in-Joined.is stands (c.on_forward.ensures.step _ v.sender v.receiver (joined _ _ v c.in-Joined.is stands).traffic)
+    forward_taken _ _ _ v (forward_meaning c.args.forward.now) c.on_forward.result c.in-Joined.is stands c.resets_stay.ensures (c.on_forward.ensures.step _ v.sender v.receiver (joined _ _ v c.in-Joined.is stands).traffic)
 
 pub returns-in-Joined-clause-refused : goal.returns-in-Joined-clause-refused
 unfolding MachineStands

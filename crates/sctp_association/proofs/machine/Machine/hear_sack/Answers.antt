@@ -1,7 +1,8 @@
-use Rattle.std.proofs.Common.{true}
+use Rattle.std.proofs.Common.{nat_lt, true}
 use Rattle.sctp_model.specs.sender.SackTaken.{sack_taken}
-use Rattle.sctp_model.specs.end.EndView.{EndView}
-use Rattle.sctp_model.specs.end.Clock.{settled}
+use Rattle.sctp_model.specs.end.EndView.{DataAlarm, EndView}
+use Rattle.sctp_model.specs.end.Clock.{renewed, settled}
+use Rattle.sctp_model.proofs.sender.HeardLaws.{unpaced}
 use Rattle.sctp_wire.specs.ChunkTree.{sack_meaning}
 use Rattle.sctp_send.specs.SenderAnswers.{fault_meaning}
 use Rattle.sctp_association.specs.MachineStands.{MachineStands}
@@ -21,7 +22,9 @@ returns-in-Ok-clause-step c = λ v t g stands phase.
     let moved = moved_as v counted.sender _ _ (c.cum-before.ensures v stands) (c.cum.ensures counted took) in
     let due : EndView = record counted { due = record v.due { forward = true } } in
     let now = c.settle.ensures due (with_due _ counted _ _ took (c.owe_forward.ensures v.due took.due)) in
-    rw (← moved) (c.renew.ensures (settled due) now)
+    let rests = settled due in
+    at_view _ _ _ (unpaced v.sender (v.timers DataAlarm).wait (renewed v.moment (nat_lt v.sender.cum counted.sender.cum) (rests.timers DataAlarm)) rests now.pace)
+    (rw (← moved) (c.renew.ensures rests now))
 
 pub returns-in-Err-clause-answer : goal.returns-in-Err-clause-answer
 returns-in-Err-clause-answer c = λ v t g stands phase. c.in-Err.ensures.answer v t g stands phase

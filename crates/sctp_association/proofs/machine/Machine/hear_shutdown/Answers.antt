@@ -1,6 +1,9 @@
 use Rattle.sctp_model.specs.sender.SackTaken.{shutdown_taken}
-use Rattle.sctp_model.specs.end.EndView.{EndView}
+use Rattle.std.proofs.Common.{nat_lt}
+use Rattle.sctp_model.specs.end.EndView.{DataAlarm, EndView}
 use Rattle.sctp_model.specs.end.Clock.{settled}
+use Rattle.sctp_model.specs.end.Acting.{shut_timer}
+use Rattle.sctp_model.proofs.sender.HeardLaws.{unpaced}
 use Rattle.sctp_send.specs.SenderAnswers.{fault_meaning}
 use Rattle.sctp_association.specs.MachineStands.{MachineStands}
 use Rattle.sctp_association.proofs.MachineLemmas.{at_view}
@@ -17,7 +20,9 @@ returns-in-Ok-clause-step c = λ v t g stands phase.
     let took = at_view _ counted _ (shutdown_counts v c.args.tsn (c.in-Ok.ensures.answer v t g stands phase)) (c.in-Ok.ensures.step v t g stands phase) in
     let rests = c.settle.ensures counted took in
     let moved = moved_as v counted.sender _ _ (c.cum-before.ensures v stands) (c.cum.ensures (settled counted) rests) in
-    rw (← moved) (c.renew_shut.ensures (settled counted) rests)
+    let x = settled counted in
+    at_view _ _ _ (unpaced v.sender (v.timers DataAlarm).wait (shut_timer v.configuration.standard_closing (nat_lt v.sender.cum counted.sender.cum) v.moment (x.timers DataAlarm)) x rests.pace)
+    (rw (← moved) (c.renew_shut.ensures x rests))
 
 pub returns-in-Err-clause-answer : goal.returns-in-Err-clause-answer
 returns-in-Err-clause-answer c = λ v t g stands phase. c.in-Err.ensures.answer v t g stands phase

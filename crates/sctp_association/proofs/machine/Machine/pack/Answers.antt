@@ -1,7 +1,7 @@
 use Rattle.std.proofs.Common.{sym}
 use Rattle.sctp_model.specs.end.EndView.{EndView}
 use Rattle.sctp_association.specs.MachineStands.{MachineStands}
-use Rattle.sctp_association.proofs.MachineLemmas.{joined, phase_joined}
+use Rattle.sctp_association.proofs.MachineLemmas.{joined, quiet_at, phase_joined}
 use Rattle.sctp_association.proofs.BuildLemmas.{phase_at, stays_unjoined, with_end, with_sender, still_stands}
 use Rattle.sctp_association.proofs.machine.Machine.pack.Goals as goal
 
@@ -18,7 +18,7 @@ returns-in-Joined-clause-packed c = λ v moment stands empty.
     let e : EndView = record v { moment = moment } in
     with_sender c.pack_joined.result e v c.pack_joined.new.packing _ c.in-Joined.association c.pack_joined.new.association c.in-Joined.is stands c.pack_joined.ensures.kept
     (c.pack_joined.ensures.packed e (phase_joined _ _ v c.in-Joined.is stands)
-    (record { configured = stands.configuration; due_stands = stands.due; traffic_stands = (joined _ _ v c.in-Joined.is stands).traffic }) empty)
+    (record { configured = stands.configuration; due_stands = stands.due; traffic_stands = (joined _ _ v c.in-Joined.is stands).traffic; quiet = quiet_at _ _ v moment c.in-Joined.is stands }) empty)
 
 pub returns-in-Joined-clause-memory : goal.returns-in-Joined-clause-memory
 unfolding MachineStands

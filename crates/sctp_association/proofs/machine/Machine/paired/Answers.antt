@@ -5,13 +5,14 @@ use Rattle.sctp_model.specs.end.EndView.{format_for}
 use Rattle.sctp_model.specs.end.EndView as model
 use Rattle.sctp_association.specs.TrafficStands.{TrafficStands}
 use Rattle.sctp_association.specs.MachineStands.{MachineStands}
+use Rattle.sctp_association.proofs.JoinLemmas.{unpaced}
 use Rattle.sctp_association.proofs.machine.Machine.paired.Goals as goal
 
 pub returns : goal.returns
 unfolding MachineStands
 returns c =
     let config = c.args.config in
-    let begins = rw c.buffer.ensures.exact at c.in_ok-traffic.ensures in
+    let begins = rw c.buffer.ensures.exact at c.in_ok-traffic.ensures.begins in
     record {
       configuration = refl;
       role = refl;
@@ -25,6 +26,8 @@ returns c =
         traffic = subst (λ (x : model.Terms). TrafficStands c.in_ok-traffic.traffic (format_for x.interleave)
             (fresh_sender x.own_tsn x.outbound config.fragment config.buffer x.partial) (fresh_receiver x.peer_tsn x.inbound config.buffer)) c.alike-terms.ensures begins;
         buffer = refl;
+        answers = refl;
       };
       room = rw c.new.ensures.capacity (omega arith);
+      pace = unpaced config config.buffer c.in_ok-traffic.ensures.unpaced;
     }

@@ -18,4 +18,4 @@ returns-in-Joined-clause-answer c = λ v stands. c.queue.ensures.answer _ v.send
 pub returns-in-Joined-clause-step : goal.returns-in-Joined-clause-step
 unfolding MachineStands
 returns-in-Joined-clause-step c = λ v stands.
-    with_traffic _ _ _ v _ v.receiver c.in-Joined.is stands (c.queue.ensures.step _ v.sender v.receiver (joined _ _ v c.in-Joined.is stands).traffic) refl
+    with_traffic _ _ _ v _ v.receiver c.in-Joined.is stands (c.queue.ensures.step _ v.sender v.receiver (joined _ _ v c.in-Joined.is stands).traffic) refl refl

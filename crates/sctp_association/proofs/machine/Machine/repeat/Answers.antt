@@ -14,4 +14,4 @@ pub returns-in-Joined : goal.returns-in-Joined
 unfolding MachineStands
 returns-in-Joined c = λ v stands.
     with_traffic _ _ _ v (timed_out v.sender) v.receiver c.in-Joined.is stands
-    (c.on_timeout.ensures _ v.sender v.receiver (joined _ _ v c.in-Joined.is stands).traffic) refl
+    (c.on_timeout.ensures _ v.sender v.receiver (joined _ _ v c.in-Joined.is stands).traffic) refl refl

@@ -14,4 +14,4 @@ returns-in-Unjoined c = λ v stands.
 pub returns-in-Joined : goal.returns-in-Joined
 unfolding MachineStands
 returns-in-Joined c = λ v stands.
-    with_traffic _ _ _ v v.sender (sack_sent v.receiver) c.in-Joined.is stands (c.sack_sent.ensures _ v.sender v.receiver (joined _ _ v c.in-Joined.is stands).traffic) refl
+    with_traffic _ _ _ v v.sender (sack_sent v.receiver) c.in-Joined.is stands (c.sack_sent.ensures _ v.sender v.receiver (joined _ _ v c.in-Joined.is stands).traffic) refl refl

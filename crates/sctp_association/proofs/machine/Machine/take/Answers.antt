@@ -14,5 +14,9 @@ pub returns-in-Joined : goal.returns-in-Joined
 unfolding MachineStands
 returns-in-Joined c = λ v stands.
     let a = c.take.ensures _ v.sender v.receiver (joined _ _ v c.in-Joined.is stands).traffic in
-    let after : EndView = record v { receiver = a.0 } in
-    (after, record { receiver = a.0; takes = a.1; leaves = refl }, with_traffic _ _ _ v v.sender a.0 c.in-Joined.is stands a.2 (take_keeps_buffer v.receiver c.args.stream _ a.0 a.1))
+    let after : EndView = record v { receiver = a.0 } in (
+      after,
+      record { receiver = a.0; takes = a.1; leaves = refl },
+      with_traffic _ _ _ v v.sender a.0 c.in-Joined.is stands a.2 (take_keeps_buffer v.receiver c.args.stream _ a.0 a.1)
+          (c.resets_stay.ensures.take v.receiver c.args.stream _ a.0 a.1),
+    )

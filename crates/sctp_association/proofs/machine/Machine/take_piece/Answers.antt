@@ -17,7 +17,7 @@ pub returns-in-Joined-clause-step : goal.returns-in-Joined-clause-step
 unfolding MachineStands
 returns-in-Joined-clause-step c = λ v t g stands phase.
     let there = waiting_same _ v _ stands c.make_room.ensures.same in
-    piece_taken _ _ _ v (piece_meaning c.args.piece.now) c.on_data.result c.in-Joined.is there (c.on_data.ensures.step _ v.sender v.receiver (joined _ _ v c.in-Joined.is there).traffic)
+    piece_taken _ _ _ v (piece_meaning c.args.piece.now) c.on_data.result c.in-Joined.is there c.resets_stay.ensures (c.on_data.ensures.step _ v.sender v.receiver (joined _ _ v c.in-Joined.is there).traffic)
 
 pub returns-in-Joined-clause-refused : goal.returns-in-Joined-clause-refused
 unfolding MachineStands

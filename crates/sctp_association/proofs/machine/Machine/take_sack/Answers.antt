@@ -22,4 +22,4 @@ pub returns-in-Joined-clause-step : goal.returns-in-Joined-clause-step
 unfolding MachineStands
 returns-in-Joined-clause-step c = λ v t g stands phase.
     with_traffic _ _ _ v (sack_after v.sender (sack_meaning c.args.sack.now)) v.receiver c.in-Joined.is stands
-    (c.on_sack.ensures.step _ v.sender v.receiver (joined _ _ v c.in-Joined.is stands).traffic) refl
+    (c.on_sack.ensures.step _ v.sender v.receiver (joined _ _ v c.in-Joined.is stands).traffic) refl refl

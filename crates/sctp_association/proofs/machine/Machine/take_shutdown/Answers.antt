@@ -21,4 +21,4 @@ pub returns-in-Joined-clause-step : goal.returns-in-Joined-clause-step
 unfolding MachineStands
 returns-in-Joined-clause-step c = λ v t g stands phase.
     with_traffic _ _ _ v (shutdown_after v.sender c.args.tsn) v.receiver c.in-Joined.is stands
-    (c.on_shutdown.ensures.step _ v.sender v.receiver (joined _ _ v c.in-Joined.is stands).traffic) refl
+    (c.on_shutdown.ensures.step _ v.sender v.receiver (joined _ _ v c.in-Joined.is stands).traffic) refl refl

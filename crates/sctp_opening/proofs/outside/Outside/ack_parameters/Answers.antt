@@ -1,14 +1,12 @@
-use Rattle.std.proofs.Common.{◌≡◌, ◌+◌, ◌≤◌, [], ◌∷◌, length, refl, ap, sym, ◌∙◌, arith, List, ℕ}
+use Rattle.std.proofs.Common.{◌≡◌, ◌≤◌, [], ◌∷◌, length, refl, ap, sym, ◌∙◌, arith, List, ℕ}
 use Rattle.std.proofs.lemmas.Bool.{leb-true, le-leb}
-use Rattle.sctp_model.specs.wire.Chunk.{InitAck}
-use Rattle.sctp_model.specs.wire.Typed.{Typed, WritesTyped, written_typed, typed_in}
+use Rattle.sctp_model.specs.wire.Typed.{WritesTyped, written_typed, typed_in}
 use Rattle.sctp_model.specs.wire.Unknown.{parameters_reported}
 use Rattle.sctp_model.specs.end.Options.{STATE_COOKIE, own_options, reports_of}
 use Rattle.sctp_model.specs.end.Reports.{item}
 use Rattle.sctp_model.specs.end.Opening.{body_for}
 use Rattle.sctp_wire.specs.ChunkTree.{init_meaning}
 use Rattle.sctp_cookie.specs.CookieTree.{body_meaning}
-use Rattle.sctp_cookie.specs.Opens.{sealed}
 use Rattle.sctp_opening.specs.inner.Fitting.{all_within}
 use Rattle.sctp_opening.proofs.FittingLemmas.{all_stay_within}
 use Rattle.sctp_opening.proofs.ListLemmas.{empty_list, front_short}

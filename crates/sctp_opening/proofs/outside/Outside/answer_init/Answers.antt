@@ -1,14 +1,14 @@
-use Rattle.std.proofs.Common.{◌≡◌, ◌+◌, ◌<◌, ◌≤◌, ◌^◌, true, false, length, refl, subst, ap, sym, ◌∙◌, arith, List, ℕ, Some}
+use Rattle.std.proofs.Common.{◌≡◌, ◌<◌, true, length, subst, ap, sym, ◌∙◌, arith}
 use Rattle.std.specs.Prelude.{IfOk}
 use Rattle.std.proofs.lemmas.Grind.{common_steps}
-use Rattle.sctp_model.specs.wire.Chunk.{InitMeaning, ChunkMeaning, InitAck}
-use Rattle.sctp_model.specs.end.Opening.{has_no_stream, introduction, init_ack}
-use Rattle.sctp_model.specs.end.Strays.{Verdict, init_verdict}
+use Rattle.sctp_model.specs.wire.Chunk.{InitMeaning}
+use Rattle.sctp_model.specs.end.Opening.{has_no_stream}
+use Rattle.sctp_model.specs.end.Strays.{Verdict}
 use Rattle.sctp_wire.specs.ChunkTree.{init_meaning}
 use Rattle.sctp_opening.specs.Told.{IsAnswer}
 use Rattle.sctp_opening.specs.inner.Fitting.{IsList}
 use Rattle.sctp_opening.proofs.ListLemmas.{written_list, init_ack-fits}
-use Rattle.sctp_opening.proofs.AckLemmas.{accepted-is, refused-is}
+use Rattle.sctp_opening.proofs.AckLemmas.{refused-is}
 use Rattle.sctp_opening.proofs.outside.Outside.answer_init.Goals as goal
 
 pub returns-then-has_no_stream-clause-answer : goal.returns-then-has_no_stream-clause-answer

@@ -37,8 +37,8 @@ returns-clause-step c = λ w stands.
     let late : w.clock ≤ n = omega (arith, is) in
     let of_a : w.a.moment ≤ n = let t = stands.on_time A in omega (arith, t, late) in
     let of_b : w.b.moment ≤ n = let t = stands.on_time B in omega (arith, t, late) in
-    let a = c.tick.ensures (side_of w A) (c.make_room.ensures.same (side_of w A) stands.a) (rw c.deref.ensures.value (c.in_ok-of_a.ensures.watched (side_of w A) stands.a of_a)) in
-    let b = c.tick-2.ensures (side_of w B) (c.make_room-2.ensures.same (side_of w B) stands.b) (rw c.deref-2.ensures.value (c.in_ok-of_b.ensures.watched (side_of w B) stands.b of_b)) in
+    let a = c.tick.ensures (side_of w A) (c.make_room.ensures.same (side_of w A) stands.a) of_a (rw c.deref.ensures.value (c.in_ok-of_a.ensures.late (side_of w A) stands.a)) in
+    let b = c.tick-2.ensures (side_of w B) (c.make_room-2.ensures.same (side_of w B) stands.b) of_b (rw c.deref-2.ensures.value (c.in_ok-of_b.ensures.late (side_of w B) stands.b)) in
     let step = time_passes w m n (omega (arith, c.ranges.moment.fits)) is in
     (at_time w n, step, record { a = a; b = b; clock = refl; draw = stands.draw; openable = stands.openable; on_time = on_time w _ _ _ stands.on_time step })
 

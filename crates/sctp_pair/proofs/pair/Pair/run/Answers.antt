@@ -36,7 +36,7 @@ returns-in_err-outcomes c = λ w stands.
     let none : Course = record { events = []; answers = []; worlds = [] } in
     let off : is_ok c.with_capacity.result ≡ false = sym c.map_err.ensures.variant ∙ ap is_ok c.in_err-outcomes.was in
     let some : 0 < length c.args.events.now = some_wanted (length c.args.events.now) (is_ok c.with_capacity.result) (λ none. c.with_capacity.ensures.succeeds (omega (arith, none))) off in
-    (none, rw p.1 ([], c.args.events.now, refl, tt, inl (some, refl), tt), promised_run laws.passes_on c.each_world_on_the_way_is_safe.ensures w none tt, stands)
+    (none, rw p.1 ([], c.args.events.now, refl, tt, inl (some, refl), tt), promised_run laws.passes_on c.each_world_on_the_way_is_safe.ensures c.users_take_what_was_sent.ensures w none tt, stands)
 
 pub loop-event-init : goal.loop-event-init
 loop-event-init c =
@@ -73,7 +73,7 @@ returns-in_err-outcome c = λ w stands.
     let p = err_from_is_err_and c.from_residual-in_err-outcome.result c.from_residual-in_err-outcome.ensures.1 in (
       course,
       rw p.1 (take (i + 1) events, drop (i + 1) events, sym (take-append-drop _ _), means, inr cut, run),
-      promised_run laws.passes_on c.each_world_on_the_way_is_safe.ensures w course run,
+      promised_run laws.passes_on c.each_world_on_the_way_is_safe.ensures c.users_take_what_was_sent.ensures w course run,
       rw last_push now.5,
     )
 
@@ -84,4 +84,4 @@ returns c = λ w stands.
     let all : take c.loop-event.event-index c.args.events.now ≡ c.args.events.now = grind (arith, common_steps) in
     let means = rw all at before.3 in
     let course : Course = record { events = before.0; answers = before.1; worlds = before.2 } in
-    (course, (before.4, means, before.5), promised_run laws.passes_on c.each_world_on_the_way_is_safe.ensures w course before.5, before.6)
+    (course, (before.4, means, before.5), promised_run laws.passes_on c.each_world_on_the_way_is_safe.ensures c.users_take_what_was_sent.ensures w course before.5, before.6)

@@ -14,7 +14,7 @@ returns-in-Open-clause-step c = λ w stands.
     let e : meaning.Event = meaning.OpenBoth c.in-Open.a c.in-Open.b in
     let means : Means c.args.event.now e = rw c.in-Open.is refl in
     let step = s.1 in
-    (e, s.0, means, step, promised_step c.a_run_passes_its_worlds.ensures.passes_on c.each_world_on_the_way_is_safe.ensures w s.0 e _ step, s.2)
+    (e, s.0, means, step, promised_step c.a_run_passes_its_worlds.ensures.passes_on c.each_world_on_the_way_is_safe.ensures c.users_take_what_was_sent.ensures w s.0 e _ step, s.2)
 
 pub returns-in-At-clause-step : goal.returns-in-At-clause-step
 returns-in-At-clause-step c = λ w stands.
@@ -22,7 +22,7 @@ returns-in-At-clause-step c = λ w stands.
     let e : meaning.Event = meaning.At c.in-At.moment in
     let means : Means c.args.event.now e = rw c.in-At.is refl in
     let step = s.1 in
-    (e, s.0, means, step, promised_step c.a_run_passes_its_worlds.ensures.passes_on c.each_world_on_the_way_is_safe.ensures w s.0 e _ step, s.2)
+    (e, s.0, means, step, promised_step c.a_run_passes_its_worlds.ensures.passes_on c.each_world_on_the_way_is_safe.ensures c.users_take_what_was_sent.ensures w s.0 e _ step, s.2)
 
 pub returns-in-Drawing-clause-step : goal.returns-in-Drawing-clause-step
 returns-in-Drawing-clause-step c = λ w stands.
@@ -30,7 +30,7 @@ returns-in-Drawing-clause-step c = λ w stands.
     let e : meaning.Event = meaning.Drawing c.in-Drawing.draw in
     let means : Means c.args.event.now e = rw c.in-Drawing.is refl in
     let step = s.1 in
-    (e, s.0, means, step, promised_step c.a_run_passes_its_worlds.ensures.passes_on c.each_world_on_the_way_is_safe.ensures w s.0 e _ step, s.2)
+    (e, s.0, means, step, promised_step c.a_run_passes_its_worlds.ensures.passes_on c.each_world_on_the_way_is_safe.ensures c.users_take_what_was_sent.ensures w s.0 e _ step, s.2)
 
 pub returns-in-Connect-clause-step : goal.returns-in-Connect-clause-step
 returns-in-Connect-clause-step c = λ w stands.
@@ -38,7 +38,7 @@ returns-in-Connect-clause-step c = λ w stands.
     let e : meaning.Event = meaning.Connect c.in-Connect.draw in
     let means : Means c.args.event.now e = rw c.in-Connect.is refl in
     let step = s.1 in
-    (e, s.0, means, step, promised_step c.a_run_passes_its_worlds.ensures.passes_on c.each_world_on_the_way_is_safe.ensures w s.0 e _ step, s.2)
+    (e, s.0, means, step, promised_step c.a_run_passes_its_worlds.ensures.passes_on c.each_world_on_the_way_is_safe.ensures c.users_take_what_was_sent.ensures w s.0 e _ step, s.2)
 
 pub returns-in-Build-clause-step : goal.returns-in-Build-clause-step
 returns-in-Build-clause-step c = λ w stands.
@@ -46,7 +46,7 @@ returns-in-Build-clause-step c = λ w stands.
     let e : meaning.Event = meaning.Build (side_meaning c.in-Build.side) in
     let means : Means c.args.event.now e = rw c.in-Build.is refl in
     let step = s.1 in
-    (e, s.0, means, step, promised_step c.a_run_passes_its_worlds.ensures.passes_on c.each_world_on_the_way_is_safe.ensures w s.0 e _ step, s.2)
+    (e, s.0, means, step, promised_step c.a_run_passes_its_worlds.ensures.passes_on c.each_world_on_the_way_is_safe.ensures c.users_take_what_was_sent.ensures w s.0 e _ step, s.2)
 
 pub returns-in-Deliver-clause-step : goal.returns-in-Deliver-clause-step
 returns-in-Deliver-clause-step c = λ w stands.
@@ -54,7 +54,7 @@ returns-in-Deliver-clause-step c = λ w stands.
     let e : meaning.Event = meaning.Deliver (side_meaning c.in-Deliver.side) c.in-Deliver.number in
     let means : Means c.args.event.now e = rw c.in-Deliver.is refl in
     let step = s.1 in
-    (e, s.0, means, step, promised_step c.a_run_passes_its_worlds.ensures.passes_on c.each_world_on_the_way_is_safe.ensures w s.0 e _ step, s.2)
+    (e, s.0, means, step, promised_step c.a_run_passes_its_worlds.ensures.passes_on c.each_world_on_the_way_is_safe.ensures c.users_take_what_was_sent.ensures w s.0 e _ step, s.2)
 
 pub returns-in-Send-clause-step : goal.returns-in-Send-clause-step
 returns-in-Send-clause-step c = λ w stands.
@@ -62,7 +62,7 @@ returns-in-Send-clause-step c = λ w stands.
     let e : meaning.Event = meaning.Send (side_meaning c.in-Send.side) (call_of (lane_for c.in-Send.stream c.in-Send.ordered) c.in-Send.payload_id c.in-Send.bytes.items c.in-Send.until) in
     let means : Means c.args.event.now e = rw c.in-Send.is refl in
     let step = rw c.deref-in-Send.ensures.value at s.1 in
-    (e, s.0, means, step, promised_step c.a_run_passes_its_worlds.ensures.passes_on c.each_world_on_the_way_is_safe.ensures w s.0 e _ step, s.2)
+    (e, s.0, means, step, promised_step c.a_run_passes_its_worlds.ensures.passes_on c.each_world_on_the_way_is_safe.ensures c.users_take_what_was_sent.ensures w s.0 e _ step, s.2)
 
 pub returns-in-Abandon-clause-step : goal.returns-in-Abandon-clause-step
 returns-in-Abandon-clause-step c = λ w stands.
@@ -70,7 +70,7 @@ returns-in-Abandon-clause-step c = λ w stands.
     let e : meaning.Event = meaning.Abandon (side_meaning c.in-Abandon.side) c.in-Abandon.ticket.0 in
     let means : Means c.args.event.now e = rw c.in-Abandon.is refl in
     let step = s.1 in
-    (e, s.0, means, step, promised_step c.a_run_passes_its_worlds.ensures.passes_on c.each_world_on_the_way_is_safe.ensures w s.0 e _ step, s.2)
+    (e, s.0, means, step, promised_step c.a_run_passes_its_worlds.ensures.passes_on c.each_world_on_the_way_is_safe.ensures c.users_take_what_was_sent.ensures w s.0 e _ step, s.2)
 
 pub returns-in-Take-clause-step : goal.returns-in-Take-clause-step
 returns-in-Take-clause-step c = λ w stands.
@@ -78,7 +78,7 @@ returns-in-Take-clause-step c = λ w stands.
     let e : meaning.Event = meaning.Take (side_meaning c.in-Take.side) c.in-Take.stream in
     let means : Means c.args.event.now e = rw c.in-Take.is refl in
     let step = s.1 in
-    (e, s.0, means, step, promised_step c.a_run_passes_its_worlds.ensures.passes_on c.each_world_on_the_way_is_safe.ensures w s.0 e _ step, s.2)
+    (e, s.0, means, step, promised_step c.a_run_passes_its_worlds.ensures.passes_on c.each_world_on_the_way_is_safe.ensures c.users_take_what_was_sent.ensures w s.0 e _ step, s.2)
 
 pub returns-in-Shutdown-clause-step : goal.returns-in-Shutdown-clause-step
 returns-in-Shutdown-clause-step c = λ w stands.
@@ -86,7 +86,7 @@ returns-in-Shutdown-clause-step c = λ w stands.
     let e : meaning.Event = meaning.Shutdown (side_meaning c.in-Shutdown.side) in
     let means : Means c.args.event.now e = rw c.in-Shutdown.is refl in
     let step = s.1 in
-    (e, s.0, means, step, promised_step c.a_run_passes_its_worlds.ensures.passes_on c.each_world_on_the_way_is_safe.ensures w s.0 e _ step, s.2)
+    (e, s.0, means, step, promised_step c.a_run_passes_its_worlds.ensures.passes_on c.each_world_on_the_way_is_safe.ensures c.users_take_what_was_sent.ensures w s.0 e _ step, s.2)
 
 pub returns-in-Abort-clause-step : goal.returns-in-Abort-clause-step
 returns-in-Abort-clause-step c = λ w stands.
@@ -94,7 +94,7 @@ returns-in-Abort-clause-step c = λ w stands.
     let e : meaning.Event = meaning.Abort (side_meaning c.in-Abort.side) c.in-Abort.reason.items in
     let means : Means c.args.event.now e = rw c.in-Abort.is refl in
     let step = rw c.deref-in-Abort.ensures.value at s.1 in
-    (e, s.0, means, step, promised_step c.a_run_passes_its_worlds.ensures.passes_on c.each_world_on_the_way_is_safe.ensures w s.0 e _ step, s.2)
+    (e, s.0, means, step, promised_step c.a_run_passes_its_worlds.ensures.passes_on c.each_world_on_the_way_is_safe.ensures c.users_take_what_was_sent.ensures w s.0 e _ step, s.2)
 
 pub returns-in-Foreign-clause-step : goal.returns-in-Foreign-clause-step
 returns-in-Foreign-clause-step c = λ w stands.
@@ -102,7 +102,7 @@ returns-in-Foreign-clause-step c = λ w stands.
     let e : meaning.Event = meaning.Foreign (side_meaning c.in-Foreign.side) s.0 in
     let reads = rw c.deref.ensures.value at s.2 in
     let means : Means c.args.event.now e = rw c.in-Foreign.is (s.0, reads, refl) in
-    (e, s.1, means, s.3, promised_step c.a_run_passes_its_worlds.ensures.passes_on c.each_world_on_the_way_is_safe.ensures w s.1 e _ s.3, s.4)
+    (e, s.1, means, s.3, promised_step c.a_run_passes_its_worlds.ensures.passes_on c.each_world_on_the_way_is_safe.ensures c.users_take_what_was_sent.ensures w s.1 e _ s.3, s.4)
 
 -- ---- memory
 

@@ -1,4 +1,4 @@
-use Rattle.std.proofs.Common.{◌≡◌, ◌≤◌, length, map, refl, subst, sym, arith}
+use Rattle.std.proofs.Common.{◌≤◌, length, map, refl, subst, sym, arith}
 use Rattle.std.proofs.lemmas.List.{length-map}
 use Rattle.sctp_send.specs.OutstandingFields.{item_meaning}
 use Rattle.sctp_send.specs.SenderKept.{Kept}

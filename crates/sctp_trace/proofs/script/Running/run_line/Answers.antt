@@ -18,7 +18,7 @@ returns-in_err-act-in-Ok-Ended-clause-runs g c = λ text written lines state gat
     let out = rw c.deref.ensures.value at (c.in_err-act-in-Ok-Ended.ensures.leaves state got.so.stands) in
     let q = err_from_is_err_and c.from_residual-in_err-act-in-Ok-Ended.result c.from_residual-in_err-act-in-Ok-Ended.ensures.1 in
     let come = ended_come _ text _ lines state b.0 i.line _ got in
-    (b.0, p.0, b.1, p.1, rw (q.1, q.2) (runs_behind _ (Err fault) c.args.self.now (text ++ b.0) (written ++ p.0) c.pass_on.new.gathered.items out.0 _ out.1 (ended_stops _ fault _ _ text _ lines state b.0 i.line.items out.0 _ come got.gives got.is.2 out.2)))
+    (b.0, p.0, b.1, p.1, rw (q.1, q.2) (runs_behind _ (Err fault) c.args.self.now (text ++ b.0) (written ++ p.0) c.pass_on.new.gathered.items out.0 _ out.1 (ended_stops _ fault _ _ text _ lines state b.0 i.line.items out.0 _ _ come got.gives got.is.2 out.2)))
 
 pub returns-in_err-act-in-Ok-Last-clause-runs : goal.returns-in_err-act-in-Ok-Last-clause-runs
 returns-in_err-act-in-Ok-Last-clause-runs g c = λ text written lines state gathered.
@@ -32,7 +32,7 @@ returns-in_err-act-in-Ok-Last-clause-runs g c = λ text written lines state gath
     let q = err_from_is_err_and c.from_residual-in_err-act-in-Ok-Last.result c.from_residual-in_err-act-in-Ok-Last.ensures.1 in
     let come = last_come _ text _ lines state b.0 i.line _ got in
     let small = last_small _ text _ lines state b.0 i.line _ got in
-    (b.0, p.0, b.1, p.1, rw (q.1, q.2) (runs_behind _ (Err fault) c.args.self.now (text ++ b.0) (written ++ p.0) c.pass_on.new.gathered.items out.0 _ out.1 (last_stops _ fault _ text _ lines state b.0 i.line.items out.0 _ end come got.is.1 small got.gives.1 out.2)))
+    (b.0, p.0, b.1, p.1, rw (q.1, q.2) (runs_behind _ (Err fault) c.args.self.now (text ++ b.0) (written ++ p.0) c.pass_on.new.gathered.items out.0 _ out.1 (last_stops _ fault _ text _ lines state b.0 i.line.items out.0 _ _ end come got.is.1 small got.gives.1 out.2)))
 
 pub returns-in_ok-act-in-Ok-Ended-clause-runs : goal.returns-in_ok-act-in-Ok-Ended-clause-runs
 returns-in_ok-act-in-Ok-Ended-clause-runs g c = λ text written lines state gathered.
@@ -70,7 +70,7 @@ returns-in-Ok-End-clause-runs g c = λ text written lines state gathered.
     let b = i.ensures.bytes in
     let got = got_line c.line_after_line.ensures c.args.self.now text written _ p.0 c.pass_on.new.gathered.items lines state p.2 gathered c.requires.small b.0 i.field-0 _ _ i.field-0-is b.3 i.ensures.given i.ensures.answer in
     let end = rw i.field-0-is at i.ensures.end in
-    (b.0, p.0, b.1, p.1, runs_behind _ (Ok false) _ (text ++ b.0) (written ++ p.0) c.pass_on.new.gathered.items [] _ (sym (append-nil _)) (end, (state, end_over _ _ text _ lines state b.0 _ got got.so.stands)))
+    (b.0, p.0, b.1, p.1, runs_behind _ (Ok false) _ (text ++ b.0) (written ++ p.0) c.pass_on.new.gathered.items [] _ (sym (append-nil _)) (end, (state, end_over _ _ text _ lines state b.0 _ got got.so.stands.0)))
 
 pub returns-in-Err-clause-runs : goal.returns-in-Err-clause-runs
 returns-in-Err-clause-runs g c = λ text written lines state gathered.

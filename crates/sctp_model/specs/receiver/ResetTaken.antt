@@ -1,0 +1,128 @@
+-- A request of the peer to reset its outgoing streams arrives: its result, and the receiver after it (RFC 6525, 5.2).
+use Rattle.std.specs.Prelude.{ℕ, suc, ◌-◌, ◌==◌, nat_le, max, if◌then◌else◌, Bool, true, false, not, ◌&&◌, ◌||◌, List, [], ◌∷◌, length, Option, None, Some, unwrap_or}
+use Rattle.std.specs.List.{list_any}
+use Rattle.sctp_model.specs.numbers.Serial.{tsn}
+use Rattle.sctp_model.specs.wire.Typed.{Typed}
+use Rattle.sctp_model.specs.wire.Reconfig.{ResetMeaning, ResetResult, Performed, Denied, WrongStream, BadNumber, InProgress}
+use Rattle.sctp_model.specs.messages.Format.{Kind, Ordered, Unordered, Lane, same_lane, unordered_lane}
+use Rattle.sctp_model.specs.messages.Pieces.{Piece}
+use Rattle.sctp_model.specs.sender.Outgoing.{lists}
+use Rattle.sctp_model.specs.receiver.ReceiverView.{Handed, ReceiverView, handed}
+use Rattle.sctp_model.specs.receiver.Rows.{first_of}
+use Rattle.sctp_model.specs.receiver.Reading.{is_behind}
+
+-- ---- the next number of a lane, once all up to the request has arrived
+
+-- one past the number of a chunk or message of lane k, if that is lane l and it has a number; else 0
+abbrev pub past_on : (l k : Lane) → Option ℕ → ℕ
+past_on l k None = 0
+past_on l k (Some n) = if same_lane k l then suc n else 0
+
+-- one past the largest number of a lane among chunks
+abbrev pub past_kept : Lane → List Piece → ℕ
+past_kept l [] = 0
+past_kept l (x ∷ xs) = max (past_on l x.lane x.number) (past_kept l xs)
+
+-- one past the largest number of a lane among messages
+abbrev pub past_handed : Lane → List Handed → ℕ
+past_handed l [] = 0
+past_handed l (h ∷ hs) = max (past_on l h.lane h.number) (past_handed l hs)
+
+-- one past TOP of a stream, 0 if no unordered number was recorded or skipped
+abbrev pub past_top : ReceiverView → (stream : ℕ) → ℕ
+past_top r s = max (r.skip (unordered_lane s)) (max (past_kept (unordered_lane s) r.kept) (past_handed (unordered_lane s) (handed r s)))
+
+-- the number that is 0 on the wire from now on
+abbrev pub count_on : ReceiverView → (stream : ℕ) → Kind → ℕ
+count_on r s Ordered = r.next s
+count_on r s Unordered = past_top r s
+
+-- ---- which streams
+
+-- the stream is one of the request's; if it lists none, all are
+abbrev pub names : ReceiverView → List ℕ → (stream : ℕ) → Bool
+names r [] s = true
+names r (x ∷ xs) s = lists (x ∷ xs) s
+
+-- ---- the result
+
+-- THE TABLE OF RESULTS of a request in its turn: the first that holds; else it is performed. It waits for all chunks up to its last TSN: so no chunk that arrives later has a number from
+-- before the reset (5.2.2).
+abbrev pub reset_answer : ReceiverView → (c : ℕ) → ResetMeaning → ResetResult
+reset_answer r c m = first_of
+    ((list_any (nat_le r.streams) m.streams, WrongStream)
+    ∷ (not (is_behind r c m.last), InProgress)
+    ∷ [])
+    Performed
+
+-- the request is the next one
+abbrev pub is_next : ReceiverView → (number : ℕ) → Bool
+is_next r number = number == tsn r.initial (suc r.resets.taken)
+
+-- the request is the last one, again
+abbrev pub is_again : ReceiverView → (number : ℕ) → Bool
+is_again r number = number == tsn r.initial r.resets.taken
+
+-- that is to be retried
+abbrev pub is_in_progress : ResetResult → Bool
+is_in_progress InProgress = true
+is_in_progress Performed = false
+is_in_progress Denied = false
+is_in_progress WrongStream = false
+is_in_progress BadNumber = false
+
+-- It is in its turn: the next one, or the last one, if that was in progress.
+abbrev pub is_in_turn : ReceiverView → (number : ℕ) → Bool
+is_in_turn r number = is_next r number || (is_again r number && is_in_progress r.resets.result)
+
+-- The result of a request with this number, `a` if it is in its turn; the last one has the same result as before (5.2.1).
+abbrev pub answer_in_turn : ReceiverView → (number : ℕ) → ResetResult → ResetResult
+answer_in_turn r number a = first_of ((is_in_turn r number, a) ∷ (is_again r number, r.resets.result) ∷ []) BadNumber
+
+-- ---- the receiver after it
+
+-- it is noted as the last one
+abbrev pub with_answer : ReceiverView → (number : ℕ) → ResetResult → ReceiverView
+with_answer r number a = record r { resets = record r.resets { taken = if is_next r number then suc r.resets.taken else r.resets.taken; result = a } }
+
+-- the numbers of these streams begin anew, and it is to be reported how many of their messages were delivered before
+abbrev pub renumbered : ReceiverView → (ℕ → Bool) → ReceiverView
+renumbered r named = record r {
+  resets = record r.resets {
+    base = λ l. if named l.stream then count_on r l.stream l.kind else r.resets.base l;
+    told = λ s. if named s then Some (length (handed r s)) else r.resets.told s;
+  };
+}
+
+-- if the request is performed
+abbrev pub renumbered_by : ReceiverView → (ℕ → Bool) → ResetResult → ReceiverView
+renumbered_by r named Performed = renumbered r named
+renumbered_by r named a = r
+
+-- The view after a request with this number for these streams, with the result `a` if it is in its turn.
+abbrev pub request_taken : ReceiverView → (number : ℕ) → (ℕ → Bool) → ResetResult → ReceiverView
+request_taken r number named a = if is_in_turn r number then with_answer (renumbered_by r named a) number a else r
+
+-- A RESET TAKEN
+abbrev pub reset_taken : ReceiverView → (c : ℕ) → ResetMeaning → ReceiverView
+reset_taken r c m = request_taken r m.number (names r m.streams) (reset_answer r c m)
+
+-- after a request of another kind, which is denied
+abbrev pub denied : ReceiverView → (number : ℕ) → ReceiverView
+denied r number = request_taken r number (λ s. false) Denied
+
+-- ---- responses that wait for a packet
+
+-- the view with these
+abbrev pub with_answers : ReceiverView → List Typed → ReceiverView
+with_answers r xs = record r { resets = record r.resets { answers = xs } }
+
+-- ---- what is reported to the user
+
+-- of the messages that wait on a stream, how many were delivered before the last request for it was performed
+abbrev pub old_waiting : ReceiverView → (stream : ℕ) → ℕ
+old_waiting r s = unwrap_or (r.resets.told s) 0 - length (r.taken s)
+
+-- the view once it was reported of this stream
+abbrev pub told_of : ReceiverView → (stream : ℕ) → ReceiverView
+told_of r s = record r { resets = record r.resets { told = λ t. if t == s then None else r.resets.told t } }

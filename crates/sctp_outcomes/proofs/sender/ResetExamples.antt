@@ -1,0 +1,118 @@
+-- Streams that are reset, computed: when it is asked for, what is said, what is answered, and from where numbers are counted behind it.
+use Rattle.std.proofs.Common.{◌≡◌, ℕ, true, false, List, [], ◌∷◌, Some, None, refl}
+use Rattle.sctp_model.specs.messages.Format.{Plain, ordered_lane}
+use Rattle.sctp_model.specs.wire.Typed.{written_typed}
+use Rattle.sctp_model.specs.wire.Reconfig.{ResetMeaning, Performed, WrongStream, BadNumber, InProgress, reset_item, reset_read, response_item}
+use Rattle.sctp_model.specs.sender.SenderView.{SenderView, fresh_sender}
+use Rattle.sctp_model.specs.sender.Outgoing.{Sends, Resets, Refuses}
+use Rattle.sctp_model.specs.sender.Queueing.{Resetting, queued, refusal}
+use Rattle.sctp_model.specs.sender.Filling.{fill}
+use Rattle.sctp_model.specs.sender.SackTaken.{sack_after}
+use Rattle.sctp_model.specs.sender.PieceSaid.{number_said}
+use Rattle.sctp_model.specs.sender.Resetting.{resetting, may_ask, asked, request_said, response_taken}
+use Rattle.sctp_model.specs.receiver.ReceiverView.{Handed, ReceiverView, fresh_receiver}
+use Rattle.sctp_model.specs.receiver.ResetTaken.{reset_answer, answer_in_turn, reset_taken, old_waiting, told_of}
+use Rattle.sctp_model.specs.end.EndView.{EndView, ResetAlarm, unused_timer}
+use Rattle.sctp_model.specs.end.Reconfiguring.{response_heard}
+use Rattle.sctp_outcomes.proofs.sender.Makers.{sack}
+use Rattle.sctp_model.specs.numbers.Numbers.{u16_bytes, u32_bytes, u16_at, u32_at}
+
+-- ---- a request
+
+-- one byte went out on stream 0, index 1 of initial TSN 1; then it is acknowledged
+abbrev sent : SenderView
+sent = (fill Plain 100 (queued (fresh_sender 1 2 1400 65536 false) (ordered_lane 0) 0 (97 ∷ []) None None)).view
+
+abbrev acknowledged : SenderView
+acknowledged = sack_after sent (sack 1 65536 [])
+
+-- nothing is asked for by itself, nor before the stream is still
+waits : may_ask acknowledged ∷ may_ask (resetting sent 0) ∷ may_ask (resetting acknowledged 0) ∷ [] ≡ false ∷ false ∷ true ∷ []
+waits = refl
+
+-- from the call on the stream takes nothing, and the other one does
+shut : (refusal (resetting sent 0) 0 (98 ∷ []) ≡ Some Resetting) × (refusal (resetting sent 0) 1 (98 ∷ []) ≡ None)
+shut = (refl, refl)
+
+abbrev asks : SenderView
+asks = asked (resetting acknowledged 0)
+
+-- number 1, the last TSN assigned is 1, stream 0
+request : asks.resets.pending ≡ Some (record { first = 1; last = 1; streams = 0 ∷ [] })
+request = refl
+
+said : request_said asks (record { first = 1; last = 1; streams = 0 ∷ [] }) ≡ record { number = 1; last = 1; streams = 0 ∷ [] }
+said = refl
+
+-- in bytes, where the peer's initial TSN is 1 and it has asked for nothing
+bytes : written_typed (reset_item 0 (request_said asks (record { first = 1; last = 1; streams = 0 ∷ [] })) ∷ []) ≡ 0 ∷ 13 ∷ 0 ∷ 18 ∷ 0 ∷ 0 ∷ 0 ∷ 1 ∷ 0 ∷ 0 ∷ 0 ∷ 0 ∷ 0 ∷ 0 ∷ 0 ∷ 1 ∷ 0 ∷ 0 ∷ []
+unfolding u16_bytes u32_bytes u16_at u32_at
+bytes = refl
+
+-- with nothing ever sent the last TSN is the one before the first
+empty : request_said (asked (resetting (fresh_sender 1 1 1400 65536 false) 0)) (record { first = 1; last = 0; streams = 0 ∷ [] }) ≡ record { number = 1; last = 0; streams = 0 ∷ [] }
+empty = refl
+
+-- ---- its answer
+
+-- done: the stream is open again, and number 1 is said as 0
+done : ((response_taken asks 1 1).resets.pending ≡ None) × ((response_taken asks 1 1).resets.sending 0 ≡ Sends) × (number_said Plain (response_taken asks 1 1).resets.base (ordered_lane 0) 1 ≡ 0) × (number_said Plain (response_taken asks 1 1).resets.base (ordered_lane 1) 1 ≡ 1)
+done = (refl, refl, refl, refl)
+
+-- there was nothing to do: the same; refused: it stays shut; in progress: asked for under the next number; of another request: nothing
+others : ((response_taken asks 1 0).resets.sending 0 ≡ Sends) × ((response_taken asks 1 2).resets.sending 0 ≡ Refuses) × ((response_taken asks 1 6).resets.made ≡ 2) × ((response_taken asks 1 6).resets.sending 0 ≡ Resets) × ((response_taken asks 7 1).resets.made ≡ 1) × ((response_taken asks 7 1).resets.sending 0 ≡ Resets)
+others = (refl, refl, refl, refl, refl, refl)
+
+-- answered, its timer is as if it had never run: its expiries don't count for the next request
+calm : (e : EndView) → (response_heard (record e { sender = asks }) 1 1).timers ResetAlarm ≡ unused_timer
+calm e = refl
+
+-- ---- at the receiver
+
+abbrev fresh : ReceiverView
+fresh = fresh_receiver 1 2 65536
+
+abbrev of : (number last : ℕ) → List ℕ → ResetMeaning
+of number last streams = record { number = number; last = last; streams = streams }
+
+-- done where all up to its last TSN came; in progress before; a stream that isn't there
+answers : reset_answer fresh 1 (of 1 1 (0 ∷ [])) ∷ reset_answer fresh 0 (of 1 1 (0 ∷ [])) ∷ reset_answer fresh 1 (of 1 1 (9 ∷ [])) ∷ [] ≡ Performed ∷ InProgress ∷ WrongStream ∷ []
+answers = refl
+
+-- a number that isn't the next one
+in_turn : answer_in_turn fresh 1 Performed ∷ answer_in_turn fresh 7 Performed ∷ [] ≡ Performed ∷ BadNumber ∷ []
+in_turn = refl
+
+-- performed: the number is taken, the user is to be told, and the same one again gets the same answer; in progress: the same one is looked at afresh
+taken : ((reset_taken fresh 1 (of 1 1 (0 ∷ []))).resets.taken ≡ 1) × ((reset_taken fresh 1 (of 1 1 (0 ∷ []))).resets.told 0 ≡ Some 0) × ((reset_taken fresh 1 (of 1 1 (0 ∷ []))).resets.told 1 ≡ None) × (answer_in_turn (reset_taken fresh 1 (of 1 1 (0 ∷ []))) 1 InProgress ≡ Performed) × (answer_in_turn (reset_taken fresh 0 (of 1 1 (0 ∷ []))) 1 Performed ≡ Performed)
+taken = (refl, refl, refl, refl, refl)
+
+-- three were handed over before it, of which the user took one: it is told of two; once it took another, and one more came, of one; of those that come behind it
+-- none counts; the next request counts them all
+abbrev message : Handed
+message = record { first = 1; lane = ordered_lane 0; number = Some 0; payload = 0; bytes = [] }
+
+abbrev with_messages : ReceiverView → (taken waiting : List Handed) → ReceiverView
+with_messages r taken waiting = record r { taken = λ s. taken; waiting = λ s. waiting }
+
+abbrev behind : ReceiverView
+behind = reset_taken (with_messages fresh (message ∷ []) (message ∷ message ∷ [])) 1 (of 1 1 (0 ∷ []))
+
+abbrev later : ReceiverView
+later = with_messages behind (message ∷ message ∷ []) (message ∷ message ∷ [])
+
+abbrev last : ReceiverView
+last = with_messages behind (message ∷ message ∷ message ∷ message ∷ []) (message ∷ [])
+
+old : (behind.resets.told 0 ≡ Some 3) × (behind.resets.told 1 ≡ None) × (old_waiting behind 0 ∷ old_waiting later 0 ∷ old_waiting last 0 ∷ [] ≡ 2 ∷ 1 ∷ 0 ∷ [])
+    × (old_waiting (reset_taken last 1 (of 2 1 (0 ∷ []))) 0 ≡ 1) × ((told_of behind 0).resets.told 0 ≡ None)
+old = (refl, refl, refl, refl, refl)
+
+answer_bytes : written_typed (response_item 1 Performed ∷ []) ≡ 0 ∷ 16 ∷ 0 ∷ 12 ∷ 0 ∷ 0 ∷ 0 ∷ 1 ∷ 0 ∷ 0 ∷ 0 ∷ 1 ∷ []
+unfolding u16_bytes u32_bytes u16_at u32_at
+answer_bytes = refl
+
+-- what is read is what was said
+reads : reset_read (reset_item 0 (of 1 4294967295 (0 ∷ 258 ∷ []))) ≡ of 1 4294967295 (0 ∷ 258 ∷ [])
+unfolding u16_bytes u32_bytes u16_at u32_at
+reads = refl

@@ -1,0 +1,6 @@
+pub mod Noted
+pub mod Accepted
+pub mod Runs
+pub mod Matched
+pub mod Held
+pub mod Promised

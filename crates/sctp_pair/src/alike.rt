@@ -1,0 +1,41 @@
+//! Whether two endpoints that are opened without packets agree.
+
+ghost use Rattle.std.specs.Prelude.{◌≡◌, min};
+ghost use Rattle.sctp_model.specs.world.World.{is_shared, are_alike};
+
+use sctp_terms::Config;
+
+/// Whether endpoints with these configurations agree if they are opened without packets: on as many streams each way, on the format, and on
+/// partial reliability and the reset of streams (RFC 9260, 5.1.1).
+pub(crate) fn are_alike(a: &Config, b: &Config) -> bool
+    ensures { result ≡ are_alike a.now b.now }
+{
+    streams(b) == streams(a)
+        && is_shared(b.interleave(), a.interleave())
+        && is_shared(b.partial(), a.partial())
+        && is_shared(asks_reset(b), asks_reset(a))
+}
+
+/// The number of streams each way of an endpoint that is opened without packets.
+fn streams(config: &Config) -> u16
+    ensures { result ≡ min config.now.outbound config.now.inbound }
+{
+    config.outbound().min(config.inbound())
+}
+
+/// Whether it asks for the reset of streams (RFC 6525).
+fn asks_reset(config: &Config) -> bool
+    ensures { result ≡ config.now.reset }
+{
+    match config.reset() {
+        Some(reset) => match reset {},
+        None => false,
+    }
+}
+
+/// Whether both have an option, or neither.
+fn is_shared(a: bool, b: bool) -> bool
+    ensures { result ≡ is_shared a b }
+{
+    if a { b } else { !b }
+}

@@ -1,5 +1,0 @@
-use Rattle.sctp_safety.proofs.sending.GivingMoves.{timeout_is_moves as it}
-use Rattle.sctp_safety.proofs.exact.timeout_is_moves.Goals as goal
-
-pub returns : goal.returns
-returns c = it

@@ -1,0 +1,388 @@
+-- A request to reset streams that an end makes, what its user asks for, and what the answer leaves (RFC 6525, 5.1).
+use Rattle.std.proofs.Common.{◌≡◌, ℕ, zero, suc, ◌+◌, ◌-◌, ◌<◌, ◌≤◌, ◌==◌, ◌&&◌, not, nat_lt, Bool, true, false, List, [], ◌∷◌, length, slice_get, Option, None, Some, inl, inr, refl, sym, subst, ap, arith, ◌∙◌, eqb-true, if◌then◌else◌, is_some, le_refl}
+use Rattle.std.specs.Prelude.{drop, take, filter, min}
+use Rattle.std.specs.List.{list_any}
+use Rattle.std.proofs.lemmas.Bool.{cases_lt, and_parts, or_parts, or_cases}
+use Rattle.std.proofs.lemmas.Bool.Decides.{nat_tests}
+use Rattle.sctp_model.specs.numbers.Limits.{STREAM_LIMIT, REQUEST_LIMIT, RESETS_AT_ONCE}
+use Rattle.sctp_model.specs.numbers.Lists.{Has, at}
+use Rattle.sctp_model.specs.numbers.Numbers.{u32_at}
+use Rattle.sctp_model.specs.numbers.Serial.{tsn}
+use Rattle.sctp_model.specs.wire.Typed.{Typed}
+use Rattle.sctp_model.specs.wire.Reconfig.{ResetResult, Performed, Denied, WrongStream, BadNumber, InProgress, result_code, is_done_code, is_progress_code}
+use Rattle.sctp_model.specs.messages.Format.{Format, Lane}
+use Rattle.sctp_model.specs.messages.Plan.{Entry, Part, End, entry_at, IsOf}
+use Rattle.sctp_model.specs.sender.Outgoing.{Sending, Sends, Resets, Refuses, is_sending, is_resetting, lists, Request, Outgoing}
+use Rattle.sctp_model.specs.sender.SenderView.{SenderView}
+use Rattle.sctp_model.specs.sender.Words.{count_up}
+use Rattle.sctp_model.specs.sender.Entries.{entry_lane, continued}
+use Rattle.sctp_model.specs.sender.Assigning.{is_on}
+use Rattle.sctp_model.specs.sender.Resetting.{with_resets, resetting, has_past, is_still_on, is_ready, ready, has_stream, may_ask, asked, rebased, reset_done, reset_refused, asked_again, answered_in, is_open_number, response_taken}
+use Rattle.sctp_model.specs.sender.Reached.{Rebases}
+use Rattle.sctp_model.specs.receiver.ReceiverView.{ReceiverView}
+use Rattle.sctp_model.specs.world.Calls.{Asked}
+use Rattle.sctp_model.proofs.sender.PointLaws.{get-drop}
+use Rattle.sctp_safety.specs.Way.{Way, HasNone}
+use Rattle.sctp_safety.proofs.lists.Basics.{at_cases, Has-filtered, filter_is, item_at-within}
+use Rattle.sctp_safety.proofs.moves.UsualLemmas.{retuned, usual_on}
+use Rattle.sctp_safety.proofs.plan.InPart.{idle_closed}
+use Rattle.sctp_safety.proofs.receiving.CountReads.{get_there}
+use Rattle.sctp_safety.proofs.runs.Dates.{Dated}
+use Rattle.sctp_safety.proofs.runs.Direction.{way_of, Readably, Askedly, Direction, more_same, said_later}
+use Rattle.sctp_safety.proofs.runs.Sending.{good_here}
+use Rattle.sctp_safety.proofs.runs.StillStreams.{IsOld}
+use Rattle.sctp_safety.proofs.runs.ResetFacts.{IsAnsweredBy, IsOpen, AreEven, AreInStep, one_number}
+
+-- ---- a sender that knows something else of resets
+
+pub sender_reset : (f : Format) (n : ℕ) (a : SenderView) (u : Asked) (r : ReceiverView) (out back : List Dated) (d : Direction f n a u r out back) (x : Outgoing) →
+    AreInStep f (with_resets x a) r → Readably f a (with_resets x a) r r → Askedly a.initial a (with_resets x a) → Direction f n (with_resets x a) u r out back
+sender_reset f n a u r out back d x step reads asks = record {
+  bags = d.bags;
+  usual = usual_on here (way_of f n (with_resets x a) u r d.bags) d.usual (retuned here (with_resets x a) refl refl refl refl refl (λ i. le_refl (a.repeats i)))
+      (record { ends = d.usual.order.ends; marked = d.usual.order.marked; tickets = d.usual.order.tickets });
+  reached = Rebases a x d.reached;
+  idle = d.idle;
+  initial = d.initial;
+  outbound = d.outbound;
+  inbound = d.inbound;
+  step = step;
+  said = λ y has. said_later f a.initial a (with_resets x a) r r d.bags d.bags y.date.own y.chunk (λ i e h. h) (more_same d.bags) reads asks (d.said y has);
+  said_back = d.said_back;
+}
+  where
+    here : Way
+    here = way_of f n a u r d.bags
+
+-- ---- lists
+
+lists_has : (xs : List ℕ) (s : ℕ) → lists xs s ≡ true → Has xs s
+lists_has [] s h = absurd (cc)
+lists_has (x ∷ xs) s h = elim (or_cases (x == s) (lists xs s) h) [ inl same ↦ inl (eqb-true x s same) | inr more ↦ inr (lists_has xs s more) ]
+
+has_take : {A : Type 0} (n : ℕ) (xs : List A) (x : A) → Has (take n xs) x → Has xs x
+has_take zero xs x h = absurd h
+has_take (suc n) [] x h = absurd h
+has_take (suc n) (y ∷ ys) x (inl e) = inl e
+has_take (suc n) (y ∷ ys) x (inr h) = inr (has_take n ys x h)
+
+take_short : {A : Type 0} (n : ℕ) (xs : List A) → length (take n xs) ≤ n
+take_short zero xs = omega arith
+take_short (suc n) [] = omega arith
+take_short (suc n) (y ∷ ys) = let h = take_short n ys in omega (arith, h)
+
+counted_below : (i n s : ℕ) → Has (count_up i n) s → s < i + n
+counted_below i zero s h = absurd h
+counted_below i (suc n) s (inl e) = omega (arith, e)
+counted_below i (suc n) s (inr h) = let k = counted_below (suc i) n s h in omega (arith, k)
+
+none_any : {A : Type 0} (test : A → Bool) (xs : List A) (x : A) → list_any test xs ≡ false → Has xs x → test x ≡ false
+none_any test [] x off has = absurd has
+none_any test (y ∷ ys) x off (inl e) = subst (λ z. test z ≡ false) e (or_parts (test y) (list_any test ys) off).0
+none_any test (y ∷ ys) x off (inr h) = none_any test ys x (or_parts (test y) (list_any test ys) off).1 h
+
+got : {A : Type 0} (xs : List A) (n : ℕ) (x : A) → slice_get xs n ≡ Some x → Has xs x
+got [] n x h = absurd (cc)
+got (y ∷ xs) zero x h = inl (cc)
+got (y ∷ xs) (suc n) x h = inr (got xs n x h)
+
+off_of : (b : Bool) → not b ≡ true → b ≡ false
+off_of true h = absurd (cc)
+off_of false h = refl
+
+none_of : {A : Type 0} (o : Option A) → is_some o ≡ false → o ≡ None
+none_of None h = refl
+none_of (Some x) h = absurd (cc)
+
+-- ---- the request
+
+module _ (f : Format) (n : ℕ) (a : SenderView) (u : Asked) (r : ReceiverView) (out back : List Dated) (d : Direction f n a u r out back) (may : may_ask a ≡ true) where
+  free : a.resets.pending ≡ None
+  free = none_of a.resets.pending (off_of (is_some a.resets.pending) (and_parts (not (is_some a.resets.pending)) (has_stream (ready a) && nat_lt a.resets.made REQUEST_LIMIT) may).0)
+
+  rest : ((has_stream (ready a)) ≡ true) × (nat_lt a.resets.made REQUEST_LIMIT ≡ true)
+  rest = and_parts (has_stream (ready a)) (nat_lt a.resets.made REQUEST_LIMIT) (and_parts (not (is_some a.resets.pending)) (has_stream (ready a) && nat_lt a.resets.made REQUEST_LIMIT) may).1
+
+  made : r.resets.taken ≡ a.resets.made
+  made = d.step.answered free
+
+  abbrev q : Request
+  q = record { first = suc a.resets.made; last = length a.plan.entries; streams = ready a }
+
+  is_one : (s : ℕ) → lists (ready a) s ≡ true → is_ready a s ≡ true
+  is_one s h = filter_is (is_ready a) (count_up 0 (min a.streams STREAM_LIMIT)) s (has_take RESETS_AT_ONCE (filter (is_ready a) (count_up 0 (min a.streams STREAM_LIMIT))) s (lists_has (ready a) s h))
+
+  parts : (s : ℕ) → lists (ready a) s ≡ true → (is_resetting (a.resets.sending s) ≡ true) × (is_still_on a s ≡ true)
+  parts s h = and_parts (is_resetting (a.resets.sending s)) (is_still_on a s) (is_one s h)
+
+  tests : (s : ℕ) → lists (ready a) s ≡ true → (list_any (is_on s) a.queue ≡ false) × (is_some (continued a.plan s) ≡ false) × (has_past a s ≡ false)
+  tests s h =
+      let one = and_parts (not (list_any (is_on s) a.queue)) (not (is_some (continued a.plan s)) && not (has_past a s)) (parts s h).1 in
+      let two = and_parts (not (is_some (continued a.plan s))) (not (has_past a s)) one.1 in
+      (off_of (list_any (is_on s) a.queue) one.0, off_of (is_some (continued a.plan s)) two.0, off_of (has_past a s) two.1)
+
+  shut_of : (x : Sending) → is_resetting x ≡ true → is_sending x ≡ false
+  shut_of Sends h = absurd (cc)
+  shut_of Resets h = refl
+  shut_of Refuses h = refl
+
+  no_queued : (s : ℕ) → lists (ready a) s ≡ true → HasNone a.queue s
+  no_queued s h x has on =
+      let off : (x.lane.stream == s) ≡ false = none_any (is_on s) a.queue x (tests s h).0 has in
+      absurd (grind (arith, nat_tests, off, on))
+
+  upto_cum : (s : ℕ) → lists (ready a) s ≡ true → (i : ℕ) (e : Entry) → entry_at a.plan i ≡ Some e → (entry_lane e).stream ≡ s → i ≤ a.cum
+  upto_cum s h zero e here on = omega arith
+  upto_cum s h (suc i) e here on = elim (cases_lt i a.cum) [
+    | inl low ↦ omega (arith, low)
+    | inr past ↦
+        let back_on : a.cum + (i - a.cum) ≡ i = omega (arith, past) in
+        let there : slice_get (drop a.cum a.plan.entries) (i - a.cum) ≡ Some e = sym (get-drop a.cum a.plan.entries (i - a.cum)) ∙ ap (slice_get a.plan.entries) back_on ∙ here in
+        let off : ((entry_lane e).stream == s) ≡ false = none_any (λ (y : Entry). (entry_lane y).stream == s) (drop a.cum a.plan.entries) e (tests s h).2 (got (drop a.cum a.plan.entries) (i - a.cum) e there) in
+        absurd (grind (arith, nat_tests, off, on))
+  ]
+
+  is_open : IsOpen (asked a) q
+  is_open = record {
+    counted = omega arith;
+    made = omega arith;
+    some = let h = rest.0 in grind (arith, nat_tests, h);
+    few = take_short RESETS_AT_ONCE (filter (is_ready a) (count_up 0 (min a.streams STREAM_LIMIT)));
+    short = λ s has. let h = counted_below 0 (min a.streams STREAM_LIMIT) s (Has-filtered (is_ready a) (count_up 0 (min a.streams STREAM_LIMIT)) s (has_take RESETS_AT_ONCE (filter (is_ready a) (count_up 0 (min a.streams STREAM_LIMIT))) s has)) in omega (arith, h);
+    within = omega arith;
+    shut = λ s h. shut_of (a.resets.sending s) (parts s h).0;
+    still = λ s h. record { queue = no_queued s h; closed = idle_closed f a.plan (good_here f n a u r out back d).arranged s (none_of (continued a.plan s) (tests s h).1) };
+    below = λ s h i e here on. (upto_cum s h i e here on, item_at-within a.plan.entries i e here);
+  }
+
+  even : AreEven f a r
+  even = elim d.step.bases [ inl both ↦ both.0 | inr on ↦ let w = on.waits in let z = free in absurd (cc) ]
+
+  first_is : (x : Request) → Some q ≡ Some x → suc a.resets.made ≡ x.first
+  first_is x some = let same : q ≡ x = cc in ap (λ (y : Request). y.first) same
+
+  step : AreInStep f (asked a) r
+  step = record {
+    few = let h = rest.1 in grind (arith, nat_tests, h);
+    taken = let h = d.step.taken in omega (arith, h);
+    next = let h = made in omega (arith, h);
+    answered = λ none. absurd (cc);
+    finished = λ none. absurd (cc);
+    fresh = λ x some low. d.step.finished free;
+    waiting = λ x some. let same : q ≡ x = cc in subst (IsOpen (asked a)) same is_open;
+    bases = inl (even, λ x some le done. let h = made in let same : suc a.resets.made ≡ x.first = first_is x some in absurd (omega (arith, h, le, same)));
+    old = λ l k below. let o = d.step.old l k below in record { there = o.there; closed = o.closed; upto = o.upto };
+    answers = d.step.answers;
+    typed = d.step.typed;
+  }
+
+  pub after_asked : Direction f n (asked a) u r out back
+  after_asked = sender_reset f n a u r out back d (asked a).resets step
+      (λ base i l k h. record { based = h.based; before = λ x some listed. let same : q ≡ x = cc in subst (λ (y : Request). i ≤ y.last) same h.within; within = h.within })
+      (λ m h. record { number = h.number; some = h.some; made = let k = h.made in omega (arith, k); wire = h.wire; same = λ x some le. let k = h.made in let e = first_is x some in absurd (omega (arith, k, le, e)) })
+
+-- ---- the user's reset
+
+module _ (f : Format) (n : ℕ) (a : SenderView) (u : Asked) (r : ReceiverView) (out back : List Dated) (d : Direction f n a u r out back) where
+  still_shut : (t s : ℕ) → is_sending (a.resets.sending s) ≡ false → is_sending (at a.resets.sending t Resets s) ≡ false
+  still_shut t s off = at_cases (λ (x : Sending). is_sending x ≡ false) a.resets.sending t Resets s (λ e. refl) (λ ne. off)
+
+  pub after_resetting : (t : ℕ) → Direction f n (resetting a t) u r out back
+  after_resetting t = sender_reset f n a u r out back d (resetting a t).resets (record {
+    few = d.step.few;
+    taken = d.step.taken;
+    next = d.step.next;
+    answered = d.step.answered;
+    finished = d.step.finished;
+    fresh = d.step.fresh;
+    waiting = λ q some. let o = d.step.waiting q some in record {
+      counted = o.counted;
+      made = o.made;
+      some = o.some;
+      few = o.few;
+      short = o.short;
+      within = o.within;
+      shut = λ s h. still_shut t s (o.shut s h);
+      still = λ s h. let k = o.still s h in record { queue = k.queue; closed = k.closed };
+      below = o.below;
+    };
+    bases = elim d.step.bases [
+      | inl both ↦ inl (both.0, both.1)
+      | inr on ↦ inr (record { request = on.request; waits = on.waits; taken = on.taken; done = on.done; streams = on.streams; reached = on.reached; bases = on.bases })
+    ];
+    old = d.step.old;
+    answers = d.step.answers;
+    typed = d.step.typed;
+  })
+      (λ base i l k h. record { based = h.based; before = h.before; within = h.within })
+      (λ m h. record { number = h.number; some = h.some; made = h.made; wire = h.wire; same = h.same })
+
+-- ---- the answer
+
+-- a code that says done is of no other answer
+done_is : (x : ResetResult) → is_done_code (result_code x) ≡ true → x ≡ Performed
+done_is Performed h = refl
+done_is Denied h = absurd (cc)
+done_is WrongStream h = absurd (cc)
+done_is BadNumber h = absurd (cc)
+done_is InProgress h = absurd (cc)
+
+progress_not_done : (c : ℕ) → is_progress_code c ≡ true → is_done_code c ≡ true → ⊥
+progress_not_done c a b = elim (or_cases (c == 0) (c == 1) b) [
+  | inl first ↦ grind (arith, nat_tests, a, first)
+  | inr second ↦ grind (arith, nat_tests, a, second)
+]
+
+module _ (f : Format) (n : ℕ) (a : SenderView) (u : Asked) (r : ReceiverView) (out back : List Dated) (d : Direction f n a u r out back) (q : Request) (waits : a.resets.pending ≡ Some q)
+    (last : r.resets.taken ≡ a.resets.made) where
+  open_there : IsOpen a q
+  open_there = d.step.waiting q waits
+
+  lane_of_entry : (l : Lane) (k : ℕ) (e : Entry) → IsOf l k e → (entry_lane e).stream ≡ l.stream
+  lane_of_entry l k (Part x m j) o = ap (λ (y : Lane). y.stream) o.0
+  lane_of_entry l k (End x m) o = ap (λ (y : Lane). y.stream) o.0
+
+  done_old : (l : Lane) (k : ℕ) → k < rebased a q l → IsOld a.plan a.cum l k
+  done_old l k = go (lists q.streams l.stream) refl
+    where
+      go : (b : Bool) → lists q.streams l.stream ≡ b → k < (if b then length (a.plan.messages l) else a.resets.base l) → IsOld a.plan a.cum l k
+      go false off below = d.step.old l k below
+      go true on below =
+          let m = get_there (a.plan.messages l) k below in
+          record {
+            there = below;
+            closed = (open_there.still l.stream on).closed l k m.0 refl m.1;
+            upto = λ i e here own. (open_there.below l.stream on i e here (lane_of_entry l k e own)).0;
+          }
+
+  -- it was done
+  pub after_done : r.resets.result ≡ Performed → Direction f n (reset_done a q) u r out back
+  after_done done = sender_reset f n a u r out back d (reset_done a q).resets (record {
+    few = d.step.few;
+    taken = d.step.taken;
+    next = d.step.next;
+    answered = λ none. last;
+    finished = λ none is. absurd (cc (done, is));
+    fresh = λ x some. absurd (cc);
+    waiting = λ x some. absurd (cc);
+    bases = elim d.step.bases [
+      | inl both ↦ absurd (both.1 q waits (let m = open_there.made in omega (arith, m, last)) done)
+      | inr on ↦ inl (
+        λ l numbered. let same : on.request ≡ q = let w = on.waits in cc (w, waits) in
+            sym (on.bases l numbered ∙ ap (λ (x : Request). rebased a x l) same),
+        λ x some. absurd (cc),
+      )
+    ];
+    old = λ l k below. let o = done_old l k below in record { there = o.there; closed = o.closed; upto = o.upto };
+    answers = d.step.answers;
+    typed = d.step.typed;
+  })
+      (λ base i l k h. record { based = h.based; before = λ x some. absurd (cc); within = h.within })
+      (λ m h. record { number = h.number; some = h.some; made = h.made; wire = h.wire; same = λ x some. absurd (cc) })
+
+  -- it won't be
+  pub after_refused : (r.resets.result ≡ Performed → ⊥) → (r.resets.result ≡ InProgress → ⊥) → Direction f n (reset_refused a q) u r out back
+  after_refused undone over = sender_reset f n a u r out back d (reset_refused a q).resets (record {
+    few = d.step.few;
+    taken = d.step.taken;
+    next = d.step.next;
+    answered = λ none. last;
+    finished = λ none. over;
+    fresh = λ x some. absurd (cc);
+    waiting = λ x some. absurd (cc);
+    bases = elim d.step.bases [
+      | inl both ↦ inl (both.0, λ x some. absurd (cc))
+      | inr on ↦ absurd (elim on.done [ inl is ↦ undone is | inr is ↦ over is ])
+    ];
+    old = λ l k below. let o = d.step.old l k below in record { there = o.there; closed = o.closed; upto = o.upto };
+    answers = d.step.answers;
+    typed = d.step.typed;
+  })
+      (λ base i l k h. record { based = h.based; before = λ x some. absurd (cc); within = h.within })
+      (λ m h. record { number = h.number; some = h.some; made = h.made; wire = h.wire; same = λ x some. absurd (cc) })
+
+  -- it is in progress: the next number
+  more : a.resets.made ≤ (asked_again a).resets.made
+  more = go (nat_lt a.resets.made REQUEST_LIMIT)
+    where
+      go : (b : Bool) → a.resets.made ≤ (if b then suc a.resets.made else a.resets.made)
+      go true = omega arith
+      go false = omega arith
+
+  one_more : ((asked_again a).resets.made ≤ suc a.resets.made) × ((asked_again a).resets.made ≤ REQUEST_LIMIT)
+  one_more = go (nat_lt a.resets.made REQUEST_LIMIT) refl
+    where
+      go : (b : Bool) → nat_lt a.resets.made REQUEST_LIMIT ≡ b → ((if b then suc a.resets.made else a.resets.made) ≤ suc a.resets.made) × ((if b then suc a.resets.made else a.resets.made) ≤ REQUEST_LIMIT)
+      go true on = (omega arith, grind (arith, nat_tests, on))
+      go false off = (omega arith, d.step.few)
+
+  pub after_again : Direction f n (asked_again a) u r out back
+  after_again = sender_reset f n a u r out back d (asked_again a).resets (record {
+    few = one_more.1;
+    taken = let h = more in let k = d.step.taken in omega (arith, h, k);
+    next = let h = one_more.0 in omega (arith, h, last);
+    answered = λ none. absurd (cc (none, waits));
+    finished = λ none. absurd (cc (none, waits));
+    fresh = d.step.fresh;
+    waiting = λ x some. let o = d.step.waiting x some in record {
+      counted = o.counted;
+      made = let h = more in let k = o.made in omega (arith, h, k);
+      some = o.some;
+      few = o.few;
+      short = o.short;
+      within = o.within;
+      shut = o.shut;
+      still = λ s h. let k = o.still s h in record { queue = k.queue; closed = k.closed };
+      below = o.below;
+    };
+    bases = elim d.step.bases [
+      | inl both ↦ inl (both.0, both.1)
+      | inr on ↦ inr (record { request = on.request; waits = on.waits; taken = on.taken; done = on.done; streams = on.streams; reached = on.reached; bases = on.bases })
+    ];
+    old = λ l k below. let o = d.step.old l k below in record { there = o.there; closed = o.closed; upto = o.upto };
+    answers = d.step.answers;
+    typed = d.step.typed;
+  })
+      (λ base i l k h. record { based = h.based; before = h.before; within = h.within })
+      (λ m h. record { number = h.number; some = h.some; made = let k = h.made in let j = more in omega (arith, k, j); wire = h.wire; same = h.same })
+
+-- Whatever it says of the request that waits, which is the last one (RFC 6525, 5.2.7).
+pub after_response : (f : Format) (n : ℕ) (a : SenderView) (u : Asked) (r : ReceiverView) (out back : List Dated) (d : Direction f n a u r out back) (x : Typed) → IsAnsweredBy r.initial r x →
+    Direction f n (response_taken a (u32_at x.value) (u32_at (drop 4 x.value))) u r out back
+after_response f n a u r out back d x h = by_number (is_open_number a number) refl a.resets.pending refl
+  where
+    number : ℕ
+    number = u32_at x.value
+
+    code : ℕ
+    code = u32_at (drop 4 x.value)
+
+    -- it answers the last request
+    is_last : (number == tsn a.initial a.resets.made) ≡ true → (r.resets.taken ≡ a.resets.made) × (h.number ≡ r.resets.taken)
+    is_last on =
+        let same : tsn a.initial h.number ≡ tsn a.initial a.resets.made = ap (λ (i : ℕ). tsn i h.number) (sym d.initial) ∙ sym h.wire ∙ eqb-true number (tsn a.initial a.resets.made) on in
+        let few = d.step.few in
+        let taken = d.step.taken in
+        let low = h.taken in
+        let one = one_number a.initial h.number a.resets.made (omega (arith, low, taken, few)) (omega (arith, few)) same in
+        (omega (arith, one, low, taken), omega (arith, one, low, taken))
+
+    by_code : (q : Request) → a.resets.pending ≡ Some q → (r.resets.taken ≡ a.resets.made) × (h.number ≡ r.resets.taken) → (b p : Bool) → is_done_code code ≡ b → is_progress_code code ≡ p →
+        Direction f n (if b then reset_done a q else if p then asked_again a else reset_refused a q) u r out back
+    by_code q waits last true p done progress = after_done f n a u r out back d q waits last.0 (elim (h.code last.1) [
+      | inl on ↦ absurd (progress_not_done code on done)
+      | inr is ↦ done_is r.resets.result (subst (λ (c : ℕ). is_done_code c ≡ true) is done)
+    ])
+    by_code q waits last false true done progress = after_again f n a u r out back d q waits last.0
+    by_code q waits last false false done progress = elim (h.code last.1) [
+      | inl on ↦ absurd (cc (on, progress))
+      | inr is ↦ after_refused f n a u r out back d q waits last.0
+          (λ same. let z : is_done_code (result_code Performed) ≡ false = subst (λ (c : ℕ). is_done_code c ≡ false) (is ∙ ap result_code same) done in absurd (cc))
+          (λ same. let z : is_progress_code (result_code InProgress) ≡ false = subst (λ (c : ℕ). is_progress_code c ≡ false) (is ∙ ap result_code same) progress in absurd (cc))
+    ]
+
+    by_number : (b : Bool) → is_open_number a number ≡ b → (o : Option Request) → a.resets.pending ≡ o → Direction f n (if b then answered_in a code o else a) u r out back
+    by_number false off o is = d
+    by_number true on None is = d
+    by_number true on (Some q) is =
+        by_code q is (is_last (and_parts (is_some a.resets.pending) (number == tsn a.initial a.resets.made) on).1) (is_done_code code) (is_progress_code code) refl refl

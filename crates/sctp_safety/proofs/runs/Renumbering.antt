@@ -1,0 +1,477 @@
+-- A request of the peer to number streams anew, whichever is answered, leaves the direction in step (RFC 6525, 5.2).
+use Rattle.std.proofs.Common.{◌≡◌, ℕ, suc, ◌^◌, ◌<◌, ◌≤◌, ◌⊎◌, ◌==◌, ◌&&◌, not, nat_le, Bool, true, false, List, [], ◌∷◌, ◌++◌, length, Option, None, Some, inl, inr, refl, sym, subst, ap, arith, ◌∙◌, eqb-true, if◌then◌else◌, append-nil}
+use Rattle.std.specs.Prelude.{drop}
+use Rattle.std.specs.List.{list_any}
+use Rattle.std.proofs.lemmas.Bool.{cases_lt, and_parts, or_parts, or_cases}
+use Rattle.std.proofs.lemmas.Bool.Decides.{nat_tests}
+use Rattle.sctp_model.specs.numbers.Lists.{Has}
+use Rattle.sctp_model.specs.numbers.Numbers.{u32_at, u32_bytes}
+use Rattle.sctp_model.specs.numbers.Serial.{tsn}
+use Rattle.sctp_model.specs.wire.Typed.{Typed, IsTyped}
+use Rattle.sctp_model.specs.wire.Reconfig.{RECONFIG_RESPONSE, ResetMeaning, ResetResult, Performed, Denied, WrongStream, BadNumber, InProgress, result_code, is_progress_code, response_item}
+use Rattle.sctp_model.specs.messages.Format.{Format, Lane, is_numbered}
+use Rattle.sctp_model.specs.messages.Plan.{Entry, Part, End, IsOf}
+use Rattle.sctp_model.specs.sender.Outgoing.{lists, Request}
+use Rattle.sctp_model.specs.sender.SenderView.{SenderView}
+use Rattle.sctp_model.specs.sender.Entries.{entry_lane}
+use Rattle.sctp_model.specs.sender.Resetting.{rebased}
+use Rattle.sctp_model.specs.receiver.Incoming.{Incoming}
+use Rattle.sctp_model.specs.receiver.ReceiverView.{ReceiverView, IsCumulative}
+use Rattle.sctp_model.specs.receiver.Reading.{is_behind}
+use Rattle.sctp_model.specs.receiver.Rows.{first_of}
+use Rattle.sctp_model.specs.receiver.ResetTaken.{count_on, names, reset_answer, is_next, is_again, is_in_progress, is_in_turn, answer_in_turn, with_answer, renumbered, renumbered_by, reset_taken, with_answers, told_of}
+use Rattle.sctp_model.specs.world.Calls.{Asked}
+use Rattle.sctp_model.proofs.receiver.RowLemmas.{row_fails}
+use Rattle.sctp_safety.specs.Way.{Way, Note_duplicates, with_receiver}
+use Rattle.sctp_safety.specs.ReceiverLaws.{AreReached}
+use Rattle.sctp_safety.proofs.lists.Basics.{Has-push, item_at-above}
+use Rattle.sctp_safety.proofs.moves.Facts.{Good}
+use Rattle.sctp_safety.proofs.moves.Taken.{leads_by}
+use Rattle.sctp_safety.proofs.moves.UsualLemmas.{good_usual, usual_on}
+use Rattle.sctp_safety.proofs.receiving.ReadBounds.{cum_within}
+use Rattle.sctp_safety.proofs.receiving.CountReads.{all_counted}
+use Rattle.sctp_safety.proofs.runs.Dates.{Dated}
+use Rattle.sctp_safety.proofs.runs.Direction.{way_of, Readably, Answeredly, Direction, counted_in, more_same, said_later, said_back_later}
+use Rattle.sctp_safety.proofs.runs.ResetFacts.{IsAskedBy, IsAnsweredBy, AreAnswers, IsOpen, AreEven, IsAhead, AreInStep, one_number, behind_is, u32_back, behind_u32}
+
+-- ---- a receiver that knows something else of resets
+
+pub receiver_reset : (f : Format) (n : ℕ) (a : SenderView) (u : Asked) (r : ReceiverView) (out back : List Dated) (d : Direction f n a u r out back) (x : Incoming) →
+    AreInStep f a (record r { resets = x }) → Readably f a a r (record r { resets = x }) → Answeredly r.initial r (record r { resets = x }) → Direction f n a u (record r { resets = x }) out back
+receiver_reset f n a u r out back d x step reads answers = record {
+  bags = d.bags;
+  usual = usual_on here (way_of f n a u (record r { resets = x }) d.bags) d.usual
+      (leads_by here (with_receiver here (record r { resets = x })) (Note_duplicates (record r { resets = x })) (refl, refl))
+      (record { ends = d.usual.order.ends; marked = d.usual.order.marked; tickets = d.usual.order.tickets });
+  reached = d.reached;
+  idle = record { ordered = λ s. record { passed = (d.idle.ordered s).passed; none = (d.idle.ordered s).none }; unordered = d.idle.unordered };
+  initial = d.initial;
+  outbound = d.outbound;
+  inbound = d.inbound;
+  step = step;
+  said = λ y has. said_later f a.initial a a r (record r { resets = x }) d.bags d.bags y.date.own y.chunk (λ i e h. h) (more_same d.bags) reads (λ m h. h) (d.said y has);
+  said_back = λ y has. said_back_later r.initial r (record r { resets = x }) d.bags d.bags y.date.there y.chunk (more_same d.bags) answers (d.said_back y has);
+}
+  where
+    here : Way
+    here = way_of f n a u r d.bags
+
+-- ---- the answer as a parameter
+
+code_small : (x : ResetResult) → result_code x < 2 ^ 32
+code_small Performed = omega arith
+code_small Denied = omega arith
+code_small WrongStream = omega arith
+code_small BadNumber = omega arith
+code_small InProgress = omega arith
+
+item_typed : (number : ℕ) (x : ResetResult) → IsTyped (response_item number x)
+unfolding u32_bytes
+item_typed number x = record { kind = omega arith; length = omega arith }
+
+item_number : (number : ℕ) (x : ResetResult) → number < 2 ^ 32 → u32_at (response_item number x).value ≡ number
+item_number number x small = u32_back number (u32_bytes (result_code x)) small
+
+item_code : (number : ℕ) (x : ResetResult) → u32_at (drop 4 (response_item number x).value) ≡ result_code x
+item_code number x = ap u32_at (behind_u32 number (u32_bytes (result_code x)) ∙ sym (append-nil (u32_bytes (result_code x)))) ∙ u32_back (result_code x) [] (code_small x)
+
+-- the table answers these three alone
+never : (w b : Bool) (y : ResetResult) → first_of ((w, WrongStream) ∷ (b, InProgress) ∷ []) Performed ≡ y → (WrongStream ≡ y → ⊥) → (InProgress ≡ y → ⊥) → (Performed ≡ y → ⊥) → ⊥
+never true b y e no_stream no_progress no_done = no_stream e
+never false true y e no_stream no_progress no_done = no_progress e
+never false false y e no_stream no_progress no_done = no_done e
+
+-- ---- which request it is
+
+-- a number that is the next one, or the last one again
+of_number : (x y : ℕ) → (x == y) ≡ true → x ≡ y
+of_number x y h = eqb-true x y h
+
+module _ (f : Format) (n : ℕ) (a : SenderView) (u : Asked) (r : ReceiverView) (out back : List Dated) (d : Direction f n a u r out back) (c : ℕ) (cumulative : IsCumulative r c)
+    (m : ResetMeaning) (ask : IsAskedBy a.initial a m) where
+  abbrev here : Way
+  here = way_of f n a u r d.bags
+
+  good : Good here
+  good = good_usual here d.usual
+
+  wire : m.number ≡ tsn r.initial ask.number
+  wire = ask.wire ∙ ap (λ (i : ℕ). tsn i ask.number) (sym d.initial)
+
+  small : ask.number ≤ 2 ^ 31
+  small = let h = ask.made in let k = d.step.few in omega (arith, h, k)
+
+  taken_small : suc r.resets.taken ≤ 2 ^ 31
+  taken_small = let h = d.step.taken in let k = d.step.few in omega (arith, h, k)
+
+  number_small : m.number < 2 ^ 32
+  number_small = let h = wire in omega (arith, h)
+
+  -- by its wire value, which one it is
+  next_is : is_next r m.number ≡ true → ask.number ≡ suc r.resets.taken
+  next_is on = one_number r.initial ask.number (suc r.resets.taken) small taken_small (sym wire ∙ of_number m.number (tsn r.initial (suc r.resets.taken)) on)
+
+  again_is : is_again r m.number ≡ true → ask.number ≡ r.resets.taken
+  again_is on = one_number r.initial ask.number r.resets.taken small (let h = taken_small in omega (arith, h)) (sym wire ∙ of_number m.number (tsn r.initial r.resets.taken) on)
+
+  is_the_next : ask.number ≡ suc r.resets.taken → is_next r m.number ≡ true
+  is_the_next e = let h : m.number ≡ tsn r.initial (suc r.resets.taken) = wire ∙ ap (tsn r.initial) e in grind (arith, nat_tests, h)
+
+  is_the_last : ask.number ≡ r.resets.taken → is_again r m.number ≡ true
+  is_the_last e = let h : m.number ≡ tsn r.initial r.resets.taken = wire ∙ ap (tsn r.initial) e in grind (arith, nat_tests, h)
+
+  -- one in its turn is the request that waits
+  record IsTurn : Type 0 where
+    request : Request
+    waits : a.resets.pending ≡ Some request
+    first : request.first ≤ ask.number
+
+  turn : is_in_turn r m.number ≡ true → IsTurn
+  turn on = elim (or_cases (is_next r m.number) (is_again r m.number && is_in_progress r.resets.result) on) [
+    | inl next ↦ by_next (next_is next) a.resets.pending refl
+    | inr again ↦
+        let parts = and_parts (is_again r m.number) (is_in_progress r.resets.result) again in
+        by_again (again_is parts.0) (progress r.resets.result parts.1) a.resets.pending refl
+  ]
+    where
+      progress : (x : ResetResult) → is_in_progress x ≡ true → x ≡ InProgress
+      progress Performed h = absurd (cc)
+      progress Denied h = absurd (cc)
+      progress WrongStream h = absurd (cc)
+      progress BadNumber h = absurd (cc)
+      progress InProgress h = refl
+
+      by_next : ask.number ≡ suc r.resets.taken → (o : Option Request) → a.resets.pending ≡ o → IsTurn
+      by_next e None is = let h = d.step.answered is in let k = ask.made in absurd (omega (arith, e, h, k))
+      by_next e (Some q) is = record {
+        request = q;
+        waits = is;
+        first = let h = d.step.next in let k = (d.step.waiting q is).made in omega (arith, e, h, k);
+      }
+
+      by_again : ask.number ≡ r.resets.taken → r.resets.result ≡ InProgress → (o : Option Request) → a.resets.pending ≡ o → IsTurn
+      by_again e is_progress None is = absurd (d.step.finished is is_progress)
+      by_again e is_progress (Some q) is = record {
+        request = q;
+        waits = is;
+        first = elim (cases_lt r.resets.taken q.first) [
+          | inl less ↦ absurd (d.step.fresh q is less is_progress)
+          | inr least ↦ omega (arith, e, least)
+        ];
+      }
+
+  -- what is noted then: it is the last one taken
+  module _ (on : is_in_turn r m.number ≡ true) where
+    abbrev t : IsTurn
+    t = turn on
+
+    abbrev q : Request
+    q = t.request
+
+    asked : (m.last ≡ tsn a.initial q.last) × (m.streams ≡ q.streams)
+    asked = ask.same q t.waits t.first
+
+    open_there : IsOpen a q
+    open_there = d.step.waiting q t.waits
+
+    -- of another stream both count from the same
+    unlisted_same : (l : Lane) → is_numbered f l.kind ≡ true → lists q.streams l.stream ≡ false → a.resets.base l ≡ r.resets.base l
+    unlisted_same l numbered off = elim d.step.bases [
+      | inl both ↦ both.0 l numbered
+      | inr x ↦
+          let same : x.request ≡ q = let w = x.waits in let v = t.waits in cc (w, v) in
+          let plain : rebased a q l ≡ a.resets.base l = rw off refl in
+          sym (x.bases l numbered ∙ ap (λ (y : Request). rebased a y l) same ∙ plain)
+    ]
+
+    now_taken : (if is_next r m.number then suc r.resets.taken else r.resets.taken) ≡ ask.number
+    now_taken = go (is_next r m.number) refl
+      where
+        go : (b : Bool) → is_next r m.number ≡ b → (if b then suc r.resets.taken else r.resets.taken) ≡ ask.number
+        go true next = sym (next_is next)
+        go false off =
+            let again : is_again r m.number ≡ true = elim (or_cases (is_next r m.number) (is_again r m.number && is_in_progress r.resets.result) on) [
+              | inl next ↦ absurd (let z = next in cc)
+              | inr both ↦ (and_parts (is_again r m.number) (is_in_progress r.resets.result) both).0
+            ] in
+            sym (again_is again)
+
+    no_fewer : r.resets.taken ≤ ask.number
+    no_fewer = go (is_next r m.number) now_taken
+      where
+        go : (b : Bool) → (if b then suc r.resets.taken else r.resets.taken) ≡ ask.number → r.resets.taken ≤ ask.number
+        go true e = omega (arith, e)
+        go false e = omega (arith, e)
+
+    -- what was answered before stays, as the last of it was in progress
+    answered_before : (x : ResetResult) (s : Incoming) → s.taken ≡ (if is_next r m.number then suc r.resets.taken else r.resets.taken) → s.result ≡ x → Answeredly r.initial r (record r { resets = s })
+    answered_before x s taken result y h = go (is_next r m.number) refl
+      where
+        go : (b : Bool) → is_next r m.number ≡ b → IsAnsweredBy r.initial (record r { resets = s }) y
+        go true next = record {
+          number = h.number;
+          taken = let k = h.taken in let e = now_taken in let l = next_is next in omega (arith, k, e, l, taken);
+          wire = h.wire;
+          code = λ same. let k = h.taken in let e = now_taken in let l = next_is next in absurd (omega (arith, k, e, l, same, taken));
+        }
+        go false off = record {
+          number = h.number;
+          taken = let k = h.taken in let e : s.taken ≡ r.resets.taken = by_off in omega (arith, k, e);
+          wire = h.wire;
+          code = λ same. inl (elim (h.code (same ∙ by_off)) [
+            | inl progress ↦ progress
+            | inr is ↦ subst (λ (k : ℕ). is_progress_code k ≡ true) (sym (is ∙ ap result_code was_progress)) refl
+          ]);
+        }
+          where
+            by_off : s.taken ≡ r.resets.taken
+            by_off = taken ∙ (rw off refl)
+
+            was_progress : r.resets.result ≡ InProgress
+            was_progress = elim (or_cases (is_next r m.number) (is_again r m.number && is_in_progress r.resets.result) on) [
+              | inl next ↦ absurd (let z = next in cc)
+              | inr both ↦ progress r.resets.result (and_parts (is_again r m.number) (is_in_progress r.resets.result) both).1
+            ]
+              where
+                progress : (z : ResetResult) → is_in_progress z ≡ true → z ≡ InProgress
+                progress Performed k = absurd (cc)
+                progress Denied k = absurd (cc)
+                progress WrongStream k = absurd (cc)
+                progress BadNumber k = absurd (cc)
+                progress InProgress k = refl
+
+    -- ---- it is done
+
+    module _ (done : reset_answer r c m ≡ Performed) where
+      -- its streams are there
+      streams_there : list_any (nat_le r.streams) q.streams ≡ false
+      streams_there =
+          let first = row_fails (list_any (nat_le r.streams) m.streams) WrongStream _ Performed done (λ e. cc) in
+          subst (λ (xs : List ℕ). list_any (nat_le r.streams) xs ≡ false) asked.1 first.0
+
+      behind : is_behind r c m.last ≡ true
+      behind =
+          let first = row_fails (list_any (nat_le r.streams) m.streams) WrongStream _ Performed done (λ e. cc) in
+          let second = row_fails (not (is_behind r c m.last)) InProgress Performed Performed first.1 (λ e. cc) in
+          turned (is_behind r c m.last) second.0
+        where
+          turned : (b : Bool) → not b ≡ false → b ≡ true
+          turned true e = refl
+          turned false e = absurd (cc)
+
+      last_reached : q.last ≤ c
+      last_reached =
+          behind_is r c q.last
+          (let w = (counted_in f a d.reached).window in let l = open_there.within in let k = cum_within here good c cumulative in omega (arith, w, l, k))
+          (subst (λ (y : ℕ). is_behind r c y ≡ true) (asked.0 ∙ ap (λ (i : ℕ). tsn i q.last) (sym d.initial)) behind)
+
+      all_reached : AreReached r q.last
+      all_reached j some le = cumulative.reached j some (let k = last_reached in omega (arith, le, k))
+
+      named : (s : ℕ) → names r m.streams s ≡ lists q.streams s
+      named s = ap (λ (xs : List ℕ). names r xs s) asked.1 ∙ by q.streams open_there.some
+        where
+          by : (xs : List ℕ) → 0 < length xs → names r xs s ≡ lists xs s
+          by [] some = absurd (omega (arith, some))
+          by (x ∷ xs) some = refl
+
+      lane_of_entry : (l : Lane) (k : ℕ) (e : Entry) → IsOf l k e → (entry_lane e).stream ≡ l.stream
+      lane_of_entry l k (Part x y j) o = ap (λ (z : Lane). z.stream) o.0
+      lane_of_entry l k (End x y) o = ap (λ (z : Lane). z.stream) o.0
+
+      counted : (l : Lane) → lists q.streams l.stream ≡ true → is_numbered f l.kind ≡ true → count_on r l.stream l.kind ≡ length (a.plan.messages l)
+      counted l listed numbered = all_counted here good d.idle l.stream (open_there.still l.stream listed).closed
+          (λ i e k o at own on. all_reached i (item_at-above a.plan.entries i e at) (open_there.below l.stream listed i e at (lane_of_entry k o e own ∙ on)).1) l.kind numbered
+
+      new_base : (l : Lane) → is_numbered f l.kind ≡ true → (renumbered r (names r m.streams)).resets.base l ≡ rebased a q l
+      new_base l numbered = ap (λ (b : Bool). if b then count_on r l.stream l.kind else r.resets.base l) (named l.stream) ∙ by (lists q.streams l.stream) refl
+        where
+          by : (b : Bool) → lists q.streams l.stream ≡ b → (if b then count_on r l.stream l.kind else r.resets.base l) ≡ (if b then length (a.plan.messages l) else a.resets.base l)
+          by true on_list = counted l on_list numbered
+          by false off = sym (unlisted_same l numbered off)
+
+      -- a chunk of a renumbered lane lies before the request
+      read_anew : (x : Incoming) → ((l : Lane) → x.base l ≡ (renumbered r (names r m.streams)).resets.base l) → Readably f a a r (record r { resets = x })
+      read_anew x bases base i l k h = record {
+        based = record { low = h.based.low; same = λ numbered. by (lists q.streams l.stream) refl numbered };
+        before = h.before;
+        within = h.within;
+      }
+        where
+          by : (b : Bool) → lists q.streams l.stream ≡ b → is_numbered f l.kind ≡ true → AreReached r i ⊎ (base l ≡ x.base l)
+          by true listed numbered = inl (λ j some le. all_reached j some (let w = h.before q t.waits listed in omega (arith, le, w)))
+          by false off numbered = elim (h.based.same numbered) [
+            | inl reached ↦ inl reached
+            | inr same ↦ inr (same ∙ sym (bases l ∙ ap (λ (b : Bool). if b then count_on r l.stream l.kind else r.resets.base l) (named l.stream ∙ off)))
+          ]
+
+  -- ---- the answers that wait then
+
+  answers_of : (s : Incoming) (z : Typed) (more : Bool) → Answeredly r.initial r (record r { resets = s }) → s.answers ≡ (if more then r.resets.answers ++ z ∷ [] else r.resets.answers) →
+      IsAnsweredBy r.initial (record r { resets = s }) z → AreAnswers r.initial (record r { resets = s }) s.answers
+  answers_of s z more up is one x has kind = go more (subst (λ (xs : List Typed). Has xs x) is has)
+    where
+      go : (b : Bool) → Has (if b then r.resets.answers ++ z ∷ [] else r.resets.answers) x → IsAnsweredBy r.initial (record r { resets = s }) x
+      go false old = up x (d.step.answers x old kind)
+      go true both = elim (Has-push r.resets.answers z x both) [
+        | inl old ↦ up x (d.step.answers x old kind)
+        | inr new ↦ subst (IsAnsweredBy r.initial (record r { resets = s })) new one
+      ]
+
+  typed_of : (z : Typed) (more : Bool) (xs : List Typed) → xs ≡ (if more then r.resets.answers ++ z ∷ [] else r.resets.answers) → IsTyped z × (z.kind ≡ RECONFIG_RESPONSE) →
+      (x : Typed) → Has xs x → IsTyped x × (x.kind ≡ RECONFIG_RESPONSE)
+  typed_of z more xs is one x has = go more (subst (λ (ys : List Typed). Has ys x) is has)
+    where
+      go : (b : Bool) → Has (if b then r.resets.answers ++ z ∷ [] else r.resets.answers) x → IsTyped x × (x.kind ≡ RECONFIG_RESPONSE)
+      go false old = d.step.typed x old
+      go true both = elim (Has-push r.resets.answers z x both) [ inl old ↦ d.step.typed x old | inr new ↦ subst (λ (y : Typed). IsTyped y × (y.kind ≡ RECONFIG_RESPONSE)) new one ]
+
+  -- ---- what the request leaves
+
+  abbrev answer : ResetResult
+  answer = answer_in_turn r m.number (reset_answer r c m)
+
+  abbrev z : Typed
+  z = response_item m.number answer
+
+  -- with these answers, `more` says whether the new one is among them
+  pub after_request : (xs : List Typed) (more : Bool) → xs ≡ (if more then r.resets.answers ++ z ∷ [] else r.resets.answers) → Direction f n a u (with_answers (reset_taken r c m) xs) out back
+  after_request xs more is = go (is_in_turn r m.number) refl (reset_answer r c m) refl
+    where
+      view : (b : Bool) (x : ResetResult) → ReceiverView
+      view b x = with_answers (if b then with_answer (renumbered_by r (names r m.streams) x) m.number x else r) xs
+
+      go : (b : Bool) → is_in_turn r m.number ≡ b → (x : ResetResult) → reset_answer r c m ≡ x → Direction f n a u (view b x) out back
+      go false off x answers = out_of_turn
+        where
+          out_of_turn : Direction f n a u (with_answers r xs) out back
+          out_of_turn = receiver_reset f n a u r out back d (with_answers r xs).resets (record {
+            few = d.step.few;
+            taken = d.step.taken;
+            next = d.step.next;
+            answered = d.step.answered;
+            finished = d.step.finished;
+            fresh = d.step.fresh;
+            waiting = d.step.waiting;
+            bases = elim d.step.bases [
+              | inl both ↦ inl (both.0, both.1)
+              | inr k ↦ inr (record { request = k.request; waits = k.waits; taken = k.taken; done = k.done; streams = k.streams; reached = k.reached; bases = k.bases })
+            ];
+            old = d.step.old;
+            answers = answers_of (with_answers r xs).resets z more same_answers is one;
+            typed = typed_of z more xs is (item_typed m.number answer, refl);
+          }) (λ base i l k h. record { based = record { low = h.based.low; same = h.based.same }; before = h.before; within = h.within }) same_answers
+            where
+              same_answers : Answeredly r.initial r (with_answers r xs)
+              same_answers y h = record { number = h.number; taken = h.taken; wire = h.wire; code = h.code }
+
+              parts : (is_next r m.number ≡ false) × ((is_again r m.number && is_in_progress r.resets.result) ≡ false)
+              parts = or_parts (is_next r m.number) (is_again r m.number && is_in_progress r.resets.result) off
+
+              not_next : ask.number ≡ suc r.resets.taken → ⊥
+              not_next e = let h = is_the_next e in let k = parts.0 in absurd (cc)
+
+              one : IsAnsweredBy r.initial (with_answers r xs) z
+              one = record {
+                number = ask.number;
+                taken = elim (cases_lt r.resets.taken ask.number) [
+                  | inl above ↦ absurd (not_next (let h = ask.made in let k = d.step.next in omega (arith, above, h, k)))
+                  | inr low ↦ low
+                ];
+                wire = item_number m.number answer number_small ∙ wire;
+                code = λ last. inr (item_code m.number answer ∙ ap result_code (let h = is_the_last last in rw (off, h) refl));
+              }
+      go true on x answers = by x answers
+        where
+          given : answer ≡ reset_answer r c m
+          given = rw on refl
+
+          one_in : (s : Incoming) → s.taken ≡ (if is_next r m.number then suc r.resets.taken else r.resets.taken) → s.result ≡ reset_answer r c m → IsAnsweredBy r.initial (record r { resets = s }) z
+          one_in s taken result = record {
+            number = ask.number;
+            taken = let k = now_taken on in omega (arith, k, taken);
+            wire = item_number m.number answer number_small ∙ wire;
+            code = λ last. inr (item_code m.number answer ∙ ap result_code (given ∙ sym result));
+          }
+
+          -- in its turn, and done or not
+          in_turn : (s : Incoming) → s.taken ≡ (if is_next r m.number then suc r.resets.taken else r.resets.taken) → s.result ≡ reset_answer r c m → s.answers ≡ xs →
+              (AreEven f a (record r { resets = s }) × (s.result ≡ Performed → ⊥)) ⊎ IsAhead f a (record r { resets = s }) → Readably f a a r (record r { resets = s }) → Direction f n a u (record r { resets = s }) out back
+          in_turn s taken result same bases reads = receiver_reset f n a u r out back d s (record {
+            few = d.step.few;
+            taken = let h = now_taken on in let k = ask.made in omega (arith, h, taken, k);
+            next = let h = now_taken on in let k = no_fewer on in let l = d.step.next in omega (arith, h, taken, k, l);
+            answered = λ none. absurd (let h = (turn on).waits in cc);
+            finished = λ none. absurd (let h = (turn on).waits in cc);
+            fresh = λ x some low. let h = now_taken on in let w = (turn on).waits in let same : x ≡ q on = cc (some, w) in let k : x.first ≤ ask.number = subst (λ (y : Request). y.first ≤ ask.number) (sym same) (turn on).first in absurd (omega (arith, h, taken, low, k));
+            waiting = d.step.waiting;
+            bases = elim bases [ inl both ↦ inl (both.0, λ k some last done. both.1 done) | inr k ↦ inr k ];
+            old = d.step.old;
+            answers = answers_of s z more (answered_before on (reset_answer r c m) s taken result) (same ∙ is) (one_in s taken result);
+            typed = typed_of z more s.answers (same ∙ is) (item_typed m.number answer, refl);
+          }) reads (answered_before on (reset_answer r c m) s taken result)
+
+          -- one that isn't done leaves the numbers; what is done stays so
+          undone : (y : ResetResult) → reset_answer r c m ≡ y → (y ≡ Performed → ⊥) → (IsAhead f a r → y ≡ InProgress) → Direction f n a u (with_answers (with_answer r m.number y) xs) out back
+          undone y is_y other ahead = in_turn (with_answers (with_answer r m.number y) xs).resets refl (sym is_y) refl
+              (elim d.step.bases [
+                | inl both ↦ inl ((λ l numbered. both.0 l numbered), other)
+                | inr k ↦ inr (record {
+                  request = k.request;
+                  waits = k.waits;
+                  taken = let e = now_taken on in let l = no_fewer on in let z = k.taken in omega (arith, e, l, z);
+                  done = inr (ahead k);
+                  streams = k.streams;
+                  reached = k.reached;
+                  bases = k.bases;
+                })
+              ])
+              (λ base i l k h. record { based = record { low = h.based.low; same = h.based.same }; before = h.before; within = h.within })
+
+          -- a request that was done names no stream that isn't there
+          never_wrong : reset_answer r c m ≡ WrongStream → IsAhead f a r → ⊥
+          never_wrong e k =
+              let same : k.request ≡ q on = let w = k.waits in let v = (turn on).waits in cc (w, v) in
+              let none : list_any (nat_le r.streams) m.streams ≡ false = ap (list_any (nat_le r.streams)) ((asked on).1 ∙ ap (λ (y : Request). y.streams) (sym same)) ∙ k.streams in
+              by_behind (is_behind r c m.last) refl none
+            where
+              by_behind : (b : Bool) → is_behind r c m.last ≡ b → list_any (nat_le r.streams) m.streams ≡ false → ⊥
+              by_behind true behind none = let h : Performed ≡ WrongStream = sym (rw (none, behind) refl) ∙ e in absurd (cc)
+              by_behind false behind none = let h : InProgress ≡ WrongStream = sym (rw (none, behind) refl) ∙ e in absurd (cc)
+
+          by : (y : ResetResult) → reset_answer r c m ≡ y → Direction f n a u (view true y) out back
+          by Denied e = absurd (never (list_any (nat_le r.streams) m.streams) (not (is_behind r c m.last)) Denied e (λ k. cc) (λ k. cc) (λ k. cc))
+          by WrongStream e = undone WrongStream e (λ k. cc) (λ k. absurd (never_wrong e k))
+          by BadNumber e = absurd (never (list_any (nat_le r.streams) m.streams) (not (is_behind r c m.last)) BadNumber e (λ k. cc) (λ k. cc) (λ k. cc))
+          by InProgress e = undone InProgress e (λ k. cc) (λ k. refl)
+          by Performed e = in_turn (view true Performed).resets refl (sym e) refl
+              (inr (record {
+                request = q on;
+                waits = (turn on).waits;
+                taken = let h = (turn on).first in let k = now_taken on in omega (arith, h, k);
+                done = inl refl;
+                streams = streams_there on e;
+                reached = all_reached on e;
+                bases = new_base on e;
+              }))
+              (read_anew on e (view true Performed).resets (λ l. refl))
+
+-- ---- the user is told
+
+pub after_told : (f : Format) (n : ℕ) (a : SenderView) (u : Asked) (r : ReceiverView) (out back : List Dated) (d : Direction f n a u r out back) (s : ℕ) → Direction f n a u (told_of r s) out back
+after_told f n a u r out back d s = receiver_reset f n a u r out back d (told_of r s).resets (record {
+  few = d.step.few;
+  taken = d.step.taken;
+  next = d.step.next;
+  answered = d.step.answered;
+  finished = d.step.finished;
+  fresh = d.step.fresh;
+  waiting = d.step.waiting;
+  bases = elim d.step.bases [
+    | inl both ↦ inl (both.0, both.1)
+    | inr x ↦ inr (record { request = x.request; waits = x.waits; taken = x.taken; done = x.done; streams = x.streams; reached = x.reached; bases = x.bases })
+  ];
+  old = d.step.old;
+  answers = λ x has kind. let h = d.step.answers x has kind in record { number = h.number; taken = h.taken; wire = h.wire; code = h.code };
+  typed = d.step.typed;
+}) (λ base i l j h. record { based = record { low = h.based.low; same = h.based.same }; before = h.before; within = h.within }) (λ y h. record { number = h.number; taken = h.taken; wire = h.wire; code = h.code })

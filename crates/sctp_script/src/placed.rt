@@ -1,0 +1,97 @@
+//! Reads a line at its place in a script.
+
+ghost use Rattle.std.specs.Prelude.{Bool, true, false, MatchResult};
+ghost use Rattle.sctp_script.specs.Places as places;
+ghost use Rattle.sctp_script.specs.PlacedAnswer.{place_meaning, FindsAt, RefusesAt};
+ghost use Rattle.sctp_script.specs.inner.PlainAnswer.{FindsPlain, RefusesPlain};
+
+use crate::line::{Acting, read_line};
+use crate::options::read_options;
+use sctp_events::{Event, PairConfig, TwoConfigs};
+use sctp_words::LineError;
+use std::alloc::Global;
+
+/// Where a line is in a script.
+#[derive(Clone, Copy, Debug, PartialEq, Eq)]
+pub enum Place {
+    /// Before the `pair` line.
+    Unpaired,
+    /// After the `pair` line: its endpoints have these configurations, and no line has asked anything of them. Lines of options may be here.
+    Behind(TwoConfigs),
+    /// After a line that has asked something of the pair.
+    Acted,
+}
+
+impl Place {
+    ghost use Rattle.std.specs.Prelude.{◌≡◌};
+    ghost use Rattle.sctp_script.specs.PlacedAnswer.{place_meaning, place_at};
+
+    /// The place of a line. `paired` says whether a `pair` line was read before, and `fresh` has the configurations of the endpoints until a line
+    /// asks something of them.
+    pub fn of(paired: bool, fresh: Option<TwoConfigs>) -> Place
+        ensures { place_meaning result ≡ place_at paired fresh }
+    {
+        if !paired {
+            return Place::Unpaired;
+        }
+        match fresh {
+            Some(configs) => Place::Behind(configs),
+            None => Place::Acted,
+        }
+    }
+}
+
+/// What a line asks for at its place.
+#[derive(Debug, PartialEq, Drop)]
+pub enum Placed {
+    /// `pair`: a new pair with this configuration.
+    Pair(PairConfig),
+    /// `options`: the endpoints have these configurations.
+    Options(TwoConfigs),
+    /// Any other command: this event.
+    Event(Event),
+}
+
+/// Reads a line at its place, given without its line feed. None for an empty line or a comment.
+///
+/// # Errors
+/// The line's fault, or `NoMemory` if no memory could be allocated for the bytes of a word.
+pub fn read_line_at(alloc: Global, line: &[u8], place: Place) -> Result<Option<Placed>, LineError>
+    ensures { MatchResult result (λ found. FindsAt (place_meaning place) line.now found) (λ error. RefusesAt (place_meaning place) line.now error) }
+{
+    match place {
+        Place::Unpaired => read_plain(alloc, line, false),
+        Place::Behind(configs) => read_behind(alloc, line, configs),
+        Place::Acted => read_plain(alloc, line, true),
+    }
+}
+
+/// Reads a line that follows the `pair` line.
+///
+/// # Errors
+/// As `read_line_at`.
+fn read_behind(alloc: Global, line: &[u8], configs: TwoConfigs) -> Result<Option<Placed>, LineError>
+    ensures { let place = places.Behind configs.a configs.b in
+        MatchResult result (λ found. FindsAt place line.now found) (λ error. RefusesAt place line.now error) }
+{
+    match read_options(line, configs) {
+        Ok(Some(after)) => Ok(Some(Placed::Options(after))),
+        Ok(None) => read_plain(alloc, line, true),
+        Err(fault) => Err(LineError::Fault(fault)),
+    }
+}
+
+/// Reads a line that isn't one of options.
+///
+/// # Errors
+/// As `read_line`.
+fn read_plain(alloc: Global, line: &[u8], paired: bool) -> Result<Option<Placed>, LineError>
+    ensures { MatchResult result (λ found. FindsPlain paired line.now found) (λ error. RefusesPlain paired line.now error) }
+{
+    match read_line(alloc, line, paired) {
+        Ok(None) => Ok(None),
+        Ok(Some(Acting::Pair(config))) => Ok(Some(Placed::Pair(config))),
+        Ok(Some(Acting::Event(event))) => Ok(Some(Placed::Event(event))),
+        Err(error) => Err(error),
+    }
+}
