@@ -1,0 +1,158 @@
+//! The congestion window, and what a loss or an expiry makes of it.
+
+ghost use Rattle.std.specs.Prelude.{◌≡◌, ℕ, true, false};
+ghost use Rattle.sctp_model.specs.messages.Format.{Format};
+ghost use Rattle.sctp_model.specs.sender.SenderView.{SenderView};
+ghost use Rattle.sctp_model.specs.sender.Entries.{in_flight};
+ghost use Rattle.sctp_model.specs.sender.Filling.{fill};
+ghost use Rattle.sctp_model.specs.end.Control.{fresh_control, lessened, recovering, control_expired, is_let_in, room_of_repeats, room_controlled};
+ghost use Rattle.sctp_congestion.specs.Allowed.{allowed};
+
+use std::marker::Model;
+
+/// The initial congestion window in bytes, between two and four packets (RFC 9260, 7.2.1, for IPv4).
+const INITIAL_WINDOW: u32 = 4_404;
+
+/// How much of a packet's space fragments may take.
+#[derive(Clone, Copy, Debug, PartialEq, Eq)]
+pub enum Allowance {
+    /// All of it.
+    All,
+    /// Only that of the retransmissions among what would be sent: one packet of them is exempt from the window (RFC 9260, 7.2.4, step 3).
+    Retransmissions,
+    /// None.
+    Nothing,
+}
+
+/// The state of congestion control (RFC 9260, 7.2). Data in flight and acknowledged is counted in bytes of user data, without the headers of chunks.
+/// Contracts see the definitions' `Control`.
+///
+/// Sizes are in bytes. The congestion window is at most 2^32 - 1, the largest window that a peer can advertise (RFC 9260, 3.3.4), and so is ssthresh.
+/// The definitions don't bound partial_bytes_acked: calls that add to it require that it is at most 2^96, and say how much it grows.
+#[derive(Clone, Copy, Debug)]
+pub struct CongestionControl {
+    /// The space that a packet has for chunks, after its common header (PMDCS).
+    pub(crate) pmdcs: u16,
+    pub(crate) cwnd: u32,
+    pub(crate) ssthresh: u32,
+    /// The bytes acknowledged that congestion avoidance has counted since the window last grew by it.
+    pub(crate) partial_bytes_acked: u128,
+    /// The limit of bursts: a packet may be sent while less than this is in flight.
+    pub(crate) burst: u64,
+    /// One packet of retransmissions may be sent whatever the window is.
+    pub(crate) rescue: bool,
+}
+
+impl Model for CongestionControl {
+    ghost use Rattle.sctp_model.specs.end.Control.{Control};
+
+    ghost Value = { Control };
+
+    ghost view = { λ k. record {
+      size = k.pmdcs;
+      cwnd = k.cwnd;
+      ssthresh = k.ssthresh;
+      acked = k.partial_bytes_acked;
+      burst = k.burst;
+      rescue = k.rescue;
+    } };
+
+    ghost inverse = { λ k. record {
+      pmdcs = k.size;
+      cwnd = k.cwnd;
+      ssthresh = k.ssthresh;
+      partial_bytes_acked = k.acked;
+      burst = k.burst;
+      rescue = k.rescue;
+    } };
+}
+
+impl CongestionControl {
+    /// The initial state, for packets with `pmdcs` bytes of space for chunks, and a peer that advertised the receiver window `a_rwnd`, which is the
+    /// initial ssthresh (RFC 9260, 7.2.1).
+    pub fn fresh(pmdcs: u16, a_rwnd: u32) -> CongestionControl
+        ensures { result ≡ fresh_control pmdcs a_rwnd }
+    {
+        let packet = u32::from(pmdcs);
+        let cwnd = (4 * packet).min((2 * packet).max(INITIAL_WINDOW));
+        CongestionControl {
+            pmdcs,
+            cwnd,
+            ssthresh: a_rwnd,
+            partial_bytes_acked: 0,
+            burst: u64::from(cwnd),
+            rescue: false,
+        }
+    }
+
+    /// The congestion window in bytes.
+    pub fn cwnd(&self) -> u32
+        ensures { result ≡ self.now.cwnd }
+    {
+        self.cwnd
+    }
+
+    /// The slow-start threshold in bytes: up to it the window grows by slow start, above it by congestion avoidance (RFC 9260, 7.2.1).
+    pub fn ssthresh(&self) -> u32
+        ensures { result ≡ self.now.ssthresh }
+    {
+        self.ssthresh
+    }
+
+    /// Whether a packet may be filled while `flight` bytes are in flight: they are fewer than the congestion window and the limit of bursts, so that the
+    /// window is exceeded by less than one packet (RFC 9260, 6.1, rules B and D).
+    pub fn is_let_in(&self, flight: u64) -> bool
+        ensures { result ≡ is_let_in flight self.now }
+    {
+        flight < u64::from(self.cwnd).min(self.burst)
+    }
+
+    /// How much of a packet's space fragments may take while `flight` bytes are in flight (RFC 9260, 6.1, rules B and D; 7.2.4, step 3).
+    pub fn allowance(&self, flight: u64) -> Allowance
+        ensures { (f : Format) (room : ℕ) (v : SenderView) → flight ≡ in_flight v → room_controlled self.now f room v ≡ allowed result room (room_of_repeats f (fill f room v).wishes) }
+    {
+        if self.is_let_in(flight) {
+            Allowance::All
+        } else if self.rescue {
+            Allowance::Retransmissions
+        } else {
+            Allowance::Nothing
+        }
+    }
+
+    /// A loss was detected: ssthresh is half the congestion window, but four packets at least, and the count of acknowledged bytes is 0
+    /// (RFC 9260, 7.2.3).
+    pub fn lower_ssthresh(&mut self)
+        ensures { self.new ≡ lessened self.old }
+    {
+        self.ssthresh = (self.cwnd / 2).max(4 * u32::from(self.pmdcs));
+        self.partial_bytes_acked = 0;
+    }
+
+    /// Fast Recovery begins: the window is the new ssthresh, and one packet of retransmissions may be sent whatever the window is (RFC 9260, 7.2.4,
+    /// steps 2 and 3).
+    pub fn enter_fast_recovery(&mut self)
+        ensures { self.new ≡ recovering self.old }
+    {
+        self.lower_ssthresh();
+        self.cwnd = self.ssthresh;
+        self.rescue = true;
+    }
+
+    /// The data timer expired: the window is one packet, and only one packet is sent before the next acknowledgement (RFC 9260, 7.2.3; 6.3.3, E3).
+    pub fn expire(&mut self)
+        ensures { self.new ≡ control_expired self.old }
+    {
+        self.lower_ssthresh();
+        self.cwnd = u32::from(self.pmdcs);
+        self.burst = 1;
+        self.rescue = false;
+    }
+
+    /// A packet with user data was sent: no further one is exempt from the window (RFC 9260, 7.2.4, step 3).
+    pub fn end_rescue(&mut self)
+        ensures { self.new ≡ record self.old { rescue = false } }
+    {
+        self.rescue = false;
+    }
+}
