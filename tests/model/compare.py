@@ -1,12 +1,13 @@
 #!/usr/bin/env python3
 """Compares `sctp-trace run` with the model on random scripts, or on given ones.
 
-compare.py [--program P] [--keep FOLDER] [--shrink] [--odd | --edges | --forwards | --words] N [SEED]
+compare.py [--program P] [--keep FOLDER] [--shrink] [--odd | --edges | --forwards | --words | --paced] N [SEED]
 compare.py [--program P] [--shrink] FILE ..
 
 --odd takes scripts of odd bytes (odd.py), --edges those with every limit at an edge (edges.py), --forwards
 those with abandoned windows (forwards.py), --words those with the words of lines `options` and no such line
-(words.py): the model is then one without these lines. What differs is kept in FOLDER (found/ beside this file);
+(words.py): the model is then one without these lines, --paced those of fast retransmit, congestion control and
+limits of retransmissions (paced.py). What differs is kept in FOLDER (found/ beside this file);
 --shrink also writes the smallest script found that still differs, by leaving out lines.
 """
 
@@ -19,6 +20,7 @@ import edges
 import forwards
 import model
 import odd
+import paced
 import scripts
 import words
 
@@ -68,7 +70,7 @@ def smaller(program, data, options=True):
 
 
 KINDS = {'seed': lambda n: scripts.script(n).encode(), 'odd': odd.script, 'edges': edges.script, 'forwards': forwards.script,
-         'words': words.script}
+         'words': words.script, 'paced': paced.script}
 
 
 def cases(asked, kind):
@@ -89,7 +91,7 @@ def main():
     parser.add_argument('--keep', default=os.path.join(HERE, 'found'))
     parser.add_argument('--shrink', action='store_true')
     parser.set_defaults(kind='seed')
-    for kind in ('odd', 'edges', 'forwards', 'words'):
+    for kind in ('odd', 'edges', 'forwards', 'words', 'paced'):
         parser.add_argument('--' + kind, dest='kind', action='store_const', const=kind)
     parser.add_argument('words', nargs='+')
     asked = parser.parse_args()

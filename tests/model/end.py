@@ -2,14 +2,15 @@
 """A model of `sctp-end`: one end, its user's calls and the packets that come, line by line.
 
 end.py caller LIMIT FRAGMENT BUFFER STREAMS MODE PORT PEER < LINES, or listener .. KEY, prints the
-answers; behind MODE may stand `delay`, and then `standard-closing`. Status 1 for words that are no form.
+answers; behind MODE may stand `delay`, `standard-closing`, `fast-retransmit`, `congestion-control` and `rto-min MS`, in
+this order. Status 1 for words that are no form.
 """
 
 import sys
 
 from endpoint import Config, Endpoint
 from model import (BAD_VALUE, KIND, LINE_LIMIT, MODE, MODES, N16, N32, N64, TOO_LONG, UNKNOWN_COMMAND, WORD_COUNT,
-                   LineFault, hex_bytes, in_range, tag, until)
+                   LineFault, hex_bytes, in_range, tag, until_limited)
 from printing import hex_text
 
 COMMANDS = {
@@ -18,7 +19,7 @@ COMMANDS = {
     b'at': (N64,),
     b'packet': (hex_bytes,),
     b'build': (),
-    b'send': (N16, KIND, N32, until, hex_bytes),
+    b'send': (N16, KIND, N32, until_limited, hex_bytes),
     b'abandon': (N64,),
     b'acknowledged': (N64,),
     b'abandoned': (N64,),
@@ -49,7 +50,8 @@ def key(word):
 
 SETTINGS = (N32, N32, N32, N32, MODE, port, port)
 ROLES = {b'caller': SETTINGS, b'listener': SETTINGS + (key,)}
-OPTIONS = (b'delay', b'standard-closing')      # behind MODE, in this order
+OPTIONS = (b'delay', b'standard-closing', b'fast-retransmit', b'congestion-control')      # behind MODE, in this order
+RTO_MIN = b'rto-min'                                                                       # and then this one with a word
 
 
 def end_of(words):
@@ -59,11 +61,14 @@ def end_of(words):
     for option in OPTIONS:
         options.append(words[5:6] == [option])
         del words[5:5 + options[-1]]
+    rto_min = words[6:7] if words[5:6] == [RTO_MIN] else []
+    del words[5:5 + 2 * len(rto_min)]
     if len(words) != len(ROLES.get(role, ())) or not words:
         return None
     try:
         limit, fragment, buffer, streams, mode, own_port, peer_port, *keys = [
             read(word) for read, word in zip(ROLES[role], words)]
+        options += [N32(word) for word in rto_min]
     except LineFault:
         return None
     if not in_range(limit, fragment, buffer, streams):
@@ -142,8 +147,8 @@ class Session:
         packet, _ = self.endpoint.poll_transmit(self.clock)
         return 'quiet' if packet is None else 'sent ' + hex_text(packet)
 
-    def send(self, stream, kind, payload_id, limit, data):
-        answer = self.endpoint.send(stream, kind == 'o', payload_id, data, limit)
+    def send(self, stream, kind, payload_id, limits, data):
+        answer = self.endpoint.send(stream, kind == 'o', payload_id, data, *limits)
         return 'ticket %d' % answer if answer > 0 else 'refused %d' % -answer
 
     def abandon(self, ticket):
