@@ -1,12 +1,15 @@
 //! How an acknowledgement changes the congestion window.
 
-ghost use Rattle.std.specs.Prelude.{◌≡◌, ℕ, ◌+◌, ◌*◌, ◌^◌, ◌≤◌, if◌then◌else◌};
+ghost use Rattle.std.specs.Prelude.{◌≡◌};
 ghost use Rattle.sctp_model.specs.end.Control.{widened, started_slowly, avoided, grown, bursting, control_heard};
 
 use crate::control::CongestionControl;
 
 /// How many packets may be sent for one acknowledgement (Max.Burst of RFC 9260, 16).
 const MAX_BURST: u64 = 4;
+
+/// The largest window that a peer can advertise (RFC 9260, 3.3.4).
+const LARGEST_WINDOW: u64 = u32::MAX as u64;
 
 /// What an acknowledgement says of bytes and of loss.
 #[derive(Clone, Copy, Debug)]
@@ -44,22 +47,20 @@ impl CongestionControl {
     /// Congestion avoidance: if `flight` bytes in flight filled the window, it grows by one packet for each window that was acknowledged; the `bytes`
     /// acknowledged are counted for it (RFC 9260, 7.2.2).
     pub fn avoid_congestion(&mut self, flight: u64, bytes: u64)
-        requires { self.old.acked ≤ 2 ^ 96 }
         ensures { self.new ≡ avoided flight bytes self.old }
     {
-        let acked = self.partial_bytes_acked + u128::from(bytes);
-        let window = u128::from(self.cwnd);
-        if u128::from(flight) < window || acked < window {
-            self.partial_bytes_acked = acked.min(window);
+        let acked = u64::from(self.partial_bytes_acked).saturating_add(bytes);
+        let window = u64::from(self.cwnd);
+        if flight < window || acked < window {
+            self.partial_bytes_acked = acked.min(window) as u32;
         } else {
-            self.partial_bytes_acked = acked - window;
+            self.partial_bytes_acked = (acked - window).min(LARGEST_WINDOW) as u32;
             self.widen(u32::from(self.pmdcs));
         }
     }
 
     /// The window grows by slow start up to ssthresh, by congestion avoidance above it (RFC 9260, 7.2.1).
     pub fn grow(&mut self, flight: u64, bytes: u64)
-        requires { self.old.acked ≤ 2 ^ 96 }
         ensures { self.new ≡ grown flight bytes self.old }
     {
         if self.cwnd <= self.ssthresh {
@@ -72,11 +73,11 @@ impl CongestionControl {
     /// Sets the limit of bursts: while `flight` bytes are in flight, Max.Burst packets may be sent (RFC 9260, 6.1, rule D). An acknowledgement of no
     /// new bytes leaves it. With nothing in flight the count of acknowledged bytes is 0 (7.2.2).
     pub fn set_burst_limit(&mut self, flight: u64, bytes: u64)
-        requires { flight ≤ 2 ^ 32 }
         ensures { self.new ≡ bursting flight bytes self.old }
     {
         if bytes != 0 {
-            self.burst = flight + MAX_BURST * u64::from(self.pmdcs);
+            let burst = flight.saturating_add(MAX_BURST * u64::from(self.pmdcs));
+            self.burst = burst.min(LARGEST_WINDOW) as u32;
         }
         if flight == 0 {
             self.partial_bytes_acked = 0;
@@ -85,11 +86,7 @@ impl CongestionControl {
 
     /// All that an acknowledgement does to congestion control (RFC 9260, 7.2 and 6.1): the window grows, Fast Recovery begins, the limit of bursts is set.
     pub fn acknowledge(&mut self, said: Acknowledged)
-        requires counted { self.old.acked ≤ 2 ^ 96 }
-        requires left { said.left ≤ 2 ^ 32 }
-        ensures step { self.new ≡ control_heard said.grows said.lost said.flight said.bytes said.left self.old }
-        // So the count is bounded by the number of acknowledgements that moved the cumulative TSN.
-        ensures counted { self.new.acked ≤ self.old.acked + (if said.grows then said.bytes else 0) }
+        ensures { self.new ≡ control_heard said.grows said.lost said.flight said.bytes said.left self.old }
     {
         if said.grows {
             self.grow(said.flight, said.bytes);

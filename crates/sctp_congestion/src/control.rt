@@ -27,8 +27,7 @@ pub enum Allowance {
 /// The state of congestion control (RFC 9260, 7.2). Data in flight and acknowledged is counted in bytes of user data, without the headers of chunks.
 /// Contracts see the definitions' `Control`.
 ///
-/// Sizes are in bytes. The congestion window is at most 2^32 - 1, the largest window that a peer can advertise (RFC 9260, 3.3.4), and so is ssthresh.
-/// The definitions don't bound partial_bytes_acked: calls that add to it require that it is at most 2^96, and say how much it grows.
+/// Sizes are in bytes, each at most 2^32 - 1, the largest window that a peer can advertise (RFC 9260, 3.3.4).
 #[derive(Clone, Copy, Debug)]
 pub struct CongestionControl {
     /// The space that a packet has for chunks, after its common header (PMDCS).
@@ -36,9 +35,9 @@ pub struct CongestionControl {
     pub(crate) cwnd: u32,
     pub(crate) ssthresh: u32,
     /// The bytes acknowledged that congestion avoidance has counted since the window last grew by it.
-    pub(crate) partial_bytes_acked: u128,
+    pub(crate) partial_bytes_acked: u32,
     /// The limit of bursts: a packet may be sent while less than this is in flight.
-    pub(crate) burst: u64,
+    pub(crate) burst: u32,
     /// One packet of retransmissions may be sent whatever the window is.
     pub(crate) rescue: bool,
 }
@@ -80,7 +79,7 @@ impl CongestionControl {
             cwnd,
             ssthresh: a_rwnd,
             partial_bytes_acked: 0,
-            burst: u64::from(cwnd),
+            burst: cwnd,
             rescue: false,
         }
     }
@@ -104,7 +103,7 @@ impl CongestionControl {
     pub fn is_let_in(&self, flight: u64) -> bool
         ensures { result ≡ is_let_in flight self.now }
     {
-        flight < u64::from(self.cwnd).min(self.burst)
+        flight < u64::from(self.cwnd.min(self.burst))
     }
 
     /// How much of a packet's space fragments may take while `flight` bytes are in flight (RFC 9260, 6.1, rules B and D; 7.2.4, step 3).

@@ -24,7 +24,6 @@
 //! | [`Pacing::rto_after`] | the RTO after it, `wait_heard` |
 //! | [`Pacing::expire`], [`Pacing::sent`] | the data timer expired: `expired_pace`; a packet was sent: `sent_pace` |
 //! | [`Pacing::allowance`] | how much of a packet's space fragments may take: `room_paced` |
-//! | the clauses `counted` | partial_bytes_acked is at most 2^32 bytes for each acknowledgement that moved the cumulative TSN, which [`Pacing::hear`] requires |
 //!
 //! | call of a part | what is promised |
 //! |---|---|

@@ -1,6 +1,6 @@
 //! Round trips, misses and congestion control of one association together.
 
-ghost use Rattle.std.specs.Prelude.{◌≡◌, ℕ, ◌+◌, ◌*◌, ◌^◌, ◌<◌, ◌≤◌, ◌||◌, ◌==◌, suc, nat_lt, if◌then◌else◌, List, length, is_some, IfSome};
+ghost use Rattle.std.specs.Prelude.{◌≡◌, ℕ, ◌<◌, ◌||◌, ◌==◌, suc, nat_lt, if◌then◌else◌, List, length, is_some, IfSome};
 ghost use Rattle.sctp_model.specs.numbers.Limits as limits;
 ghost use Rattle.sctp_model.specs.messages.Format.{Format};
 ghost use Rattle.sctp_model.specs.sender.SenderView.{SenderView};
@@ -11,7 +11,6 @@ ghost use Rattle.sctp_model.specs.end.Misses.{last_sent};
 ghost use Rattle.sctp_model.specs.end.Control.{room_of_repeats};
 ghost use Rattle.sctp_model.specs.end.Pacing.{Pace, Heard, fresh_pace, misses_heard, heard, wait_measured, wait_heard, pace_begun, wait_begun, expired_pace, room_paced, sent_pace};
 ghost use Rattle.sctp_congestion.specs.Allowed.{allowed};
-ghost use Rattle.sctp_congestion.specs.Counted.{IsCounted};
 ghost use Rattle.sctp_congestion.specs.Highest.{AreHighest};
 ghost use Rattle.sctp_congestion.specs.Weighs.{Weighs};
 
@@ -79,8 +78,7 @@ impl Pacing {
     /// That of a new association, with or without congestion control, for packets with `pmdcs` bytes of space for chunks, and a peer that advertised the
     /// receiver window `a_rwnd` (RFC 9260, 6.3.1 and 7.2.1).
     pub fn fresh(controls: bool, pmdcs: u16, a_rwnd: u32) -> Pacing
-        ensures step { result ≡ fresh_pace controls pmdcs a_rwnd }
-        ensures counted { (n : ℕ) → IsCounted n result.control }
+        ensures { result ≡ fresh_pace controls pmdcs a_rwnd }
     {
         Pacing {
             trips: RoundTrips::fresh(),
@@ -135,24 +133,18 @@ impl Pacing {
     /// Counts misses, as the first step after an acknowledgement that the sender has taken: then [`MissIndications::is_missed`] is what is to be marked
     /// for retransmission, and [`Pacing::hear`] is the second step (RFC 9260, 7.2.4).
     pub fn notice(&mut self, said: Highest)
-        ensures step { (v u : SenderView) → AreHighest v u said → self.new ≡ record self.old { misses = misses_heard v u self.old.misses } }
-        ensures control { self.new.control ≡ self.old.control }
+        ensures { (v u : SenderView) → AreHighest v u said → self.new ≡ record self.old { misses = misses_heard v u self.old.misses } }
     {
         self.misses.hear(said);
     }
 
     /// The second step after an acknowledgement, at the time `now` in milliseconds, once what was missed is marked for retransmission: the round trip is
     /// measured, Fast Recovery may begin, the congestion window grows or shrinks (RFC 9260, 6.3.1, 7.2 and 6.1).
-    ///
-    /// `counted` bounds partial_bytes_acked by the number of acknowledgements that moved the cumulative TSN, which is at most its index.
     pub fn hear(&mut self, now: u64, said: Weighed) -> Reply
-        requires counted { IsCounted (2 ^ 64) self.old.control }
-        requires left { said.left ≤ 2 ^ 32 }
         ensures step { (v u : SenderView) (p : Pace) → self.old ≡ record p { misses = misses_heard v u p.misses } → Weighs v u p said → self.new ≡ (heard now v u p).pace }
         ensures trip { (v u : SenderView) (p : Pace) → self.old ≡ record p { misses = misses_heard v u p.misses } → Weighs v u p said → result.trip ≡ (heard now v u p).trip }
         ensures moved { (v u : SenderView) (p : Pace) → self.old ≡ record p { misses = misses_heard v u p.misses } → Weighs v u p said → result.moved ≡ (heard now v u p).moved }
         ensures restarts { (v u : SenderView) (p : Pace) → self.old ≡ record p { misses = misses_heard v u p.misses } → Weighs v u p said → result.restarts ≡ (heard now v u p).anew }
-        ensures counted { (m n : ℕ) → m + (if said.moved then 1 else 0) ≤ n → said.bytes ≤ 2 ^ 32 → IsCounted m self.old.control → IsCounted n self.new.control }
     {
         let outside = !self.misses.is_recovering();
         let lost = said.lost.is_some();
@@ -190,8 +182,7 @@ impl Pacing {
 
     /// The data timer expired: nothing is timed, misses are counted anew, and the window is one packet (RFC 9260, 6.3.3 and 7.2.3).
     pub fn expire(&mut self)
-        ensures step { self.new ≡ expired_pace self.old }
-        ensures counted { (m n : ℕ) → m ≤ n → IsCounted m self.old.control → IsCounted n self.new.control }
+        ensures { self.new ≡ expired_pace self.old }
     {
         self.trips.clear_timing();
         self.misses = MissIndications::fresh();
@@ -213,8 +204,7 @@ impl Pacing {
     /// A packet was sent at the time `now`, in milliseconds: the highest index that was sent is `after`, and was `before` it; `some` is whether it has
     /// fragments (RFC 9260, 6.3.1, C4; 7.2.4, step 3).
     pub fn sent(&mut self, now: u64, before: u64, after: u64, some: bool)
-        ensures step { (v u : SenderView) (ws : List Wish) → before ≡ last_sent v → after ≡ last_sent u → some ≡ nat_lt 0 (length ws) → self.new ≡ sent_pace now v u ws self.old }
-        ensures counted { (m n : ℕ) → m ≤ n → IsCounted m self.old.control → IsCounted n self.new.control }
+        ensures { (v u : SenderView) (ws : List Wish) → before ≡ last_sent v → after ≡ last_sent u → some ≡ nat_lt 0 (length ws) → self.new ≡ sent_pace now v u ws self.old }
     {
         self.trips.start_timing(now, before, after);
         if some && let Some(control) = &mut self.control {

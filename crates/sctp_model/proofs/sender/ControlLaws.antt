@@ -2,7 +2,7 @@
 use Rattle.std.proofs.Common.{◌≡◌, ℕ, ◌+◌, ◌-◌, ◌*◌, ◌<◌, Bool, true, false, nat_lt, nat_le, min, max, List, [], ◌∷◌, Option, None, Some, refl, sym, subst, arith, if◌then◌else◌}
 use Rattle.std.specs.Prelude.{◌||◌, ◌==◌, option_map}
 use Rattle.std.proofs.lemmas.Bool.Decides.{nat_tests}
-use Rattle.sctp_model.specs.numbers.Limits.{BURST, FIRST_WINDOW}
+use Rattle.sctp_model.specs.numbers.Limits.{BURST, FIRST_WINDOW, GREATEST_WINDOW}
 use Rattle.sctp_model.specs.messages.Format.{Format}
 use Rattle.sctp_model.specs.sender.SenderView.{SenderView}
 use Rattle.sctp_model.specs.sender.Words.{when}
@@ -57,9 +57,9 @@ grown_is flight bytes k h = go (nat_le k.cwnd k.ssthresh)
     slowly true = h
     slowly false = widened_is (min bytes k.size) k h
 
-    later : (b : Bool) → IsControl (if b then record k { acked = min (k.acked + bytes) k.cwnd } else widened k.size (record k { acked = k.acked + bytes - k.cwnd }))
+    later : (b : Bool) → IsControl (if b then record k { acked = min (k.acked + bytes) k.cwnd } else widened k.size (record k { acked = min (k.acked + bytes - k.cwnd) GREATEST_WINDOW }))
     later true = record { size = h.size; cwnd = h.cwnd; burst = h.burst }
-    later false = widened_is k.size (record k { acked = k.acked + bytes - k.cwnd }) (record { size = h.size; cwnd = h.cwnd; burst = h.burst })
+    later false = widened_is k.size (record k { acked = min (k.acked + bytes - k.cwnd) GREATEST_WINDOW }) (record { size = h.size; cwnd = h.cwnd; burst = h.burst })
 
     go : (b : Bool) → IsControl (if b then started_slowly flight bytes k else avoided flight bytes k)
     go true = slowly (nat_lt flight k.cwnd)
@@ -71,7 +71,7 @@ recovering_is k h = record { size = h.size; cwnd = let some = h.size in omega (a
 bursting_is : (flight bytes : ℕ) (k : Control) → IsControl k → IsControl (bursting flight bytes k)
 bursting_is flight bytes k h = record { size = h.size; cwnd = h.cwnd; burst = go (bytes == 0) }
   where
-    go : (b : Bool) → 0 < (if b then k.burst else flight + BURST * k.size)
+    go : (b : Bool) → 0 < (if b then k.burst else min (flight + BURST * k.size) GREATEST_WINDOW)
     go true = h.burst
     go false = let some = h.size in omega (arith, some)
 

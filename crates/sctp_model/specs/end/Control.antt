@@ -12,7 +12,8 @@ use Rattle.sctp_model.specs.sender.Filling.{Wish, room_of, fill}
 pub record Control : Type 0 where
   -- the space that a packet has for chunks: what its common header leaves (PMDCS)
   pub size : ℕ
-  -- the congestion window; up to `ssthresh` it grows by slow start, above it by congestion avoidance, for which `acked` counts (partial_bytes_acked)
+  -- the congestion window; up to `ssthresh` it grows by slow start, above it by congestion avoidance, for which `acked` counts (partial_bytes_acked);
+  -- none of these, nor `burst`, grows past GREATEST_WINDOW
   pub cwnd : ℕ
   pub ssthresh : ℕ
   pub acked : ℕ
@@ -58,7 +59,7 @@ started_slowly flight bytes k = if nat_lt flight k.cwnd then k else widened (min
 abbrev pub avoided : (flight bytes : ℕ) → Control → Control
 avoided flight bytes k =
     if nat_lt flight k.cwnd || nat_lt (k.acked + bytes) k.cwnd then record k { acked = min (k.acked + bytes) k.cwnd }
-    else widened k.size (record k { acked = k.acked + bytes - k.cwnd })
+    else widened k.size (record k { acked = min (k.acked + bytes - k.cwnd) GREATEST_WINDOW })
 
 -- the one up to ssthresh, the other above it
 abbrev pub grown : (flight bytes : ℕ) → Control → Control
@@ -83,7 +84,7 @@ control_expired k = let x = lessened k in record x { cwnd = x.size; burst = 1; r
 -- With this much in flight, Max.Burst packets may be sent (6.1, rule D). An acknowledgement of nothing new leaves the limit as it is: after an expiry only one packet is in flight
 -- until something is acknowledged (7.2.1). partial_bytes_acked is 0 if nothing is in flight (7.2.2).
 abbrev pub bursting : (flight bytes : ℕ) → Control → Control
-bursting flight bytes k = record k { burst = if bytes == 0 then k.burst else flight + BURST * k.size; acked = if flight == 0 then 0 else k.acked }
+bursting flight bytes k = record k { burst = if bytes == 0 then k.burst else min (flight + BURST * k.size) GREATEST_WINDOW; acked = if flight == 0 then 0 else k.acked }
 
 -- All that an acknowledgement does: `flight` bytes were in flight before it, `left` are after it; `bytes` it newly acknowledges; `lost`: Fast Recovery begins. `grows`: it moved CUM
 -- outside Fast Recovery, which is when acknowledged bytes are counted (7.2.1 and 7.2.2 count them also if CUM stays, outside Fast Recovery: here the window grows more slowly then).
