@@ -72,7 +72,7 @@ enum sctp_endpoint_result {
     SCTP_EP_NEEDS_ROOM = 10,    /* the buffer is too small: the length says how many bytes it must have. Nothing is lost */
     SCTP_EP_MISUSE = 11,        /* the handle is empty; a call that makes an endpoint: it isn't empty */
     SCTP_EP_BAD_DRAW = 12,      /* a tag is 0 */
-    SCTP_EP_BAD_RESERVED = 13,  /* a reserved number isn't 0 */
+    SCTP_EP_BAD_RESERVED = 13,  /* a reserved number isn't 0, or a flag has no meaning */
     /* the first thing wrong with a configuration, in this order */
     SCTP_EP_BAD_PORT = 21,
     SCTP_EP_BAD_PACKET_LIMIT = 22,
@@ -93,6 +93,13 @@ struct sctp_endpoint {
 };
 #define SCTP_ENDPOINT_INIT { 0, NULL }
 
+/* What a configuration also asks for, as a sum. */
+enum sctp_endpoint_flag {
+    SCTP_EP_FAST_RETRANSMIT = 1,   /* three miss indications mark a TSN for retransmission without its timer, and the RTO is computed from measured
+                                    * round trips (RFC 9260, 7.2.4 and 6.3.1). Alone it limits nothing that is sent, and isn't for the Internet */
+    SCTP_EP_CONGESTION_CONTROL = 2 /* a congestion window limits the bytes in flight (RFC 9260, 7.2). It brings fast retransmission */
+};
+
 struct sctp_endpoint_config {
     uint16_t own_port, peer_port; /* of SCTP, not of UDP; not 0 */
     uint16_t packet_limit;        /* bytes of the longest packet that is sent, common header included: 576 to 1,500 */
@@ -103,7 +110,9 @@ struct sctp_endpoint_config {
     bool partial;                 /* offer partial reliability (RFC 3758): messages can be abandoned after they were sent */
     bool delay;                   /* delay SACKs: for a second packet, 200 ms at most (RFC 9260, 6.2) */
     bool standard_closing;        /* close by the timers of RFC 9260, 9.2: a peer that never stops sending can delay closing without limit */
-    uint32_t reserved[4];         /* 0 */
+    uint32_t flags;               /* enum sctp_endpoint_flag, a sum: 0 to 3; others are refused as BAD_RESERVED */
+    uint32_t rto_min;             /* milliseconds, the least RTO that is computed from round trips (RFC 9260, 6.3.1); 0 for 1,000 */
+    uint32_t reserved[2];         /* 0 */
 };
 
 /* Packets of 1,280 bytes and less below UDP and IPv6, 64 streams each way, a receive buffer of 4 MiB, both extensions. The buffer is a limit:
@@ -118,7 +127,7 @@ struct sctp_endpoint_config {
  * many bytes there is always space for what is missing of each message in part, as long as the user takes what is complete. Here: 64 x 65,536
  * = 4 MiB. Under DATA (no interleave) one message at a time is in part, so the longest message is enough. */
 #define SCTP_ENDPOINT_CONFIG(own_port, peer_port) \
-    { (uint16_t)(own_port), (uint16_t)(peer_port), 1232, 1200, 4194304, 64, 64, true, true, false, true, { 0, 0, 0, 0 } }
+    { (uint16_t)(own_port), (uint16_t)(peer_port), 1232, 1200, 4194304, 64, 64, true, true, false, true, 0, 0, { 0, 0 } }
 
 /* Two random values from a secure source, new ones for each call. Who can guess them can inject packets (RFC 9260, 5.3.1). */
 struct sctp_endpoint_draw {
@@ -207,6 +216,13 @@ uint32_t sctp_endpoint_on_moment(struct sctp_endpoint *handle, uint64_t now);
  * MISUSE; NO_MEMORY; NOT_OPEN, then NO_SUCH_STREAM, EMPTY, TOO_LONG, QUEUE_FULL, SPENT. */
 uint32_t sctp_endpoint_send(struct sctp_endpoint *handle, uint16_t stream, bool ordered, uint32_t payload_id, const uint8_t *bytes, size_t length,
                             uint64_t until, uint64_t *ticket);
+
+/* The same with a limit of retransmissions (RFC 7496, 3.1): the message is abandoned as soon as a fragment of it, which was retransmitted
+ * max_retransmits times already, would be retransmitted once more. With 0 no fragment is retransmitted. A limit counts only if both endpoints
+ * use partial reliability, as a lifetime does; the message is reliable without. */
+uint32_t sctp_endpoint_send_with_max_retransmits(struct sctp_endpoint *handle, uint16_t stream, bool ordered, uint32_t payload_id,
+                                                 const uint8_t *bytes, size_t length, uint64_t until, uint16_t max_retransmits,
+                                                 uint64_t *ticket);
 
 struct sctp_endpoint_message {
     size_t length;        /* of the whole message */
@@ -306,6 +322,26 @@ struct sctp_endpoint_status {
 
 /* Returns the status. MISUSE. */
 uint32_t sctp_endpoint_status(struct sctp_endpoint *handle, struct sctp_endpoint_status *status);
+
+/* Which numbers of a path are there, as a sum. Those that aren't are 0. */
+enum sctp_endpoint_path_flag {
+    SCTP_EP_PATH_RTO = 1,   /* rto: once there is an association, with fast retransmission */
+    SCTP_EP_PATH_TRIP = 2,  /* srtt and rttvar: once a round trip was measured */
+    SCTP_EP_PATH_WINDOW = 4 /* cwnd and ssthresh: once there is an association, with congestion control */
+};
+
+struct sctp_endpoint_path {
+    uint64_t in_flight;    /* bytes of user data: sent, and neither acknowledged, abandoned nor marked for retransmission */
+    uint64_t rto;          /* milliseconds: the RTO of the data timer at its next start */
+    uint32_t srtt, rttvar; /* milliseconds: the smoothed round-trip time and its variation (RFC 9260, 6.3.1), rounded down */
+    uint32_t cwnd;         /* bytes: the congestion window (RFC 9260, 7.2) */
+    uint32_t ssthresh;     /* bytes: the slow-start threshold */
+    uint32_t flags;        /* enum sctp_endpoint_path_flag, a sum */
+    uint32_t reserved;     /* 0 */
+};
+
+/* Returns what the endpoint knows of the path to its peer. MISUSE. */
+uint32_t sctp_endpoint_path(struct sctp_endpoint *handle, struct sctp_endpoint_path *path);
 
 /* ---- what a packet says, without an endpoint */
 

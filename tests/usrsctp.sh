@@ -5,7 +5,12 @@
 #   tests/usrsctp.sh                 five seeds of (1), 10 percent lost, and (2): some twenty seconds
 #   tests/usrsctp.sh --model 7 8     the Python model in place of sctp-end; these seeds
 #   tests/usrsctp.sh --lost 5 --buffer 65536    5 percent lost; so large a receive buffer of usrsctp's, 262,144 bytes else
-# Status 0: with standard-closing all completed, no message was lost, and the middle run of (1) closed within 15 s. 1: not so, and the last line
+#   tests/usrsctp.sh --figures fast-retransmit rto-min 100    1,000 messages without a limit of the rate and over 10 Mbit/s, with these words
+#                                    of sctp-end or none: how long they take, beside usrsctp and what is wanted (figures.py): some minutes
+#   tests/usrsctp.sh --shares congestion-control    two associations through one queue, 120 s (shares.py): some ten minutes
+#   tests/usrsctp.sh --figures --model, --program PATH    the model, or this program, in place of sctp-end
+# Without libusrsctp the last three have the model as the receiver. Status of these: 0 if all is as wanted, 1 if not, 3 as below. Of the closings:
+# 0: with standard-closing all completed, no message was lost, and the middle run of (1) closed within 15 s. 1: not so, and the last line
 # says what. 2: libusrsctp isn't installed (Debian: libusrsctp-dev), and one line says so. 3: sctp-end isn't built, or something failed.
 # It needs a C compiler and Python.
 
@@ -16,13 +21,22 @@ trap 'exit 130' HUP INT TERM
 command -v cc >"$room/said" || { echo 'tests/usrsctp.sh: there is no C compiler, cc' >&2; exit 3; }
 echo '#include <usrsctp.h>' >"$room/look.c"
 echo 'int main(void) { return usrsctp_finish(); }' >>"$room/look.c"
-if ! cc -o "$room/look" "$room/look.c" -lusrsctp 2>"$room/said"; then
+script=exchanges.py
+case ${1-} in
+--figures | --shares) script=${1#--}.py; shift ;;
+esac
+peer=$room/peer
+if cc -o "$room/look" "$room/look.c" -lusrsctp 2>"$room/said"; then
+    cc -std=gnu11 -O2 -Wall -Wextra -o "$peer" "$root/tests/usrsctp/peer.c" -lusrsctp || exit 3
+elif [ $script = exchanges.py ]; then
     echo "libusrsctp isn't installed: nothing was run"
     exit 2
+else
+    echo "libusrsctp isn't installed: the model receives"
+    peer=-
 fi
-cc -std=gnu11 -O2 -Wall -Wextra -o "$room/peer" "$root/tests/usrsctp/peer.c" -lusrsctp || exit 3
 case " $* " in
-*' --model '*) ;;
+*' --model '* | *' --program '*) ;;
 *) "$root/sctp-end" caller 1500 1400 65536 1 data 5000 5001 </dev/null || exit 3 ;;
 esac
-python3 -B "$root/tests/usrsctp/exchanges.py" "$room/peer" "$@"
+python3 -B "$root/tests/usrsctp/$script" "$peer" "$@"

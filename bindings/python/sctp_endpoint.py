@@ -127,7 +127,9 @@ class Config(Structure):
         ("partial", c_bool),
         ("delay", c_bool),
         ("standard_closing", c_bool),
-        ("_reserved", c_uint32 * 4),
+        ("flags", c_uint32),
+        ("rto_min", c_uint32),
+        ("_reserved", c_uint32 * 2),
     ]
 
     def __init__(
@@ -144,6 +146,9 @@ class Config(Structure):
         partial: bool = True,
         delay: bool = False,
         standard_closing: bool = True,
+        fast_retransmit: bool = False,
+        congestion_control: bool = False,
+        rto_min: int = 1000,
     ):
         super().__init__()
         self.own_port, self.peer_port = own_port, peer_port
@@ -151,6 +156,7 @@ class Config(Structure):
         self.outbound, self.inbound = outbound, inbound
         self.interleave, self.partial = interleave, partial
         self.delay, self.standard_closing = delay, standard_closing
+        self.flags, self.rto_min = bool(fast_retransmit) + 2 * bool(congestion_control), rto_min
 
     def __setattr__(self, name: str, value) -> None:
         kind = dict(self._fields_).get(name)
@@ -215,6 +221,19 @@ class _Status(Structure):
     ]
 
 
+class _Path(Structure):
+    _fields_ = [
+        ("in_flight", c_uint64),
+        ("rto", c_uint64),
+        ("srtt", c_uint32),
+        ("rttvar", c_uint32),
+        ("cwnd", c_uint32),
+        ("ssthresh", c_uint32),
+        ("flags", c_uint32),
+        ("_reserved", c_uint32),
+    ]
+
+
 class Verdict(NamedTuple):
     """`answer` is to be sent at once, to the address the packet was received from. A packet with a `reason` was ignored.
     With neither the packet was processed: its tag was right, so the address it was received from is the peer's."""
@@ -253,6 +272,18 @@ class Status(NamedTuple):
     partial: bool
 
 
+class Path(NamedTuple):
+    """Bytes and milliseconds. `rto` is None before an association and without fast retransmission, `srtt` and `rttvar` before the first
+    measurement, `cwnd` and `ssthresh` without congestion control."""
+
+    in_flight: int
+    rto: Optional[int]
+    srtt: Optional[int]
+    rttvar: Optional[int]
+    cwnd: Optional[int]
+    ssthresh: Optional[int]
+
+
 class PacketHeader(NamedTuple):
     """The ports and the verification tag of a packet: the tag is that of the endpoint which the packet is for, 0 with an INIT."""
 
@@ -279,6 +310,7 @@ _calls = {
     "poll_transmit": (_end, c_uint64, _bytes, c_size_t, _u64s, c_size_t, POINTER(_Sent)),
     "on_moment": (_end, c_uint64),
     "send": (_end, c_uint16, c_bool, c_uint32, c_char_p, c_size_t, c_uint64, POINTER(c_uint64)),
+    "send_with_max_retransmits": (_end, c_uint16, c_bool, c_uint32, c_char_p, c_size_t, c_uint64, c_uint16, POINTER(c_uint64)),
     "readable": (_end, c_uint16, POINTER(c_uint16)),
     "peek": (_end, c_uint16, POINTER(_Message)),
     "take": (_end, c_uint16, POINTER(_Message), _bytes, c_size_t),
@@ -288,6 +320,7 @@ _calls = {
     "shutdown": (_end,),
     "abort": (_end, c_char_p, c_size_t, _bytes, c_size_t, POINTER(c_size_t)),
     "status": (_end, POINTER(_Status)),
+    "path": (_end, POINTER(_Path)),
     "abi": (),
     "version": (c_char_p, c_size_t),
     "name": (c_uint32, c_char_p, c_size_t),
@@ -406,13 +439,19 @@ class Endpoint:
         of the status says, and at the earliest `until` of the messages sent. A time far in the future can't be taken back."""
         self._do("on_moment", _number(now, 64, "now"))
 
-    def send(self, stream: int, data: bytes, ordered: bool = True, payload_id: int = 0, until: Optional[int] = None) -> int:
+    def send(self, stream: int, data: bytes, ordered: bool = True, payload_id: int = 0, until: Optional[int] = None,
+             max_retransmits: Optional[int] = None) -> int:
         """Queues a message, and returns its ticket. `until` is the time at which its lifetime is over and it is abandoned, by the next
-        `on_moment`: lifetimes aren't part of `next_moment`."""
+        `on_moment`: lifetimes aren't part of `next_moment`. With `max_retransmits` it is abandoned as soon as a fragment of it, which was
+        retransmitted so many times already, would be retransmitted once more. Both count only if both endpoints use partial reliability."""
         ticket, data = c_uint64(), _data(data, "data")
         until = _NEVER if until is None else _number(until, 64, "until")
         stream, payload_id = _number(stream, 16, "stream"), _number(payload_id, 32, "payload_id")
-        self._do("send", stream, bool(ordered), payload_id, data, len(data), until, byref(ticket))
+        message = stream, bool(ordered), payload_id, data, len(data), until
+        if max_retransmits is None:
+            self._do("send", *message, byref(ticket))
+        else:
+            self._do("send_with_max_retransmits", *message, _number(max_retransmits, 16, "max_retransmits"), byref(ticket))
         return ticket.value
 
     def readable(self, start: int = 0) -> Optional[int]:
@@ -480,4 +519,18 @@ class Endpoint:
             told.inbound,
             told.interleaved,
             told.partial,
+        )
+
+    def path(self) -> Path:
+        """What it knows of the path to its peer: bytes in flight, RTO, round trips, congestion window."""
+        told = _Path()
+        self._do("path", byref(told))
+        rto, trip, window = (bool(told.flags & flag) for flag in (1, 2, 4))
+        return Path(
+            told.in_flight,
+            told.rto if rto else None,
+            told.srtt if trip else None,
+            told.rttvar if trip else None,
+            told.cwnd if window else None,
+            told.ssthresh if window else None,
         )

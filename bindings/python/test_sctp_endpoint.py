@@ -91,6 +91,7 @@ class Talk(unittest.TestCase):
         caller, listener = opened()
         for call, arguments in (
             (caller.send, (65536, b"x")),
+            (caller.send, (0, b"x", True, 0, None, 65536)),
             (caller.on_moment, (-1,)),
             (caller.on_moment, (2**64,)),
             (caller.readable, (65536,)),
@@ -138,6 +139,18 @@ class Talk(unittest.TestCase):
         b.send(0, b"Ho")
         exchange(a, b, 60)
         self.assertEqual(a.take(0).bytes, b"Ho")
+
+    def test_a_message_is_abandoned_at_its_limit_of_retransmissions(self):
+        caller, listener = opened()
+        self.assertEqual([caller.send(0, b"Hi", max_retransmits=0), caller.send(0, b"Ho", max_retransmits=1)], [1, 2])
+        while caller.poll_transmit(10) is not None:
+            pass  # lost
+        caller.on_moment(5000)
+        self.assertEqual([caller.abandoned(ticket) for ticket in (1, 2)], [True, False])
+        exchange(caller, listener, 5000)
+        self.assertEqual(listener.take(0).bytes, b"Ho")
+        self.assertIsNone(listener.take(0))
+        self.refused(Result.NO_SUCH_STREAM, caller.send, 64, b"x", True, 0, None, 0)
 
 
 if __name__ == "__main__":

@@ -22,6 +22,7 @@ int main(void) {
     uint8_t room[SCTP_EP_LONGEST_PACKET], text[8] = "message";
     uint64_t tickets[SCTP_EP_MOST_TICKETS], ticket = 0;
     IN_BYTES(sctp_endpoint_status) status;
+    IN_BYTES(sctp_endpoint_path) path;
     IN_BYTES(sctp_endpoint_message) message;
     IN_BYTES(sctp_endpoint_sent) sent;
     IN_BYTES(sctp_endpoint_verdict) verdict;
@@ -47,6 +48,7 @@ int main(void) {
     HOLDS(sctp_endpoint_status(&a, &status.it) == SCTP_EP_MISUSE);
     HOLDS(sctp_endpoint_connect(&a, 0, &own) == SCTP_EP_MISUSE && sctp_endpoint_shutdown(&a) == SCTP_EP_MISUSE);
     HOLDS(sctp_endpoint_send(&a, 0, true, 0, text, 7, SCTP_EP_NEVER, &ticket) == SCTP_EP_MISUSE);
+    HOLDS(sctp_endpoint_send_with_max_retransmits(&a, 0, true, 0, text, 7, SCTP_EP_NEVER, 0, &ticket) == SCTP_EP_MISUSE);
     HOLDS(sctp_endpoint_on_moment(&a, 0) == SCTP_EP_MISUSE && sctp_endpoint_abandon(&a, 1, &fate) == SCTP_EP_MISUSE);
     HOLDS(sctp_endpoint_acknowledged(&a, 1, &is) == SCTP_EP_MISUSE && sctp_endpoint_abandoned(&a, 1, &is) == SCTP_EP_MISUSE);
     HOLDS(sctp_endpoint_abort(&a, text, 7, room, sizeof room, &length) == SCTP_EP_MISUSE);
@@ -60,7 +62,8 @@ int main(void) {
     wrong = config; wrong.buffer = 65535; HOLDS(sctp_endpoint_caller(&a, &wrong) == SCTP_EP_BAD_BUFFER);
     wrong = config; wrong.outbound = 0; HOLDS(sctp_endpoint_caller(&a, &wrong) == SCTP_EP_BAD_STREAMS);
     wrong = config; wrong.inbound = 1025; HOLDS(sctp_endpoint_caller(&a, &wrong) == SCTP_EP_BAD_STREAMS);
-    for (int i = 0; i < 4; i++) { wrong = config; wrong.reserved[i] = 1u << 31; HOLDS(sctp_endpoint_caller(&a, &wrong) == SCTP_EP_BAD_RESERVED); }
+    wrong = config; wrong.flags = 4; HOLDS(sctp_endpoint_caller(&a, &wrong) == SCTP_EP_BAD_RESERVED);
+    for (int i = 0; i < 2; i++) { wrong = config; wrong.reserved[i] = 1u << 31; HOLDS(sctp_endpoint_caller(&a, &wrong) == SCTP_EP_BAD_RESERVED); }
     for (int i = 0; i < 4; i++) { key.reserved[i] = 1; HOLDS(sctp_endpoint_listener(&a, &config, &key) == SCTP_EP_BAD_RESERVED); key.reserved[i] = 0; }
     HOLDS(sctp_endpoint_opened(&a, &config, &none, &peer) == SCTP_EP_BAD_DRAW && sctp_endpoint_opened(&a, &config, &own, &none) == SCTP_EP_BAD_DRAW);
     later.reserved = 1;
@@ -77,9 +80,10 @@ int main(void) {
     HOLDS(sctp_endpoint_connect(&a, 0, &later) == SCTP_EP_BAD_RESERVED);
     HOLDS(sctp_endpoint_send(&a, 64, true, 0, text, 7, SCTP_EP_NEVER, &ticket) == SCTP_EP_NO_SUCH_STREAM);
     HOLDS(sctp_endpoint_send(&a, 0, true, 0, text, 0, SCTP_EP_NEVER, &ticket) == SCTP_EP_EMPTY && ticket == 0);
+    HOLDS(sctp_endpoint_send_with_max_retransmits(&a, 0, true, 0, text, 0, SCTP_EP_NEVER, 1, &ticket) == SCTP_EP_EMPTY && ticket == 0);
     HOLDS(sctp_endpoint_send(&a, 0, true, 0, NULL, 0, SCTP_EP_NEVER, &ticket) == SCTP_EP_EMPTY && ticket == 0);
     HOLDS(sctp_endpoint_send(&a, 3, false, 51, text, 7, SCTP_EP_NEVER, &ticket) == SCTP_EP_OK && ticket == 1);
-    HOLDS(sctp_endpoint_send(&a, 4, true, 52, text, 6, SCTP_EP_NEVER, &ticket) == SCTP_EP_OK && ticket == 2);
+    HOLDS(sctp_endpoint_send_with_max_retransmits(&a, 4, true, 52, text, 6, SCTP_EP_NEVER, 65535, &ticket) == SCTP_EP_OK && ticket == 2);
 
     memset(&status, BEFORE, sizeof status);
     HOLDS(sctp_endpoint_status(&a, &status.it) == SCTP_EP_OK && status.it.queued == 2 && status.it.queued_bytes == 13 && status.it.peer_window == 4194304);
@@ -119,6 +123,10 @@ int main(void) {
     HOLDS(status.it.tickets == 0 && status.it.outstanding == 0 && status.it.next_moment == SCTP_EP_NEVER && status.it.reserved[0] == 0);
     HOLDS(is_kept(status.bytes, sizeof status.it, sizeof status.bytes));
     HOLDS(sctp_endpoint_status(&a, &status.it) == SCTP_EP_OK && status.it.outstanding == 2 && status.it.tickets == 2 && status.it.next_moment == 1000);
+    memset(&path, BEFORE, sizeof path);
+    HOLDS(sctp_endpoint_path(&a, &path.it) == SCTP_EP_OK && path.it.in_flight == 13 && path.it.flags == 0 && path.it.rto == 0 && path.it.srtt == 0);
+    HOLDS(path.it.rttvar == 0 && path.it.cwnd == 0 && path.it.ssthresh == 0 && path.it.reserved == 0 && is_kept(path.bytes, sizeof path.it, sizeof path.bytes));
+    HOLDS(sctp_endpoint_path(&b, &path.it) == SCTP_EP_OK && path.it.in_flight == 0);
     memset(&message, BEFORE, sizeof message);
     HOLDS(sctp_endpoint_readable(&b, 0, &stream) == SCTP_EP_OK && stream == 3 && sctp_endpoint_readable(&b, 4, &stream) == SCTP_EP_OK && stream == 4);
     HOLDS(sctp_endpoint_readable(&b, 5, &stream) == SCTP_EP_NOTHING && sctp_endpoint_readable(&other, 0, &stream) == SCTP_EP_MISUSE && stream == 4);

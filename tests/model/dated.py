@@ -45,8 +45,8 @@ class DatedPair(model.Pair):
             self.ages.append(self.ages_of(x)[n - 1])
         return super().deliver(x, n)
 
-    def send(self, x, stream, kind, payload_id, limit, data):
-        outcome = super().send(x, stream, kind, payload_id, limit, data)
+    def send(self, x, stream, kind, payload_id, limits, data):
+        outcome = super().send(x, stream, kind, payload_id, limits, data)
         if outcome.startswith('ticket'):
             self.promises.of[x].accept(int(outcome.split(' ')[2]), stream, kind == 'o', payload_id, data)
         return outcome

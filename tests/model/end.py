@@ -2,14 +2,15 @@
 """A model of `sctp-end`: one end, its user's calls and the packets that come, line by line.
 
 end.py caller LIMIT FRAGMENT BUFFER STREAMS MODE PORT PEER < LINES, or listener .. KEY, prints the
-answers; behind MODE may stand `delay`, and then `standard-closing`. Status 1 for words that are no form.
+answers; behind MODE may stand `delay`, `standard-closing`, `fast-retransmit`, `congestion-control` and `rto-min MS`, in
+this order. Status 1 for words that are no form.
 """
 
 import sys
 
 from endpoint import Config, Endpoint
 from model import (BAD_VALUE, KIND, LINE_LIMIT, MODE, MODES, N16, N32, N64, TOO_LONG, UNKNOWN_COMMAND, WORD_COUNT,
-                   LineFault, hex_bytes, in_range, tag, until)
+                   LineFault, hex_bytes, in_range, tag, until_limited)
 from printing import hex_text
 
 COMMANDS = {
@@ -18,7 +19,7 @@ COMMANDS = {
     b'at': (N64,),
     b'packet': (hex_bytes,),
     b'build': (),
-    b'send': (N16, KIND, N32, until, hex_bytes),
+    b'send': (N16, KIND, N32, until_limited, hex_bytes),
     b'abandon': (N64,),
     b'acknowledged': (N64,),
     b'abandoned': (N64,),
@@ -30,6 +31,8 @@ COMMANDS = {
     b'held': (),
     b'reassembly': (),
     b'status': (),
+    b'path': (),
+    b'counts': (),
 }
 
 
@@ -49,7 +52,8 @@ def key(word):
 
 SETTINGS = (N32, N32, N32, N32, MODE, port, port)
 ROLES = {b'caller': SETTINGS, b'listener': SETTINGS + (key,)}
-OPTIONS = (b'delay', b'standard-closing')      # behind MODE, in this order
+OPTIONS = (b'delay', b'standard-closing', b'fast-retransmit', b'congestion-control')      # behind MODE, in this order
+RTO_MIN = b'rto-min'                                                                       # and then this one with a word
 
 
 def end_of(words):
@@ -59,11 +63,14 @@ def end_of(words):
     for option in OPTIONS:
         options.append(words[5:6] == [option])
         del words[5:5 + options[-1]]
+    rto_min = words[6:7] if words[5:6] == [RTO_MIN] else []
+    del words[5:5 + 2 * len(rto_min)]
     if len(words) != len(ROLES.get(role, ())) or not words:
         return None
     try:
         limit, fragment, buffer, streams, mode, own_port, peer_port, *keys = [
             read(word) for read, word in zip(ROLES[role], words)]
+        options += [N32(word) for word in rto_min]
     except LineFault:
         return None
     if not in_range(limit, fragment, buffer, streams):
@@ -84,6 +91,22 @@ def status_of(endpoint):
     readable = min((message.stream for message in receiver.waiting), default='-')
     return ' '.join(map(str, words + [sender.streams, receiver.streams, formats.decode(), sender.outstanding(),
                                       len(queued), sum(queued), receiver.held, sender.rwnd, readable]))
+
+
+def path_of(endpoint):
+    """The bytes in flight; SRTT, RTTVAR and the RTO in milliseconds; the congestion window and its threshold in bytes."""
+    words, pace = ['path', 0 if endpoint.sender is None else endpoint.sender.in_flight()] + ['-'] * 5, endpoint.pace
+    if pace is not None:
+        words[4] = endpoint.timers['data'].wait
+        if pace.trips.eight is not None:
+            words[2:4] = pace.trips.eight // 8, pace.trips.four // 4
+        if pace.window is not None:
+            words[5:] = pace.window.cwnd, pace.window.ssthresh
+    return ' '.join(map(str, words))
+
+
+def counts_of(endpoint):
+    return ' '.join(map(str, ('counts', *endpoint.counts.line(endpoint.sender))))
 
 
 def reassembly_of(endpoint):
@@ -142,8 +165,8 @@ class Session:
         packet, _ = self.endpoint.poll_transmit(self.clock)
         return 'quiet' if packet is None else 'sent ' + hex_text(packet)
 
-    def send(self, stream, kind, payload_id, limit, data):
-        answer = self.endpoint.send(stream, kind == 'o', payload_id, data, limit)
+    def send(self, stream, kind, payload_id, limits, data):
+        answer = self.endpoint.send(stream, kind == 'o', payload_id, data, *limits)
         return 'ticket %d' % answer if answer > 0 else 'refused %d' % -answer
 
     def abandon(self, ticket):
@@ -190,6 +213,12 @@ class Session:
 
     def status(self):
         return status_of(self.endpoint)
+
+    def path(self):
+        return path_of(self.endpoint)
+
+    def counts(self):
+        return counts_of(self.endpoint)
 
 
 def main():

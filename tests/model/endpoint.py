@@ -3,6 +3,8 @@
 import struct
 
 import wire
+from counts import Counts
+from pace import FIRST_WAIT, LEAST_WAIT, LONGEST_WAIT, Before, Pace
 from receiver import BAD, NO_SUCH_STREAM, TAKEN as PIECE_TAKEN, Receiver
 from sender import STALE as STALE_SACK, UNKNOWN, Sender
 from wire import Chunk, Cookie, Fault, Forward, Opening, Packet, Piece, Sack, chunk, item, padded
@@ -20,21 +22,23 @@ FAULT, WRONG_PORTS, WRONG_TAG, WRONG_STATE, BAD_COOKIE = 1, 2, 3, 4, 5
 TAKEN = ('taken',)
 
 LAST_MOMENT = 2**64 - 1
-FIRST_WAIT, LONGEST_WAIT = 1_000, 60_000
 OPENING_REPEATS, OTHER_REPEATS = 8, 10
 SACK_DELAY = 200
 
 
 class Config:
     def __init__(self, own_port, peer_port, limit, fragment, buffer, streams, partial, interleave,
-                 delay=False, standard_closing=False):
+                 delay=False, standard_closing=False, fast_retransmit=False, congestion_control=False, rto_min=LEAST_WAIT):
         """`outbound`: the streams that it asks for; `inbound`: those that it accepts. `delay`: a SACK may
         wait (RFC 9260 section 6.2). `standard_closing`: the timers of a closing go by RFC 9260 sections
-        6.3.2, 8.1 and 9.2, not by the profile."""
+        6.3.2, 8.1 and 9.2, not by the profile. `fast_retransmit`: round trips are measured, and what three
+        SACKs missed goes again (6.3.1, 7.2.4); `congestion_control`: this too, and a window (7.2)."""
         self.own_port, self.peer_port, self.limit, self.fragment = own_port, peer_port, limit, fragment
         self.buffer, self.outbound, self.inbound = buffer, streams, streams
         self.partial, self.interleave = partial, interleave
         self.delay, self.standard_closing = delay, standard_closing
+        self.fast_retransmit = fast_retransmit or congestion_control
+        self.congestion_control, self.rto_min = congestion_control, rto_min
 
     @property
     def streams_alone(self):
@@ -71,6 +75,10 @@ class Writer:
     def room(self, size):
         return self.size + size <= self.limit
 
+    def narrow(self, room):
+        """What is put from now on has this room."""
+        self.limit = self.size + room
+
     def put(self, written):
         if not self.room(len(written)):
             return False
@@ -91,6 +99,9 @@ class Timer:
 
     def restart(self, now):
         self.expiry = min(now + self.wait, LAST_MOMENT)
+
+    def is_over(self, now):
+        return self.expiry is not None and self.expiry <= now
 
     def stop(self):
         self.expiry = None
@@ -131,6 +142,7 @@ class Endpoint:
         self.sender = self.receiver = None
         self.due = set()
         self.sack_wait = None                # when a SACK that may wait is due
+        self.pace, self.counts = None, Counts()
         self.cookie = self.heartbeat = None
         self.causes = []                     # of the ERROR that is due
         self.timers = {'init': Timer(OPENING_REPEATS), 'cookie echo': Timer(OPENING_REPEATS),
@@ -152,6 +164,8 @@ class Endpoint:
         self.partial, self.interleave = partial, interleave
         self.sender = Sender(interleave, self.own_tsn, outbound, self.config.fragment, peer_rwnd, partial)
         self.receiver = Receiver(interleave, peer_tsn, inbound, self.config.buffer)
+        if self.config.fast_retransmit:
+            self.pace = Pace(self.config.congestion_control, self.body_limit(), peer_rwnd)
 
     # ---- States ----
 
@@ -189,7 +203,7 @@ class Endpoint:
     # ---- Packets out ----
 
     def packet(self, tag, chunks):
-        return wire.packet(self.config.own_port, self.config.peer_port, tag, chunks)
+        return self.counts.goes(wire.packet(self.config.own_port, self.config.peer_port, tag, chunks))
 
     def body_limit(self):
         return self.config.limit - wire.HEADER
@@ -230,6 +244,7 @@ class Endpoint:
             self.causes = []
         elif name == 'sack':
             self.receiver.sack_sent()
+            self.counts.sacks_out += 1
             self.sack_wait = None
         elif name == 'forward':
             self.timers['data'].start(self.now)
@@ -249,10 +264,15 @@ class Endpoint:
             self.put_due(writer, ('cookie echo', 'error'))
         elif self.put_due(writer, ('cookie ack', 'heartbeat ack', 'error', 'sack', 'forward',
                                    'shutdown', 'shutdown ack')) and self.sender is not None:
-            before = len(writer.chunks)
+            before, last = len(writer.chunks), self.sender.last_sent()
+            if self.pace is not None:
+                writer.narrow(self.pace.room(writer.limit - writer.size, self.sender))
             tickets = self.sender.fill(writer)
-            if len(writer.chunks) > before:
+            has_fragments = len(writer.chunks) > before
+            if has_fragments:
                 self.timers['data'].start(self.now)
+            if self.pace is not None:
+                self.pace.sent(self.now, last, self.sender, has_fragments)
         if not writer.chunks:
             return None, []
         self.settle()
@@ -288,10 +308,10 @@ class Endpoint:
         if self.state == CLOSED:
             return
         if self.sender is not None:
-            self.abandoning(lambda: self.sender.expire(self.now))
+            self.abandoning(self.give_up)
         self.settle()
         for name, timer in self.timers.items():
-            if timer.expiry is not None and timer.expiry <= self.now:
+            if timer.is_over(self.now):
                 if not timer.expire():
                     self.close(TIMED_OUT)
                     return
@@ -301,11 +321,19 @@ class Endpoint:
             self.due.add('sack')
         self.settle()
 
+    def give_up(self):
+        """What is past its time and, where the data timer expires, what was sent again as often as may be."""
+        self.sender.expire(self.now)
+        if self.timers['data'].is_over(self.now):
+            self.sender.wear(self.sender.above_cum())
+
     def expired(self, name):
         if name != 'data':
             self.due.add(name)
             return
         self.sender.on_timeout()
+        if self.pace is not None:
+            self.pace.expired()
         self.want_forward()
 
     def want_forward(self):
@@ -313,9 +341,10 @@ class Endpoint:
             self.due.add('forward')
 
     def abandoning(self, act):
-        """A FORWARD is due where the point moved (RFC 3758 section 3.5)."""
-        point = self.sender.point()
+        """A FORWARD is due where the point moved (RFC 3758 section 3.5). What one act abandons is reported by rising ticket."""
+        point, order = self.sender.point(), len(self.sender.abandon_order)
         answer = act()
+        self.sender.abandon_order[order:] = sorted(self.sender.abandon_order[order:])
         if self.sender.point() != point:
             self.want_forward()
         return answer
@@ -335,10 +364,10 @@ class Endpoint:
         self.enter(COOKIE_WAIT)
         return True
 
-    def send(self, stream, ordered, payload_id, data, until):
+    def send(self, stream, ordered, payload_id, data, until, limit=None):
         if self.state != ESTABLISHED:
             return -7
-        return self.sender.send(stream, ordered, payload_id, data, until)
+        return self.sender.send(stream, ordered, payload_id, data, until, limit)
 
     def abandon(self, ticket):
         if self.sender is None:
@@ -374,6 +403,10 @@ class Endpoint:
     def handle_packet(self, now, data, draw):
         """('taken',), ('dropped', reason) or ('answer', bytes)."""
         self.take_moment(now)
+        return self.counts.comes(data, self.heard(data, draw))
+
+    def heard(self, data, draw):
+        """What becomes of it."""
         try:
             packet = Packet(data)
         except Fault:
@@ -451,6 +484,7 @@ class Endpoint:
         self.own_tag, self.own_tsn = cookie.own_tag, cookie.own_tsn
         self.associate(cookie.peer_tag, cookie.peer_tsn, cookie.peer_rwnd, cookie.outbound, cookie.inbound,
                        bool(cookie.options & 1), bool(cookie.options & 2))
+        self.measured(min(max(self.now - cookie.made, 0), LONGEST_WAIT), FIRST_WAIT)
         self.state = ESTABLISHED
         self.due.add('cookie ack')
 
@@ -458,6 +492,7 @@ class Endpoint:
 
     def act(self, chunks, acted):
         self.data_acted = self.forward_acted = self.at_once = False
+        passed = self.passed()
         try:
             for found in chunks:
                 known = found.kind in wire.KNOWN
@@ -470,8 +505,19 @@ class Endpoint:
                     if self.state == CLOSED:
                         break
         finally:
+            self.wear_missed(passed)
             self.after_packet()
         return TAKEN if acted else ('dropped', WRONG_STATE)
+
+    def passed(self):
+        """Below this index each had its third miss indication."""
+        return 0 if self.pace is None else self.pace.misses.passed
+
+    def wear_missed(self, passed):
+        """The end of a packet: what its SACKs would have sent again, and may not be, is abandoned (RFC 7496 section 3.1)."""
+        if self.passed() > passed and self.state != CLOSED:
+            self.abandoning(lambda: self.sender.wear(range(passed, self.passed())))
+            self.settle()
 
     def after_packet(self):
         """A SACK for every packet with a piece or FORWARD, at once or within 200 ms, and a SHUTDOWN
@@ -502,7 +548,7 @@ class Endpoint:
         if kind == wire.COOKIE_ECHO and state in (ESTABLISHED, PENDING, SENT, RECEIVED):
             return self.cookie_again if self.key is not None else None
         if kind == wire.COOKIE_ACK and state == COOKIE_ECHOED:
-            return lambda found: self.enter(ESTABLISHED)
+            return self.cookie_acked
         if kind in (wire.DATA, wire.I_DATA) and state in (ESTABLISHED, PENDING, SENT):
             return self.piece
         if kind in (wire.FORWARD_TSN, wire.I_FORWARD_TSN) and state in (ESTABLISHED, PENDING, SENT):
@@ -576,6 +622,36 @@ class Endpoint:
             raise PacketEnds('dropped', BAD_COOKIE)
         self.due.add('cookie ack')
 
+    def cookie_acked(self, _):
+        """Section 5.1. A COOKIE ECHO that went out once measures a round trip (6.3.1, C5)."""
+        timer = self.timers['cookie echo']
+        is_timed = timer.count == 0 and timer.expiry is not None
+        self.measured(min(self.now - (timer.expiry - FIRST_WAIT), LONGEST_WAIT) if is_timed else None, timer.wait)
+        self.enter(ESTABLISHED)
+
+    def measured(self, trip, wait):
+        """The first round trip is the handshake's; where it has none the RTO is the one that its timer had then (6.3.3, E2)."""
+        if self.pace is not None:
+            if trip is not None:
+                self.pace.trips.measure(trip)
+                wait = self.pace.trips.rto(self.config.rto_min)
+            self.timers['data'].wait = wait
+
+    def before(self):
+        """The sender before an acknowledgement; an end without a pace doesn't ask."""
+        return None if self.pace is None else Before(self.sender)
+
+    def acknowledged(self, before):
+        """What an end with a pace does with an acknowledgement that its sender took (6.3.1; 6.3.2, R3 and R4; 7.2)."""
+        if self.pace is None:
+            return
+        computes, starts_anew = self.pace.heard(self.now, before, self.sender)
+        timer = self.timers['data']
+        if computes:
+            timer.wait = self.pace.trips.rto(self.config.rto_min)
+        if starts_anew if timer.expiry is not None else self.sender.in_flight() > 0:
+            timer.restart(self.now)
+
     def piece(self, found):
         piece = Piece(found)
         if not piece.data:
@@ -599,7 +675,8 @@ class Endpoint:
 
     def sack(self, found):
         """Sections 6.2.1 and 6.3.2."""
-        cum = self.sender.cum
+        self.counts.sacks_in += 1
+        cum, before = self.sender.cum, self.before()
         refusal = self.sender.on_sack(Sack(found))
         if refusal == STALE_SACK:
             return
@@ -613,6 +690,7 @@ class Endpoint:
             timer.wait = FIRST_WAIT
             if timer.expiry is not None:
                 timer.restart(self.now)
+        self.acknowledged(before)
         self.want_forward()
 
     def heartbeat_came(self, found):
@@ -630,7 +708,7 @@ class Endpoint:
     def shutdown_came(self, found):
         """Section 9.2. With the RFC's timers a cumulative TSN that moves counts as that of a SACK (6.3.2, 8.1)."""
         if self.state in (ESTABLISHED, PENDING, RECEIVED):
-            cum = self.sender.cum
+            cum, before = self.sender.cum, self.before()
             refusal = self.sender.on_shutdown(struct.unpack('>I', found.value)[0])
             if refusal not in (None, STALE_SACK):
                 self.violation()
@@ -638,6 +716,8 @@ class Endpoint:
                 if not self.sender.unsettled():
                     self.timers['data'].stop()
                 self.timers['data'].renew(self.now)
+            if refusal is None:
+                self.acknowledged(before)
             self.enter(RECEIVED)
         else:
             self.enter(ACK_SENT)

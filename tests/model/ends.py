@@ -4,7 +4,9 @@
 ends.py [--program P] N [SEED]: each script opens by packets; what comes to an end is what came to it
 in the model's run. After each line the state, the next moment, the held bytes, those in reassembly and
 the status are asked too. The ends of every third script close by the RFC's timers. In half of the scripts
-the two ends differ; with --unlike in all.
+the two ends differ; with --unlike in all. With --limited they are those of limited.py: limits of
+retransmissions; with --paced those of paced.py: fast retransmit and congestion control too, and
+the line `path` is asked; with --counts the line `counts`.
 ends.py --write FILE N [SEED] writes the lines of each end and the answers wanted, and runs nothing.
 """
 
@@ -13,9 +15,12 @@ import os
 import subprocess
 import sys
 
+import limited
 import model
+import paced
 import scripts
-from end import reassembly_of, status_of
+from end import counts_of, path_of, reassembly_of, status_of
+from pace import LEAST_WAIT
 
 HERE = os.path.dirname(os.path.abspath(__file__))
 
@@ -34,7 +39,7 @@ class Recorder:
 class RecordedPair(model.Pair):
     """A pair that notes what each end was told and what it answered."""
 
-    last, standard_closing = None, False
+    last, standard_closing, more = None, False, ()
 
     def __init__(self, limit, fragment, buffer, streams, mode, delay=None):
         super().__init__(limit, fragment, buffer, streams, mode, delay)
@@ -49,6 +54,9 @@ class RecordedPair(model.Pair):
         mode = {on: name.decode() for name, on in model.MODES.items()}[config.partial, config.interleave]
         values = [str(value) for value in (config.limit, config.fragment, config.buffer, config.outbound)] + [mode]
         values += ['delay'] * config.delay + ['standard-closing'] * config.standard_closing
+        both = config.fast_retransmit and (x == 'B' or not config.congestion_control)      # the latter sets the former
+        values += ['fast-retransmit'] * both + ['congestion-control'] * config.congestion_control
+        values += ['rto-min', str(config.rto_min)] * (config.rto_min != LEAST_WAIT)
         return {'A': ['caller', *values, '5000', '5001'], 'B': ['listener', *values, '5001', '5000', model.KEY.hex()]}[x]
 
     def note(self, x, line, answer):
@@ -60,6 +68,8 @@ class RecordedPair(model.Pair):
         self.notes[x].add('held', 'held %d' % (end.receiver.held if end.receiver else 0))
         self.notes[x].add('reassembly', 'reassembly %d' % reassembly_of(end))
         self.notes[x].add('status', status_of(end))
+        for line, answer in self.more:
+            self.notes[x].add(line, answer(end))
 
     def without_side(self, outcome):
         """An outcome line of a script without its end."""
@@ -97,9 +107,11 @@ class RecordedPair(model.Pair):
         self.note(y, 'packet ' + model.hex_text(packet), self.bytes_of(y, outcome))
         return outcome
 
-    def send(self, x, stream, kind, payload_id, limit, data):
-        outcome = super().send(x, stream, kind, payload_id, limit, data)
-        line = 'send %d %s %d %s %s' % (stream, kind, payload_id, '-' if limit is None else limit, model.hex_text(data))
+    def send(self, x, stream, kind, payload_id, limits, data):
+        outcome = super().send(x, stream, kind, payload_id, limits, data)
+        until, limit = limits
+        word = ('' if until is None else str(until)) + ('' if limit is None else 'x%d' % limit)
+        line = 'send %d %s %d %s %s' % (stream, kind, payload_id, word or '-', model.hex_text(data))
         self.note(x, line, outcome if outcome.startswith('refused') else self.without_side(outcome))
         return outcome
 
@@ -130,7 +142,7 @@ class RecordedPair(model.Pair):
         return outcome
 
 
-class OpensByPackets(scripts.Maker):
+class OneEnd:
     """A maker of scripts without `open`, which one end alone has no line for, and of ends with as many streams each way."""
 
     def streams_words(self):
@@ -144,9 +156,21 @@ class OpensByPackets(scripts.Maker):
             self.open_by_packets()
 
 
-def recorders(seed, share):
+class OpensByPackets(OneEnd, scripts.Maker):
+    """Such a random script."""
+
+
+class LimitedByPackets(OneEnd, limited.Limited):
+    """Such a script of limited.py."""
+
+
+class PacedByPackets(OneEnd, paced.Paced):
+    """Such a script of paced.py."""
+
+
+def recorders(seed, share, maker=OpensByPackets):
     """The words of each end of this random script, the lines and the answers."""
-    script, plain = OpensByPackets(seed, share).make().encode(), model.Pair
+    script, plain = maker(seed, share).make().encode(), model.Pair
     RecordedPair.last, RecordedPair.standard_closing, model.Pair = None, seed % 3 == 0, RecordedPair
     try:
         model.run(script, lambda line: None)
@@ -179,13 +203,18 @@ def main():
     parser.add_argument('--program', default=os.path.join(HERE, '..', '..', 'sctp-end'))
     parser.add_argument('--write')
     parser.add_argument('--unlike', action='store_true')
+    parser.add_argument('--limited', dest='maker', action='store_const', const=LimitedByPackets)
+    parser.add_argument('--paced', dest='maker', action='store_const', const=PacedByPackets)
+    parser.add_argument('--counts', action='store_true')
     parser.add_argument('count', type=int)
     parser.add_argument('seed', type=int, nargs='?', default=1)
     asked = parser.parse_args()
+    share, maker = 1 if asked.unlike or asked.maker else 0.5, asked.maker or OpensByPackets
+    RecordedPair.more = (('path', path_of),) * (asked.maker is PacedByPackets) + (('counts', counts_of),) * asked.counts
     count = differing = 0
     file = open(asked.write, 'w', encoding='ascii') if asked.write else None
     for seed in range(asked.seed, asked.seed + asked.count):
-        for x, words, recorder in recorders(seed, 1 if asked.unlike else 0.5):
+        for x, words, recorder in recorders(seed, share, maker):
             count += 1
             name = 'seed-%d %s' % (seed, x)
             if file is not None:

@@ -59,7 +59,16 @@ def hex_bytes(word):
 
 
 def until(word):
-    return None if word == b'-' else number(2**64 - 1)(word)
+    """A message's lifetime, and how often its fragments may be retransmitted: each None without a limit."""
+    return None if word == b'-' else number(2**64 - 1)(word), None
+
+
+def until_limited(word):
+    """The same behind a line `options` and at `sctp-end`, where `xN` or `TxN` may stand, for N retransmissions (RFC 7496)."""
+    moment, cross, limit = word.partition(b'x')
+    if not cross:
+        return until(word)
+    return number(2**64 - 1)(moment) if moment else None, N16(limit)
 
 
 SIDE = one_of(b'A', b'B')
@@ -96,7 +105,11 @@ OPTIONS = {
     b'mode': (MODE,),
     b'delay': (),
     b'standard-closing': (),
+    b'fast-retransmit': (),
+    b'congestion-control': (),
+    b'rto-min': (N32,),
 }
+PACED = (b'fast-retransmit', b'congestion-control', b'rto-min')
 
 
 def in_range(limit, fragment, buffer, *streams):
@@ -147,14 +160,16 @@ class Pair:
 
     @staticmethod
     def set_option(config, name, *words):
+        field = name.replace('-', '_')
         if name == 'streams':
             config.outbound, config.inbound = words
         elif name == 'mode':
             config.partial, config.interleave = MODES[words[0].encode()]
         elif words:
-            setattr(config, name, *words)
+            setattr(config, field, *words)
         else:
-            setattr(config, name.replace('-', '_'), True)
+            setattr(config, field, True)
+        config.fast_retransmit |= config.congestion_control
 
     # ---- One method for each command; the outcome line ----
 
@@ -207,8 +222,8 @@ class Pair:
     def foreign(self, y, packet):
         return self.arrive(y, packet)
 
-    def send(self, x, stream, kind, payload_id, limit, data):
-        answer = self.ends[x].send(stream, kind == 'o', payload_id, data, limit)
+    def send(self, x, stream, kind, payload_id, limits, data):
+        answer = self.ends[x].send(stream, kind == 'o', payload_id, data, *limits)
         return 'ticket %s %d' % (x, answer) if answer > 0 else 'refused %d' % -answer
 
     def abandon(self, x, ticket):
@@ -260,6 +275,7 @@ class Script:
     def __init__(self, write, options=True):
         self.pair, self.write, self.read, self.options = None, write, 0, options
         self.is_behind = False               # no line but `pair` and lines `options` has acted
+        self.has_options = False             # a line `options` has acted
 
     def line(self, line, size):
         """One line without its LF, and its size with it."""
@@ -272,12 +288,15 @@ class Script:
         options = split_options(words) if command == b'options' and self.is_behind else None
         if options is not None:
             self.pair.set_options(*options)
+            self.has_options = True
             return
         if command not in COMMANDS:
             raise LineFault(UNKNOWN_COMMAND)
         readers = COMMANDS[command]
         if len(words) not in (len(readers), len(readers) - (readers[-1:] == MAY_BE_LEFT_OUT)):
             raise LineFault(WORD_COUNT)
+        if self.has_options:
+            readers = [until_limited if read is until else read for read in readers]
         values = [read(word) for read, word in zip(readers, words)]
         if command == b'pair':
             pair = Pair(*values)

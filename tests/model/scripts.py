@@ -33,6 +33,7 @@ class Maker:
     fragments = (4, 5, 7, 8, 64, 100, 500, 540, 1000, 1400)
     buffers = (65536, 65537, 70000, 131072, 16777216)
     streams = (1, 1, 2, 3, 5, 32, 200, 1024)
+    names = tuple(name for name in model.OPTIONS if name not in model.PACED)
 
     def __init__(self, seed, share=0.5):
         """`share` of the scripts have lines `options`, which are chosen apart from all else."""
@@ -155,7 +156,7 @@ class Maker:
         """The words of such a line, by which these ends stay right."""
         while True:
             words = [named]
-            for name in self.random.sample(list(model.OPTIONS), self.pick((1, 1, 2, 3, 5))) * self.pick((1, 1, 1, 1, 1, 2)):
+            for name in self.random.sample(self.names, self.pick((1, 1, 2, 3, 5))) * self.pick((1, 1, 1, 1, 1, 2)):
                 words += [name.decode(), *getattr(self, name.decode().replace('-', '_') + '_words', tuple)()]
             trial = copy.copy(self.pair)
             trial.configs = {x: copy.copy(config) for x, config in trial.configs.items()}

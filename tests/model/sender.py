@@ -3,6 +3,7 @@
 Indexes count the assigned TSNs from 1; index 0 stands for nothing yet.
 """
 
+from counts import BY_TIMER, FIRST
 from wire import FLAG_B, FLAG_E, FLAG_U, WIDTHS, before, data_chunk, forward_chunk, padded
 
 MESSAGE_LIMIT = 65_536
@@ -21,9 +22,10 @@ WITHDRAWN, ABANDONED, ACKNOWLEDGED, UNKNOWN, RELIABLE = 1, 2, 3, 4, 5
 class Message:
     """A message from `queue` on: its call, and what was assigned of it."""
 
-    def __init__(self, ticket, stream, ordered, payload_id, data, until):
+    def __init__(self, ticket, stream, ordered, payload_id, data, until, limit=None):
+        """`until`: its lifetime's end; `limit`: how often a fragment of it may be retransmitted (RFC 7496 section 3.1)."""
         self.ticket, self.stream, self.ordered = ticket, stream, ordered
-        self.payload_id, self.data, self.until = payload_id, data, until
+        self.payload_id, self.data, self.until, self.limit = payload_id, data, until, limit
         self.number = None                        # ordered ones, and unordered ones under I-DATA
         self.indexes = []                         # one for each fragment assigned
         self.withdrawn = self.abandoned = self.end_mark = False
@@ -35,6 +37,7 @@ class Entry:
     def __init__(self, message, fragment, last, data):
         self.message, self.fragment, self.last, self.data = message, fragment, last, data
         self.sent = self.marked = False
+        self.repeats, self.why = 0, None          # how often it went out again; why it is marked
 
     @property
     def is_end_mark(self):
@@ -46,6 +49,7 @@ class Sender:
         self.interleave, self.initial, self.streams = interleave, initial_tsn, streams
         self.fragment, self.rwnd, self.partial = fragment, peer_rwnd, partial
         self.messages = []            # by ticket; ticket n stands at place n - 1
+        self.timed = []               # those with a lifetime
         self.queue = []               # without a number, in the order of the send calls
         self.parts = {}               # stream: the message assigned in part (RFC 8260 alone)
         self.plan = [None]            # entries by index; index 0 is nothing
@@ -55,6 +59,7 @@ class Sender:
         self.flight = 0               # data bytes in flight, kept while a packet is filled
         self.served = None            # the stream that was served last (RFC 8260 alone)
         self.abandon_order = []       # tickets in the order of abandoning
+        self.sendings = [0, 0, 0]     # of fragments: counts.FIRST, BY_TIMER, FAST
 
     # ---- Readers ----
 
@@ -104,13 +109,24 @@ class Sender:
         """The data timer is wanted (RFC 9260 section 6.3.2, RFC 3758 section 3.5)."""
         return self.point() > self.cum or any(self.waits_for_cover(i) for i in self.above_cum())
 
+    def is_in_flight(self, index):
+        return self.waits_for_cover(index) and not self.plan[index].marked
+
     def in_flight(self):
-        return sum(len(self.plan[i].data) for i in self.above_cum()
-                   if self.waits_for_cover(i) and not self.plan[i].marked)
+        return sum(len(self.plan[i].data) for i in self.above_cum() if self.is_in_flight(i))
+
+    def last_sent(self):
+        """The highest index that ever went out."""
+        return next((i for i in range(self.last(), 0, -1) if self.plan[i].sent), 0)
+
+    def is_worn(self, index):
+        """It went out again as often as may be. Where messages may not be abandoned no limit counts."""
+        entry = self.plan[index]
+        return self.partial and entry.message.limit is not None and entry.repeats >= entry.message.limit
 
     # ---- Calls ----
 
-    def send(self, stream, ordered, payload_id, data, until):
+    def send(self, stream, ordered, payload_id, data, until, limit=None):
         """A ticket, or the first refusal that holds as a negative number."""
         if stream >= self.streams:
             return -NO_SUCH_STREAM
@@ -120,13 +136,15 @@ class Sender:
             return -TOO_LONG
         if len(self.queue) >= QUEUE_LIMIT:
             return -QUEUE_FULL
-        message = Message(len(self.messages) + 1, stream, ordered, payload_id, data, until)
+        message = Message(len(self.messages) + 1, stream, ordered, payload_id, data, until, limit)
         owing = self.queue + list(self.parts.values()) + [message]
         owed = sum(self.fragments(m) - len(m.indexes) + 1 for m in owing)
         if message.ticket > TICKET_LIMIT or self.last() + owed > OWED_LIMIT:
             return -SPENT
         self.messages.append(message)
         self.queue.append(message)
+        if until is not None:
+            self.timed.append(message)
         return message.ticket
 
     def abandon(self, ticket):
@@ -157,15 +175,25 @@ class Sender:
 
     def expire(self, now):
         """Abandons what is past its time, by rising ticket (RFC 3758 section 3.5, timed reliability)."""
-        for message in self.messages:
-            if message.until is not None and message.until <= now:
+        for message in self.timed:
+            if message.until <= now:
                 self.abandon(message.ticket)
 
-    def on_timeout(self):
-        """All that was sent and isn't covered is to be sent again (RFC 9260 section 6.3.3)."""
+    def wear(self, indexes):
+        """Abandons the messages of these indexes that would be sent again, and may not be, by rising index (RFC 7496 section 3.1)."""
         for index in self.above_cum():
-            if self.waits_for_cover(index):
-                self.plan[index].marked = True
+            if index in indexes and self.waits_for_cover(index) and self.is_worn(index):
+                self.abandon(self.plan[index].message.ticket)
+
+    def mark(self, indexes, why):
+        """Of these indexes all that was sent, isn't covered and may be is to be sent again. What is marked keeps its reason."""
+        for index in self.above_cum():
+            if index in indexes and self.is_in_flight(index) and not self.is_worn(index):
+                self.plan[index].marked, self.plan[index].why = True, why
+
+    def on_timeout(self):
+        """RFC 9260 section 6.3.3."""
+        self.mark(self.above_cum(), BY_TIMER)
 
     # ---- Acknowledgements (RFC 9260 section 6.2.1) ----
 
@@ -252,9 +280,20 @@ class Sender:
     def put(self, writer, index):
         if not writer.put(self.fragment_chunk(index)):
             return False
+        self.sendings[self.plan[index].why if self.plan[index].sent else FIRST] += 1
+        self.plan[index].repeats += self.plan[index].sent
         self.plan[index].sent, self.plan[index].marked = True, False
         self.flight += len(self.plan[index].data)
         return True
+
+    def room_of_repeats(self, room):
+        """What the chunks to be sent again take of this room, those that fit before the first that doesn't."""
+        taken = 0
+        for size in (len(self.fragment_chunk(i)) for i in self.above_cum() if self.plan[i].marked):
+            if taken + size > room:
+                break
+            taken += size
+        return taken
 
     def data_of(self, message, fragment):
         return message.data[fragment * self.fragment:(fragment + 1) * self.fragment]

@@ -12,7 +12,7 @@ import sys
 import model
 import scripts
 
-OPTIONS = [name.decode() for name in model.OPTIONS]
+OPTIONS = [name.decode() for name in scripts.Maker.names]
 NEAR = ('option', 'Options', 'options:', 'both', 'A', 'B', 'limits', 'streams=3', 'Delay', 'standard', 'closing', 'standard_closing', '--delay')
 
 

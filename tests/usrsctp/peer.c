@@ -1,8 +1,11 @@
-/* usrsctp as the peer of an end that calls: peer PORT BUFFER SEED < LINES. Its packets, its time and its chances come from outside alone.
+/* usrsctp as the peer of an end: peer PORT BUFFER SEED [PACKET [PEER]] < LINES. It listens, or with PEER calls that port, and its packets have
+ * at most PACKET bytes, common header included. Its packets, its time and its chances come from outside alone.
  *
  * at T               moment T comes, in milliseconds; the moment is 0 before
  * packet HEX         these bytes come, from the common header on
+ * connect            it calls
  * send COUNT LENGTH  its user sends so many messages of this length on stream 0, which must fit its buffer
+ * offer COUNT LENGTH so many more, now and behind each line as its buffer takes them
  * shut               its user has no more to send
  *
  * Each line is answered by `out HEX` for each packet that is sent now, and then by `done N`: N messages came until now, in their order.
@@ -12,6 +15,7 @@
  * their addresses, has nothing to do. It computes and checks CRC32c. gettimeofday and syscall stand here, so that it finds this program's
  * moment and chances in place of the system's: SEED gives its tag, its TSN and its waits the same bytes each time.
  */
+#include <errno.h>
 #include <stdarg.h>
 #include <stdint.h>
 #include <stdio.h>
@@ -26,7 +30,8 @@ enum { STEP = 10, FIRST_SECOND = 1000000, SEND_SPACE = 1 << 20, LONGEST_PACKET =
 
 static uint64_t moment, chance;
 static struct socket *listening, *association;
-static unsigned long received;
+static unsigned long received, offered;
+static size_t offered_length;
 static char path; /* its address names the path to usrsctp */
 
 int gettimeofday(struct timeval *time, void *zone) {
@@ -81,7 +86,7 @@ static struct sockaddr_conn at_port(const char *port) {
     return name;
 }
 
-static void listen_at(const char *port, const char *buffer) {
+static void start_at(const char *port, const char *buffer) {
     usrsctp_init_nothreads(0, leaves, NULL);
     usrsctp_sysctl_set_sctp_sendspace(SEND_SPACE);
     usrsctp_sysctl_set_sctp_recvspace((uint32_t)atoi(buffer));
@@ -89,7 +94,15 @@ static void listen_at(const char *port, const char *buffer) {
     struct sockaddr_conn name = at_port(port);
     listening = usrsctp_socket(AF_CONN, SOCK_STREAM, IPPROTO_SCTP, comes, NULL, 0, NULL);
     need(listening != NULL && usrsctp_set_non_blocking(listening, 1) == 0, "no socket");
-    need(usrsctp_bind(listening, (struct sockaddr *)&name, sizeof name) == 0 && usrsctp_listen(listening, 1) == 0, "it can't listen");
+    need(usrsctp_bind(listening, (struct sockaddr *)&name, sizeof name) == 0, "it can't have the port");
+}
+
+/* Its packets are as long, and it neither looks for a longer one nor waits with a short one. */
+static void send_packets_of(const char *length) {
+    struct sctp_paddrparams path_is = {.spp_pathmtu = (uint32_t)atoi(length), .spp_flags = SPP_PMTUD_DISABLE};
+    int yes = 1;
+    need(usrsctp_setsockopt(listening, IPPROTO_SCTP, SCTP_PEER_ADDR_PARAMS, &path_is, sizeof path_is) == 0, "no such packets");
+    need(usrsctp_setsockopt(listening, IPPROTO_SCTP, SCTP_NODELAY, &yes, sizeof yes) == 0, "it waits");
 }
 
 static void at(uint64_t until) {
@@ -126,7 +139,20 @@ static void send_messages(unsigned count, size_t length) {
     }
 }
 
-static void perform(const char *line) {
+/* Some of what is offered goes into its buffer. */
+static void send_offered(void) {
+    static const char message[LONGEST_MESSAGE];
+    while (offered > 0 && usrsctp_sendv(association, message, offered_length, NULL, 0, NULL, 0, SCTP_SENDV_NOINFO, 0) >= 0) offered--;
+}
+
+static void call(const char *port) {
+    struct sockaddr_conn name = at_port(port);
+    need(port != NULL && association == NULL, "connect: no PEER, or it called before");
+    association = listening;
+    need(usrsctp_connect(association, (struct sockaddr *)&name, sizeof name) == 0 || errno == EINPROGRESS, "connect: refused");
+}
+
+static void perform(const char *line, const char *peer) {
     unsigned long long number;
     unsigned count;
     size_t length;
@@ -136,6 +162,12 @@ static void perform(const char *line) {
         packet(line + 7);
     } else if (sscanf(line, "send %u %zu", &count, &length) == 2) {
         send_messages(count, length);
+    } else if (sscanf(line, "offer %u %zu", &count, &length) == 2) {
+        need(association != NULL && length <= LONGEST_MESSAGE, "offer: no association, or too long");
+        offered += count;
+        offered_length = length;
+    } else if (strcmp(line, "connect\n") == 0) {
+        call(peer);
     } else if (strcmp(line, "shut\n") == 0) {
         need(association != NULL && usrsctp_shutdown(association, SHUT_WR) == 0, "shut: refused");
     } else {
@@ -144,12 +176,15 @@ static void perform(const char *line) {
 }
 
 int main(int count, char **words) {
-    need(count == 4, "its words are PORT BUFFER SEED");
+    need(count >= 4 && count <= 6, "its words are PORT BUFFER SEED [PACKET [PEER]]");
     chance = strtoull(words[3], NULL, 10);
-    listen_at(words[1], words[2]);
+    start_at(words[1], words[2]);
+    if (count > 4) send_packets_of(words[4]);
+    need(count == 6 || usrsctp_listen(listening, 1) == 0, "it can't listen");
     static char line[2 * LONGEST_PACKET + 16];
     while (fgets(line, sizeof line, stdin) != NULL) {
-        perform(line);
+        perform(line, count == 6 ? words[5] : NULL);
+        send_offered();
         printf("done %lu\n", received);
         fflush(stdout);
     }

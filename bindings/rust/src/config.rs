@@ -23,6 +23,13 @@ pub struct Config {
     pub delay: bool,
     /// Close by the timers of RFC 9260: a peer that never stops sending can delay closing without limit.
     pub standard_closing: bool,
+    /// Fast retransmission, and an RTO that is computed from measured round trips (RFC 9260, 7.2.4 and 6.3.1). Alone it limits nothing that is
+    /// sent, and isn't for the Internet.
+    pub fast_retransmit: bool,
+    /// Congestion control (RFC 9260, 7.2), which brings fast retransmission.
+    pub congestion_control: bool,
+    /// The least RTO that is computed from round trips, in milliseconds; 0 for 1,000.
+    pub rto_min: u32,
 }
 
 impl Config {
@@ -40,6 +47,9 @@ impl Config {
             partial: true,
             delay: false,
             standard_closing: true,
+            fast_retransmit: false,
+            congestion_control: false,
+            rto_min: 1_000,
         }
     }
 
@@ -56,7 +66,9 @@ impl Config {
             partial: self.partial,
             delay: self.delay,
             standard_closing: self.standard_closing,
-            reserved: [0; 4],
+            flags: u32::from(self.fast_retransmit) + 2 * u32::from(self.congestion_control),
+            rto_min: self.rto_min,
+            reserved: [0; 2],
         }
     }
 }

@@ -15,7 +15,7 @@ pub use config::{Config, Draw};
 pub use error::Error;
 pub use packets::{abort_cause, peek_packet, version};
 pub use values::{
-    AbortCause, Ended, Fate, Head, Message, PacketHeader, Reason, Sent, SentInto, State, Status,
+    AbortCause, Ended, Fate, Head, Message, PacketHeader, Path, Reason, Sent, SentInto, State, Status,
     Verdict, VerdictInto,
 };
 
@@ -203,6 +203,22 @@ impl Endpoint {
             inbound: told.inbound,
             interleaved: told.interleaved,
             partial: told.partial,
+        }
+    }
+
+    /// What it knows of the path to its peer.
+    pub fn path(&mut self) -> Path {
+        let mut told = raw::Path::default();
+        let result = unsafe { raw::sctp_endpoint_path(&mut self.0, &mut told) };
+        debug_assert_eq!(result, OK);
+        let (measured, controlled) = (told.flags & 2 > 0, told.flags & 4 > 0);
+        Path {
+            in_flight: told.in_flight,
+            rto: (told.flags & 1 > 0).then_some(told.rto),
+            srtt: measured.then_some(told.srtt),
+            rttvar: measured.then_some(told.rttvar),
+            cwnd: controlled.then_some(told.cwnd),
+            ssthresh: controlled.then_some(told.ssthresh),
         }
     }
 }

@@ -33,6 +33,35 @@ impl Endpoint {
         Ok(ticket)
     }
 
+    /// Queues a message with a limit of retransmissions, and returns its ticket: it is abandoned as soon as a fragment of it, which was
+    /// retransmitted `max_retransmits` times already, would be retransmitted once more. With 0 no fragment is retransmitted. A limit counts
+    /// only if both endpoints use partial reliability.
+    pub fn send_with_max_retransmits(
+        &mut self,
+        stream: u16,
+        ordered: bool,
+        payload_id: u32,
+        bytes: &[u8],
+        until: Option<u64>,
+        max_retransmits: u16,
+    ) -> Result<u64, Error> {
+        let mut ticket = 0;
+        checked(unsafe {
+            raw::sctp_endpoint_send_with_max_retransmits(
+                &mut self.0,
+                stream,
+                ordered,
+                payload_id,
+                bytes.as_ptr(),
+                bytes.len(),
+                until.unwrap_or(NEVER),
+                max_retransmits,
+                &mut ticket,
+            )
+        })?;
+        Ok(ticket)
+    }
+
     /// The first stream, from `from` on, on which a message is ready.
     pub fn readable(&mut self, from: u16) -> Option<u16> {
         let mut stream = 0;

@@ -22,7 +22,9 @@ pub struct Config {
     pub partial: bool,
     pub delay: bool,
     pub standard_closing: bool,
-    pub reserved: [u32; 4],
+    pub flags: u32,
+    pub rto_min: u32,
+    pub reserved: [u32; 2],
 }
 
 #[repr(C)]
@@ -88,6 +90,19 @@ pub struct Status {
     pub reserved: [u32; 3],
 }
 
+#[repr(C)]
+#[derive(Clone, Copy, Default)]
+pub struct Path {
+    pub in_flight: u64,
+    pub rto: u64,
+    pub srtt: u32,
+    pub rttvar: u32,
+    pub cwnd: u32,
+    pub ssthresh: u32,
+    pub flags: u32,
+    pub reserved: u32,
+}
+
 extern "C" {
     pub fn sctp_endpoint_abi() -> u32;
     pub fn sctp_endpoint_version(text: *mut u8, text_length: usize) -> usize;
@@ -127,6 +142,17 @@ extern "C" {
         until: u64,
         ticket: *mut u64,
     ) -> u32;
+    pub fn sctp_endpoint_send_with_max_retransmits(
+        handle: *mut Handle,
+        stream: u16,
+        ordered: bool,
+        payload_id: u32,
+        bytes: *const u8,
+        length: usize,
+        until: u64,
+        max_retransmits: u16,
+        ticket: *mut u64,
+    ) -> u32;
     pub fn sctp_endpoint_readable(handle: *mut Handle, from: u16, stream: *mut u16) -> u32;
     pub fn sctp_endpoint_peek(handle: *mut Handle, stream: u16, message: *mut Message) -> u32;
     pub fn sctp_endpoint_take(
@@ -149,6 +175,7 @@ extern "C" {
         length: *mut usize,
     ) -> u32;
     pub fn sctp_endpoint_status(handle: *mut Handle, status: *mut Status) -> u32;
+    pub fn sctp_endpoint_path(handle: *mut Handle, path: *mut Path) -> u32;
     pub fn sctp_endpoint_peek_packet(
         packet: *const u8,
         packet_length: usize,

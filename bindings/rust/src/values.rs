@@ -166,6 +166,21 @@ pub struct Status {
     pub partial: bool,
 }
 
+/// What an endpoint knows of the path to its peer: times in milliseconds, sizes in bytes of user data.
+#[derive(Clone, Copy, Debug, PartialEq, Eq)]
+pub struct Path {
+    /// Sent, and neither acknowledged, abandoned nor marked for retransmission.
+    pub in_flight: u64,
+    /// The RTO of the data timer at its next start; None before an association, and without fast retransmission.
+    pub rto: Option<u64>,
+    /// The smoothed round-trip time, and its variation; None before the first measurement.
+    pub srtt: Option<u32>,
+    pub rttvar: Option<u32>,
+    /// The congestion window, and the slow-start threshold; None without congestion control.
+    pub cwnd: Option<u32>,
+    pub ssthresh: Option<u32>,
+}
+
 pub(crate) fn head_of(told: &raw::Message) -> Head {
     Head {
         length: told.length,

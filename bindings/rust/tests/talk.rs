@@ -88,6 +88,20 @@ fn endpoints_opened_without_packets_talk() {
 }
 
 #[test]
+fn a_message_is_abandoned_at_its_limit_of_retransmissions() {
+    let (mut caller, mut listener) = opened();
+    assert_eq!(caller.send_with_max_retransmits(0, true, 0, b"Hi", None, 0), Ok(1));
+    assert_eq!(caller.send_with_max_retransmits(0, true, 0, b"Ho", None, 1), Ok(2));
+    while caller.poll_transmit(10).unwrap().is_some() {} // lost
+    caller.on_moment(5_000);
+    assert_eq!([1, 2].map(|ticket| caller.abandoned(ticket)), [true, false]);
+    exchange(&mut caller, &mut listener, 5_000);
+    assert_eq!(listener.take(0).unwrap().bytes, b"Ho");
+    assert!(listener.take(0).is_none());
+    assert_eq!(caller.send_with_max_retransmits(64, true, 0, b"x", None, 0), Err(Error::NoSuchStream));
+}
+
+#[test]
 fn an_endpoint_goes_to_another_thread() {
     let (caller, mut listener) = opened();
     let mut caller = std::thread::spawn(move || {

@@ -1,6 +1,6 @@
 -- `build`: a packet that is begun empty, filled by the slots that are due and then with user data, is the specification's next packet, and leaves its view.
-use Rattle.std.proofs.Common.{◌≡◌, ◌∙◌, ℕ, ◌≤◌, Bool, true, false, not, List, [], ◌∷◌, ◌++◌, map, Option, Some, None, Result, Ok, Err, IfOk, OnErr, IfSome, MatchOption, length, refl, ap, sym, subst}
-use Rattle.std.specs.Prelude.{◌&&◌, unwrap_or, option_map}
+use Rattle.std.proofs.Common.{◌≡◌, ◌∙◌, ℕ, ◌≤◌, Bool, true, false, not, List, [], ◌∷◌, ◌++◌, map, Option, Some, None, Result, Ok, Err, IfOk, OnErr, IfSome, MatchOption, length, refl, ap, sym, subst, arith}
+use Rattle.std.specs.Prelude.{◌&&◌, unwrap_or, OnOk}
 use Rattle.std.proofs.Math.Seq.{drop-length}
 use Rattle.std.specs.declared.vec.Vec.{Vec}
 use Rattle.std.specs.declared.alloc.Global.{Global}
@@ -13,7 +13,7 @@ use Rattle.sctp_model.specs.receiver.SackMade.{sack_sent}
 use Rattle.sctp_model.specs.end.EndView as model
 use Rattle.sctp_model.specs.end.EndView.{EndView, Configuration, Draw, Alarm, InitAlarm, ResetAlarm, Timer, has_association, format_of, format_for}
 use Rattle.sctp_model.specs.end.Clock.{started, is_home}
-use Rattle.sctp_model.specs.end.Pacing.{Pace, sent_pace}
+use Rattle.sctp_model.specs.end.Pacing.{Pace}
 use Rattle.sctp_model.specs.end.Reconfiguring.{asking_now, asking}
 use Rattle.sctp_model.specs.sender.Resetting.{may_ask}
 use Rattle.sctp_model.specs.end.Closing.{with_due}
@@ -24,11 +24,11 @@ use Rattle.sctp_model.specs.end.Building.{packet_of as end_packet}
 use Rattle.sctp_packet.specs.Draft.{Draft, packet_of, after_try, with_chunks}
 use Rattle.sctp_packet.specs.PacketBytes.{WritesPacket}
 use Rattle.sctp_values.specs.declared.ticket.Ticket.{Ticket}
-use Rattle.sctp_association.specs.StartsMean.{starts_at, with_start, started_from}
+use Rattle.sctp_association.specs.StartsMean.{starts_at, with_start}
 use Rattle.sctp_association.specs.PhaseMeans.{phase_unjoined, phase_of}
 use Rattle.sctp_association.specs.TrafficStands.{TrafficStands}
 use Rattle.sctp_association.specs.MachineStands.{KeepsMachine, MachineStands}
-use Rattle.sctp_association.specs.Drafted.{receiver_left, delayed_left, due_left, drafted, IsOf, IsEmpty, PutsAt, IsPacked, IsQuiet}
+use Rattle.sctp_association.specs.Drafted.{drafted, IsOf, IsOwn, IsEmpty, PutsAt, IsPacked, IsQuiet}
 use Rattle.sctp_association.specs.FillsBehind.{FillsBehind}
 use Rattle.sctp_association.specs.BuildAnswers.{BuildAnswer}
 use Rattle.sctp_association.specs.declared.state.life.Unjoined.{Unjoined}
@@ -41,31 +41,8 @@ use Rattle.sctp_association.specs.declared.build.packing.Marks.{Marks}
 use Rattle.sctp_association.specs.declared.build.packing.Packing.{Packing}
 use Rattle.sctp_association.specs.declared.build.Built.{Built}
 use Rattle.sctp_association.specs.declared.machine.Machine.{Machine}
-use Rattle.sctp_association.proofs.MachineLemmas.{with_traffic}
+use Rattle.sctp_association.proofs.MachineLemmas.{with_traffic, with_pace}
 use Rattle.sctp_association.proofs.PutLemmas.{started_left}
-
--- ---- nothing went out yet
-
-pub due_same : (m : Marks) (d : model.Due) → m.init ≡ d.init → m.cookie_echo ≡ d.cookie_echo → m.cookie_ack ≡ d.cookie_ack → m.heartbeat ≡ true → m.causes ≡ true → m.sack ≡ d.sack
-    → m.forward ≡ d.forward → m.shutdown ≡ d.shutdown → m.shutdown_ack ≡ d.shutdown_ack → due_left m d ≡ d
-due_same m d init echo ack heartbeat causes sack forward shutdown shutdown_ack = rw (init, echo, ack, heartbeat, causes, sack, forward, shutdown, shutdown_ack) refl
-
-receiver_same : (b : Bool) (r : ReceiverView) → receiver_left b b r ≡ r
-receiver_same true r = refl
-receiver_same false r = refl
-
-delayed_same : (b : Bool) (d : Option ℕ) → delayed_left b b d ≡ d
-delayed_same true d = refl
-delayed_same false d = refl
-
-pub drafted_same : (m : Marks) (e : EndView) → due_left m e.due ≡ e.due → m.sack ≡ e.due.sack → starts_at m.starts ≡ (λ a. false) → drafted m e ≡ e
-drafted_same m e due sack starts =
-    let r : receiver_left e.due.sack m.sack e.receiver ≡ e.receiver = ap (λ (b : Bool). receiver_left e.due.sack b e.receiver) sack ∙ receiver_same e.due.sack e.receiver in
-    let w : delayed_left e.due.sack m.sack e.delayed ≡ e.delayed = ap (λ (b : Bool). delayed_left e.due.sack b e.delayed) sack ∙ delayed_same e.due.sack e.delayed in
-    ap (λ (d : model.Due). record (drafted m e) { due = d }) due
-    ∙ (ap (λ (p : Alarm → Bool). record e { timers = started_from p e.moment e.timers; delayed = delayed_left e.due.sack m.sack e.delayed; receiver = receiver_left e.due.sack m.sack e.receiver }) starts
-    ∙ (ap (λ (n : Option ℕ). record e { delayed = n; receiver = receiver_left e.due.sack m.sack e.receiver }) w
-    ∙ ap (λ (x : ReceiverView). record e { receiver = x }) r))
 
 -- the tag of its packets is that of the peer, where one is known
 pub tag_by : (h : model.Phase) → unwrap_or (peer_tag h) 0 ≡ tag_to h
@@ -84,19 +61,23 @@ nothing_numbered v = ap (begun_tickets v.plan) (drop-length v.plan.entries)
 pub none_numbered : (tickets : Vec Ticket Global) (v : SenderView) → tickets.items ≡ [] → map (λ t. t.0) tickets.items ≡ newly_numbered v v
 none_numbered tickets v none = ap (λ (ts : List Ticket). map (λ t. t.0) ts) none ∙ sym (nothing_numbered v)
 
+-- the end's packet, whole or narrowed
+pub own_of : (e : EndView) (p : Packing) → IsOf e p → IsOwn e p
+own_of e p of = record { limit = omega (arith, of.limit); source = of.source; destination = of.destination; tag = of.tag; sack = of.sack }
+
 -- ---- nothing is sent
 
-pub quiet_packet : (e : EndView) (p : Packing) (tickets : Vec Ticket Global) → Builds e [] e → IsEmpty e p → tickets.items ≡ [] → IsPacked e e.sender p tickets
+pub quiet_packet : (e : EndView) (p : Packing) (tickets : Vec Ticket Global) → Builds e [] e → IsEmpty e p → tickets.items ≡ [] → IsPacked e e.sender e.pace p tickets
 quiet_packet e p tickets builds empty none = record {
   builds = subst (λ (zs : List ChunkMeaning). Builds e zs (drafted p.marks e)) (sym empty.chunks) (subst (λ (y : EndView). Builds e [] y) (sym empty.same) builds);
-  packet = empty.packet;
+  packet = own_of e p empty.packet;
   tickets_are = none_numbered tickets e.sender none;
 }
 
-pub sleeps : (e : EndView) (h : model.Phase) (p : Packing) (tickets : Vec Ticket Global) → e.phase ≡ h → has_association h ≡ false → IsEmpty e p → tickets.items ≡ [] → IsPacked e e.sender p tickets
+pub sleeps : (e : EndView) (h : model.Phase) (p : Packing) (tickets : Vec Ticket Global) → e.phase ≡ h → has_association h ≡ false → IsEmpty e p → tickets.items ≡ [] → IsPacked e e.sender e.pace p tickets
 sleeps e h p tickets phase over empty none = quiet_packet e p tickets (Sleeps (ap has_association phase ∙ over)) empty none
 
-pub waits : (e : EndView) (d : Draw) (p : Packing) (tickets : Vec Ticket Global) → e.phase ≡ model.Calling d → p.marks.init ≡ false → IsEmpty e p → tickets.items ≡ [] → IsPacked e e.sender p tickets
+pub waits : (e : EndView) (d : Draw) (p : Packing) (tickets : Vec Ticket Global) → e.phase ≡ model.Calling d → p.marks.init ≡ false → IsEmpty e p → tickets.items ≡ [] → IsPacked e e.sender e.pace p tickets
 waits e d p tickets phase marked empty none = quiet_packet e p tickets (Waits d phase (sym (ap (λ (x : EndView). x.due.init) empty.same) ∙ marked)) empty none
 
 -- ---- INIT
@@ -104,7 +85,7 @@ waits e d p tickets phase marked empty none = quiet_packet e p tickets (Waits d 
 pub calls_packet : (e : EndView) (c : Configuration) (d : Draw) (old : Packing) (new : Draft) (s : Starts) (put : Bool) (tickets : Vec Ticket Global) → e.configuration ≡ c
     → e.phase ≡ model.Calling d → IsEmpty e old → old.marks.init ≡ true → put ≡ true → new ≡ after_try old.writer (own_init c d) put
     → starts_at s ≡ with_start InitAlarm (starts_at old.marks.starts) → tickets.items ≡ []
-    → IsPacked e e.sender (record { writer = new; marks = record old.marks { init = false; starts = s } }) tickets
+    → IsPacked e e.sender e.pace (record { writer = new; marks = record old.marks { init = false; starts = s } }) tickets
 calls_packet e c d old new s put tickets configured phase empty due is after starts none =
     let m = old.marks in
     let n : Marks = record m { init = false; starts = s } in
@@ -114,12 +95,12 @@ calls_packet e c d old new s put tickets configured phase empty due is after sta
     ap (λ (k : Configuration). own_init k d ∷ []) configured ∙ sym (ap (λ (xs : List ChunkMeaning). xs ++ own_init c d ∷ []) empty.chunks) in
     let leaves : started InitAlarm (with_due (record e.due { init = false }) e) ≡ drafted n e =
     sym (ap (λ (x : EndView). started InitAlarm (with_due (record x.due { init = false }) x)) empty.same) ∙ started_left InitAlarm (record m { init = false }) e s starts in
-    let one : IsPacked e e.sender (record { writer = with_chunks old.writer (own_init c d ∷ []); marks = n }) tickets = record {
+    let one : IsPacked e e.sender e.pace (record { writer = with_chunks old.writer (own_init c d ∷ []); marks = n }) tickets = record {
       builds = subst (λ (zs : List ChunkMeaning). Builds e zs (drafted n e)) chunks (subst (λ (y : EndView). Builds e (own_init e.configuration d ∷ []) y) leaves (Calls d phase calls));
-      packet = record { limit = empty.packet.limit; source = empty.packet.source; destination = empty.packet.destination; tag = empty.packet.tag; sack = empty.packet.sack };
+      packet = own_of e _ (record { limit = empty.packet.limit; source = empty.packet.source; destination = empty.packet.destination; tag = empty.packet.tag; sack = empty.packet.sack });
       tickets_are = none_numbered tickets e.sender none;
     } in
-    subst (λ (w : Draft). IsPacked e e.sender (record { writer = w; marks = n }) tickets) (sym there) one
+    subst (λ (w : Draft). IsPacked e e.sender e.pace (record { writer = w; marks = n }) tickets) (sym there) one
 
 -- ---- control chunks, and fragments
 
@@ -129,10 +110,10 @@ from_empty e old zs full x ss empty puts =
     subst (λ (y : EndView). Puts ss y [] zs full x) empty.same (subst (λ (xs : List ChunkMeaning). Puts ss (drafted old.marks e) xs zs full x) empty.chunks puts)
 
 pub echoes_packet : (e : EndView) (t : model.Tags) (cookie : List ℕ) (old new : Packing) (room : Bool) (tickets : Vec Ticket Global) → e.phase ≡ model.Echoing t cookie → IsEmpty e old
-    → PutsAt echoing_slots e old new room → tickets.items ≡ [] → IsPacked e e.sender new tickets
+    → PutsAt echoing_slots e old new room → tickets.items ≡ [] → IsPacked e e.sender e.pace new tickets
 echoes_packet e t cookie old new room tickets phase empty puts none = record {
   builds = Echoes t cookie new.writer.chunks (not room) (drafted new.marks e) phase (from_empty e old new.writer.chunks (not room) (drafted new.marks e) echoing_slots empty puts.puts);
-  packet = puts.packet;
+  packet = own_of e new puts.packet;
   tickets_are = none_numbered tickets e.sender none;
 }
 
@@ -145,57 +126,62 @@ from_quiet : (e : EndView) (old : Packing) (zs : List ChunkMeaning) (full : Bool
 from_quiet e old zs full x quiet empty puts = subst (λ (y : EndView). Puts open_slots y [] zs full x) (sym (unasked e quiet)) (from_empty e old zs full x open_slots empty puts)
 
 pub full_packet : (e : EndView) (t : model.Tags) (g : model.Stage) (old new : Packing) (room : Bool) (tickets : Vec Ticket Global) → e.phase ≡ model.Open t g → IsQuiet e → IsEmpty e old
-    → room ≡ false → PutsAt open_slots e old new room → tickets.items ≡ [] → IsPacked e e.sender new tickets
+    → room ≡ false → PutsAt open_slots e old new room → tickets.items ≡ [] → IsPacked e e.sender e.pace new tickets
 full_packet e t g old new room tickets phase quiet empty is puts none =
     let full = subst (PutsAt open_slots e old new) is puts in record {
       builds = EndsFull t g new.writer.chunks (drafted new.marks e) phase (from_quiet e old new.writer.chunks true (drafted new.marks e) quiet empty full.puts);
-      packet = full.packet;
+      packet = own_of e new full.packet;
       tickets_are = none_numbered tickets e.sender none;
     }
 
-filled_packet : (e : EndView) (t : model.Tags) (g : model.Stage) (old mid new : Packing) (traffic : Traffic) (tickets : Vec Ticket Global) → e.phase ≡ model.Open t g → IsQuiet e → IsEmpty e old
-    → PutsAt open_slots e old mid true → FillsBehind e mid new traffic tickets → IsPacked e (filled_behind (drafted mid.marks e) mid.writer.chunks).view new tickets
-filled_packet e t g old mid new traffic tickets phase quiet empty puts fills =
+filled_packet : (e : EndView) (t : model.Tags) (g : model.Stage) (old mid new : Packing) (traffic : Traffic) (o : Option Pace) (tickets : Vec Ticket Global) → e.phase ≡ model.Open t g → IsQuiet e → IsEmpty e old
+    → PutsAt open_slots e old mid true → FillsBehind e mid new traffic tickets → o ≡ (sent (drafted mid.marks e) mid.writer.chunks).pace
+    → IsPacked e (filled_behind (drafted mid.marks e) mid.writer.chunks).view o new tickets
+filled_packet e t g old mid new traffic o tickets phase quiet empty puts fills paced =
     let x = drafted mid.marks e in
     let zs = mid.writer.chunks in
     let v = (filled_behind x zs).view in
     let built = Fills t g zs x phase (from_quiet e old zs false x quiet empty puts.puts) in
-    let paced : (sent x zs).pace ≡ e.pace = ap (option_map (sent_pace x.moment x.sender v (filled_behind x zs).wishes)) quiet.pace ∙ sym quiet.pace in
-    let leaves : sent x zs ≡ record (drafted new.marks e) { sender = v } =
-    ap (λ (o : Option Pace). record (sent x zs) { pace = o }) paced
-    ∙ sym (ap (λ (m : Marks). record (drafted m e) { sender = v }) fills.marks ∙ ap (λ (f : Alarm → Timer). record x { sender = v; timers = f }) fills.timers) in
+    let leaves : sent x zs ≡ record (drafted new.marks e) { sender = v; pace = o } =
+    ap (λ (q : Option Pace). record (sent x zs) { pace = q }) (sym paced)
+    ∙ sym (ap (λ (m : Marks). record (drafted m e) { sender = v; pace = o }) fills.marks ∙ ap (λ (f : Alarm → Timer). record x { sender = v; pace = o; timers = f }) fills.timers) in
     record {
-      builds = subst (λ (cs : List ChunkMeaning). Builds e cs (record (drafted new.marks e) { sender = v })) (sym fills.chunks) (subst (λ (y : EndView). Builds e (zs ++ fragments x zs) y) leaves built);
+      builds = subst (λ (cs : List ChunkMeaning). Builds e cs (record (drafted new.marks e) { sender = v; pace = o })) (sym fills.chunks) (subst (λ (y : EndView). Builds e (zs ++ fragments x zs) y) leaves built);
       packet = fills.packet;
       tickets_are = fills.tickets_are;
     }
 
-pub fills_packet : {E : Type 0} (r : Result (Vec Ticket Global) E) (e : EndView) (t : model.Tags) (g : model.Stage) (old mid new : Packing) (room : Bool) (traffic : Traffic)
+pub fills_packet : {E : Type 0} (r : Result (Vec Ticket Global) E) (e : EndView) (t : model.Tags) (g : model.Stage) (old mid new : Packing) (room : Bool) (traffic : Traffic) (o : Option Pace)
     → e.phase ≡ model.Open t g → IsQuiet e → IsEmpty e old → room ≡ true → PutsAt open_slots e old mid room → IfOk r (λ tickets. FillsBehind e mid new traffic tickets)
-    → IfOk r (λ tickets. (s : SenderView) × IsPacked e s new tickets × TrafficStands traffic (format_of e) s e.receiver)
-fills_packet (Ok tickets) e t g old mid new room traffic phase quiet empty is puts fills =
-    (_, filled_packet e t g old mid new traffic tickets phase quiet empty (subst (PutsAt open_slots e old mid) is puts) fills, fills.traffic_stands)
-fills_packet (Err failed) e t g old mid new room traffic phase quiet empty is puts fills = fills
+    → OnOk r (o ≡ (sent (drafted mid.marks e) mid.writer.chunks).pace) → IfOk r (λ tickets. (s : SenderView) × IsPacked e s o new tickets × TrafficStands traffic (format_of e) s e.receiver)
+fills_packet (Ok tickets) e t g old mid new room traffic o phase quiet empty is puts fills paced =
+    (_, filled_packet e t g old mid new traffic o tickets phase quiet empty (subst (PutsAt open_slots e old mid) is puts) fills paced, fills.traffic_stands)
+fills_packet (Err failed) e t g old mid new room traffic o phase quiet empty is puts fills paced = fills
+
+-- what is so anyway is so where there is a result
+pub on_ok : {A E : Type 0} (P : Type 0) (r : Result A E) → P → OnOk r P
+on_ok P (Ok x) p = p
+on_ok P (Err why) p = tt
 
 -- ---- the answer
 
 -- the header is that of the end's packet
-packet_same : (e : EndView) (p : Packing) → IsOf e p → packet_of p.writer ≡ end_packet e p.writer.chunks
+packet_same : (e : EndView) (p : Packing) → IsOwn e p → packet_of p.writer ≡ end_packet e p.writer.chunks
 packet_same e p ours = rw (ours.source, ours.destination, ours.tag) refl
 
-pub answered : (e : EndView) (s : SenderView) (r : Option Built) (m : Machine) (p : Packing) (tickets : Vec Ticket Global) → IsPacked e s p tickets
+pub answered : (e : EndView) (s : SenderView) (o : Option Pace) (r : Option Built) (m : Machine) (p : Packing) (tickets : Vec Ticket Global) → IsPacked e s o p tickets
     → MatchOption r (p.writer.chunks ≡ []) (λ b. WritesPacket b.packet.items (packet_of p.writer)) → IfSome r (λ b. length b.packet.items ≡ size_of_packet p.writer.chunks)
-    → IfSome r (λ b. length b.packet.items ≤ p.writer.limit) → IfSome r (λ b. b.tickets ≡ tickets) → MachineStands m (record (drafted p.marks e) { sender = s }) → BuildAnswer e r m
-answered e s None m p tickets packed none size within same stands =
-    let x : EndView = record (drafted p.marks e) { sender = s } in (x, subst (λ (zs : List ChunkMeaning). Builds e zs x) none packed.builds, stands)
-answered e s (Some b) m p tickets packed writes size within same stands = record {
+    → IfSome r (λ b. length b.packet.items ≤ p.writer.limit) → IfSome r (λ b. b.tickets ≡ tickets) → MachineStands m (record (drafted p.marks e) { sender = s; pace = o }) → BuildAnswer e r m
+answered e s o None m p tickets packed none size within same stands =
+    let x : EndView = record (drafted p.marks e) { sender = s; pace = o } in (x, subst (λ (zs : List ChunkMeaning). Builds e zs x) none packed.builds, stands)
+answered e s o (Some b) m p tickets packed writes size within same stands = record {
   chunks = p.writer.chunks;
-  after = record (drafted p.marks e) { sender = s };
+  after = record (drafted p.marks e) { sender = s; pace = o };
   builds = packed.builds;
   some = writes.some;
   packet = subst (WritesPacket b.packet.items) (packet_same e p packed.packet) writes;
   size = size;
-  within = rw (← packed.packet.limit) within;
+  within = omega (arith, within, packed.packet.limit);
   tickets = ap (λ (ts : Vec Ticket Global). map (λ t. t.0) ts.items) same ∙ packed.tickets_are;
   stands = stands;
 }
@@ -203,7 +189,7 @@ answered e s (Some b) m p tickets packed writes size within same stands = record
 -- ---- what stands for the end meanwhile
 
 pub with_moment : (m : Machine) (v : EndView) (n : ℕ) → KeepsMachine m v → KeepsMachine (record m { moment = n }) (record v { moment = n })
-with_moment m v n k = record { configuration = k.configuration; role = k.role; clock = refl; due = k.due; timers = k.timers; delayed = k.delayed; phase = k.phase; life = k.life; room = k.room; pace = k.pace }
+with_moment m v n k = record { configuration = k.configuration; role = k.role; clock = refl; due = k.due; timers = k.timers; delayed = k.delayed; phase = k.phase; life = k.life; room = k.room; pace = k.pace; unpaced = k.unpaced }
 
 -- a receiver that nothing came to has no duplicates to tell
 pub told_fresh : (r : ReceiverView) (b : ℕ) → r ≡ fresh_receiver 0 0 b → sack_sent r ≡ r
@@ -216,16 +202,22 @@ pub stays_unjoined : (m : Machine) (x : Unjoined) (v : EndView) → m.life ≡ l
 stays_unjoined m x v is k = subst (λ (h : Life). KeepsMachine (record m { life = h }) v) is k
 
 -- where a call may run out of memory: the end as it was
-pub with_end : {E : Type 0} (r : Result (Vec Ticket Global) E) (e v : EndView) (p : Packing) (m : Machine) → IfOk r (λ tickets. IsPacked e e.sender p tickets)
-    → KeepsMachine m (record v { sender = e.sender }) → IfOk r (λ tickets. (s : SenderView) × IsPacked e s p tickets × KeepsMachine m (record v { sender = s }))
-with_end (Ok tickets) e v p m packed stands = (e.sender, packed, stands)
-with_end (Err failed) e v p m packed stands = packed
+pub with_end : {E : Type 0} (r : Result (Vec Ticket Global) E) (e v : EndView) (p : Packing) (m : Machine) → IfOk r (λ tickets. IsPacked e e.sender e.pace p tickets)
+    → KeepsMachine m (record v { sender = e.sender; pace = e.pace }) → m.pace ≡ e.pace
+    → IfOk r (λ tickets. (s : SenderView) × IsPacked e s m.pace p tickets × KeepsMachine m (record v { sender = s; pace = m.pace }))
+with_end (Ok tickets) e v p m packed stands same = (
+  e.sender,
+  subst (λ (o : Option Pace). IsPacked e e.sender o p tickets) (sym same) packed,
+  subst (λ (o : Option Pace). KeepsMachine m (record v { sender = e.sender; pace = o })) (sym same) stands,
+)
+with_end (Err failed) e v p m packed stands same = packed
 
 -- the traffic as it was
-pub with_traffic_kept : {E : Type 0} (r : Result (Vec Ticket Global) E) (e : EndView) (p : Packing) (traffic : Traffic) → IfOk r (λ tickets. IsPacked e e.sender p tickets)
-    → TrafficStands traffic (format_of e) e.sender e.receiver → IfOk r (λ tickets. (s : SenderView) × IsPacked e s p tickets × TrafficStands traffic (format_of e) s e.receiver)
-with_traffic_kept (Ok tickets) e p traffic packed stands = (e.sender, packed, stands)
-with_traffic_kept (Err failed) e p traffic packed stands = packed
+pub with_traffic_kept : {E : Type 0} (r : Result (Vec Ticket Global) E) (e : EndView) (p : Packing) (traffic : Traffic) → IfOk r (λ tickets. IsPacked e e.sender e.pace p tickets)
+    → TrafficStands traffic (format_of e) e.sender e.receiver → (o : Option Pace) → o ≡ e.pace
+    → IfOk r (λ tickets. (s : SenderView) × IsPacked e s o p tickets × TrafficStands traffic (format_of e) s e.receiver)
+with_traffic_kept (Ok tickets) e p traffic packed stands o same = (e.sender, subst (λ (q : Option Pace). IsPacked e e.sender q p tickets) (sym same) packed, stands)
+with_traffic_kept (Err failed) e p traffic packed stands o same = packed
 
 -- the end with its sender gone on
 pub on_traffic : (m : Machine) (a b : Association) (v : EndView) (x : SenderView) → m.life ≡ life.Joined a → KeepsMachine m v → b ≡ record a { traffic = b.traffic }
@@ -233,13 +225,20 @@ pub on_traffic : (m : Machine) (a b : Association) (v : EndView) (x : SenderView
 on_traffic m a b v x is k kept stands =
     subst (λ (h : Association). KeepsMachine (record m { life = life.Joined h }) (record v { sender = x })) (sym kept) (with_traffic m a b.traffic v x v.receiver is k stands refl refl)
 
-pub with_sender : {E : Type 0} (r : Result (Vec Ticket Global) E) (e v : EndView) (p : Packing) (m : Machine) (a b : Association) → m.life ≡ life.Joined a → KeepsMachine m v
-    → b ≡ record a { traffic = b.traffic } → IfOk r (λ tickets. (x : SenderView) × IsPacked e x p tickets × TrafficStands b.traffic (format_for v.terms.interleave) x v.receiver)
-    → IfOk r (λ tickets. (x : SenderView) × IsPacked e x p tickets × KeepsMachine (record m { life = life.Joined b }) (record v { sender = x }))
-with_sender (Ok tickets) e v p m a b is k kept packed = (packed.0, packed.1, on_traffic m a b v packed.0 is k kept packed.2)
-with_sender (Err failed) e v p m a b is k kept packed = packed
+-- without fast retransmit it has no pace still
+unpaced_still : (m : Machine) (v : EndView) (o : Option Pace) → KeepsMachine m v → (m.pace ≡ None → o ≡ None) → v.configuration.fast_retransmit ≡ false → o ≡ None
+unpaced_still m v o k none off = none (k.pace ∙ k.unpaced off)
 
-pub still_stands : {A E : Type 0} (r : Result A E) (v : EndView) (m : Machine) (a b : Association) → m.life ≡ life.Joined a → KeepsMachine m v → b ≡ record a { traffic = b.traffic }
-    → OnErr r (TrafficStands b.traffic (format_for v.terms.interleave) v.sender v.receiver) → OnErr r (KeepsMachine (record m { life = life.Joined b }) v)
-still_stands (Ok x) v m a b is k kept stands = tt
-still_stands (Err failed) v m a b is k kept stands = on_traffic m a b v v.sender is k kept stands
+pub with_sender : {E : Type 0} (r : Result (Vec Ticket Global) E) (e v : EndView) (p : Packing) (m : Machine) (a b : Association) (o : Option Pace) → m.life ≡ life.Joined a → KeepsMachine m v
+    → b ≡ record a { traffic = b.traffic } → (m.pace ≡ None → o ≡ None)
+    → IfOk r (λ tickets. (x : SenderView) × IsPacked e x o p tickets × TrafficStands b.traffic (format_for v.terms.interleave) x v.receiver)
+    → IfOk r (λ tickets. (x : SenderView) × IsPacked e x o p tickets × KeepsMachine (record m { life = life.Joined b; pace = o }) (record v { sender = x; pace = o }))
+with_sender (Ok tickets) e v p m a b o is k kept none packed =
+    (packed.0, packed.1, with_pace _ (record v { sender = packed.0 }) o (on_traffic m a b v packed.0 is k kept packed.2) (unpaced_still m v o k none))
+with_sender (Err failed) e v p m a b o is k kept none packed = packed
+
+pub still_stands : {A E : Type 0} (r : Result A E) (v : EndView) (m : Machine) (a b : Association) (o : Option Pace) → m.life ≡ life.Joined a → KeepsMachine m v → b ≡ record a { traffic = b.traffic }
+    → OnErr r (o ≡ m.pace) → OnErr r (TrafficStands b.traffic (format_for v.terms.interleave) v.sender v.receiver) → OnErr r (KeepsMachine (record m { life = life.Joined b; pace = o }) v)
+still_stands (Ok x) v m a b o is k kept same stands = tt
+still_stands (Err failed) v m a b o is k kept same stands =
+    subst (λ (q : Option Pace). KeepsMachine (record m { life = life.Joined b; pace = q }) v) (sym same) (on_traffic m a b v v.sender is k kept stands)

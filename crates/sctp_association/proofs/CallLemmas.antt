@@ -129,6 +129,7 @@ called_stands m v draw d s k idle due timers = record {
   life = idle_unjoined m.life v.configuration v.terms v.sender v.receiver idle k.life;
   room = k.room;
   pace = k.pace;
+  unpaced = k.unpaced;
 }
 
 abbrev pub stop_at : Alarm → (Alarm → Timer) → Alarm → Timer

@@ -1,6 +1,6 @@
 -- `begin`, `echo`, `paired`: an endpoint with the terms, sender and receiver of an association stands for the view that the specification begins with.
 use Rattle.std.proofs.Common.{◌≡◌, ◌∙◌, ℕ, false, List, refl, sym, ap, subst}
-use Rattle.std.specs.Prelude.{Bool, None, ◌-◌, []}
+use Rattle.std.specs.Prelude.{Bool, Option, None, ◌-◌, []}
 use Rattle.sctp_model.specs.sender.SenderView.{fresh_sender}
 use Rattle.sctp_model.specs.receiver.ReceiverView.{fresh_receiver}
 use Rattle.sctp_model.specs.end.EndView.{Alarm, Configuration, EndView, format_for, unused_timer}
@@ -8,7 +8,7 @@ use Rattle.sctp_model.specs.end.EndView as model
 use Rattle.sctp_model.specs.end.Clock.{stopped, timers_in, turned}
 use Rattle.sctp_model.specs.wire.Packet.{size_of_packet}
 use Rattle.sctp_model.specs.sender.Words.{when}
-use Rattle.sctp_model.specs.end.Pacing.{fresh_pace}
+use Rattle.sctp_model.specs.end.Pacing.{Pace, fresh_pace}
 use Rattle.sctp_model.specs.end.Opening.{joined, pace_for}
 use Rattle.sctp_opening.specs.Terms.{terms_meaning}
 use Rattle.sctp_association.specs.TimersMean.{timers_meaning}
@@ -33,10 +33,10 @@ pub unpaced : (c : Configuration) (rwnd : ℕ) → c.fast_retransmit ≡ false �
 unpaced c rwnd off = ap (λ (b : Bool). when b (fresh_pace c.congestion_control (c.limit - size_of_packet []) rwnd)) off
 
 -- the end joins, in this phase and with this due
-pub joined_there : (m : Machine) (v : EndView) (a : Association) (d : Due) (s : Timers) (x : model.Terms) (rwnd : ℕ) (h : model.Phase) (y : model.Due) → KeepsMachine m v
-    → m.config.fast_retransmit ≡ false → terms_meaning a.terms ≡ x → phase_in a.tags a.progress ≡ h → DueStands d y → timers_meaning s ≡ timers_in h (timers_meaning m.timers) → Begins a m.config rwnd
-    → KeepsMachine (record m { due = d; timers = s; life = life.Joined a }) (record (turned h (joined x rwnd v)) { due = y })
-joined_there m v a d s x rwnd h y k off terms phase due timers begins =
+pub joined_there : (m : Machine) (v : EndView) (a : Association) (d : Due) (s : Timers) (p : Option Pace) (x : model.Terms) (rwnd : ℕ) (h : model.Phase) (y : model.Due) → KeepsMachine m v
+    → p ≡ pace_for m.config rwnd → terms_meaning a.terms ≡ x → phase_in a.tags a.progress ≡ h → DueStands d y → timers_meaning s ≡ timers_in h (timers_meaning m.timers) → Begins a m.config rwnd
+    → KeepsMachine (record m { due = d; timers = s; life = life.Joined a; pace = p }) (record (turned h (joined x rwnd v)) { due = y })
+joined_there m v a d s p x rwnd h y k paced terms phase due timers begins =
     rw (← terms) (record {
       configuration = k.configuration;
       role = k.role;
@@ -47,7 +47,8 @@ joined_there m v a d s x rwnd h y k off terms phase due timers begins =
       phase = phase;
       life = record { terms = refl; traffic = subst (λ (c : Configuration). Begins a c rwnd) k.configuration begins; buffer = refl; answers = refl };
       room = k.room;
-      pace = unpaced v.configuration rwnd (sym (ap (λ (c : Configuration). c.fast_retransmit) k.configuration) ∙ off);
+      pace = paced ∙ ap (λ (c : Configuration). pace_for c rwnd) k.configuration;
+      unpaced = unpaced v.configuration rwnd;
     })
 
 echoed_at : (t : model.Tags) (xs : List ℕ) (f : Alarm → model.Timer) (a : Alarm) → f model.ResetAlarm ≡ unused_timer

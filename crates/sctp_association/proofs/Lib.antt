@@ -7,13 +7,21 @@ pub mod DelayLemmas
 pub mod ReportLemmas
 pub mod JoinLemmas
 pub mod OpeningLemmas
+pub mod MeasureLemmas
+pub mod FollowLemmas
+pub mod MissedLemmas
 pub mod FillLemmas
 pub mod StartLemmas
 pub mod RoomLemmas
 pub mod PutLemmas
 pub mod InitLemmas
+pub mod SameLemmas
 pub mod BuildLemmas
+pub mod PaceLemmas
 pub mod PlainLemmas
 pub mod AbortLemmas
 pub mod KeptLemmas
 mod SoundLemmas
+pub mod SparedLemmas
+pub mod GivenUpLemmas
+mod ListedLemmas

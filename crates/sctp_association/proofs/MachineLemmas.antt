@@ -9,6 +9,7 @@ use Rattle.sctp_model.specs.receiver.ReceiverView.{ReceiverView}
 use Rattle.sctp_model.specs.sender.Abandoning.{expired, worn, timed_out}
 use Rattle.sctp_model.specs.wire.Reconfig.{RECONFIG}
 use Rattle.sctp_model.specs.end.Closing.{hears, takes_data}
+use Rattle.sctp_model.specs.end.Pacing.{Pace}
 use Rattle.sctp_model.specs.end.Reconfiguring.{takes_reconfig}
 use Rattle.sctp_model.specs.end.EndView.{EndView, Configuration, Alarm, format_for, nothing_due}
 use Rattle.sctp_model.specs.end.EndView as model
@@ -43,24 +44,28 @@ at_view m v w same keeps = subst (λ x. KeepsMachine m x) (sym same) keeps
 -- ---- the clock, what is due, the timers
 
 pub with_clock : (m : Machine) (v : EndView) (n now : ℕ) → KeepsMachine m v → n ≡ max m.moment now → KeepsMachine (record m { moment = n }) (at_moment v now)
-with_clock m v n now k is = record { configuration = k.configuration; role = k.role; clock = is ∙ ap (λ (x : ℕ). max x now) k.clock; due = k.due; timers = k.timers; delayed = k.delayed; phase = k.phase; life = k.life; room = k.room; pace = k.pace }
+with_clock m v n now k is = record { configuration = k.configuration; role = k.role; clock = is ∙ ap (λ (x : ℕ). max x now) k.clock; due = k.due; timers = k.timers; delayed = k.delayed; phase = k.phase; life = k.life; room = k.room; pace = k.pace; unpaced = k.unpaced }
 
 pub with_due : (m : Machine) (v : EndView) (d : Due) (x : model.Due) → KeepsMachine m v → DueStands d x → KeepsMachine (record m { due = d }) (record v { due = x })
-with_due m v d x k due = record { configuration = k.configuration; role = k.role; clock = k.clock; due = due; timers = k.timers; delayed = k.delayed; phase = k.phase; life = k.life; room = k.room; pace = k.pace }
+with_due m v d x k due = record { configuration = k.configuration; role = k.role; clock = k.clock; due = due; timers = k.timers; delayed = k.delayed; phase = k.phase; life = k.life; room = k.room; pace = k.pace; unpaced = k.unpaced }
 
 pub with_timers : (m : Machine) (v : EndView) (s : Timers) (f : Alarm → model.Timer) → KeepsMachine m v → timers_meaning s ≡ f → KeepsMachine (record m { timers = s }) (record v { timers = f })
-with_timers m v s f k timers = record { configuration = k.configuration; role = k.role; clock = k.clock; due = k.due; timers = timers; delayed = k.delayed; phase = k.phase; life = k.life; room = k.room; pace = k.pace }
+with_timers m v s f k timers = record { configuration = k.configuration; role = k.role; clock = k.clock; due = k.due; timers = timers; delayed = k.delayed; phase = k.phase; life = k.life; room = k.room; pace = k.pace; unpaced = k.unpaced }
 
 pub with_both : (m : Machine) (v : EndView) (d : Due) (x : model.Due) (s : Timers) (f : Alarm → model.Timer) → KeepsMachine m v → DueStands d x → timers_meaning s ≡ f
     → KeepsMachine (record m { due = d; timers = s }) (record v { due = x; timers = f })
-with_both m v d x s f k due timers = record { configuration = k.configuration; role = k.role; clock = k.clock; due = due; timers = timers; delayed = k.delayed; phase = k.phase; life = k.life; room = k.room; pace = k.pace }
+with_both m v d x s f k due timers = record { configuration = k.configuration; role = k.role; clock = k.clock; due = due; timers = timers; delayed = k.delayed; phase = k.phase; life = k.life; room = k.room; pace = k.pace; unpaced = k.unpaced }
 
 pub with_delayed : (m : Machine) (v : EndView) (n o : Option ℕ) → KeepsMachine m v → n ≡ o → KeepsMachine (record m { delayed = n }) (record v { delayed = o })
-with_delayed m v n o k is = record { configuration = k.configuration; role = k.role; clock = k.clock; due = k.due; timers = k.timers; delayed = is; phase = k.phase; life = k.life; room = k.room; pace = k.pace }
+with_delayed m v n o k is = record { configuration = k.configuration; role = k.role; clock = k.clock; due = k.due; timers = k.timers; delayed = is; phase = k.phase; life = k.life; room = k.room; pace = k.pace; unpaced = k.unpaced }
 
 -- the buffer for the next packet is no part of any view
 pub with_room : (m : Machine) (v : EndView) (room : Vec ℕ Global) → KeepsMachine m v → vec_capacity room ≤ v.configuration.limit → KeepsMachine (record m { room = room }) v
-with_room m v room k within = record { configuration = k.configuration; role = k.role; clock = k.clock; due = k.due; timers = k.timers; delayed = k.delayed; phase = k.phase; life = k.life; room = within; pace = k.pace }
+with_room m v room k within = record { configuration = k.configuration; role = k.role; clock = k.clock; due = k.due; timers = k.timers; delayed = k.delayed; phase = k.phase; life = k.life; room = within; pace = k.pace; unpaced = k.unpaced }
+
+-- the pace
+pub with_pace : (m : Machine) (v : EndView) (p : Option Pace) → KeepsMachine m v → (v.configuration.fast_retransmit ≡ false → p ≡ None) → KeepsMachine (record m { pace = p }) (record v { pace = p })
+with_pace m v p k unasked = record { configuration = k.configuration; role = k.role; clock = k.clock; due = k.due; timers = k.timers; delayed = k.delayed; phase = k.phase; life = k.life; room = k.room; pace = refl; unpaced = unasked }
 
 -- ---- terms, sender and receiver
 
@@ -92,6 +97,7 @@ with_traffic m a s v x y is k stands same unreset = record {
   life = record { terms = (joined m a v is k).terms; traffic = stands; buffer = same ∙ (joined m a v is k).buffer; answers = ap (λ (x : Incoming). x.answers) unreset ∙ (joined m a v is k).answers };
   room = k.room;
   pace = k.pace;
+  unpaced = k.unpaced;
 }
 
 pub with_expired : (m : Machine) (a : Association) (s : Traffic) (v : EndView) (now : ℕ) → m.life ≡ life.Joined a → KeepsMachine m v → now ≡ v.moment
@@ -106,6 +112,9 @@ expired_fresh s f now is = ap (λ (x : SenderView). expired x now) is ∙ sym is
 
 pub worn_fresh : (s : SenderView) (f : ℕ) → s ≡ fresh_sender 0 0 f 0 false → worn (λ i. true) s ≡ s
 worn_fresh s f is = ap (λ (x : SenderView). worn (λ i. true) x) is ∙ sym is
+
+pub worn_fresh_by : (test : ℕ → Bool) (s : SenderView) (f : ℕ) → s ≡ fresh_sender 0 0 f 0 false → worn test s ≡ s
+worn_fresh_by test s f is = ap (λ (x : SenderView). worn test x) is ∙ sym is
 
 none_marked : (f i : ℕ) → (timed_out (fresh_sender 0 0 f 0 false)).marked i ≡ false
 none_marked f zero = refl
@@ -126,10 +135,9 @@ takes_not false c r off = refl
 pub takes_none : (m : Machine) (v : EndView) (kind : ℕ) → KeepsMachine m v → takes_reconfig v kind ≡ false
 takes_none m v kind k = takes_not (kind == RECONFIG) (hears takes_data v.phase) v.terms.reset (unreset m.life v.configuration v.terms v.sender v.receiver k.life)
 
--- it has no pace and resets no stream, whatever its moment
+-- it resets no stream, whatever its moment
 pub quiet_at : (m : Machine) (a : Association) (v : EndView) (n : ℕ) → m.life ≡ life.Joined a → KeepsMachine m v → IsQuiet (record v { moment = n })
 quiet_at m a v n is k = record {
-  pace = k.pace;
   reset = ap (λ (t : model.Terms). t.reset) (sym (joined m a v is k).terms);
   request = k.due.request;
   answers = (joined m a v is k).answers;
@@ -158,6 +166,7 @@ turned_open m a v t g stage d s is k phase due timers =
       life = record { terms = (joined m a v is k).terms; traffic = (joined m a v is k).traffic; buffer = (joined m a v is k).buffer; answers = (joined m a v is k).answers };
       room = k.room;
       pace = k.pace;
+      unpaced = k.unpaced;
     }
 
 -- no timer is at home where all is over
@@ -201,6 +210,7 @@ closed_joined m a v why d s is k due timers = record {
   life = record { terms = (joined m a v is k).terms; traffic = (joined m a v is k).traffic; buffer = (joined m a v is k).buffer; answers = (joined m a v is k).answers };
   room = k.room;
   pace = k.pace;
+  unpaced = k.unpaced;
 }
 
 pub closed_unjoined : (m : Machine) (x : Unjoined) (v : EndView) (why : End) (d : Due) (s : Timers) → m.life ≡ life.Unjoined x → KeepsMachine m v → DueStands d nothing_due
@@ -216,4 +226,5 @@ closed_unjoined m x v why d s is k due timers = record {
   life = unjoined m x v is k;
   room = k.room;
   pace = k.pace;
+  unpaced = k.unpaced;
 }

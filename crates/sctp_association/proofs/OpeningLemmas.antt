@@ -59,6 +59,7 @@ established_there m a v t xs d s is k phase due timers =
       life = record { terms = (joined m a v is k).terms; traffic = (joined m a v is k).traffic; buffer = (joined m a v is k).buffer; answers = (joined m a v is k).answers };
       room = k.room;
       pace = k.pace;
+      unpaced = k.unpaced;
     }
 
 -- ---- the seal of an end that listens

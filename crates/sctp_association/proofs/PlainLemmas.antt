@@ -1,5 +1,5 @@
 -- The fast path: if no slot but the SACK's is due, a packet of SACK and user data is the specification's next packet.
-use Rattle.std.proofs.Common.{◌≡◌, ◌∙◌, ℕ, Bool, true, false, ◌&&◌, [], ◌∷◌, Result, Ok, Err, IfOk, refl, ap, sym, subst}
+use Rattle.std.proofs.Common.{◌≡◌, ◌∙◌, ℕ, Bool, true, false, ◌&&◌, [], ◌∷◌, None, Result, Ok, Err, IfOk, refl, ap, sym, subst}
 use Rattle.sctp_model.specs.sender.SenderView.{SenderView}
 use Rattle.sctp_model.specs.end.EndView as model
 use Rattle.sctp_model.specs.end.EndView.{EndView, Alarm, InitAlarm, CookieAlarm, DataAlarm, ShutdownAlarm, AckAlarm, ResetAlarm, format_of, format_for}
@@ -28,7 +28,9 @@ use Rattle.sctp_association.specs.declared.build.plain.Plain.{Plain}
 use Rattle.sctp_association.specs.declared.build.packing.Packing.{Packing}
 use Rattle.sctp_association.specs.declared.machine.Machine.{Machine}
 use Rattle.sctp_association.proofs.PutLemmas.{not_due, joined, cut, then_quiet}
-use Rattle.sctp_association.proofs.BuildLemmas.{due_same, drafted_same, fills_packet, on_traffic}
+use Rattle.sctp_association.proofs.PaceLemmas.{paced_none}
+use Rattle.sctp_association.proofs.SameLemmas.{due_same, drafted_same}
+use Rattle.sctp_association.proofs.BuildLemmas.{fills_packet, on_traffic}
 
 -- a plain packet in the making
 abbrev pub plain_at : Due → Draft → (sack fragments : Bool) → Packing
@@ -68,11 +70,12 @@ module _ (e : EndView) (d : Due) (plain : IsPlain d e.due) (quiet : IsQuiet e) w
 
 -- fragments behind the SACK
 pub plain_fills : (e : EndView) (t : model.Tags) (g : model.Stage) (d : Due) (old mid new : Draft) (s some : Bool) (traffic : Traffic) (tickets : Vec Ticket Global) → e.phase ≡ model.Open t g
-    → IsQuiet e → IsEmpty e (plain_at d old s false) → PutsAt open_slots e (plain_at d old s false) (plain_at d mid false false) true
+    → e.pace ≡ None → IsQuiet e → IsEmpty e (plain_at d old s false) → PutsAt open_slots e (plain_at d old s false) (plain_at d mid false false) true
     → FillsBehind e (plain_at d mid false false) (plain_at d new false some) traffic tickets
-    → (x : SenderView) × IsPacked e x (plain_at d new false some) tickets × TrafficStands traffic (format_of e) x e.receiver
-plain_fills e t g d old mid new s some traffic tickets phase quiet empty puts fills =
-    fills_packet {E = NoMemory} (Ok tickets) e t g (plain_at d old s false) (plain_at d mid false false) (plain_at d new false some) true traffic phase quiet empty refl puts fills
+    → (x : SenderView) × IsPacked e x e.pace (plain_at d new false some) tickets × TrafficStands traffic (format_of e) x e.receiver
+plain_fills e t g d old mid new s some traffic tickets phase none quiet empty puts fills =
+    fills_packet {E = NoMemory} (Ok tickets) e t g (plain_at d old s false) (plain_at d mid false false) (plain_at d new false some) true traffic e.pace phase quiet empty refl puts fills
+    (paced_none e (plain_marks d false false) mid.chunks e.pace refl none)
 
 -- no timer but that of fragments starts
 starts_alone_at : (b : Bool) (a : Alarm) → starts_at (fragments_alone b) a ≡ with_fragments b (starts_at (fragments_alone false)) a
@@ -109,8 +112,8 @@ never_open (Failed why) t g is = cc
 
 pub plain_sender : (r : Result Plain NoMemory) (e v : EndView) (d : Due) (w : Draft) (m : Machine) (a b : Association) → m.life ≡ life.Joined a → KeepsMachine m v
     → b ≡ record a { traffic = b.traffic }
-    → IfOk r (λ p. (x : SenderView) × IsPacked e x (plain_at d w p.sack p.fragments) p.tickets × TrafficStands b.traffic (format_for v.terms.interleave) x v.receiver)
-    → IfOk r (λ p. (x : SenderView) × IsPacked e x (plain_at d w p.sack p.fragments) p.tickets × KeepsMachine (record m { life = life.Joined b }) (record v { sender = x }))
+    → IfOk r (λ p. (x : SenderView) × IsPacked e x v.pace (plain_at d w p.sack p.fragments) p.tickets × TrafficStands b.traffic (format_for v.terms.interleave) x v.receiver)
+    → IfOk r (λ p. (x : SenderView) × IsPacked e x v.pace (plain_at d w p.sack p.fragments) p.tickets × KeepsMachine (record m { life = life.Joined b }) (record v { sender = x }))
 plain_sender (Ok p) e v d w m a b is k kept packed = (packed.0, packed.1, on_traffic m a b v packed.0 is k kept packed.2)
 plain_sender (Err failed) e v d w m a b is k kept packed = packed
 

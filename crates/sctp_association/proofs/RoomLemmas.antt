@@ -1,5 +1,5 @@
 -- User data went out exactly if less space is left in the packet; if so, the data timer starts as the specification says.
-use Rattle.std.proofs.Common.{◌≡◌, ℕ, ◌+◌, ◌-◌, ◌<◌, nat_lt, Bool, true, false, List, [], ◌∷◌, ◌++◌, map, refl, ap, sym, arith}
+use Rattle.std.proofs.Common.{◌≡◌, ℕ, suc, ◌+◌, ◌-◌, ◌<◌, nat_lt, Bool, true, false, List, [], ◌∷◌, ◌++◌, length, map, refl, ap, sym, arith}
 use Rattle.std.proofs.lemmas.List.{append-nil}
 use Rattle.std.proofs.lemmas.Bool.Decides.{nat_tests}
 use Rattle.sctp_model.specs.messages.Format.{Format}
@@ -20,6 +20,13 @@ use Rattle.sctp_association.proofs.StartLemmas.{start_more}
 abbrev pub some_wish : List Wish → Bool
 some_wish [] = false
 some_wish (w ∷ ws) = true
+
+some_length : (n : ℕ) → nat_lt 0 (suc n) ≡ true
+some_length n = grind (arith, nat_tests)
+
+pub some_count : (ws : List Wish) → some_wish ws ≡ nat_lt 0 (length ws)
+some_count [] = refl
+some_count (w ∷ ws) = sym (some_length (length ws))
 
 -- a timer put in its own place changes nothing
 data_same : (f : Alarm → Timer) (b : Alarm) → replaced DataAlarm (f DataAlarm) f b ≡ f b

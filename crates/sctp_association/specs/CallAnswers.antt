@@ -1,5 +1,5 @@
 -- What the user's calls answer, in terms of an end's view, and what they leave (RFC 9260, 11.1).
-use Rattle.std.specs.Prelude.{◌≡◌, ℕ, true, List, Option, None, Result, Ok, Err}
+use Rattle.std.specs.Prelude.{◌≡◌, ℕ, true, List, Option, None, Some, Result, Ok, Err}
 use Rattle.sctp_model.specs.messages.Format.{Lane}
 use Rattle.sctp_model.specs.world.Calls.{Call}
 use Rattle.sctp_model.specs.sender.Queueing.{refusal}
@@ -30,9 +30,17 @@ abbrev pub connected : EndView → (now : ℕ) → Draw → Result (Unit {0}) Co
 connected v now d (Ok _) = called (at_moment v now) d
 connected v now d (Err fault) = v
 
--- a message as it is handed in: it may be retransmitted without limit
+-- a message as it is handed in, with the end of its lifetime and its limit of retransmissions, if it has them (RFC 7496, 3.1)
+abbrev pub call_with : Lane → (payload : ℕ) → List ℕ → (until limit : Option ℕ) → Call
+call_with lane payload bytes until limit = record { lane = lane; payload = payload; bytes = bytes; until = until; limit = limit }
+
+-- one that may be retransmitted without limit
 abbrev pub call_of : Lane → ℕ → List ℕ → Option ℕ → Call
-call_of lane payload bytes until = record { lane = lane; payload = payload; bytes = bytes; until = until; limit = None }
+call_of lane payload bytes until = call_with lane payload bytes until None
+
+-- one each of whose fragments may be retransmitted so many times
+abbrev pub limited_call_of : Lane → (payload : ℕ) → List ℕ → (until : Option ℕ) → (limit : ℕ) → Call
+limited_call_of lane payload bytes until limit = call_with lane payload bytes until (Some limit)
 
 -- A ticket is the machine's answer, a refusal the machine's; want of memory is told only where it gives a ticket.
 abbrev pub SendAnswers : EndView → Call → Result Ticket Refused → Type 0

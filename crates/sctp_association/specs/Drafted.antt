@@ -1,5 +1,5 @@
 -- A packet in the making: which chunks went in, and what that leaves at its end (RFC 9260, 6.10).
-use Rattle.std.specs.Prelude.{◌≡◌, ℕ, Bool, true, false, not, List, [], map, Option, None}
+use Rattle.std.specs.Prelude.{◌≡◌, ◌≤◌, ℕ, Bool, true, false, not, List, [], map, Option, None}
 use Rattle.std.specs.declared.vec.Vec.{Vec}
 use Rattle.std.specs.declared.alloc.Global.{Global}
 use Rattle.sctp_model.specs.wire.Typed.{Typed}
@@ -9,6 +9,7 @@ use Rattle.sctp_model.specs.receiver.ReceiverView.{ReceiverView}
 use Rattle.sctp_model.specs.receiver.SackMade.{sack_sent}
 use Rattle.sctp_model.specs.end.EndView.{Configuration, EndView, format_of}
 use Rattle.sctp_model.specs.end.EndView as model
+use Rattle.sctp_model.specs.end.Pacing.{Pace}
 use Rattle.sctp_model.specs.end.Building.{Slot, Puts, Builds, tag_to}
 use Rattle.sctp_packet.specs.Draft.{Draft}
 use Rattle.sctp_values.specs.declared.ticket.Ticket.{Ticket}
@@ -85,6 +86,14 @@ pub record IsOf (e : EndView) (p : Packing) : Type 0 where
   pub tag : p.writer.tag ≡ tag_to e.phase
   pub sack : p.marks.sack ≡ true → e.due.sack ≡ true
 
+-- The packet is this end's, within its limit, by its header, and only a SACK that was due is marked.
+pub record IsOwn (e : EndView) (p : Packing) : Type 0 where
+  pub limit : p.writer.limit ≤ e.configuration.limit
+  pub source : p.writer.source ≡ e.configuration.own_port
+  pub destination : p.writer.destination ≡ e.configuration.peer_port
+  pub tag : p.writer.tag ≡ tag_to e.phase
+  pub sack : p.marks.sack ≡ true → e.due.sack ≡ true
+
 -- Nothing went in yet.
 pub record IsEmpty (e : EndView) (p : Packing) : Type 0 where
   pub packet : IsOf e p
@@ -96,17 +105,16 @@ pub record PutsAt (ss : List Slot) (e : EndView) (old new : Packing) (room : Boo
   pub puts : Puts ss (drafted old.marks e) old.writer.chunks new.writer.chunks (not room) (drafted new.marks e)
   pub packet : IsOf e new
 
--- The packet is whole: it holds what the end's next packet does, which leaves this sender; the tickets are those newly numbered.
-pub record IsPacked (e : EndView) (s : SenderView) (p : Packing) (tickets : Vec Ticket Global) : Type 0 where
-  pub builds : Builds e p.writer.chunks (record (drafted p.marks e) { sender = s })
-  pub packet : IsOf e p
+-- The packet is whole: it holds what the end's next packet does, which leaves this sender and this pace; the tickets are those newly numbered.
+pub record IsPacked (e : EndView) (s : SenderView) (o : Option Pace) (p : Packing) (tickets : Vec Ticket Global) : Type 0 where
+  pub builds : Builds e p.writer.chunks (record (drafted p.marks e) { sender = s; pace = o })
+  pub packet : IsOwn e p
   pub tickets_are : map (λ t. t.0) tickets.items ≡ newly_numbered e.sender s
 
 -- ---- what this crate leaves out
 
--- Data goes out by timers and the peer's window alone, and no stream is reset: nothing is due for that.
+-- No stream is reset: nothing is due for that.
 pub record IsQuiet (e : EndView) : Type 0 where
-  pub pace : e.pace ≡ None
   pub reset : e.terms.reset ≡ false
   pub request : e.due.request ≡ false
   pub answers : e.receiver.resets.answers ≡ []

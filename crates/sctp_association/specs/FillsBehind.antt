@@ -7,14 +7,14 @@ use Rattle.sctp_model.specs.end.EndView.{EndView, format_of}
 use Rattle.sctp_model.specs.end.Building.{filled_behind, fragments, sent}
 use Rattle.sctp_values.specs.declared.ticket.Ticket.{Ticket}
 use Rattle.sctp_association.specs.TrafficStands.{TrafficStands}
-use Rattle.sctp_association.specs.Drafted.{drafted, IsOf}
+use Rattle.sctp_association.specs.Drafted.{drafted, IsOwn}
 use Rattle.sctp_association.specs.declared.traffic.Traffic.{Traffic}
 use Rattle.sctp_association.specs.declared.build.packing.Packing.{Packing}
 
 -- What fits went in; the traffic stands for what that leaves; the timer of fragments starts if anything went out; nothing else changed.
 pub record FillsBehind (e : EndView) (old new : Packing) (traffic : Traffic) (tickets : Vec Ticket Global) : Type 0 where
   pub chunks : new.writer.chunks ≡ old.writer.chunks ++ fragments (drafted old.marks e) old.writer.chunks
-  pub packet : IsOf e new
+  pub packet : IsOwn e new
   pub marks : new.marks ≡ record old.marks { starts = new.marks.starts }
   pub timers : (drafted new.marks e).timers ≡ (sent (drafted old.marks e) old.writer.chunks).timers
   pub traffic_stands : TrafficStands traffic (format_of e) (filled_behind (drafted old.marks e) old.writer.chunks).view e.receiver

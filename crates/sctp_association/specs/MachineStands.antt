@@ -42,7 +42,7 @@ abbrev pub LifeStands : Life → Configuration → Terms → SenderView → Rece
 LifeStands (Unjoined x) c t s r = IsUnjoined c t s r
 LifeStands (Joined a) c t s r = IsJoined a c t s r
 
--- Each part stands for its part, and the view has no pace; the buffer that is kept for the next packet is part of no view, and no larger than a packet may be.
+-- Each part stands for its part; without fast retransmit there is no pace; the buffer that is kept for the next packet is part of no view, and no larger than a packet may be.
 pub record KeepsMachine (m : Machine) (v : EndView) : Type 0 where
   pub configuration : m.config ≡ v.configuration
   pub role : RoleStands m.role v.role
@@ -53,7 +53,8 @@ pub record KeepsMachine (m : Machine) (v : EndView) : Type 0 where
   pub phase : phase_of m.life ≡ v.phase
   pub life : LifeStands m.life v.configuration v.terms v.sender v.receiver
   pub room : vec_capacity m.room ≤ v.configuration.limit
-  pub pace : v.pace ≡ None
+  pub pace : m.pace ≡ v.pace
+  pub unpaced : v.configuration.fast_retransmit ≡ false → v.pace ≡ None
 
 -- Stands for: hidden from the crates above, which know it by the clauses alone.
 unfoldable pub MachineStands : Machine → EndView → Type 0

@@ -2,16 +2,16 @@
 //! endpoint changes as these chunks say.
 
 pub mod filling;
+pub mod pacing;
 pub mod packing;
 pub mod plain;
 pub mod putting;
 pub mod replying;
 
-ghost use Rattle.std.specs.Prelude.{◌≡◌, ◌≤◌, ℕ, [], length, IfOk, OnErr, IfSome, MatchOption};
+ghost use Rattle.std.specs.Prelude.{◌≡◌, ◌≤◌, ℕ, [], length, None, IfOk, OnErr, IfSome, MatchOption};
 ghost use Rattle.sctp_model.specs.messages.Format.{Format};
 ghost use Rattle.sctp_model.specs.sender.SenderView.{SenderView};
 ghost use Rattle.sctp_model.specs.receiver.ReceiverView.{ReceiverView};
-ghost use Rattle.sctp_model.specs.receiver.SackMade.{sack_sent};
 ghost use Rattle.sctp_model.specs.wire.Packet.{size_of_packet};
 ghost use Rattle.sctp_model.specs.end.EndView.{EndView, format_of};
 ghost use Rattle.sctp_model.specs.end.EndView as model;
@@ -22,7 +22,7 @@ ghost use Rattle.sctp_association.specs.PhaseMeans.{phase_in, phase_unjoined};
 ghost use Rattle.sctp_association.specs.DueStands.{DueStands};
 ghost use Rattle.sctp_association.specs.TrafficStands.{TrafficStands};
 ghost use Rattle.sctp_association.specs.MachineStands.{MachineStands};
-ghost use Rattle.sctp_association.specs.Drafted.{receiver_left, delayed_left, drafted, IsEmpty, IsPacked, IsPartOf};
+ghost use Rattle.sctp_association.specs.Drafted.{drafted, IsEmpty, IsPacked, IsPartOf};
 ghost use Rattle.sctp_association.specs.BuildAnswers.{BuildAnswer};
 
 use crate::build::filling::fill_behind;
@@ -34,6 +34,7 @@ use crate::state::due::Due;
 use crate::state::life::{Association, Life, Progress, Unjoined};
 use crate::time::timer::Alarm;
 use crate::traffic::Traffic;
+use sctp_congestion::Pacing;
 use sctp_opening::put_init;
 use sctp_terms::{Config, Draw};
 use sctp_values::{NoMemory, Ticket};
@@ -75,7 +76,7 @@ impl Machine {
     {
         self.keep_forward();
         let mut packing = self.packing();
-        let tickets = self.pack(&mut packing)?;
+        let tickets = self.pack(moment, &mut packing)?;
         Ok(self.sent(moment, packing, tickets))
     }
 
@@ -94,20 +95,31 @@ impl Machine {
         }
     }
 
-    /// Puts all chunks of the next packet in, by the state of the endpoint. Of the endpoint only the sender changes.
+    /// Puts all chunks of the next packet in, by the state of the endpoint, at this time in milliseconds. Of the endpoint only the sender and the pace
+    /// change.
     ///
     /// # Errors
     /// `NoMemory` if an allocation was refused.
-    fn pack(&mut self, packing: &mut Packing) -> Result<Vec<Ticket>, NoMemory>
-        ensures packed { (v : EndView) (moment : ℕ) → MachineStands self.old v → IsEmpty (record v { moment = moment }) packing.old
-            → IfOk result (λ tickets. (s : SenderView) × IsPacked (record v { moment = moment }) s packing.new tickets × MachineStands self.new (record v { sender = s })) }
+    fn pack(&mut self, moment: u64, packing: &mut Packing) -> Result<Vec<Ticket>, NoMemory>
+        ensures packed { (v : EndView) → MachineStands self.old v → IsEmpty (record v { moment = moment }) packing.old
+            → IfOk result (λ tickets. (s : SenderView) × IsPacked (record v { moment = moment }) s self.new.pace packing.new tickets
+            × MachineStands self.new (record v { sender = s; pace = self.new.pace })) }
         ensures memory { (v : EndView) → MachineStands self.old v → OnErr result (MachineStands self.new v) }
     {
         let alloc = self.alloc;
         match &mut self.life {
             Life::Unjoined(unjoined) => { pack_unjoined(alloc, &self.config, *unjoined, packing) }
             Life::Joined(association) => {
-                pack_joined(alloc, &self.config, association, &self.due, packing)
+                let pace = &mut self.pace;
+                pack_joined(
+                    alloc,
+                    &self.config,
+                    association,
+                    &self.due,
+                    pace,
+                    moment,
+                    packing,
+                )
             }
         }
     }
@@ -126,31 +138,6 @@ impl Machine {
         self.due.leave(self.alloc, packing.marks);
         self.finished(packing.writer, tickets)
     }
-
-    /// If a SACK that was due went out, the duplicates that it reported are forgotten, and no SACK is delayed any more (RFC 9260, 6.2).
-    pub(crate) fn when_sack_sent(&mut self, was_due: bool, is_due: bool)
-        ensures { (v : EndView) → MachineStands self.old v
-            → MachineStands self.new (record v { delayed = delayed_left was_due is_due v.delayed; receiver = receiver_left was_due is_due v.receiver }) }
-    {
-        if !was_due {
-            return;
-        }
-        if is_due {
-            return;
-        }
-        self.delayed = None;
-        self.sack_sent();
-    }
-
-    /// A SACK went out: the duplicates that it reported are forgotten.
-    fn sack_sent(&mut self)
-        ensures { (v : EndView) → MachineStands self.old v → MachineStands self.new (record v { receiver = sack_sent v.receiver }) }
-    {
-        match &mut self.life {
-            Life::Unjoined(_) => {}
-            Life::Joined(association) => association.traffic.sack_sent(),
-        }
-    }
 }
 
 /// What an endpoint sends before an association: its INIT, while it calls.
@@ -161,7 +148,7 @@ fn pack_unjoined(
     packing: &mut Packing,
 ) -> Result<Vec<Ticket>, NoMemory>
     ensures { (e : EndView) → e.configuration ≡ config.now → e.phase ≡ phase_unjoined unjoined → IsEmpty e packing.old
-        → IfOk result (λ tickets. IsPacked e e.sender packing.new tickets) }
+        → IfOk result (λ tickets. IsPacked e e.sender e.pace packing.new tickets) }
 {
     match unjoined {
         Unjoined::Idle => Ok(Vec::new(alloc)),
@@ -179,7 +166,7 @@ fn pack_init(
     packing: &mut Packing,
 ) -> Result<Vec<Ticket>, NoMemory>
     ensures { (e : EndView) → e.configuration ≡ config.now → e.phase ≡ model.Calling draw → IsEmpty e packing.old
-        → IfOk result (λ tickets. IsPacked e e.sender packing.new tickets) }
+        → IfOk result (λ tickets. IsPacked e e.sender e.pace packing.new tickets) }
 {
     // By the clause of `limit` its packet has space for it.
     let _limit = config.limit();
@@ -200,16 +187,24 @@ fn pack_joined(
     config: &Config,
     association: &mut Association,
     due: &Due,
+    pace: &mut Option<Pacing>,
+    moment: u64,
     packing: &mut Packing,
 ) -> Result<Vec<Ticket>, NoMemory>
-    ensures packed { (e : EndView) → phase_in association.old.tags association.old.progress ≡ e.phase → IsPartOf config.now association.old.traffic due.now e → IsEmpty e packing.old
-        → IfOk result (λ tickets. (s : SenderView) × IsPacked e s packing.new tickets × TrafficStands association.new.traffic (format_of e) s e.receiver) }
+    ensures packed { (e : EndView) → phase_in association.old.tags association.old.progress ≡ e.phase → IsPartOf config.now association.old.traffic due.now e
+        → pace.old ≡ e.pace → moment ≡ e.moment → IsEmpty e packing.old
+        → IfOk result (λ tickets. (s : SenderView) × IsPacked e s pace.new packing.new tickets × TrafficStands association.new.traffic (format_of e) s e.receiver) }
     ensures memory { (f : Format) (s : SenderView) (r : ReceiverView) → TrafficStands association.old.traffic f s r → OnErr result (TrafficStands association.new.traffic f s r) }
     ensures kept { association.new ≡ record association.old { traffic = association.new.traffic } }
+    ensures unchanged { OnErr result (pace.new ≡ pace.old) }
+    ensures unpaced { pace.old ≡ None → pace.new ≡ None }
 {
     match &association.progress {
         Progress::Echoing(cookie) => pack_echoing(alloc, cookie, due, packing),
-        Progress::Open(_) => { pack_open(alloc, config, &mut association.traffic, due, packing) }
+        Progress::Open(_) => {
+            let traffic = &mut association.traffic;
+            pack_open(alloc, config, traffic, due, pace, moment, packing)
+        }
         Progress::Over(_) => Ok(Vec::new(alloc)),
     }
 }
@@ -222,7 +217,7 @@ fn pack_echoing(
     packing: &mut Packing,
 ) -> Result<Vec<Ticket>, NoMemory>
     ensures { (e : EndView) (t : model.Tags) → e.phase ≡ model.Echoing t cookie.now.bytes.items → DueStands due.now e.due → IsEmpty e packing.old
-        → IfOk result (λ tickets. IsPacked e e.sender packing.new tickets) }
+        → IfOk result (λ tickets. IsPacked e e.sender e.pace packing.new tickets) }
 {
     let _room = put_echoing(cookie, due, packing)?;
     Ok(Vec::new(alloc))
@@ -234,14 +229,19 @@ fn pack_open(
     config: &Config,
     traffic: &mut Traffic,
     due: &Due,
+    pace: &mut Option<Pacing>,
+    moment: u64,
     packing: &mut Packing,
 ) -> Result<Vec<Ticket>, NoMemory>
-    ensures packed { (e : EndView) (t : model.Tags) (g : model.Stage) → e.phase ≡ model.Open t g → IsPartOf config.now traffic.old due.now e → IsEmpty e packing.old
-        → IfOk result (λ tickets. (s : SenderView) × IsPacked e s packing.new tickets × TrafficStands traffic.new (format_of e) s e.receiver) }
+    ensures packed { (e : EndView) (t : model.Tags) (g : model.Stage) → e.phase ≡ model.Open t g → IsPartOf config.now traffic.old due.now e
+        → pace.old ≡ e.pace → moment ≡ e.moment → IsEmpty e packing.old
+        → IfOk result (λ tickets. (s : SenderView) × IsPacked e s pace.new packing.new tickets × TrafficStands traffic.new (format_of e) s e.receiver) }
     ensures memory { (f : Format) (s : SenderView) (r : ReceiverView) → TrafficStands traffic.old f s r → OnErr result (TrafficStands traffic.new f s r) }
+    ensures unchanged { OnErr result (pace.new ≡ pace.old) }
+    ensures unpaced { pace.old ≡ None → pace.new ≡ None }
 {
     if !put_open(config, traffic, due, packing)? {
         return Ok(Vec::new(alloc));
     }
-    fill_behind(traffic, packing)
+    fill_behind(traffic, pace, moment, packing)
 }

@@ -5,7 +5,7 @@
 //!
 //! Contracts speak of the specification's view of an endpoint (`EndView` of `sctp_model`) by `MachineStands`, which is hidden from the crates above.
 //! Each call is the specification's function on every view that the endpoint stands for; if an allocation fails, it still stands for the old view.
-//! The crates above name `Machine` and what its calls take and return (`Agreed`, `Built`, `Opened`, `Refused`, `Stage`, `Tags`). The promises:
+//! The crates above name `Machine` and what its calls take and return (`Agreed`, `Built`, `Opened`, `Path`, `Refused`, `Stage`, `Tags`). The promises:
 //!
 //! - **Creation.** A caller begins in CLOSED, a listener in LISTEN with its key (`Machine::caller`, `listener`); two endpoints may begin established,
 //!   without packets (`paired`).
@@ -19,18 +19,24 @@
 //!   `hear_forward`). A SACK and the cumulative TSN of a SHUTDOWN are refused for their first fault, or acknowledge, with what that does to the data
 //!   timer and to a FORWARD-TSN that is due (`hear_sack`, `hear_shutdown`). A HEARTBEAT whose value fits a packet, and a SHUTDOWN, are answered (`hear_heartbeat`,
 //!   `answer_shutdown`, `repeat_shutdown_ack`); `abort_with` and `complete` close the endpoint with an ABORT or a SHUTDOWN COMPLETE. A RE-CONFIG acts if
-//!   stream reset was agreed on (`takes_reconfig`, `hear_reconfig`); what a packet's SACKs missed is given up at its end (`missed_below`, `give_up_missed`). No
-//!   endpoint agrees on resets or counts misses yet: these calls have their final contracts, and change nothing.
+//!   stream reset was agreed on (`takes_reconfig`, `hear_reconfig`); no endpoint agrees on resets yet: these calls have their final contracts, and change
+//!   nothing.
+//! - **Pace** (RFC 9260, 6.3.1 and 7.2). An endpoint that is set up for fast retransmit measures round trips, that of
+//!   the handshake first (`begin`, `establish`), and computes the RTO of the data timer from them; what an acknowledgement misses for the third time is
+//!   marked for retransmission (`hear_sack`, `hear_shutdown`), and at a packet's end what was missed and may not be retransmitted again is given up
+//!   (`missed_below`, `give_up_missed`). With congestion control a packet has only the space for user data that the congestion window allows (`build`).
+//!   The arithmetic is that of `sctp_congestion`. What a user reads of it: `in_flight`, `path`.
 //! - **Acknowledging** (RFC 9260, 6.2). After a packet a SACK is due, and in SHUTDOWN-SENT the SHUTDOWN again. An endpoint that delays SACKs delays it by
 //!   200 ms in any other state, if nothing in the packet asks for it at once and none is owed. With standard closing, data in SHUTDOWN-SENT restarts the
 //!   SHUTDOWN's timer and count (`acknowledge`). Whether received TSNs have a gap: `leaves_gap`.
 //! - **ERROR.** A cause joins those that are collected exactly if the ERROR of them all still fits a packet; a chunk of an unknown type is such a cause
 //!   (`report_chunk`; `WaitingCauses::report`, `has_room`).
 //! - **Closing** (RFC 9260, 9.2). Transitions, the end for good, and what follows once all is acknowledged: `turn`, `close`, `advance_closing`.
-//! - **Time.** Messages whose lifetime is over are abandoned, then each timer that is due expires once, and after its last retransmission the endpoint
-//!   gives up; a SACK that was delayed long enough is due. An earlier time than the latest counts as the latest (`on_moment`, `advance_clock`). When to
-//!   call next: `next_moment`, which doesn't count lifetimes. Each timer starts, stops, expires, doubles its timeout and counts as RFC 9260, 6.3 says
-//!   (`Timers`, `Timer`, by equations).
+//! - **Time.** Messages whose lifetime is over are abandoned, and if the data timer is due, those with a fragment that was retransmitted as often as their
+//!   limit allows; then each timer that is due expires once, and after its last retransmission the endpoint gives up; a SACK that was delayed long
+//!   enough is due. An earlier time than the latest counts as the latest (`on_moment`, `advance_clock`). When to call next: `next_moment`, which
+//!   doesn't count lifetimes. Which messages a time may abandon: `next_to_give_up`; it abandons no others (`gives_up_alone`). Each timer starts, stops,
+//!   expires, doubles its timeout and counts as RFC 9260, 6.3 says (`Timers`, `Timer`, by equations).
 //! - **The next packet** (`build`: `BuildAnswer`). INIT alone; COOKIE ECHO and an ERROR; or all chunks that are due, in the specification's order, and user
 //!   data after them. There is a packet exactly if the specification's has a chunk; its bytes are that packet, within the packet limit, and its tickets
 //!   those of the messages that were assigned TSNs, by first TSN. Chunks that went in are no longer due, their timers run, and a SACK's duplicates are
@@ -38,14 +44,15 @@
 //! - **The parts.** What the sender and the receiver do in the format agreed on is the step of both views (`Traffic`: every call); what is due changes as
 //!   the view's does (`Due`: every call, `DueStands`).
 //! - **Every packet** that an endpoint returns is within its packet limit (clauses `within`; `build`).
-//! - **The user's calls** are refused exactly as specified: `connect`, `send`, `abandon`, `shutdown`, `abort`, `take`.
+//! - **The user's calls** are refused exactly as specified: `connect`, `send`, `send_with_max_retransmits`, `abandon`, `shutdown`, `abort`, `take`.
 //! - **Readers** return what the view says, before, in and after an association: `state`, `ended`, `config`, `agreed` (None exactly if no stream is agreed
-//!   on), `tickets`, `waiting`, `readable`, `inbound`, `outbound`, `is_interleaved`, `is_partial`, `has_late`, `next_late`, `acknowledged`, `abandoned`,
-//!   `queued`, `queued_bytes`, `peer_window`, `held_bytes`, `outstanding`.
+//!   on), `tickets`, `waiting`, `readable`, `inbound`, `outbound`, `is_interleaved`, `is_partial`, `has_late`, `next_late`, `next_to_give_up`,
+//!   `next_at_limit`, `acknowledged`, `abandoned`, `queued`, `queued_bytes`, `peer_window`, `held_bytes`, `outstanding`.
 //! - **Bounds.** Received bytes that aren't taken never exceed the receive buffer (`held_bytes`, `bound`); at most 32,767 TSNs and partly sent messages are
 //!   outstanding (`outstanding`, `bound`).
-//! - **Laws of every view** that an endpoint stands for (their functions do nothing): it is sound (`sound`), no two messages with TSNs share a ticket
-//!   (`tickets_are_apart`), and a packet begins at most one message for each 20 bytes (`packets_begin_few`). The headline theorem uses them.
+//! - **Laws of every view** that an endpoint stands for (their functions do nothing): it is sound (`sound`), its sender's view is one that a
+//!   sender's calls reach (`reached`), no two messages with TSNs share a ticket (`tickets_are_apart`), and a packet begins at most one message for each
+//!   20 bytes (`packets_begin_few`). The headline theorem uses them.
 //! - **Buffers that the user hands back** change no view. Of packets the larger buffer is kept, never one above the packet limit (`recycle`, clauses `kept`
 //!   and `within`); that the next packet is made in it, and received data in a message's memory (`give_back`), is only measured.
 //!
@@ -66,3 +73,4 @@ pub use state::life::Opened;
 pub use state::stage::{Stage, Tags};
 pub use user::agreed::Agreed;
 pub use user::calls::Refused;
+pub use user::path::Path;

@@ -13,12 +13,13 @@ ghost use Rattle.sctp_association.specs.PhaseMeans.{phase_unjoined};
 use crate::state::due::Due;
 use crate::state::life::{Life, Opened, Role, Unjoined};
 use crate::time::timers::Timers;
+use sctp_congestion::Pacing;
 use sctp_cookie::Key;
 use sctp_terms::Config;
 use std::alloc::Global;
 
 /// One endpoint of an association: its configuration and role, the latest time that it was given in milliseconds, the chunks that its next
-/// packets owe, its timers, a delayed SACK, and the state of its association; beside that a buffer for its next packet.
+/// packets owe, its timers, a delayed SACK, the state of its association, and its pace; beside that a buffer for its next packet.
 #[derive(Drop)]
 pub struct Machine {
     pub(crate) alloc: Global,
@@ -30,6 +31,8 @@ pub struct Machine {
     /// The time at which a delayed SACK is due, while one is delayed (RFC 9260, 6.2).
     pub(crate) delayed: Option<u64>,
     pub(crate) life: Life,
+    /// What it measures round trips and paces its user data by, once there is an association; None if it isn't set up for fast retransmit.
+    pub(crate) pace: Option<Pacing>,
     /// The buffer that is kept for the next packet, of one that was handed back; empty if none was.
     pub(crate) room: Vec<u8>,
 }
@@ -63,6 +66,7 @@ impl Machine {
             timers: Timers::unused(),
             delayed: None,
             life: Life::Unjoined(stands),
+            pace: None,
             room: Vec::new(alloc),
         }
     }

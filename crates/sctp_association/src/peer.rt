@@ -3,8 +3,10 @@
 pub mod answering;
 pub mod hearing;
 pub mod joining;
+pub mod measuring;
 pub mod missing;
 pub mod opening;
+pub mod pacing;
 pub mod passing;
 pub mod reconfiguring;
 pub mod reporting;

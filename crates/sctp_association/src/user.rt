@@ -3,6 +3,7 @@
 pub mod abort;
 pub mod agreed;
 pub mod calls;
+pub mod path;
 pub mod readers;
 pub mod rooms;
 pub mod status;

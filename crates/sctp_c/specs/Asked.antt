@@ -1,5 +1,5 @@
 -- What C passes in, in the words of the definitions.
-use Rattle.std.specs.Prelude.{◌≡◌, ℕ, ◌<◌, ◌⊎◌, ◌+◌, ◌==◌, ◌&&◌, Bool, true, false, List, [], ◌∷◌, Option, Some, None}
+use Rattle.std.specs.Prelude.{◌≡◌, ℕ, ◌<◌, ◌⊎◌, ◌+◌, ◌==◌, ◌&&◌, ◌||◌, if◌then◌else◌, Bool, true, false, List, [], ◌∷◌, Option, Some, None}
 use Rattle.sctp_model.specs.end.EndView.{Configuration, Draw}
 use Rattle.sctp_model.specs.end.Configured.{ConfigurationFault, configuration_fault}
 use Rattle.sctp_model.specs.numbers.Limits.{LEAST_WAIT}
@@ -7,6 +7,21 @@ use Rattle.sctp_terms.specs.Meanings.{config_code}
 use Rattle.sctp_c.specs.declared.codes.TheConstants.{OK, NO_MEMORY, MISUSE, BAD_RESERVED, BAD_CONFIG}
 use Rattle.sctp_c.specs.declared.crossing.SctpConfig.{SctpConfig}
 use Rattle.sctp_c.specs.declared.crossing.SctpDraw.{SctpDraw}
+
+-- of the flags, 1 is fast retransmission, and 2 congestion control, which brings it
+abbrev pub has_control : ℕ → Bool
+has_control flags = (flags == 2) || (flags == 3)
+
+abbrev pub has_fast : ℕ → Bool
+has_fast flags = has_control flags || (flags == 1)
+
+-- no other flag is set
+abbrev pub are_flags : ℕ → Bool
+are_flags flags = has_fast flags || (flags == 0)
+
+-- RTO.Min in milliseconds
+abbrev pub least_of : ℕ → ℕ
+least_of n = if n == 0 then LEAST_WAIT else n
 
 -- the configuration of these numbers
 abbrev pub asked_by : SctpConfig → Configuration
@@ -22,9 +37,9 @@ asked_by c = record {
   partial = c.partial;
   delay = c.delay;
   standard_closing = c.standard_closing;
-  fast_retransmit = false;
-  least_wait = LEAST_WAIT;
-  congestion_control = false;
+  fast_retransmit = has_fast c.flags;
+  least_wait = least_of c.rto_min;
+  congestion_control = has_control c.flags;
   reset = false;
 }
 
@@ -37,6 +52,10 @@ abbrev pub is_zeroed : List ℕ → Bool
 is_zeroed [] = true
 is_zeroed (n ∷ ns) = (n == 0) && is_zeroed ns
 
+-- each flag of a configuration has a meaning, and its reserved numbers are 0
+abbrev pub is_free : SctpConfig → Bool
+is_free c = are_flags c.flags && is_zeroed c.reserved
+
 -- These numbers may be used as a draw: the tag isn't 0, the reserved number is.
 abbrev pub IsDraw : SctpDraw → Type 0
 IsDraw d = (0 < d.tag) × (d.reserved ≡ 0)
@@ -46,12 +65,12 @@ abbrev pub IsMadeUnless : Option ConfigurationFault → ℕ → Type 0
 IsMadeUnless (Some fault) n = n ≡ BAD_CONFIG + config_code fault
 IsMadeUnless None n = (n ≡ OK) ⊎ (n ≡ NO_MEMORY)
 
--- the result by whether all reserved numbers are 0
+-- the result by whether each flag has a meaning and all reserved numbers are 0
 abbrev pub IsMadeZeroed : Bool → SctpConfig → ℕ → Type 0
 IsMadeZeroed false c n = n ≡ BAD_RESERVED
 IsMadeZeroed true c n = IsMadeUnless (configuration_fault (asked_by c)) n
 
--- The result of a call that makes an endpoint: the handle isn't empty; a reserved number isn't 0; the first fault of the configuration; made, or
+-- The result of a call that makes an endpoint: the handle isn't empty; a flag has no meaning or a reserved number isn't 0; the first fault of the configuration; made, or
 -- memory allocation failed.
 abbrev pub IsMade : (full zeroed : Bool) → SctpConfig → ℕ → Type 0
 IsMade true zeroed c n = n ≡ MISUSE

@@ -3,6 +3,7 @@ pub mod Codes
 pub mod Holds
 pub mod Lending
 pub mod Names
+pub mod Path
 pub mod Slot
 pub mod Status
 pub mod Told

@@ -40,6 +40,18 @@ pub(crate) const ANSWER: u32 = 1;
 /// Verdict: the packet was ignored.
 pub(crate) const DROPPED: u32 = 2;
 
+/// Flag of a configuration: fast retransmission (RFC 9260, 7.2.4).
+pub(crate) const FAST_RETRANSMIT: u32 = 1;
+/// Flag of a configuration: congestion control, which brings fast retransmission (RFC 9260, 7.2).
+pub(crate) const CONGESTION_CONTROL: u32 = 2;
+
+/// Flag of a path: it has an RTO.
+pub(crate) const PATH_RTO: u32 = 1;
+/// Flag of a path: a round trip was measured.
+pub(crate) const PATH_TRIP: u32 = 2;
+/// Flag of a path: it has a congestion window.
+pub(crate) const PATH_WINDOW: u32 = 4;
+
 // law
 /// The numbers of results are those of the C header.
 pub fn result_numbers()
@@ -66,4 +78,14 @@ pub fn verdict_numbers()
     ensures taken { TAKEN ≡ 0 }
     ensures answer { ANSWER ≡ 1 }
     ensures dropped { DROPPED ≡ 2 }
+{}
+
+// law
+/// The flags are those of the C header.
+pub fn flag_numbers()
+    ensures fast { FAST_RETRANSMIT ≡ 1 }
+    ensures control { CONGESTION_CONTROL ≡ 2 }
+    ensures rto { PATH_RTO ≡ 1 }
+    ensures trip { PATH_TRIP ≡ 2 }
+    ensures window { PATH_WINDOW ≡ 4 }
 {}

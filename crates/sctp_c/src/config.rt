@@ -2,10 +2,11 @@
 
 ghost use Rattle.std.specs.Prelude.{◌≡◌, ◌+◌, ◌==◌, ◌&&◌, Some, false, MatchResult};
 ghost use Rattle.sctp_model.specs.end.Configured.{configuration_fault};
+ghost use Rattle.sctp_model.specs.numbers.Limits.{LEAST_WAIT};
 ghost use Rattle.sctp_terms.specs.Meanings.{config_fault_meaning, config_code};
-ghost use Rattle.sctp_c.specs.Asked.{asked_by, is_zeroed};
+ghost use Rattle.sctp_c.specs.Asked.{asked_by, is_zeroed, has_control, has_fast, are_flags, is_free, least_of};
 
-use crate::codes::BAD_CONFIG;
+use crate::codes::{BAD_CONFIG, CONGESTION_CONTROL, FAST_RETRANSMIT};
 use crate::crossing::SctpConfig;
 use sctp_endpoint::{Config, ConfigFault};
 
@@ -15,6 +16,35 @@ pub(crate) fn is_zeroed(reserved: &[u32; 4]) -> bool
 {
     let [first, second, third, fourth] = *reserved;
     first == 0 && second == 0 && third == 0 && fourth == 0
+}
+
+/// Whether flags have congestion control (RFC 9260, 7.2).
+fn has_control(flags: u32) -> bool
+    ensures { result ≡ has_control flags }
+{
+    flags == CONGESTION_CONTROL || flags == CONGESTION_CONTROL + FAST_RETRANSMIT
+}
+
+/// Whether flags have fast retransmit (RFC 9260, 7.2.4), which congestion control brings.
+fn has_fast(flags: u32) -> bool
+    ensures { result ≡ has_fast flags }
+{
+    has_control(flags) || flags == FAST_RETRANSMIT
+}
+
+/// Whether each flag has a meaning.
+fn are_flags(flags: u32) -> bool
+    ensures { result ≡ are_flags flags }
+{
+    has_fast(flags) || flags == 0
+}
+
+/// Whether each flag of a configuration has a meaning, and its reserved numbers are 0.
+pub(crate) fn is_free(asked: &SctpConfig) -> bool
+    ensures { result ≡ is_free asked.now }
+{
+    let [first, second] = asked.reserved;
+    are_flags(asked.flags) && (first == 0 && second == 0)
 }
 
 /// The configuration of these numbers.
@@ -34,11 +64,10 @@ pub(crate) fn config_of(asked: &SctpConfig) -> Result<Config, ConfigFault>
         asked.outbound,
         asked.inbound,
     )?;
-    Ok(closing(
-        extended(config, asked.interleave, asked.partial),
-        asked.delay,
-        asked.standard_closing,
-    ))
+    let config = extended(config, asked.interleave, asked.partial);
+    let config = closing(config, asked.delay, asked.standard_closing);
+    let config = paced(config, asked.flags);
+    Ok(waiting(config, asked.rto_min))
 }
 
 /// The configuration that offers these extensions too.
@@ -66,6 +95,33 @@ fn closing(config: Config, delay: bool, standard_closing: bool) -> Config
         (false, true) => config.with_standard_closing(),
         (true, false) => config.with_delay(),
         (true, true) => config.with_delay().with_standard_closing(),
+    }
+}
+
+/// The configuration that has what these flags ask for.
+fn paced(config: Config, flags: u32) -> Config
+    requires fast { config.fast_retransmit ≡ false }
+    requires control { config.congestion_control ≡ false }
+    ensures { result ≡ record config { fast_retransmit = has_fast flags; congestion_control = has_control flags } }
+{
+    if has_control(flags) {
+        return config.with_congestion_control();
+    }
+    if has_fast(flags) {
+        config.with_fast_retransmit()
+    } else {
+        config
+    }
+}
+
+/// The configuration with this RTO.Min in milliseconds; 0 leaves it at 1,000.
+fn waiting(config: Config, rto_min: u32) -> Config
+    requires { config.least_wait ≡ LEAST_WAIT }
+    ensures { result ≡ record config { least_wait = least_of rto_min } }
+{
+    match rto_min {
+        0 => config,
+        milliseconds => config.with_rto_min(milliseconds),
     }
 }
 

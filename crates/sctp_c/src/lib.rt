@@ -2,9 +2,10 @@
 //!
 //! A handle, `SctpEndpoint`, is in the caller's memory: it is empty, which is all zero, or has the address of an endpoint in a block of its own.
 //! A call tests handle and arguments, borrows the endpoint in place, calls it, and writes for C what it returned:
-//! - results and verdicts as numbers, whose values are laws (`result_numbers`, `verdict_numbers`);
+//! - results and verdicts as numbers, whose values are laws (`result_numbers`, `verdict_numbers`, `flag_numbers`);
 //! - bytes at the beginning of a buffer of the caller; after them, and in all of it if the call is refused, the buffer is unchanged;
-//! - structs, of which reserved numbers are 0. Reserved numbers that the caller passes in must be 0, else the call is refused.
+//! - structs, of which reserved numbers are 0. Reserved numbers that the caller passes in must be 0, and flags
+//!   must have a meaning, else the call is refused.
 //!
 //! Contracts are those of the endpoint, for every view that it stands for (`Holds`). A call that may allocate may also return that this failed, and
 //! contracts don't say when. No proof can state the layout of structs and the order of parameters in C: tests/layout.sh compares code, header and
@@ -22,6 +23,7 @@ mod making;
 mod messages;
 mod names;
 mod packets;
+mod path;
 mod reading;
 mod sending;
 mod slot;

@@ -8,10 +8,10 @@ ghost use Rattle.sctp_model.specs.end.Opening.{opened};
 ghost use Rattle.sctp_cookie.specs.Seals.{IsUnder};
 ghost use Rattle.sctp_c.specs.Slot.{is_full};
 ghost use Rattle.sctp_c.specs.Holds.{Holds};
-ghost use Rattle.sctp_c.specs.Asked.{asked_by, drawn, is_zeroed, IsMade};
+ghost use Rattle.sctp_c.specs.Asked.{asked_by, drawn, is_zeroed, is_free, IsMade};
 
 use crate::codes::{BAD_DRAW, BAD_RESERVED, MISUSE, NO_MEMORY, OK};
-use crate::config::{config_answer, config_of, is_zeroed};
+use crate::config::{config_answer, config_of, is_free, is_zeroed};
 use crate::crossing::{SctpConfig, SctpDraw, SctpKey};
 use crate::handle::SctpEndpoint;
 use sctp_endpoint::{Draw, Endpoint, Key};
@@ -25,18 +25,18 @@ pub extern "C" fn sctp_endpoint_abi() -> u32
     1
 }
 
-/// Whether the reserved numbers that a listener is made with are all 0.
+/// Whether the reserved numbers that a listener is made with are all 0, and each flag has a meaning.
 fn are_listening_zeroed(config: &SctpConfig, key: &SctpKey) -> bool
-    ensures { result ≡ (is_zeroed config.now.reserved && is_zeroed key.now.reserved) }
+    ensures { result ≡ (is_free config.now && is_zeroed key.now.reserved) }
 {
-    is_zeroed(&config.reserved) && is_zeroed(&key.reserved)
+    is_free(config) && is_zeroed(&key.reserved)
 }
 
-/// Whether the reserved numbers that an opened endpoint is made with are all 0.
+/// Whether the reserved numbers that an opened endpoint is made with are all 0, and each flag has a meaning.
 fn are_opened_zeroed(own: &SctpDraw, peer: &SctpDraw, config: &SctpConfig) -> bool
-    ensures { result ≡ ((own.now.reserved == 0) && ((peer.now.reserved == 0) && is_zeroed config.now.reserved)) }
+    ensures { result ≡ ((own.now.reserved == 0) && ((peer.now.reserved == 0) && is_free config.now)) }
 {
-    own.reserved == 0 && (peer.reserved == 0 && is_zeroed(&config.reserved))
+    own.reserved == 0 && (peer.reserved == 0 && is_free(config))
 }
 
 /// Puts an endpoint that was made into the handle.
@@ -63,13 +63,13 @@ pub extern "C" fn sctp_endpoint_caller(
     config: &SctpConfig,
 ) -> u32
     ensures made { (result ≡ OK) → Holds handle.new.slot.endpoint (fresh_end (asked_by config.now) model.Caller model.Idle) }
-    ensures answer { IsMade (is_full handle.old.slot.endpoint) (is_zeroed config.now.reserved) config.now result }
+    ensures answer { IsMade (is_full handle.old.slot.endpoint) (is_free config.now) config.now result }
     ensures kept { ((result ≡ OK) → ⊥) → handle.new ≡ handle.old }
 {
     if handle.is_full() {
         return MISUSE;
     }
-    if !is_zeroed(&config.reserved) {
+    if !is_free(config) {
         return BAD_RESERVED;
     }
     match config_of(config) {
@@ -88,7 +88,7 @@ pub extern "C" fn sctp_endpoint_listener(
 ) -> u32
     ensures made { (s : Sealing) → IsUnder key.now.bytes s → (result ≡ OK)
         → Holds handle.new.slot.endpoint (fresh_end (asked_by config.now) (model.Listener s) model.Listening) }
-    ensures answer { IsMade (is_full handle.old.slot.endpoint) (is_zeroed config.now.reserved && is_zeroed key.now.reserved) config.now result }
+    ensures answer { IsMade (is_full handle.old.slot.endpoint) (is_free config.now && is_zeroed key.now.reserved) config.now result }
     ensures kept { ((result ≡ OK) → ⊥) → handle.new ≡ handle.old }
 {
     if handle.is_full() {
@@ -119,7 +119,7 @@ pub extern "C" fn sctp_endpoint_opened(
     ensures made { (result ≡ OK) → Holds handle.new.slot.endpoint (opened (asked_by config.now) (drawn own.now) (drawn peer.now)) }
     ensures undrawn { (own.now.tag ≡ 0) ⊎ (peer.now.tag ≡ 0) → result ≡ BAD_DRAW }
     ensures answer { 0 < own.now.tag → 0 < peer.now.tag
-        → IsMade (is_full handle.old.slot.endpoint) ((own.now.reserved == 0) && ((peer.now.reserved == 0) && is_zeroed config.now.reserved)) config.now result }
+        → IsMade (is_full handle.old.slot.endpoint) ((own.now.reserved == 0) && ((peer.now.reserved == 0) && is_free config.now)) config.now result }
     ensures kept { ((result ≡ OK) → ⊥) → handle.new ≡ handle.old }
 {
     let are_zeroed = are_opened_zeroed(own, peer, config);

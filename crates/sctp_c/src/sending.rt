@@ -3,7 +3,7 @@
 ghost use Rattle.std.specs.Prelude.{◌≡◌, ◌⊎◌, None, take};
 ghost use Rattle.sctp_model.specs.end.EndView.{EndView};
 ghost use Rattle.sctp_send.specs.SenderAnswers.{lane_for};
-ghost use Rattle.sctp_association.specs.CallAnswers.{call_of};
+ghost use Rattle.sctp_association.specs.CallAnswers.{call_of, limited_call_of};
 ghost use Rattle.sctp_c.specs.Holds.{Holds};
 ghost use Rattle.sctp_c.specs.Codes.{moment_of, refused_code};
 ghost use Rattle.sctp_c.specs.Told.{SendTold, Sends};
@@ -86,5 +86,46 @@ pub extern "C" fn sctp_endpoint_send(
         return NO_MEMORY;
     };
     let answer = end.send(stream, ordered, payload_id, bytes, until_of(until));
+    tell_send(answer, ticket)
+}
+
+/// Queues a message as `sctp_endpoint_send`, with a limit of retransmissions (RFC 7496, 3.1): the message is abandoned if a fragment of it,
+/// retransmitted `max_retransmits` times already, would be retransmitted once more. Its ticket is written to `ticket`.
+#[unsafe(no_mangle)]
+pub extern "C" fn sctp_endpoint_send_with_max_retransmits(
+    alloc: Global,
+    handle: &mut SctpEndpoint,
+    stream: u16,
+    ordered: bool,
+    payload_id: u32,
+    bytes: &[u8],
+    until: u64,
+    max_retransmits: u16,
+    ticket: &mut u64,
+) -> u32
+    ensures misuse { handle.old.slot.endpoint ≡ None → (result ≡ MISUSE) × (handle.new.slot.endpoint ≡ None) }
+    ensures untold { ((result ≡ OK) → ⊥) → ticket.new ≡ ticket.old }
+    ensures did { (v : EndView) → Holds handle.old.slot.endpoint v
+        → Sends v (limited_call_of (lane_for stream ordered) payload_id (take 65537 bytes.now) (moment_of until) max_retransmits) handle.new.slot.endpoint result
+        ticket.new
+        ⊎ (result ≡ NO_MEMORY) × (handle.new.slot.endpoint ≡ handle.old.slot.endpoint) }
+{
+    if !handle.is_full() {
+        return MISUSE;
+    }
+    let end = handle.slot.lend();
+    let count = LONGEST_LOOK.min(bytes.len());
+    let Ok(bytes) = Vec::from_slice(alloc, &bytes[..count]) else {
+        return NO_MEMORY;
+    };
+    let until = until_of(until);
+    let answer = end.send_with_max_retransmits(
+        stream,
+        ordered,
+        payload_id,
+        bytes,
+        until,
+        max_retransmits,
+    );
     tell_send(answer, ticket)
 }

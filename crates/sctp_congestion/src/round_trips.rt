@@ -1,6 +1,6 @@
 //! Which chunk is timed, and what was measured.
 
-ghost use Rattle.std.specs.Prelude.{◌≡◌, ◌-◌, ◌≤◌, ◌||◌, min, Some, None, IfSome, option_map, option_and_then};
+ghost use Rattle.std.specs.Prelude.{◌≡◌, ◌-◌, ◌<◌, ◌≤◌, ◌||◌, min, Some, None, IfSome, option_map, option_and_then};
 ghost use Rattle.sctp_model.specs.numbers.Limits as limits;
 ghost use Rattle.sctp_model.specs.sender.SenderView.{SenderView};
 ghost use Rattle.sctp_model.specs.sender.Words.{when};
@@ -13,7 +13,7 @@ use crate::round_trip::RoundTrip;
 use sctp_values::FIRST_WAIT;
 use std::marker::Model;
 
-/// The chunk that is timed: its index, and the time in milliseconds at which it was sent. Contracts see the definitions' `Timed`.
+/// The chunk that is timed: its index, from 1 on, and the time in milliseconds at which it was sent. Contracts see the definitions' `Timed`.
 #[derive(Clone, Copy, Debug, PartialEq, Eq)]
 pub struct TimedChunk {
     index: u64,
@@ -21,6 +21,7 @@ pub struct TimedChunk {
 }
 
 impl Model for TimedChunk {
+    ghost use Rattle.std.specs.Prelude.{◌<◌};
     ghost use Rattle.sctp_model.specs.end.Trips.{Timed};
 
     ghost Value = { Timed };
@@ -28,6 +29,8 @@ impl Model for TimedChunk {
     ghost view = { λ t. record { index = t.index; moment = t.sent } };
 
     ghost inverse = { λ t. record { index = t.index; sent = t.moment } };
+
+    ghost invariant = { λ t. 0 < t.index };
 }
 
 /// What an endpoint knows of round trips: the chunk that is timed, one at a time (RFC 9260, 6.3.1, C4), and SRTT and RTTVAR once a round trip was
@@ -51,6 +54,7 @@ impl Model for RoundTrips {
 impl TimedChunk {
     /// The chunk with this index, sent at this time, in milliseconds.
     fn new(index: u64, sent: u64) -> TimedChunk
+        requires { 0 < index }
         ensures { result ≡ record { index = index; moment = sent } }
     {
         TimedChunk { index, sent }
@@ -58,7 +62,8 @@ impl TimedChunk {
 
     /// Its index: the number of its TSN, without wrapping, which is 1 for the initial TSN.
     pub fn index(self) -> u64
-        ensures { result ≡ self.index }
+        ensures exact { result ≡ self.index }
+        ensures some { 0 < result }
     {
         self.index
     }

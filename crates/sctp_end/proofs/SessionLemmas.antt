@@ -40,7 +40,7 @@ use Rattle.sctp_end.specs.declared.call.Call.{Call}
 use Rattle.sctp_end.specs.declared.call.Call.TheVariants as call
 use Rattle.sctp_end.specs.declared.reply.Reply.{Reply}
 use Rattle.sctp_end.specs.declared.reply.Reply.TheVariants as reply
-use Rattle.sctp_end.specs.Performing.{Standing, message_of, send_reply, TellsPacket, Performs, PacketComes, PacketCut, BuildsOne, Sends, AbortsIt, WantsMemory}
+use Rattle.sctp_end.specs.Performing.{Standing, message_of, send_reply, TellsPacket, Performs, PacketComes, PacketCut, BuildsOne, AbortsIt, WantsMemory, may_want}
 use Rattle.sctp_end.specs.inner.Refusing.{SendTold, AbortTold}
 
 -- ---- messages
@@ -49,14 +49,14 @@ twice : (b : Bool) → lane_kind (not (not b)) ≡ lane_kind b
 twice true = refl
 twice false = refl
 
-pub same_message : (stream : ℕ) (kind : Kind) (payload : ℕ) (until : Option ℕ) (bytes items : List ℕ) (b : Bool) → lane_kind b ≡ kind_meaning kind → items ≡ bytes
-    → call_of (lane_for stream (not b)) payload items until ≡ message_of stream kind payload until bytes
-same_message stream kind payload until bytes items b flag is = λ i. record {
+pub same_message : (stream : ℕ) (kind : Kind) (payload : ℕ) (until limit : Option ℕ) (bytes items : List ℕ) (b : Bool) → lane_kind b ≡ kind_meaning kind → items ≡ bytes
+    → record (call_of (lane_for stream (not b)) payload items until) { limit = limit } ≡ message_of stream kind payload until limit bytes
+same_message stream kind payload until limit bytes items b flag is = λ i. record {
   lane = record { stream = stream; kind = (twice b ∙ flag) i };
   payload = payload;
   bytes = is i;
   until = until;
-  limit = None;
+  limit = limit;
 }
 
 -- the first of the messages that wait
@@ -150,34 +150,29 @@ built_one s sent bytes e h is =
 
 -- ---- a message that is sent
 
-pub accepted : (s : Standing) (stream : ℕ) (kind : Kind) (payload : ℕ) (until : Option ℕ) (bytes items : List ℕ) (b : Bool) (k : Ticket) (e : Endpoint)
-    → lane_kind b ≡ kind_meaning kind → items ≡ bytes → SendAnswers s.view (call_of (lane_for stream (not b)) payload items until) (Ok k)
-    → EndpointStands e (sent_view s.view (call_of (lane_for stream (not b)) payload items until) (Ok k))
-    → Leaves s (call.Send stream kind payload until bytes) (reply.Ticket k.0) e
-accepted s stream kind payload until bytes items b k e flag is answer stands =
-    let same = same_message stream kind payload until bytes items b flag is in (
-      send_leaves (model.Ticket k.0) s.view (message_of stream kind payload until bytes),
-      Sends stream kind payload until bytes (model.Ticket k.0) (subst (λ (m : Message). send_answer s.view m ≡ model.Ticket k.0) same answer),
-      subst (λ (m : Message). EndpointStands e (send_leaves (model.Ticket k.0) s.view m)) same stands,
-    )
+-- the call sends this message
+abbrev pub IsSendOf : Standing → Call → Message → Type 0
+IsSendOf s c m = (a : model.SendAnswer) → send_answer s.view m ≡ a → Performs s c (send_reply a) (record s { view = send_leaves a s.view m })
+
+pub accepted : (s : Standing) (c : Call) (m n : Message) (k : Ticket) (e : Endpoint) → IsSendOf s c m → n ≡ m → SendAnswers s.view n (Ok k)
+    → EndpointStands e (sent_view s.view n (Ok k)) → Leaves s c (reply.Ticket k.0) e
+accepted s c m n k e sends same answer stands = (
+  send_leaves (model.Ticket k.0) s.view m,
+  sends (model.Ticket k.0) (subst (λ (x : Message). send_answer s.view x ≡ model.Ticket k.0) same answer),
+  subst (λ (x : Message). EndpointStands e (send_leaves (model.Ticket k.0) s.view x)) same stands,
+)
 
 -- what is told changes nothing
-told_sent : (s : Standing) (stream : ℕ) (kind : Kind) (payload : ℕ) (until : Option ℕ) (bytes : List ℕ) (r : Reply)
-    → SendTold s.view (message_of stream kind payload until bytes) r → Performs s (call.Send stream kind payload until bytes) r s
-told_sent s stream kind payload until bytes r (inl (a, is, said, same)) =
-    let c = call.Send stream kind payload until bytes in
-    let done = Sends stream kind payload until bytes a is in
-    let here = subst (λ (v : EndView). Performs s c (send_reply a) (record s { view = v })) same done in
+told_sent : (s : Standing) (c : Call) (m : Message) (r : Reply) → IsSendOf s c m → may_want c ≡ true → SendTold s.view m r → Performs s c r s
+told_sent s c m r sends may (inl (a, is, said, same)) =
+    let here = subst (λ (v : EndView). Performs s c (send_reply a) (record s { view = v })) same (sends a is) in
     subst (λ (x : Reply). Performs s c x s) (sym said) here
-told_sent s stream kind payload until bytes r (inr want) =
-    subst (λ (x : Reply). Performs s (call.Send stream kind payload until bytes) x s) (sym want) (WantsMemory (call.Send stream kind payload until bytes) refl)
+told_sent s c m r sends may (inr want) = subst (λ (x : Reply). Performs s c x s) (sym want) (WantsMemory c may)
 
-pub refused : (s : Standing) (stream : ℕ) (kind : Kind) (payload : ℕ) (until : Option ℕ) (bytes items : List ℕ) (b : Bool) (r : Reply) (e : Endpoint)
-    → lane_kind b ≡ kind_meaning kind → items ≡ bytes → SendTold s.view (call_of (lane_for stream (not b)) payload items until) r → EndpointStands e s.view
-    → Leaves s (call.Send stream kind payload until bytes) r e
-refused s stream kind payload until bytes items b r e flag is told stands =
-    let same = same_message stream kind payload until bytes items b flag is in
-    (s.view, told_sent s stream kind payload until bytes r (subst (λ (m : Message). SendTold s.view m r) same told), stands)
+pub refused : (s : Standing) (c : Call) (m n : Message) (r : Reply) (e : Endpoint) → IsSendOf s c m → may_want c ≡ true → n ≡ m → SendTold s.view n r
+    → EndpointStands e s.view → Leaves s c r e
+refused s c m n r e sends may same told stands =
+    (s.view, told_sent s c m r sends may (subst (λ (x : Message). SendTold s.view x r) same told), stands)
 
 -- a refusal of the sender is the definitions'
 pub refuses : (v : EndView) (m : Message) (q : queueing.Refusal) → hears is_established v.phase ≡ true → refusal v.sender m.lane.stream m.bytes ≡ Some q

@@ -13,9 +13,10 @@ use Rattle.sctp_terms.specs.declared.mode.Mode.TheVariants.{Data, PartialData, I
 use Rattle.sctp_terms.specs.Modes.{asked}
 use Rattle.sctp_text.specs.Numerals.{SaysOneNumber}
 use Rattle.sctp_end.specs.Fields.{Field, ANumber, AMode, Value, IsValue}
-use Rattle.sctp_end.specs.SetUpWords.{setting_fields, plain_of, word_if, Settles, Configures, IsKey, SetsUpCaller, SetsUpListener, SetsUp}
-use Rattle.sctp_end.specs.inner.SettingUp.{IsSplit, SetsListener}
-use Rattle.sctp_words.specs.Fields.{IsNumber, mode_word, delay_word, standard_closing_word, Values, AreValues}
+use Rattle.sctp_end.specs.SetUpWords.{setting_fields, plain_of, word_if, rto_min_words, option_words, with_options, SaysLeast, Settles, Configures, IsKey, SetsUpCaller, SetsUpListener, SetsUp}
+use Rattle.sctp_end.specs.declared.options.Options.{Options}
+use Rattle.sctp_end.specs.inner.SettingUp.{IsSplit, AreSplit, IsLeastSplit, HasNoOptions, SetsListener}
+use Rattle.sctp_words.specs.Fields.{IsNumber, mode_word, delay_word, standard_closing_word, fast_retransmit_word, congestion_control_word, rto_min_word, Values, AreValues}
 use Rattle.sctp_end.proofs.FieldLemmas.{first_of, others_of, first_value, other_values}
 
 -- ---- settings
@@ -120,25 +121,43 @@ settings words a b c d m p q limit fragment buffer streams own peer mode config 
   ap (asked mode) whole,
 )
 
--- a mode asks for neither option
-pub asked_plain : (m : Mode) (config : Configuration) → config.delay ≡ false → config.standard_closing ≡ false
-    → ((asked m config).delay ≡ false) × ((asked m config).standard_closing ≡ false)
-asked_plain Data config a b = (a, b)
-asked_plain PartialData config a b = (a, b)
-asked_plain IData config a b = (a, b)
-asked_plain PartialIData config a b = (a, b)
+-- a mode asks for no option
+pub asked_plain : (m : Mode) (config : Configuration) → HasNoOptions config → HasNoOptions (asked m config)
+asked_plain Data config none = none
+asked_plain PartialData config none = none
+asked_plain IData config none = none
+asked_plain PartialIData config none = none
+
+-- a plain configuration has none
+pub plain_has_none : (own peer limit fragment buffer outbound inbound : ℕ) (config : Configuration)
+    → config ≡ plain_configuration own peer limit fragment buffer outbound inbound → HasNoOptions config
+plain_has_none own peer limit fragment buffer outbound inbound config is = (
+  ap (λ (k : Configuration). k.delay) is,
+  ap (λ (k : Configuration). k.standard_closing) is,
+  ap (λ (k : Configuration). k.fast_retransmit) is,
+  ap (λ (k : Configuration). k.congestion_control) is,
+)
 
 -- ---- the words behind the mode
 
--- a number begins with a digit
-no_delay : (n : ℕ) → IsNumber 16 delay_word n → ⊥
-no_delay n is = omega (arith, is.0.digits.1.0)
+abbrev second_of : List (List ℕ) → List ℕ
+second_of ws = first_of (others_of ws)
 
-no_standard : (n : ℕ) → IsNumber 16 standard_closing_word n → ⊥
-no_standard n is = omega (arith, is.0.digits.1.0)
+abbrev behind_both : List (List ℕ) → List (List ℕ)
+behind_both ws = others_of (others_of ws)
 
-other_option : standard_closing_word ≡ delay_word → ⊥
-other_option e = omega (arith, ap length e)
+-- these words don't begin with this one
+abbrev Lacks : List ℕ → List (List ℕ) → Type 0
+Lacks word words = (more : List (List ℕ)) → words ≡ word ∷ more → ⊥
+
+-- nor with another option before them
+lacks_if : (word other : List ℕ) (b : Bool) (words : List (List ℕ)) → (other ≡ word → ⊥) → Lacks word words → Lacks word (word_if b other ++ words)
+lacks_if word other true words differs lacks more e = differs (ap first_of e)
+lacks_if word other false words differs lacks more e = lacks more e
+
+lacks_least : (word : List ℕ) (number : Option (List ℕ)) (words : List (List ℕ)) → (rto_min_word ≡ word → ⊥) → Lacks word words → Lacks word (rto_min_words number ++ words)
+lacks_least word (Some n) words differs lacks more e = differs (ap first_of e)
+lacks_least word None words differs lacks more e = lacks more e
 
 -- what begins with a word, or doesn't, is split as it is
 one_split : (word : List ℕ) (words others rest : List (List ℕ)) (b x : Bool) → words ≡ word_if b word ++ others
@@ -153,14 +172,31 @@ joined_again : (word : List ℕ) (words rest : List (List ℕ)) (x : Bool) → I
 joined_again word words rest true split = split
 joined_again word words rest false split = split.0
 
--- what is configured by five words, two options and two words behind them
-pub record Parts (a b c d m : List ℕ) (x y : Bool) (left : List (List ℕ)) (config : Configuration) : Type 0 where
+-- so is RTO.Min
+least_split : (words back left : List (List ℕ)) (x y : Option (List ℕ)) → words ≡ rto_min_words x ++ back → Lacks rto_min_word back → IsLeastSplit words y left
+    → (x ≡ y) × (back ≡ left)
+least_split words back left None None is lacks split = (refl, sym is ∙ split.0)
+least_split words back left None (Some n) is lacks split = absurd (lacks (n ∷ left) (sym is ∙ split))
+least_split words back left (Some n) None is lacks split = absurd (split.1 n back is)
+least_split words back left (Some n) (Some m) is lacks split =
+    let e : rto_min_word ∷ n ∷ back ≡ rto_min_word ∷ m ∷ left = sym is ∙ split in
+    (ap (λ (ws : List (List ℕ)). Some (second_of ws)) e, ap behind_both e)
+
+-- and the other way round
+least_again : (words rest : List (List ℕ)) (x : Option (List ℕ)) → IsLeastSplit words x rest → words ≡ rto_min_words x ++ rest
+least_again words rest (Some n) split = split
+least_again words rest None split = split.0
+
+-- what is configured by five words, options and two words behind them
+pub record Parts (a b c d m : List ℕ) (o : Options) (number : Option (List ℕ)) (left : List (List ℕ)) (config : Configuration) : Type 0 where
   pub own : List ℕ
   pub peer : List ℕ
   pub left_is : left ≡ own ∷ peer ∷ []
   pub plain : Configuration
   pub settles : Settles (seven a b c d m own peer) plain
-  pub whole : config ≡ record plain { delay = x; standard_closing = y }
+  pub least : ℕ
+  pub says : SaysLeast number least
+  pub whole : config ≡ with_options o.delay o.standard_closing o.fast_retransmit o.congestion_control least plain
 
 five_in_front : (front more : List (List ℕ)) (a b c d m : List ℕ) (rest : List (List ℕ)) → length front ≡ 5 → a ∷ b ∷ c ∷ d ∷ m ∷ rest ≡ front ++ more
     → (front ≡ a ∷ b ∷ c ∷ d ∷ m ∷ []) × (rest ≡ more)
@@ -184,58 +220,120 @@ two_behind a b c d m [] x says = absurd (omega (arith, how_many (a ∷ b ∷ c �
 two_behind a b c d m (p ∷ []) x says = absurd (omega (arith, how_many (a ∷ b ∷ c ∷ d ∷ m ∷ p ∷ []) x says))
 two_behind a b c d m (p ∷ q ∷ r ∷ ws) x says = absurd (omega (arith, how_many (a ∷ b ∷ c ∷ d ∷ m ∷ p ∷ q ∷ r ∷ ws) x says))
 
--- neither option stands where the ports do
-no_option : (word : List ℕ) (back : List (List ℕ)) (p q : List ℕ) (n : ℕ) → back ≡ p ∷ q ∷ [] → IsNumber 16 p n → ((k : ℕ) → IsNumber 16 word k → ⊥)
-    → (more : List (List ℕ)) → back ≡ word ∷ more → ⊥
+-- no option stands where the ports do: a number begins with a digit
+no_option : (word : List ℕ) (back : List (List ℕ)) (p q : List ℕ) (n : ℕ) → back ≡ p ∷ q ∷ [] → IsNumber 16 p n → ((k : ℕ) → IsNumber 16 word k → ⊥) → Lacks word back
 no_option word back p q n is number none more other =
     none n (subst (λ (w : List ℕ). IsNumber 16 w n) (ap first_of (sym is ∙ other)) number)
 
-no_delay_here : (back : List (List ℕ)) (p q : List ℕ) (n : ℕ) (standard : Bool) → back ≡ p ∷ q ∷ [] → IsNumber 16 p n
-    → (more : List (List ℕ)) → word_if standard standard_closing_word ++ back ≡ delay_word ∷ more → ⊥
-no_delay_here back p q n true is number more other = other_option (ap first_of other)
-no_delay_here back p q n false is number more other = no_option delay_word back p q n is number no_delay more other
+-- behind each option none of those before it stands
+pub record Behind (standard fast control : Bool) (number : Option (List ℕ)) (back : List (List ℕ)) : Type 0 where
+  pub no_delay : Lacks delay_word (word_if standard standard_closing_word
+      ++ (word_if fast fast_retransmit_word ++ (word_if control congestion_control_word ++ (rto_min_words number ++ back))))
+  pub no_standard : Lacks standard_closing_word (word_if fast fast_retransmit_word ++ (word_if control congestion_control_word ++ (rto_min_words number ++ back)))
+  pub no_fast : Lacks fast_retransmit_word (word_if control congestion_control_word ++ (rto_min_words number ++ back))
+  pub no_control : Lacks congestion_control_word (rto_min_words number ++ back)
+  pub no_least : Lacks rto_min_word back
+
+in_turn : (standard fast control : Bool) (number : Option (List ℕ)) (back : List (List ℕ)) (p q : List ℕ) (n : ℕ) → back ≡ p ∷ q ∷ [] → IsNumber 16 p n
+    → Behind standard fast control number back
+in_turn standard fast control number back p q n is at =
+    let nd : Lacks delay_word back = no_option delay_word back p q n is at (λ k w. omega (arith, w.0.digits.1.0)) in
+    let ns : Lacks standard_closing_word back = no_option standard_closing_word back p q n is at (λ k w. omega (arith, w.0.digits.1.0)) in
+    let nf : Lacks fast_retransmit_word back = no_option fast_retransmit_word back p q n is at (λ k w. omega (arith, w.0.digits.1.0)) in
+    let nc : Lacks congestion_control_word back = no_option congestion_control_word back p q n is at (λ k w. omega (arith, w.0.digits.1.0)) in
+    record {
+      no_delay = lacks_if delay_word standard_closing_word standard _ (λ e. omega (arith, ap length e))
+          (lacks_if delay_word fast_retransmit_word fast _ (λ e. omega (arith, ap length e))
+          (lacks_if delay_word congestion_control_word control _ (λ e. omega (arith, ap length e))
+          (lacks_least delay_word number back (λ e. omega (arith, ap length e)) nd)));
+      no_standard = lacks_if standard_closing_word fast_retransmit_word fast _ (λ e. omega (arith, ap length e))
+          (lacks_if standard_closing_word congestion_control_word control _ (λ e. omega (arith, ap length e))
+          (lacks_least standard_closing_word number back (λ e. omega (arith, ap length e)) ns));
+      no_fast = lacks_if fast_retransmit_word congestion_control_word control _ (λ e. omega (arith, ap length e))
+          (lacks_least fast_retransmit_word number back (λ e. omega (arith, ap length e)) nf);
+      no_control = lacks_least congestion_control_word number back (λ e. omega (arith, ap length e)) nc;
+      no_least = no_option rto_min_word back p q n is at (λ k w. omega (arith, w.0.digits.1.0));
+    }
 
 -- what is configured by words that were split so
-pub parts_of : (words : List (List ℕ)) (a b c d m : List ℕ) (rest behind left : List (List ℕ)) (x y : Bool) (config : Configuration)
-    → words ≡ a ∷ b ∷ c ∷ d ∷ m ∷ rest → IsSplit delay_word rest x behind → IsSplit standard_closing_word behind y left
-    → Configures words config → Parts a b c d m x y left config
-parts_of words a b c d m rest behind left x y config is first second (front, back, delay, standard, plain, whole, size, says, made) =
+pub parts_of : (words : List (List ℕ)) (a b c d m : List ℕ) (rest behind left : List (List ℕ)) (o : Options) (number : Option (List ℕ)) (config : Configuration)
+    → words ≡ a ∷ b ∷ c ∷ d ∷ m ∷ rest → AreSplit rest o behind → IsLeastSplit behind number left
+    → Configures words config → Parts a b c d m o number left config
+parts_of words a b c d m rest behind left o number config is split last
+    (front, back, delay, standard, fast, control, asked_number, least, plain, whole, size, settled, said, made) =
     let (fronts, rests) = five_in_front front _ a b c d m rest size (sym is ∙ whole) in
-    let settles : Settles (a ∷ b ∷ c ∷ d ∷ m ∷ back) plain = subst (λ (ws : List (List ℕ)). Settles (ws ++ back) plain) fronts says in
-    let (p, q, two, n, number) = two_behind a b c d m back plain settles in
-    let one = one_split delay_word rest _ behind delay x rests (no_delay_here back p q n standard two number) first in
-    let other = one_split standard_closing_word behind back left standard y (sym one.1) (no_option standard_closing_word back p q n two number no_standard) second in
+    let settles : Settles (a ∷ b ∷ c ∷ d ∷ m ∷ back) plain = subst (λ (ws : List (List ℕ)). Settles (ws ++ back) plain) fronts settled in
+    let (p, q, two, n, at) = two_behind a b c d m back plain settles in
+    let none = in_turn standard fast control asked_number back p q n two at in
+    let one = one_split delay_word rest _ split.behind_delay delay o.delay rests none.no_delay split.delay in
+    let next = one_split standard_closing_word split.behind_delay _ split.behind_standard standard o.standard_closing (sym one.1) none.no_standard split.standard in
+    let third = one_split fast_retransmit_word split.behind_standard _ split.behind_fast fast o.fast_retransmit (sym next.1) none.no_fast split.fast in
+    let fourth = one_split congestion_control_word split.behind_fast _ behind control o.congestion_control (sym third.1) none.no_control split.control in
+    let fifth = least_split behind back left asked_number number (sym fourth.1) none.no_least last in
     record {
       own = p;
       peer = q;
-      left_is = sym other.1 ∙ two;
+      left_is = sym fifth.1 ∙ two;
       plain = plain;
       settles = subst (λ (ws : List (List ℕ)). Settles (a ∷ b ∷ c ∷ d ∷ m ∷ ws) plain) two settles;
-      whole = made ∙ (λ i. record plain { delay = one.0 i; standard_closing = other.0 i });
+      least = least;
+      says = subst (λ (x : Option (List ℕ)). SaysLeast x least) fifth.0 said;
+      whole = made ∙ (λ i. with_options (one.0 i) (next.0 i) (third.0 i) (fourth.0 i) least plain);
     }
 
 -- fewer than five words
 pub too_few_settings : (words : List (List ℕ)) → length words < 5 → (x : Configuration) → Configures words x → ⊥
-too_few_settings words few x (front, back, delay, standard, plain, whole, size, says, made) =
-    omega (arith, few, size, ap length whole, length-append front (word_if delay delay_word ++ (word_if standard standard_closing_word ++ back)))
+too_few_settings words few x (front, back, delay, standard, fast, control, number, least, plain, whole, size, settled, said, made) =
+    omega (arith, few, size, ap length whole, length-append front (option_words delay standard fast control number back))
 
--- five words, two options and two ports configure what they say
-pub configured : (words : List (List ℕ)) (a b c d m p q : List ℕ) (rest behind left : List (List ℕ)) (x y : Bool) (plain config : Configuration)
-    → words ≡ a ∷ b ∷ c ∷ d ∷ m ∷ rest → IsSplit delay_word rest x behind → IsSplit standard_closing_word behind y left → left ≡ p ∷ q ∷ []
-    → Settles (seven a b c d m p q) plain → config ≡ record plain { delay = x; standard_closing = y } → Configures words config
-configured words a b c d m p q rest behind left x y plain config is first second two says made =
-    let behind_is = joined_again standard_closing_word behind left y second ∙ ap (λ (ws : List (List ℕ)). word_if y standard_closing_word ++ ws) two in
-    let rest_is = joined_again delay_word rest behind x first ∙ ap (λ (ws : List (List ℕ)). word_if x delay_word ++ ws) behind_is in
-    (a ∷ b ∷ c ∷ d ∷ m ∷ [], p ∷ q ∷ [], x, y, plain, is ∙ ap (λ (ws : List (List ℕ)). a ∷ b ∷ c ∷ d ∷ m ∷ ws) rest_is, refl, says, made)
+-- five words, options and two ports configure what they say
+pub configured : (words : List (List ℕ)) (a b c d m p q : List ℕ) (rest behind left : List (List ℕ)) (o : Options) (number : Option (List ℕ)) (least : ℕ)
+    (plain config : Configuration)
+    → words ≡ a ∷ b ∷ c ∷ d ∷ m ∷ rest → AreSplit rest o behind → IsLeastSplit behind number left → left ≡ p ∷ q ∷ []
+    → Settles (seven a b c d m p q) plain → SaysLeast number least
+    → config ≡ with_options o.delay o.standard_closing o.fast_retransmit o.congestion_control least plain → Configures words config
+configured words a b c d m p q rest behind left o number least plain config is split last two settled said made =
+    let last_is = least_again behind left number last ∙ ap (λ (ws : List (List ℕ)). rto_min_words number ++ ws) two in
+    let control_is = joined_again congestion_control_word split.behind_fast behind o.congestion_control split.control
+    ∙ ap (λ (ws : List (List ℕ)). word_if o.congestion_control congestion_control_word ++ ws) last_is in
+    let fast_is = joined_again fast_retransmit_word split.behind_standard split.behind_fast o.fast_retransmit split.fast
+    ∙ ap (λ (ws : List (List ℕ)). word_if o.fast_retransmit fast_retransmit_word ++ ws) control_is in
+    let standard_is = joined_again standard_closing_word split.behind_delay split.behind_standard o.standard_closing split.standard
+    ∙ ap (λ (ws : List (List ℕ)). word_if o.standard_closing standard_closing_word ++ ws) fast_is in
+    let rest_is = joined_again delay_word rest split.behind_delay o.delay split.delay
+    ∙ ap (λ (ws : List (List ℕ)). word_if o.delay delay_word ++ ws) standard_is in (
+      a ∷ b ∷ c ∷ d ∷ m ∷ [],
+      p ∷ q ∷ [],
+      o.delay,
+      o.standard_closing,
+      o.fast_retransmit,
+      o.congestion_control,
+      number,
+      least,
+      plain,
+      is ∙ ap (λ (ws : List (List ℕ)). a ∷ b ∷ c ∷ d ∷ m ∷ ws) rest_is,
+      refl,
+      settled,
+      said,
+      made,
+    )
 
 -- nor do they configure anything where the seven words say nothing
-pub none_configured : (words : List (List ℕ)) (a b c d m p q : List ℕ) (rest behind left : List (List ℕ)) (x y : Bool) → words ≡ a ∷ b ∷ c ∷ d ∷ m ∷ rest
-    → IsSplit delay_word rest x behind → IsSplit standard_closing_word behind y left → left ≡ p ∷ q ∷ []
+pub none_configured : (words : List (List ℕ)) (a b c d m p q : List ℕ) (rest behind left : List (List ℕ)) (o : Options) (number : Option (List ℕ))
+    → words ≡ a ∷ b ∷ c ∷ d ∷ m ∷ rest → AreSplit rest o behind → IsLeastSplit behind number left → left ≡ p ∷ q ∷ []
     → ((config : Configuration) → Settles (seven a b c d m p q) config → ⊥) → (config : Configuration) → Configures words config → ⊥
-none_configured words a b c d m p q rest behind left x y is first second two none config conf =
-    let parts = parts_of words a b c d m rest behind left x y config is first second conf in
+none_configured words a b c d m p q rest behind left o number is split last two none config conf =
+    let parts = parts_of words a b c d m rest behind left o number config is split last conf in
     let ports : parts.own ∷ parts.peer ∷ [] ≡ p ∷ q ∷ [] = sym parts.left_is ∙ two in
     none parts.plain (subst (λ (ws : List (List ℕ)). Settles (a ∷ b ∷ c ∷ d ∷ m ∷ ws) parts.plain) ports parts.settles)
+
+-- nor where RTO.Min is no number
+pub none_least : (words : List (List ℕ)) (a b c d m : List ℕ) (rest behind left : List (List ℕ)) (o : Options) (number : Option (List ℕ))
+    → words ≡ a ∷ b ∷ c ∷ d ∷ m ∷ rest → AreSplit rest o behind → IsLeastSplit behind number left
+    → ((n : ℕ) → SaysLeast number n → ⊥) → (config : Configuration) → Configures words config → ⊥
+none_least words a b c d m rest behind left o number is split last none config conf =
+    let parts = parts_of words a b c d m rest behind left o number config is split last conf in
+    none parts.least parts.says
 
 -- seven words, each the same
 pub same_words : (a b c d m p q e f g h n r s : List ℕ) → e ≡ a → f ≡ b → g ≡ c → h ≡ d → n ≡ m → r ≡ p → s ≡ q → seven a b c d m p q ≡ seven e f g h n r s
@@ -264,12 +362,6 @@ pair_of f (x0 ∷ x1 ∷ x2 ∷ xs) p q size ip iq = absurd (omega (arith, size)
 
 differ : codes "caller" ≡ codes "listener" → ⊥
 differ e = omega (arith, ap (λ (w : List ℕ). slice_index w 0) e)
-
-abbrev second_of : List (List ℕ) → List ℕ
-second_of ws = first_of (others_of ws)
-
-abbrev behind_both : List (List ℕ) → List (List ℕ)
-behind_both ws = others_of (others_of ws)
 
 -- words that set up no caller, no listener
 no_caller : (words : List (List ℕ)) (name role : List ℕ) (rest : List (List ℕ)) → words ≡ name ∷ role ∷ rest

@@ -2,15 +2,17 @@
 use Rattle.std.specs.Prelude.{ℕ, if◌then◌else◌, List, [], ◌∷◌, length, Option, None, Some, codes, bytes_eq}
 use Rattle.sctp_end.specs.Fields.{Field, ANumber, ATag, AKind, AnUntil, SomeBytes, Value}
 use Rattle.sctp_end.specs.declared.command.Command.{Command}
-use Rattle.sctp_end.specs.declared.command.Command.TheVariants.{Connect, Draw, At, Packet, Build, Send, Abandon, Acknowledged, Abandoned, Take, Shutdown, Abort, Next, State, Held, Reassembly, Status}
+use Rattle.sctp_end.specs.declared.command.Command.TheVariants.{Connect, Draw, At, Packet, Build, Send, Abandon, Acknowledged, Abandoned, Take, Shutdown, Abort, Next, State, Held, Reassembly, Status, Path}
 use Rattle.sctp_end.specs.declared.call.Call.{Call}
 use Rattle.sctp_end.specs.declared.call.Call.TheVariants as call
+use Rattle.sctp_values.specs.declared.kind.Kind.{Kind}
 use Rattle.sctp_words.specs.Fields.{Values}
 
 -- all commands
 abbrev pub commands : List Command
 commands =
-    Connect ∷ Draw ∷ At ∷ Packet ∷ Build ∷ Send ∷ Abandon ∷ Acknowledged ∷ Abandoned ∷ Take ∷ Shutdown ∷ Abort ∷ Next ∷ State ∷ Held ∷ Reassembly ∷ Status ∷ []
+    Connect ∷ Draw ∷ At ∷ Packet ∷ Build ∷ Send ∷ Abandon ∷ Acknowledged ∷ Abandoned ∷ Take ∷ Shutdown ∷ Abort ∷ Next ∷ State ∷ Held ∷ Reassembly ∷ Status
+    ∷ Path ∷ []
 
 -- the word that a command is
 abbrev pub name_of : Command → List ℕ
@@ -31,6 +33,7 @@ name_of State = codes "state"
 name_of Held = codes "held"
 name_of Reassembly = codes "reassembly"
 name_of Status = codes "status"
+name_of Path = codes "path"
 
 -- TAG TSN
 abbrev pub draw_fields : List Field
@@ -41,7 +44,7 @@ abbrev pub ticket_fields : List Field
 ticket_fields = ANumber 64 ∷ []
 
 -- connect TAG TSN; draw TAG TSN; at T; packet HEX; build; send STREAM KIND ID UNTIL HEX; abandon K; acknowledged K; abandoned K; take STREAM;
--- shutdown; abort HEX; next; state; held; reassembly; status
+-- shutdown; abort HEX; next; state; held; reassembly; status; path
 abbrev pub fields_of : Command → List Field
 fields_of Connect = draw_fields
 fields_of Draw = draw_fields
@@ -60,10 +63,16 @@ fields_of State = []
 fields_of Held = []
 fields_of Reassembly = []
 fields_of Status = []
+fields_of Path = []
 
 -- the number of words after a command's name
 abbrev pub arguments_of : Command → ℕ
 arguments_of c = length (fields_of c)
+
+-- the call that sends a message, with a limit of retransmissions or without
+abbrev pub send_call : (stream : ℕ) → Kind → (payload : ℕ) → (until limit : Option ℕ) → List ℕ → Call
+send_call stream kind payload until None bytes = call.Send stream kind payload until bytes
+send_call stream kind payload until (Some n) bytes = call.SendWithMaxRetransmits stream kind payload until n bytes
 
 -- What a command with these values asks for.
 abbrev pub meaning_of : (c : Command) → Values Value (fields_of c) → Call
@@ -72,7 +81,7 @@ meaning_of Draw (tag, (tsn, rest)) = call.NewDraw (record { tag = tag; tsn = tsn
 meaning_of At (moment, rest) = call.At moment
 meaning_of Packet (bytes, rest) = call.Packet bytes
 meaning_of Build rest = call.Build
-meaning_of Send (stream, (kind, (payload, (until, (bytes, rest))))) = call.Send stream kind payload until bytes
+meaning_of Send (stream, (kind, (payload, ((until, limit), (bytes, rest))))) = send_call stream kind payload until limit bytes
 meaning_of Abandon (ticket, rest) = call.Abandon ticket
 meaning_of Acknowledged (ticket, rest) = call.Acknowledged ticket
 meaning_of Abandoned (ticket, rest) = call.Abandoned ticket
@@ -84,6 +93,7 @@ meaning_of State rest = call.State
 meaning_of Held rest = call.Held
 meaning_of Reassembly rest = call.Reassembly
 meaning_of Status rest = call.Status
+meaning_of Path rest = call.Path
 
 -- the first of these commands with this name
 abbrev pub first_named : List ℕ → List Command → Option Command

@@ -2,6 +2,7 @@ pub mod Fields
 pub mod Commands
 pub mod Grammar
 pub mod StatusText
+pub mod PathText
 pub mod ReplyText
 pub mod Telling
 pub mod Performing

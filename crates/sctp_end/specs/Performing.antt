@@ -4,6 +4,7 @@ use Rattle.sctp_model.specs.wire.Chunk.{ChunkMeaning}
 use Rattle.sctp_model.specs.wire.Packet.{Packet}
 use Rattle.sctp_model.specs.world.Calls.{Call as Message}
 use Rattle.sctp_model.specs.receiver.ReceiverView.{Handed, held_bytes, size_of_pieces}
+use Rattle.sctp_model.specs.sender.Entries.{in_flight}
 use Rattle.sctp_model.specs.sender.Queueing as queueing
 use Rattle.sctp_model.specs.sender.Readers.{acknowledged, abandoned}
 use Rattle.sctp_model.specs.end.EndView.{Draw, EndView, state_of, ended_of}
@@ -23,6 +24,8 @@ use Rattle.sctp_terms.specs.Meanings.{end_meaning, state_meaning, reason_code}
 use Rattle.sctp_packet.specs.PacketBytes.{WritesPacket}
 use Rattle.sctp_send.specs.declared.abandon.Abandoned.{Abandoned as Fates}
 use Rattle.sctp_send.specs.SenderAnswers.{answer_meaning}
+use Rattle.sctp_association.specs.declared.user.path.Path.{Path}
+use Rattle.sctp_association.specs.PathAnswers.{PathAnswer}
 use Rattle.sctp_endpoint.specs.Handled.{IsRead}
 use Rattle.sctp_end.specs.Telling.{IsStatus}
 use Rattle.sctp_end.specs.declared.status.Status.{Status}
@@ -67,10 +70,10 @@ send_reply (model.Refused queueing.Spent) = reply.Refused Spent
 send_reply (model.Refused queueing.Resetting) = reply.Refused Resetting
 send_reply model.NotOpen = reply.Refused NotEstablished
 
--- a message as the definitions have it
-abbrev pub message_of : (stream : ℕ) → Kind → (payload : ℕ) → (until : Option ℕ) → List ℕ → Message
-message_of stream kind payload until bytes =
-    record { lane = record { stream = stream; kind = kind_meaning kind }; payload = payload; bytes = bytes; until = until; limit = None }
+-- a message as the definitions have it, with a limit of retransmissions or without
+abbrev pub message_of : (stream : ℕ) → Kind → (payload : ℕ) → (until limit : Option ℕ) → List ℕ → Message
+message_of stream kind payload until limit bytes =
+    record { lane = record { stream = stream; kind = kind_meaning kind }; payload = payload; bytes = bytes; until = until; limit = limit }
 
 -- of a message that the user takes
 abbrev pub TellsMessage : (stream : ℕ) → Handed → Reply → Type 0
@@ -91,6 +94,7 @@ TellsAbort model.TooLong r = r ≡ reply.Refused ReasonTooLong
 abbrev pub may_want : Call → Bool
 may_want call.Build = true
 may_want (call.Send stream kind payload until bytes) = true
+may_want (call.SendWithMaxRetransmits stream kind payload until limit bytes) = true
 may_want (call.Take stream) = true
 may_want (call.Abort reason) = true
 may_want _ = false
@@ -112,9 +116,13 @@ pub data Performs (s : Standing) : Call → Reply → Standing → Type 0 where
       WritesPacket bytes (packet_of (at_moment s.view s.now) (x ∷ xs)) → Performs s call.Build (reply.Sent bytes) (record s { view = t })
   BuildsNone : (t : EndView) → Builds (at_moment s.view s.now) [] t → Performs s call.Build reply.Quiet (record s { view = t })
   Sends : (stream : ℕ) (kind : Kind) (payload : ℕ) (until : Option ℕ) (bytes : List ℕ) (a : model.SendAnswer) →
-      send_answer s.view (message_of stream kind payload until bytes) ≡ a →
+      send_answer s.view (message_of stream kind payload until None bytes) ≡ a →
       Performs s (call.Send stream kind payload until bytes) (send_reply a)
-      (record s { view = send_leaves a s.view (message_of stream kind payload until bytes) })
+      (record s { view = send_leaves a s.view (message_of stream kind payload until None bytes) })
+  SendsLimited : (stream : ℕ) (kind : Kind) (payload : ℕ) (until : Option ℕ) (limit : ℕ) (bytes : List ℕ) (a : model.SendAnswer) →
+      send_answer s.view (message_of stream kind payload until (Some limit) bytes) ≡ a →
+      Performs s (call.SendWithMaxRetransmits stream kind payload until limit bytes) (send_reply a)
+      (record s { view = send_leaves a s.view (message_of stream kind payload until (Some limit) bytes) })
   Abandons : (k : ℕ) (fate : Fates) → answer_meaning fate ≡ abandons s.view k →
       Performs s (call.Abandon k) (reply.Fate fate) (record s { view = abandoned_at s.view k })
   TellsAcknowledged : (k : ℕ) (b : Bool) → b ≡ acknowledged s.view.sender k → Performs s (call.Acknowledged k) (reply.Holds b) s
@@ -130,6 +138,7 @@ pub data Performs (s : Standing) : Call → Reply → Standing → Type 0 where
   TellsState : (x : State) (y : Option End) → state_meaning x ≡ state_of s.view.phase → option_map end_meaning y ≡ ended_of s.view.phase →
       Performs s call.State (reply.Stands x y) s
   TellsStatus : (x : Status) → IsStatus s.view x → Performs s call.Status (reply.Status x) s
+  TellsPath : (n : ℕ) (x : Option Path) → n ≡ in_flight s.view.sender → PathAnswer s.view x → Performs s call.Path (reply.Path n x) s
   TellsHeld : (n : ℕ) → n ≡ held_bytes s.view.receiver → Performs s call.Held (reply.Held n) s
   TellsReassembly : (n : ℕ) → n ≡ size_of_pieces s.view.receiver.kept → Performs s call.Reassembly (reply.Reassembly n) s
   WantsMemory : (c : Call) → may_want c ≡ true → Performs s c reply.NoMemory s

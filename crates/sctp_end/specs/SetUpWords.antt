@@ -1,15 +1,16 @@
 -- What the words say that the program is started with.
-use Rattle.std.specs.Prelude.{◌≡◌, ℕ, Bool, if◌then◌else◌, ◌⊎◌, List, [], ◌∷◌, ◌++◌, length, None, codes}
+use Rattle.std.specs.Prelude.{◌≡◌, ℕ, Bool, if◌then◌else◌, ◌||◌, ◌⊎◌, List, [], ◌∷◌, ◌++◌, length, Option, None, Some, codes}
 use Rattle.sctp_model.specs.end.Configured.{configuration_fault, plain_configuration}
 use Rattle.sctp_model.specs.end.EndView.{Configuration, EndView, Caller, Listener, Idle, Listening, fresh_end}
 use Rattle.sctp_model.specs.end.Sealing.{Sealing}
+use Rattle.sctp_model.specs.numbers.Limits.{LEAST_WAIT}
 use Rattle.sctp_terms.specs.declared.mode.Mode.{Mode}
 use Rattle.sctp_terms.specs.Modes.{asked}
 use Rattle.sctp_cookie.specs.Seals.{IsUnder}
 use Rattle.sctp_end.specs.Fields.{Field, ANumber, AMode, Value, IsValue}
 use Rattle.sctp_end.specs.Performing.{Standing}
 use Rattle.sctp_text.specs.Numerals.{IsHex}
-use Rattle.sctp_words.specs.Fields.{delay_word, standard_closing_word, Values, AreValues}
+use Rattle.sctp_words.specs.Fields.{IsNumber, delay_word, standard_closing_word, fast_retransmit_word, congestion_control_word, rto_min_word, Values, AreValues}
 
 -- LIMIT FRAGMENT BUFFER STREAMS MODE PORT PEER
 abbrev pub setting_fields : List Field
@@ -34,24 +35,47 @@ Settles words c =
 abbrev pub word_if : Bool → List ℕ → List (List ℕ)
 word_if b word = if b then word ∷ [] else []
 
--- The words say this configuration: after MODE, the fifth, may be `delay` and `standard-closing`, in this order.
+-- RTO.Min: its word and its number, if it is there
+abbrev pub rto_min_words : Option (List ℕ) → List (List ℕ)
+rto_min_words None = []
+rto_min_words (Some number) = rto_min_word ∷ number ∷ []
+
+-- the number is that of RTO.Min in milliseconds, and 1,000 if it is left out (RFC 9260, 16)
+abbrev pub SaysLeast : Option (List ℕ) → ℕ → Type 0
+SaysLeast None least = least ≡ LEAST_WAIT
+SaysLeast (Some number) least = IsNumber 32 number least
+
+-- the options in their order, and the words after them
+abbrev pub option_words : (delay standard fast control : Bool) (number : Option (List ℕ)) → List (List ℕ) → List (List ℕ)
+option_words delay standard fast control number back =
+    word_if delay delay_word ++ (word_if standard standard_closing_word
+    ++ (word_if fast fast_retransmit_word ++ (word_if control congestion_control_word ++ (rto_min_words number ++ back))))
+
+-- a configuration with these options: congestion control brings fast retransmission
+abbrev pub with_options : (delay standard fast control : Bool) (least : ℕ) → Configuration → Configuration
+with_options delay standard fast control least c =
+    record c { delay = delay; standard_closing = standard; fast_retransmit = control || fast; congestion_control = control; least_wait = least }
+
+-- The words say this configuration: after MODE, the fifth, may be `delay`, `standard-closing`, `fast-retransmit`, `congestion-control`, and `rto-min` with its
+-- number, in this order.
 abbrev pub Configures : List (List ℕ) → Configuration → Type 0
 Configures words c =
-    (front back : List (List ℕ)) × (delay standard : Bool) × (plain : Configuration)
-    × (words ≡ front ++ (word_if delay delay_word ++ (word_if standard standard_closing_word ++ back))) × (length front ≡ 5)
-    × Settles (front ++ back) plain × (c ≡ record plain { delay = delay; standard_closing = standard })
+    (front back : List (List ℕ)) × (delay standard fast control : Bool) × (number : Option (List ℕ)) × (least : ℕ) × (plain : Configuration)
+    × (words ≡ front ++ option_words delay standard fast control number back) × (length front ≡ 5)
+    × Settles (front ++ back) plain × SaysLeast number least × (c ≡ with_options delay standard fast control least plain)
 
 -- the word says a key: 32 bytes in hexadecimal
 abbrev pub IsKey : List ℕ → List ℕ → Type 0
 IsKey word key = IsHex word key × (length key ≡ 32)
 
--- NAME caller LIMIT FRAGMENT BUFFER STREAMS MODE [delay] [standard-closing] PORT PEER
+-- NAME caller LIMIT FRAGMENT BUFFER STREAMS MODE [delay] [standard-closing] [fast-retransmit] [congestion-control] [rto-min MS] PORT PEER
 abbrev pub SetsUpCaller : List (List ℕ) → EndView → Type 0
 SetsUpCaller words v =
     (name : List ℕ) × (settings : List (List ℕ)) × (c : Configuration) × (words ≡ name ∷ codes "caller" ∷ settings) × Configures settings c
     × (v ≡ fresh_end c Caller Idle)
 
--- NAME listener LIMIT FRAGMENT BUFFER STREAMS MODE [delay] [standard-closing] PORT PEER KEY: it has a seal under this key
+-- NAME listener LIMIT FRAGMENT BUFFER STREAMS MODE [delay] [standard-closing] [fast-retransmit] [congestion-control] [rto-min MS] PORT PEER KEY:
+-- it has a seal under this key
 abbrev pub SetsUpListener : List (List ℕ) → EndView → Type 0
 SetsUpListener words v =
     (name last key : List ℕ) × (settings : List (List ℕ)) × (c : Configuration) × (seal : Sealing)

@@ -17,12 +17,22 @@ pub enum Call {
     Packet(Bytes),
     /// `build`: it is asked for its next packet.
     Build,
-    /// `send`: its user sends a message, whose lifetime ends at `until`, in milliseconds; None is no limit.
+    /// `send`: its user sends a message, whose lifetime ends at `until`, in milliseconds; None is no end.
     Send {
         stream: u16,
         kind: Kind,
         payload_id: u32,
         until: Option<u64>,
+        bytes: Bytes,
+    },
+    /// `send` with a limit of retransmissions (RFC 7496, 3.1): as `Send`, and the message is abandoned if a fragment of it, retransmitted
+    /// `max_retransmits` times already (0 to 65,535), would be retransmitted once more.
+    SendWithMaxRetransmits {
+        stream: u16,
+        kind: Kind,
+        payload_id: u32,
+        until: Option<u64>,
+        max_retransmits: u16,
         bytes: Bytes,
     },
     /// `abandon`: its user abandons the message with this ticket.
@@ -56,4 +66,6 @@ pub enum Call {
     /// `status`: next, state and held at once, with what both endpoints agreed on, what is queued, and the first stream on which a message
     /// waits for its user.
     Status,
+    /// `path`: the bytes in flight, and what is known of the path to its peer.
+    Path,
 }

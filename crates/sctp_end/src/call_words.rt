@@ -1,14 +1,16 @@
 //! Reads the words of each command that has some.
 
 ghost use Rattle.std.specs.Prelude.{◌≡◌, length, IfOk, MatchOption};
-ghost use Rattle.sctp_end.specs.Commands.{arguments_of};
+ghost use Rattle.sctp_end.specs.Commands.{arguments_of, send_call};
 ghost use Rattle.sctp_end.specs.Grammar.{Spells};
 
 use crate::call::Call;
 use crate::command::Command;
-use sctp_text::Words;
-use sctp_values::NoMemory;
-use sctp_words::{read_bytes, read_draw, read_kind, read_u16, read_u32, read_u64, read_until};
+use sctp_text::{Bytes, Words};
+use sctp_values::{Kind, NoMemory};
+use sctp_words::{
+    read_bytes, read_draw, read_kind, read_u16, read_u32, read_u64, read_until_limit,
+};
 use std::alloc::Global;
 
 /// `connect TAG TSN`
@@ -73,21 +75,45 @@ pub(crate) fn read_send(alloc: Global, mut words: Words<'_>) -> Result<Option<Ca
     let stream = read_u16(words.next_word());
     let kind = read_kind(words.next_word());
     let payload_id = read_u32(words.next_word());
-    let until = read_until(words.next_word());
-    let (Some(stream), Some(kind), Some(payload_id), Some(until)) = (
-        stream, kind, payload_id, until,
+    let lifetime = read_until_limit(words.next_word());
+    let (Some(stream), Some(kind), Some(payload_id), Some(lifetime)) = (
+        stream, kind, payload_id, lifetime,
     ) else {
         return Ok(None);
     };
     match read_bytes(alloc, words.next_word())? {
-        Some(bytes) => Ok(Some(Call::Send {
+        Some(bytes) => Ok(Some(send_call(stream, kind, payload_id, lifetime, bytes))),
+        None => Ok(None),
+    }
+}
+
+/// The call that sends a message, by the end of its lifetime and its limit of retransmissions.
+fn send_call(
+    stream: u16,
+    kind: Kind,
+    payload_id: u32,
+    lifetime: (Option<u64>, Option<u16>),
+    bytes: Bytes,
+) -> Call
+    ensures { result ≡ send_call stream kind payload_id lifetime.0 lifetime.1 bytes }
+{
+    let (until, limit) = lifetime;
+    match limit {
+        Some(max_retransmits) => Call::SendWithMaxRetransmits {
+            stream,
+            kind,
+            payload_id,
+            until,
+            max_retransmits,
+            bytes,
+        },
+        None => Call::Send {
             stream,
             kind,
             payload_id,
             until,
             bytes,
-        })),
-        None => Ok(None),
+        },
     }
 }
 

@@ -23,6 +23,7 @@ pub enum Command {
     Held,
     Reassembly,
     Status,
+    Path,
 }
 
 impl Command {
@@ -48,6 +49,7 @@ impl Command {
             b"held" => Some(Command::Held),
             b"reassembly" => Some(Command::Reassembly),
             b"status" => Some(Command::Status),
+            b"path" => Some(Command::Path),
             _ => None,
         }
     }
@@ -72,7 +74,8 @@ impl Command {
             | Command::State
             | Command::Held
             | Command::Reassembly
-            | Command::Status => 0,
+            | Command::Status
+            | Command::Path => 0,
         }
     }
 }

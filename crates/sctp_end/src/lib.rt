@@ -13,9 +13,11 @@
 //!   latest `draw` and `at`. (`Session::perform`, private)
 //! - `status` reports what the machine's state says; READABLE is the lowest stream on which a message waits for `take`, and `-` exactly if
 //!   none does (`IsStatus` of `specs/Telling`).
+//! - `path` reports the bytes in flight, and of the path to the peer SRTT, RTTVAR, RTO, congestion window and threshold, with `-` for what
+//!   isn't there (`TellsPath` of `specs/Performing`).
 //! - `put_reply` writes a reply as its line.
-//! - **`run_words` is the program.** Either its words set up an endpoint (`specs/SetUpWords`; the options `delay` and `standard-closing` may be
-//!   after MODE, in this order) or they are wrong, and the status says which. From the endpoint that they set up, the answers to all lines of
+//! - **`run_words` is the program.** Either its words set up an endpoint (`specs/SetUpWords`; the options `delay`, `standard-closing`,
+//!   `fast-retransmit`, `congestion-control` and `rto-min` with its number of milliseconds may be after MODE, in this order) or they are wrong, and the status says which. From the endpoint that they set up, the answers to all lines of
 //!   the input are written, each from the state that the line before it left (`specs/Answering`), with status 0 after all input was read; or a
 //!   prefix of them, with status 3. For wrong words nothing is read and the usage text is written to standard error, with status 1, or a prefix
 //!   of it with status 3. A line of more than 140,000 bytes is like any other: it has its fault, changes nothing, and the next line is
@@ -52,10 +54,13 @@ mod call_words;
 mod command;
 mod command_line;
 mod line;
+mod options;
+mod path_line;
 mod replies;
 mod reply;
 mod reply_line;
 mod run;
+mod sending;
 mod session;
 mod set_up;
 mod status;

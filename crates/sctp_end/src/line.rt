@@ -66,5 +66,6 @@ fn read_call(alloc: Global, command: Command, words: Words<'_>) -> Result<Option
         Command::Held => Ok(Some(Call::Held)),
         Command::Reassembly => Ok(Some(Call::Reassembly)),
         Command::Status => Ok(Some(Call::Status)),
+        Command::Path => Ok(Some(Call::Path)),
     }
 }

@@ -1,6 +1,7 @@
 //! What is answered to a line: one case for each line of an answer.
 
 use crate::status::Status;
+use sctp_endpoint::Path;
 use sctp_send::Abandoned;
 use sctp_terms::{End, Reason, State};
 use sctp_text::Bytes;
@@ -82,6 +83,11 @@ pub enum Reply {
     Reassembly(u32),
     /// `status STATE WHY NEXT OUTBOUND INBOUND FORMATS OUTSTANDING QUEUED BYTES HELD WINDOW READABLE`
     Status(Status),
+    /// `path FLIGHT SRTT RTTVAR RTO CWND SSTHRESH`: the bytes in flight, and the path to its peer, None if nothing is measured.
+    Path {
+        flight: u64,
+        path: Option<Path>,
+    },
     /// `fault K`: the line has a fault and has changed nothing.
     Fault(LineFault),
     /// `memory`: an allocation failed.

@@ -11,7 +11,7 @@ ghost use Rattle.sctp_end.specs.Performing.{TellsMessage};
 ghost use Rattle.sctp_end.specs.SessionStands.{Performed};
 
 use crate::call::Call;
-use crate::replies::{abort_refused, send_refused};
+use crate::replies::abort_refused;
 use crate::reply::{Refusal, Reply};
 use crate::status::Status;
 use sctp_endpoint::{
@@ -48,6 +48,21 @@ impl Session {
                 until,
                 bytes,
             } => self.send(stream, kind, payload_id, until, bytes),
+            Call::SendWithMaxRetransmits {
+                stream,
+                kind,
+                payload_id,
+                until,
+                max_retransmits,
+                bytes,
+            } => self.send_with_max_retransmits(
+                stream,
+                kind,
+                payload_id,
+                until,
+                max_retransmits,
+                bytes,
+            ),
             Call::Abandon { ticket } => self.abandon(ticket),
             Call::Acknowledged { ticket } => self.acknowledged(ticket),
             Call::Abandoned { ticket } => self.abandoned(ticket),
@@ -62,6 +77,7 @@ impl Session {
             Call::Held => Reply::Held(self.endpoint.held_bytes()),
             Call::Reassembly => Reply::Reassembly(self.endpoint.reassembly_bytes()),
             Call::Status => self.status(),
+            Call::Path => self.path(),
         }
     }
 
@@ -115,27 +131,6 @@ impl Session {
             Ok(Some(Sent { packet, .. })) => Reply::Sent(Bytes::new(packet)),
             Ok(None) => Reply::Quiet,
             Err(NoMemory) => Reply::NoMemory,
-        }
-    }
-
-    /// `send`
-    fn send(
-        &mut self,
-        stream: u16,
-        kind: Kind,
-        payload_id: u32,
-        until: Option<u64>,
-        bytes: Bytes,
-    ) -> Reply
-        ensures { Performed self.old (call.Send stream kind payload_id until bytes) result self.new }
-    {
-        let ordered = !kind.flag();
-        match self
-            .endpoint
-            .send(stream, ordered, payload_id, bytes.into_vec(), until)
-        {
-            Ok(ticket) => Reply::Ticket(ticket.0),
-            Err(why) => send_refused(why),
         }
     }
 
@@ -212,6 +207,16 @@ impl Session {
             window: self.endpoint.peer_window(),
             readable: self.endpoint.readable(0),
         })
+    }
+
+    /// `path`
+    fn path(&self) -> Reply
+        ensures { Performed self.now call.Path result self.now }
+    {
+        Reply::Path {
+            flight: self.endpoint.in_flight(),
+            path: self.endpoint.path(),
+        }
     }
 
     /// `shutdown`

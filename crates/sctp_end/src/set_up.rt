@@ -1,18 +1,18 @@
 //! Sets up the endpoint by the words with which the program is started.
 
-ghost use Rattle.std.specs.Prelude.{◌≡◌, ℕ, false, List, [], ◌∷◌, map, string_bytes, IfSome, MatchOption};
+ghost use Rattle.std.specs.Prelude.{◌≡◌, ℕ, List, [], ◌∷◌, map, string_bytes, IfSome, MatchOption};
 ghost use Rattle.sctp_model.specs.end.EndView.{Configuration, EndView, Caller, Listener, Idle, Listening, fresh_end};
 ghost use Rattle.sctp_model.specs.end.Sealing.{Sealing};
 ghost use Rattle.sctp_cookie.specs.Seals.{IsUnder};
 ghost use Rattle.sctp_endpoint.specs.EndpointStands.{EndpointStands};
 ghost use Rattle.sctp_end.specs.SetUpWords.{Settles, Configures, IsKey, SetsUp};
-ghost use Rattle.sctp_words.specs.Fields.{delay_word, standard_closing_word};
-ghost use Rattle.sctp_end.specs.inner.SettingUp.{role_word, IsSplit, SetsListener};
+ghost use Rattle.sctp_end.specs.inner.SettingUp.{role_word, HasNoOptions, SetsListener};
 
+use crate::options::{read_rto_min, split_options, split_rto_min, with_options};
 use sctp_cookie::keys_have_seals;
 use sctp_endpoint::{Config, Endpoint, Key};
 use sctp_text::words_say_one_value;
-use sctp_words::{is_delay, is_standard_closing, read_mode, read_u16, read_u32};
+use sctp_words::{read_mode, read_u16, read_u32};
 use std::alloc::Global;
 
 /// The number of words after the options: `PORT PEER`.
@@ -99,12 +99,15 @@ fn read_config(words: &[String]) -> Option<Config>
     let [limit, fragment, buffer, streams, mode, rest @ ..] = words else {
         return None;
     };
-    let (delay, rest) = split_delay(rest);
-    let (standard_closing, rest) = split_standard_closing(rest);
+    let (options, rest) = split_options(rest);
+    let (rto_min, rest) = split_rto_min(rest);
     if rest.len() > PORTS {
         return None;
     }
     let [own_port, peer_port, ..] = rest else {
+        return None;
+    };
+    let Some(rto_min) = read_rto_min(rto_min) else {
         return None;
     };
     match config_of(
@@ -116,41 +119,8 @@ fn read_config(words: &[String]) -> Option<Config>
         own_port.as_bytes(),
         peer_port.as_bytes(),
     ) {
-        Some(config) => Some(with_options(config, delay, standard_closing)),
+        Some(config) => Some(with_options(config, options, rto_min)),
         None => None,
-    }
-}
-
-/// Whether the first of these words is `delay`, and the words after it; else all of them.
-fn split_delay(words: &[String]) -> (bool, &[String])
-    ensures { IsSplit delay_word (map string_bytes words.now) result.0 (map string_bytes result.1.now) }
-{
-    match words {
-        [first, rest @ ..] if is_delay(first.as_bytes()) => (true, rest),
-        _ => (false, words),
-    }
-}
-
-/// Whether the first of these words is `standard-closing`, and the words after it; else all of them.
-fn split_standard_closing(words: &[String]) -> (bool, &[String])
-    ensures { IsSplit standard_closing_word (map string_bytes words.now) result.0 (map string_bytes result.1.now) }
-{
-    match words {
-        [first, rest @ ..] if is_standard_closing(first.as_bytes()) => (true, rest),
-        _ => (false, words),
-    }
-}
-
-/// The configuration with these two options.
-fn with_options(config: Config, delay: bool, standard_closing: bool) -> Config
-    requires plain { (config.delay ≡ false) × (config.standard_closing ≡ false) }
-    ensures { result ≡ record config { delay = delay; standard_closing = standard_closing } }
-{
-    let config = if delay { config.with_delay() } else { config };
-    if standard_closing {
-        config.with_standard_closing()
-    } else {
-        config
     }
 }
 
@@ -166,8 +136,8 @@ fn config_of(
 ) -> Option<Config>
     ensures exact { let words = limit.now ∷ fragment.now ∷ buffer.now ∷ streams.now ∷ mode.now ∷ own_port.now ∷ peer_port.now ∷ [] in MatchOption result
         ((c : Configuration) → Settles words c → ⊥) (λ config. Settles words config) }
-    // Neither option is set yet.
-    ensures plain { IfSome result (λ config. (config.delay ≡ false) × (config.standard_closing ≡ false)) }
+    // No option is set yet.
+    ensures plain { IfSome result (λ config. HasNoOptions config) }
 {
     // law: a word spells at most one number
     words_say_one_value();

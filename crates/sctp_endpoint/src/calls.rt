@@ -6,7 +6,7 @@ ghost use Rattle.sctp_model.specs.end.Moments.{ticked};
 ghost use Rattle.sctp_model.specs.end.UserCalls.{connect_answer, abandons, abandoned_at, shutdown_answer, shut, UserTakes};
 ghost use Rattle.sctp_send.specs.SenderAnswers.{answer_meaning, lane_for};
 ghost use Rattle.sctp_recv.specs.HandedOf.{handed_of};
-ghost use Rattle.sctp_association.specs.CallAnswers.{connect_meaning, connected, shutdown_meaning, call_of, SendAnswers, sent_view};
+ghost use Rattle.sctp_association.specs.CallAnswers.{connect_meaning, connected, shutdown_meaning, call_of, limited_call_of, SendAnswers, sent_view};
 ghost use Rattle.sctp_endpoint.specs.EndpointStands.{EndpointStands};
 ghost use Rattle.sctp_endpoint.specs.Logs.{LeavesLogs, GivesLogs, TakesLogs};
 
@@ -60,6 +60,34 @@ impl Endpoint {
         self.machine.send(stream, ordered, payload_id, bytes, until)
     }
 
+    /// Queues a message as `send` does, with a limit of retransmissions (RFC 7496, 3.1): if both endpoints support partial reliability, each of its
+    /// fragments is retransmitted `max_retransmits` times at most, 0 for never. When the data timer expires and a fragment was retransmitted that
+    /// often, the whole message is abandoned (RFC 3758, 3.5). Without partial reliability the limit has no effect. With a lifetime too, the
+    /// message is abandoned by whichever ends first.
+    ///
+    /// # Errors
+    /// As `send`.
+    pub fn send_with_max_retransmits(
+        &mut self,
+        stream: u16,
+        ordered: bool,
+        payload_id: u32,
+        bytes: Vec<u8>,
+        until: Option<u64>,
+        max_retransmits: u16,
+    ) -> Result<Ticket, Refused>
+        ensures answer { (v : EndView) → EndpointStands self.old v
+            → SendAnswers v (limited_call_of (lane_for stream ordered) payload_id bytes.items until max_retransmits) result }
+        ensures step { (v : EndView) → EndpointStands self.old v
+            → EndpointStands self.new (sent_view v (limited_call_of (lane_for stream ordered) payload_id bytes.items until max_retransmits) result) }
+        ensures logs { (v : EndView) → EndpointStands self.old v → GivesLogs v result self.new }
+    {
+        // law: it is sound
+        self.machine.sound();
+        self.machine
+            .send_with_max_retransmits(stream, ordered, payload_id, bytes, until, max_retransmits)
+    }
+
     /// Returns the first message that waits on a stream (RFC 9260, 11.1.6), and None if none does. Its space in the receive buffer is then free; the peer
     /// learns of it with the next SACK. It allocates no memory.
     pub fn take(&mut self, stream: u16) -> Option<Message>
@@ -98,8 +126,8 @@ impl Endpoint {
         self.machine.shutdown()
     }
 
-    /// Advances the time to `now`, in milliseconds: messages whose lifetime is over are abandoned (RFC 3758, 3.5); then each timer that is due expires
-    /// once, and what it retransmits is due again (RFC 9260, 6.3.3); a delayed SACK whose time has come is due, too (RFC 9260, 6.2). A time before
+    /// Advances the time to `now`, in milliseconds: messages whose lifetime is over are abandoned (RFC 3758, 3.5), and if the data timer is due, those
+    /// that may not be retransmitted again (RFC 7496, 3.1); then each timer that is due expires once, and what it retransmits is due again (RFC 9260, 6.3.3); a delayed SACK whose time has come is due, too (RFC 9260, 6.2). A time before
     /// the latest one counts as that one. Call it no later than `next_moment` says, and at the end of each message's lifetime, which `next_moment`
     /// doesn't count; then call `poll_transmit`. It allocates no memory.
     pub fn on_moment(&mut self, now: u64)

@@ -23,7 +23,8 @@
 //! - Each call also says what it leaves of the tickets returned, the messages numbered and the messages taken (clause `logs`), of which the theorem on
 //!   two endpoints is made.
 //! - [`peek_packet`] and [`abort_cause`] read a packet's bytes alone: its ports and tag, without any check, and the first cause of its ABORT.
-//! - Laws: [`one_packet`], [`written_packet_reads`], [`chunk_types`]; [`Endpoint::sound`]. A law is the contract of a function that does nothing.
+//! - Laws: [`one_packet`], [`written_packet_reads`], [`chunk_types`]; [`Endpoint::sound`], [`Endpoint::gives_up_alone`],
+//!   [`Endpoint::reached`]. A law is the contract of a function that does nothing.
 //!
 //! `docs/proofs/sctp_endpoint.md` has each promise with its contract, and what a body may still get away with.
 #![tactic(auto)]
@@ -35,6 +36,7 @@ mod calls;
 mod closing;
 mod endpoint;
 mod forwards;
+mod giving_up;
 mod laws;
 mod opening;
 mod packets;
@@ -52,12 +54,12 @@ pub use after::Verdict;
 pub use endpoint::Endpoint;
 pub use laws::{chunk_types, one_packet, written_packet_reads};
 pub use packets::{AbortCause, PacketHeader, abort_cause, peek_packet};
-pub use sctp_association::{Agreed, Refused};
+pub use sctp_association::{Agreed, Path, Refused};
 pub use sctp_cookie::Key;
 pub use sctp_recv::Message;
-pub use sctp_send::{Abandoned, Limits, SendFault};
+pub use sctp_send::{Abandoned, SendFault};
 pub use sctp_terms::{
-    AbortFault, Config, ConfigFault, ConnectFault, Draw, End, Pace, Reason, ShutdownFault, State,
+    AbortFault, Config, ConfigFault, ConnectFault, Draw, End, Reason, ShutdownFault, State,
 };
 pub use sctp_values::{Kind, NoMemory, Ticket};
 pub use transmit::Sent;

@@ -1,12 +1,12 @@
 //! What is known of an endpoint. None of these calls changes anything or allocates memory.
 
 ghost use Rattle.std.specs.Prelude.{◌≡◌, ℕ, ◌≤◌, ◌*◌, Some, None, MatchOption, option_map, slice_get, length};
+ghost use Rattle.sctp_model.specs.sender.Entries.{in_flight};
 ghost use Rattle.sctp_model.specs.sender.Readers.{outstanding, acknowledged, abandoned};
 ghost use Rattle.sctp_model.specs.numbers.Limits.{WINDOW, QUEUE_LIMIT, LONGEST_MESSAGE};
 ghost use Rattle.sctp_model.specs.sender.Abandoning.{has_late};
 ghost use Rattle.sctp_model.specs.receiver.ReceiverView.{held_bytes, size_of_pieces};
 ghost use Rattle.sctp_model.specs.end.EndView.{EndView, state_of, ended_of};
-ghost use Rattle.sctp_model.specs.end.Clock.{at_moment};
 ghost use Rattle.sctp_model.specs.end.Moments.{next_moment};
 ghost use Rattle.sctp_terms.specs.Meanings.{end_meaning, state_meaning};
 ghost use Rattle.sctp_send.specs.SenderAnswers.{next_late};
@@ -14,15 +14,14 @@ ghost use Rattle.sctp_send.specs.Waiting.{queued_bytes};
 ghost use Rattle.sctp_recv.specs.HandedOf.{handed_of};
 ghost use Rattle.sctp_recv.specs.Readable.{ReadableAnswer};
 ghost use Rattle.sctp_association.specs.Agreeing.{AgreedAnswer};
-ghost use Rattle.sctp_association.specs.GivenUp.{GivesUpLate};
+ghost use Rattle.sctp_association.specs.PathAnswers.{PathAnswer};
 ghost use Rattle.sctp_outcomes.specs.Kept.{IsSound};
 ghost use Rattle.sctp_endpoint.specs.EndpointStands.{EndpointStands};
 
 use crate::endpoint::Endpoint;
-use sctp_association::Agreed;
+use sctp_association::{Agreed, Path};
 use sctp_recv::Message;
-use sctp_send::Limits;
-use sctp_terms::{Config, End, Pace, State};
+use sctp_terms::{Config, End, State};
 use sctp_values::Ticket;
 
 #[tactic(auto, unfolding(crate::specs::EndpointStands::EndpointStands))]
@@ -206,18 +205,19 @@ impl Endpoint {
         self.machine.sound();
     }
 
-    /// What it measures round trips and paces its user data by (RFC 9260, 6.3.1 and 7.2); None if it doesn't. No call sets it up.
-    pub fn pace(&self) -> Option<Pace>
-        ensures { (v : EndView) → EndpointStands self.now v → MatchOption result (v.pace ≡ None) (λ pace. v.pace ≡ None → ⊥) }
+    /// The bytes of user data in flight: sent, and neither acknowledged, abandoned nor marked for retransmission; 0 before an association
+    /// (RFC 9260, 6.1).
+    pub fn in_flight(&self) -> u64
+        ensures { (v : EndView) → EndpointStands self.now v → result ≡ in_flight v.sender }
     {
-        self.machine.pace()
+        self.machine.in_flight()
     }
 
-    /// Whether messages with a limit of retransmissions may be held (RFC 7496, 3.1). None if none is: then `on_moment` abandons only messages that are
-    /// past their lifetime. `send` accepts none.
-    pub fn limits(&self) -> Option<Limits>
-        ensures { (v : EndView) → EndpointStands self.now v → MatchOption result ((now : ℕ) → GivesUpLate (at_moment v now)) (λ limits. Unit {0}) }
+    /// What it knows of the path to its peer: round trips, RTO, congestion window and threshold (RFC 9260, 6.3.1 and 7.2). None exactly if it has no
+    /// pace: before an association, and without fast retransmit.
+    pub fn path(&self) -> Option<Path>
+        ensures { (v : EndView) → EndpointStands self.now v → PathAnswer v result }
     {
-        self.machine.limits()
+        self.machine.path()
     }
 }

@@ -11,7 +11,7 @@ use Rattle.sctp_recv.specs.HandedOf.{handed_of}
 use Rattle.sctp_events.specs.declared.event.Side.{Side}
 use Rattle.sctp_events.specs.declared.event.Side.TheVariants as side
 use Rattle.sctp_events.specs.declared.event.Event.{Event}
-use Rattle.sctp_events.specs.declared.event.Event.TheVariants.{Open, At, Drawing, Connect, Build, Deliver, Foreign, Send, Abandon, Take, Shutdown, Abort}
+use Rattle.sctp_events.specs.declared.event.Event.TheVariants.{Open, At, Drawing, Connect, Build, Deliver, Foreign, Send, SendWithMaxRetransmits, Abandon, Take, Shutdown, Abort}
 use Rattle.sctp_events.specs.declared.outcome.Refusal.{Refusal}
 use Rattle.sctp_events.specs.declared.outcome.Refusal.TheVariants as refusal
 use Rattle.sctp_events.specs.declared.outcome.Outcome.{Outcome}
@@ -40,6 +40,8 @@ event_meaning (Deliver x number) = Happens (meaning.Deliver (side_meaning x) num
 event_meaning (Foreign x bytes) = BringsBytes (side_meaning x) bytes.items
 event_meaning (Send x stream ordered payload bytes until) =
     Happens (meaning.Send (side_meaning x) (record { lane = lane_for stream ordered; payload = payload; bytes = bytes.items; until = until; limit = None }))
+event_meaning (SendWithMaxRetransmits x stream ordered payload bytes until limit) =
+    Happens (meaning.Send (side_meaning x) (record { lane = lane_for stream ordered; payload = payload; bytes = bytes.items; until = until; limit = Some limit }))
 event_meaning (Abandon x ticket) = Happens (meaning.Abandon (side_meaning x) ticket.0)
 event_meaning (Take x stream) = Happens (meaning.Take (side_meaning x) stream)
 event_meaning (Shutdown x) = Happens (meaning.Shutdown (side_meaning x))

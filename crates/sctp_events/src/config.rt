@@ -76,6 +76,36 @@ impl PairConfig {
         }
     }
 
+    /// This configuration with fast retransmission at both endpoints (RFC 9260, 6.3.1 and 7.2.4).
+    pub fn with_fast_retransmit(self) -> PairConfig
+        ensures { result.a ≡ record self.a { fast_retransmit = true } }
+    {
+        PairConfig {
+            a: self.a.with_fast_retransmit(),
+            b: self.b.with_fast_retransmit(),
+        }
+    }
+
+    /// This configuration with congestion control, and with fast retransmission, which it needs, at both endpoints (RFC 9260, 7.2).
+    pub fn with_congestion_control(self) -> PairConfig
+        ensures { result.a ≡ record self.a { fast_retransmit = true; congestion_control = true } }
+    {
+        PairConfig {
+            a: self.a.with_congestion_control(),
+            b: self.b.with_congestion_control(),
+        }
+    }
+
+    /// This configuration with another RTO.Min at both endpoints, in milliseconds (RFC 9260, 6.3.1 and 16).
+    pub fn with_rto_min(self, milliseconds: u32) -> PairConfig
+        ensures { result.a ≡ record self.a { least_wait = milliseconds } }
+    {
+        PairConfig {
+            a: self.a.with_rto_min(milliseconds),
+            b: self.b.with_rto_min(milliseconds),
+        }
+    }
+
     /// The configuration of endpoint A, the caller.
     pub fn caller(&self) -> Config
         ensures { result ≡ self.now.a }

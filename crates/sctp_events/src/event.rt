@@ -61,7 +61,7 @@ pub enum Event {
         bytes: Vec<u8>,
     },
     /// `send`: an endpoint's user sends a message, ordered within its stream or unordered. Its lifetime ends at `until`, in milliseconds;
-    /// None is no limit.
+    /// None is no end.
     Send {
         side: Side,
         stream: u16,
@@ -69,6 +69,17 @@ pub enum Event {
         payload_id: u32,
         bytes: Vec<u8>,
         until: Option<u64>,
+    },
+    /// `send` with a limit of retransmissions (RFC 7496, 3.1): as `Send`, and the message is abandoned if a fragment of it, retransmitted
+    /// `max_retransmits` times already (0 to 65,535), would be retransmitted once more.
+    SendWithMaxRetransmits {
+        side: Side,
+        stream: u16,
+        ordered: bool,
+        payload_id: u32,
+        bytes: Vec<u8>,
+        until: Option<u64>,
+        max_retransmits: u16,
     },
     /// `abandon`: an endpoint's user abandons the message with this ticket.
     Abandon {

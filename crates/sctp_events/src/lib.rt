@@ -2,7 +2,7 @@
 //! so that neither depends on the other for it.
 //!
 //! A *pair* is two endpoints, A the caller and B the listener, and the network between them. `Event` has one case for each line of a
-//! script that acts on it, `Outcome` one for each line that answers. Their meaning is stated in `specs/Events` in the words of the model
+//! script that acts on it (`send` has two, since a message may have a limit of retransmissions), `Outcome` one for each line that answers. Their meaning is stated in `specs/Events` in the words of the model
 //! (`sctp_model/specs/world/Events`): an event either is one of the model's, or brings the bytes of a third party, whatever they are; an
 //! outcome names no endpoint, since the event does.
 //!
@@ -11,7 +11,8 @@
 //! - `PairConfig::new` makes the configuration of both endpoints, equal but for the ports (5,000 for A, 5,001 for B), asking for the
 //!   extensions of the mode, exactly if an endpoint's configuration of these values has no fault; else it returns the first fault.
 //! - `PairConfig::with_delay` and `with_standard_closing` set the option of both endpoints, and nothing else: delayed SACKs (RFC 9260, 6.2),
-//!   and closing by the RFC's timers (RFC 9260, 9.2).
+//!   and closing by the RFC's timers (RFC 9260, 9.2). So do `with_fast_retransmit` (6.3.1 and 7.2.4), `with_congestion_control` (7.2), which sets both,
+//!   and `with_rto_min`.
 //! - `PairConfig::caller` is A's configuration, `listener` the same with the two ports exchanged.
 //! - `TwoConfigs::of` takes the configurations of two endpoints that need not be alike, exactly if the port of each is the port of the other's
 //!   peer; `TwoConfigs::alike` those of a pair. `caller` and `listener` are its two.

@@ -115,13 +115,23 @@ fn put_call(call: &Call, words: &mut String) -> Result<(), AllocError> {
             stream,
             ordered,
             length,
+            max_retransmits,
             ticket,
         } => {
             let (stream, length) = (*stream, *length);
             let kind = if *ordered { "" } else { "u" };
             write!(words, "send {stream}{kind} {length}B")?;
+            put_limit(*max_retransmits, words)?;
             put_ticket(*ticket, words)
         }
+    }
+}
+
+/// Appends a message's limit of retransmissions.
+fn put_limit(max_retransmits: Option<u16>, words: &mut String) -> Result<(), AllocError> {
+    match max_retransmits {
+        Some(limit) => write!(words, " x{limit}"),
+        None => Ok(()),
     }
 }
 

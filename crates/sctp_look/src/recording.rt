@@ -88,13 +88,9 @@ impl Recording {
             Event::Build { side } => self.build(*side, &outcome),
             Event::Deliver { side, number } => self.deliver(*side, *number, &outcome),
             Event::Foreign { side, bytes } => self.meet(*side, bytes, &outcome),
-            Event::Send {
-                side,
-                stream,
-                ordered,
-                bytes,
-                ..
-            } => self.send(*side, *stream, *ordered, bytes.len(), &outcome),
+            Event::Send { .. } | Event::SendWithMaxRetransmits { .. } => {
+                self.send(event, &outcome)
+            }
             Event::Abandon { side, ticket } => self.abandon(*side, *ticket, &outcome),
             Event::Take { side, stream } => self.take(*side, *stream, &outcome),
             Event::Shutdown { side } => self.call(*side, Call::Shutdown, &outcome),
@@ -113,25 +109,12 @@ impl Recording {
         self.show(side, Some(Deed::of_call(call, outcome)), None)
     }
 
-    /// Shows that an endpoint's user sends a message of `length` bytes.
-    fn send(
-        &mut self,
-        side: Side,
-        stream: u16,
-        ordered: bool,
-        length: usize,
-        outcome: &Outcome,
-    ) -> Result<(), AllocError> {
-        let call = Call::Send {
-            stream,
-            ordered,
-            length,
-            ticket: match outcome {
-                Outcome::Ticket { ticket } => Some(ticket.0),
-                _ => None,
-            },
-        };
-        self.call(side, call, outcome)
+    /// Shows that an endpoint's user sends a message.
+    fn send(&mut self, event: &Event, outcome: &Outcome) -> Result<(), AllocError> {
+        match Call::of_send(event, outcome) {
+            Some((side, call)) => self.call(side, call, outcome),
+            None => Ok(()),
+        }
     }
 
     /// Shows that an endpoint's user abandons a message.

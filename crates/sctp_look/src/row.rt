@@ -1,6 +1,6 @@
 //! The rows of a picture, in the order of the run.
 
-use sctp_pair::{Abandoned, Outcome, Pair, Reason, Refusal, Side};
+use sctp_pair::{Abandoned, Event, Outcome, Pair, Reason, Refusal, Side};
 use sctp_terms::{End, State};
 
 /// A row: an event, or the packet with which an endpoint answered it.
@@ -79,9 +79,47 @@ pub(crate) enum Call {
         stream: u16,
         ordered: bool,
         length: usize,
+        /// How often a fragment may be retransmitted, if the message has a limit.
+        max_retransmits: Option<u16>,
         /// The ticket of the accepted message.
         ticket: Option<u64>,
     },
+}
+
+impl Call {
+    /// The call of an endpoint's user that sends a message, and the endpoint. None for another event.
+    pub(crate) fn of_send(event: &Event, outcome: &Outcome) -> Option<(Side, Call)> {
+        let (side, stream, ordered, bytes, max_retransmits) = match event {
+            Event::Send {
+                side,
+                stream,
+                ordered,
+                bytes,
+                ..
+            } => (*side, *stream, *ordered, bytes, None),
+            Event::SendWithMaxRetransmits {
+                side,
+                stream,
+                ordered,
+                bytes,
+                max_retransmits,
+                ..
+            } => (*side, *stream, *ordered, bytes, Some(*max_retransmits)),
+            _ => return None,
+        };
+        let ticket = match outcome {
+            Outcome::Ticket { ticket } => Some(ticket.0),
+            _ => None,
+        };
+        let call = Call::Send {
+            stream,
+            ordered,
+            length: bytes.len(),
+            max_retransmits,
+            ticket,
+        };
+        Some((side, call))
+    }
 }
 
 /// A message that was taken, without its bytes.

@@ -6,19 +6,19 @@ ghost use Rattle.sctp_text.specs.declared.limits.TheConstants.{LONGEST_TEXT};
 use crate::fault::LookFault;
 use crate::recording::Recording;
 use sctp_pair::TwoConfigs;
-use sctp_script::{Place, Placed, read_line_at};
+use sctp_script::{Place, Placed, Preamble, read_line_at};
 use sctp_text::{LineReader, NextLine, ReadFault, Source};
 use sctp_words::{LineError, LineFault};
 use std::alloc::Global;
 
-/// The state of reading a script: the recorded pair, once there is one, its configurations until a line asks something of it, and the number of the
+/// The state of reading a script: the recorded pair, once there is one, what was said of its endpoints, and the number of the
 /// next line.
 #[derive(Drop)]
 pub(crate) struct Reading {
     alloc: Global,
     lines: LineReader,
     run: Option<Recording>,
-    fresh: Option<TwoConfigs>,
+    preamble: Preamble,
     number: u64,
 }
 
@@ -29,7 +29,7 @@ impl Reading {
             alloc,
             lines: LineReader::new(alloc),
             run: None,
-            fresh: None,
+            preamble: Preamble::default(),
             number: 1,
         }
     }
@@ -90,13 +90,13 @@ impl Reading {
 
     /// Makes the event of a line.
     fn happen(&mut self, line: &[u8]) -> Result<(), LookFault> {
-        let place = Place::of(self.run.is_some(), self.fresh);
+        let place = Place::of(self.run.is_some(), self.preamble);
         match read_line_at(self.alloc, line, place) {
             Ok(None) => Ok(()),
-            Ok(Some(Placed::Pair(config))) => self.set_up(&TwoConfigs::alike(config)),
-            Ok(Some(Placed::Options(configs))) => self.set_up(&configs),
+            Ok(Some(Placed::Pair(config))) => self.set_up(&TwoConfigs::alike(config), false),
+            Ok(Some(Placed::Options(configs))) => self.set_up(&configs, true),
             Ok(Some(Placed::Event(event))) => {
-                self.fresh = None;
+                self.preamble.fresh = None;
                 match &mut self.run {
                     Some(run) => {
                         run.record(&event)?;
@@ -111,10 +111,13 @@ impl Reading {
     }
 
     /// Makes the pair with these configurations, in place of the one that is there.
-    fn set_up(&mut self, configs: &TwoConfigs) -> Result<(), LookFault> {
+    fn set_up(&mut self, configs: &TwoConfigs, with_options: bool) -> Result<(), LookFault> {
         let run = Recording::new(self.alloc, *configs)?;
         drop(self.run.replace(run));
-        self.fresh = Some(*configs);
+        self.preamble = Preamble {
+            fresh: Some(*configs),
+            with_options,
+        };
         self.begin()
     }
 }

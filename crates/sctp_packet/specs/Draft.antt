@@ -1,5 +1,5 @@
 -- A packet in the making.
-use Rattle.std.specs.Prelude.{◌≡◌, ℕ, ◌-◌, ◌<◌, ◌≤◌, Bool, nat_le, if◌then◌else◌, ◌==◌, List, ◌∷◌, [], ◌++◌, length, take, drop}
+use Rattle.std.specs.Prelude.{◌≡◌, ℕ, ◌+◌, ◌-◌, ◌<◌, ◌≤◌, min, Bool, nat_le, if◌then◌else◌, ◌==◌, List, ◌∷◌, [], ◌++◌, length, take, drop}
 use Rattle.sctp_model.specs.wire.Chunk.{ChunkMeaning}
 use Rattle.sctp_model.specs.wire.Packet.{Packet, HEADER_ROOM, size_of_packet}
 use Rattle.sctp_wire.specs.Reading.{chunks_of}
@@ -33,6 +33,10 @@ with_chunks d ms = record d { chunks = d.chunks ++ ms }
 -- the bytes that are left, where the header counts and the chunks are padded
 abbrev pub room_in : Draft → ℕ
 room_in d = d.limit - size_of_packet d.chunks
+
+-- the same packet, with space for so many bytes more at most
+abbrev pub narrowed : Draft → (room : ℕ) → Draft
+narrowed d room = record d { limit = min d.limit (size_of_packet d.chunks + room) }
 
 -- the packet stays within its limit with this chunk too
 abbrev pub has_room : Draft → ChunkMeaning → Bool

@@ -16,6 +16,7 @@
 //! | [`read_packet`] | `exact`: a packet with `ReadsPacket`, or a fault with `FaultsPacket`; `packet`, `fault`: if the bytes are a packet, or have a fault, it is that one. It allocates no memory |
 //! | [`PacketWriter::new`], [`PacketWriter::in_room`] | an empty packet with these values, whatever they are, and whatever the buffer contains that is given |
 //! | [`PacketWriter::room`] | the limit less header and padded chunks, 0 if they are more |
+//! | [`PacketWriter::narrow`] | `narrowed`: at most this number of bytes more fits; `room`: the lesser of this and what was left |
 //! | [`PacketWriter::try_chunk`] | `answer`: true if and only if the packet with the chunk stays within the limit; `after`: the chunk is after the others, or nothing changed; `unchanged`, `refused`, `early`: [`NoMemory`] changes nothing, and is returned only if the chunk fits and is the packet's first or second |
 //! | [`PacketWriter::finish`], [`PacketWriter::finish_or_room`] | `packet`: None, or the buffer, if and only if there is no chunk, else bytes with `WritesPacket`; `size`, `within`: their length is that of header and padded chunks, at most the limit |
 //!

@@ -1,13 +1,13 @@
 //! Building a packet: its header, and chunks as long as they fit (RFC 9260, 3 and 6.10).
 
-ghost use Rattle.std.specs.Prelude.{◌≡◌, ◌<◌, ◌≤◌, ◌+◌, ◌^◌, ◌++◌, [], true, length, take, drop, vec_len, vec_capacity, IfOk, OnOk, OnErr, IfSome, MatchOption, MatchResult};
+ghost use Rattle.std.specs.Prelude.{◌≡◌, ◌<◌, ◌≤◌, ◌+◌, ◌^◌, ◌++◌, [], true, min, length, take, drop, vec_len, vec_capacity, IfOk, OnOk, OnErr, IfSome, MatchOption, MatchResult};
 ghost use Rattle.byteorder.specs.Endian.{little_bytes};
 ghost use Rattle.sctp_model.specs.wire.Packet.{size_of_packet};
 ghost use Rattle.sctp_wire.specs.ChunkTree.{chunk_meaning};
 ghost use Rattle.sctp_wire.specs.Layouts.{Fits};
 ghost use Rattle.sctp_wire.specs.Writes.{written};
 ghost use Rattle.sctp_packet.specs.PacketBytes.{header_bytes, WritesPacket};
-ghost use Rattle.sctp_packet.specs.Draft.{with_header, packet_of, empty_draft, room_in, has_room, after_try};
+ghost use Rattle.sctp_packet.specs.Draft.{with_header, packet_of, empty_draft, room_in, narrowed, has_room, after_try};
 
 use crate::checksum::{HEADER, SUM_AT, packet_sum};
 use byteorder::{ByteOrder, LittleEndian};
@@ -85,6 +85,16 @@ impl PacketWriter {
         ensures small { result < 2 ^ 16 }
     {
         usize::from(self.limit).saturating_sub(self.bytes.len().max(HEADER))
+    }
+
+    /// Lowers the limit, so that at most `room` bytes more fit, padding included; if there is no more space than that already, nothing changes.
+    pub fn narrow(&mut self, room: u16)
+        ensures narrowed { self.new ≡ narrowed self.old room }
+        ensures room { room_in self.new ≡ min room (room_in self.old) }
+    {
+        if usize::from(room) < self.room() {
+            self.limit = self.bytes.len().max(HEADER) as u16 + room;
+        }
     }
 
     /// Appends a chunk, which must be one that can be written (`Chunk::fits`). False if and only if the packet, with it and its

@@ -1,25 +1,23 @@
--- Which messages a time or a call abandons: those that weren't abandoned before and are now; at a time only those whose lifetime is over.
-use Rattle.std.proofs.Common.{◌≡◌, ℕ, zero, suc, ◌≤◌, max, Bool, true, false, not, ◌&&◌, List, [], ◌∷◌, ◌++◌, refl, sym, ap, ◌∙◌, arith, map, append_assoc}
+-- Which messages a time or a call abandons: those that weren't abandoned before and are now; at a time only those that it may give up.
+use Rattle.std.proofs.Common.{◌≡◌, ℕ, zero, suc, ◌⊎◌, inl, inr, max, Bool, true, false, not, ◌&&◌, List, [], ◌∷◌, ◌++◌, refl, sym, ap, ◌∙◌, map, append_assoc}
 use Rattle.std.specs.Prelude.{if◌then◌else◌, filter, nat_lt, ◌||◌, ◌==◌}
 use Rattle.std.proofs.lemmas.List.{append-nil}
 use Rattle.std.proofs.lemmas.List.Elements.{filter-append}
 use Rattle.sctp_model.specs.sender.SenderView.{SenderView}
 use Rattle.sctp_model.specs.sender.Words.{count_up}
-use Rattle.sctp_model.specs.sender.Abandoning.{is_to_expire, expired as without_late}
 use Rattle.sctp_model.specs.sender.Readers.{abandoned, point}
 use Rattle.sctp_model.specs.end.EndView.{TimedOut, Alarm, InitAlarm, CookieAlarm, DataAlarm, ShutdownAlarm, AckAlarm, ResetAlarm, EndView, has_association}
 use Rattle.sctp_model.specs.end.Clock.{is_over_at, repeats_of, with_timer, at_moment, closed, expired_timer, settled}
 use Rattle.sctp_model.specs.end.Closing.{rested}
 use Rattle.sctp_model.specs.end.Moments.{after_abandoning, is_data_due, given_up, due_again, rung, ring, rung_all, all_alarms, waited_in, passed, ticked}
 use Rattle.sctp_model.specs.world.World.{if_newly_abandoned, newly_abandoned}
-use Rattle.sctp_association.specs.GivenUp.{GivesUpLate}
+use Rattle.sctp_association.specs.GivenUp.{is_to_give_up, GivesUpAlone}
 use Rattle.sctp_outcomes.specs.Kept.{IsSound}
 use Rattle.sctp_outcomes.proofs.logs.Passed.{moments_keep_logs}
 use Rattle.sctp_script.specs.ReportText.{ticket_number}
 use Rattle.sctp_values.specs.declared.ticket.Ticket.{Ticket}
-use Rattle.sctp_pair.specs.Noted.{late_tickets, IsWatched}
-use Rattle.sctp_pair.proofs.LateLemmas.{filter-more}
-use Rattle.sctp_pair.proofs.SparedLemmas.{expiry_spares, late_is_kept}
+use Rattle.sctp_pair.specs.Noted.{tickets_to_give_up, IsWatched}
+use Rattle.sctp_pair.proofs.ListedLemmas.{filter-more}
 use Rattle.sctp_safety.proofs.machine.EndWords.{rested_cases}
 
 -- ---- timers abandon nothing
@@ -55,16 +53,11 @@ waited_alike v false e alike = alike
 rested_alike : (v : SenderView) (e : EndView) → IsGivenAlike v e → IsGivenAlike v (rested e)
 rested_alike v e alike = rested_cases (IsGivenAlike v) e alike (λ t h d. alike) (λ t h d. alike)
 
--- ---- a moment abandons none but those that are late
+-- ---- a moment abandons none but those that it may give up
 
--- a moment gives up what is late, and nothing else
-abbrev pub GivesUpLateAt : EndView → (now : ℕ) → Type 0
-GivesUpLateAt e now = has_association e.phase ≡ true → GivesUpLate (at_moment e now)
-
--- what isn't late is abandoned after the moment only if it was before
-moment_spares : (e : EndView) (now k : ℕ) → e.moment ≤ now → GivesUpLateAt e now → is_to_expire e.sender now k ≡ false
-    → abandoned (ticked e now).sender k ≡ abandoned e.sender k
-moment_spares e now k reached late off = go (has_association e.phase) refl
+-- what is abandoned after a moment was abandoned before, or may be given up at it
+moment_spares : (e : EndView) (now k : ℕ) → GivesUpAlone (at_moment e now) → is_to_give_up (at_moment e now) k ≡ false → abandoned (ticked e now).sender k ≡ true → abandoned e.sender k ≡ true
+moment_spares e now k gives off = go (has_association e.phase)
   where
     g : SenderView
     g = given_up (is_data_due (at_moment e now)) e.sender (max e.moment now)
@@ -72,32 +65,31 @@ moment_spares e now k reached late off = go (has_association e.phase) refl
     left : EndView
     left = settled (record (at_moment e now) { sender = g; due = record e.due { forward = e.due.forward || not (point g == point e.sender) } })
 
-    spared : abandoned (without_late e.sender (max e.moment now)) k ≡ abandoned e.sender k
-    spared =
-        let moment : max e.moment now ≡ now = omega (arith, reached) in
-        ap (λ (m : ℕ). abandoned (without_late e.sender m) k) moment ∙ expiry_spares e.sender now k off
+    by : (abandoned e.sender k ≡ true) ⊎ (is_to_give_up (at_moment e now) k ≡ true) → abandoned e.sender k ≡ true
+    by (inl before) = before
+    by (inr on) = absurd (cc)
 
-    go : (b : Bool) → has_association e.phase ≡ b → abandoned (if b then passed (at_moment e now) else at_moment e now).sender k ≡ abandoned e.sender k
-    go false apart = refl
-    go true joined =
+    go : (b : Bool) → abandoned (if b then passed (at_moment e now) else at_moment e now).sender k ≡ true → abandoned e.sender k ≡ true
+    go false given = given
+    go true given =
         let rang = rung_all all_alarms (after_abandoning (at_moment e now) g) in
-        waited_alike g (is_over_at rang.moment rang.delayed) rang (all_alike g all_alarms (after_abandoning (at_moment e now) g) (rested_alike g left (λ j. refl))) k
-        ∙ ap (λ (v : SenderView). abandoned v k) (late joined) ∙ spared
+        let alike = waited_alike g (is_over_at rang.moment rang.delayed) rang (all_alike g all_alarms (after_abandoning (at_moment e now) g) (rested_alike g left (λ j. refl))) k in
+        by (gives.alone k (sym alike ∙ given))
 
--- what is newly abandoned is abandoned then, and was late
-newly_late : (e : EndView) (now k : ℕ) → e.moment ≤ now → GivesUpLateAt e now → (abandoned (ticked e now).sender k && not (abandoned e.sender k)) ≡ (abandoned (ticked e now).sender k && is_to_expire e.sender now k)
-newly_late e now k reached late = by_late (is_to_expire e.sender now k) refl
+-- ---- what is newly abandoned is abandoned then, and was listed
+
+-- of one ticket
+newly_listed : (v u : SenderView) (Q : ℕ → Bool) (k : ℕ) → (Q k ≡ true → abandoned v k ≡ false) → (abandoned u k ≡ true → Q k ≡ false → abandoned v k ≡ true)
+    → (abandoned u k && not (abandoned v k)) ≡ (abandoned u k && Q k)
+newly_listed v u Q k anew spares = by_listed (Q k) refl
   where
-    u : SenderView
-    u = (ticked e now).sender
+    by_given : (b : Bool) → abandoned u k ≡ b → Q k ≡ false → (b && not (abandoned v k)) ≡ (b && false)
+    by_given true given off = ap not (spares given off)
+    by_given false kept off = refl
 
-    not_both : (b : Bool) → (b && not b) ≡ (b && false)
-    not_both true = refl
-    not_both false = refl
-
-    by_late : (b : Bool) → is_to_expire e.sender now k ≡ b → (abandoned u k && not (abandoned e.sender k)) ≡ (abandoned u k && b)
-    by_late true on = ap (λ (b : Bool). abandoned u k && not b) (late_is_kept e.sender now k on)
-    by_late false off = ap (λ (b : Bool). abandoned u k && not b) (sym (moment_spares e now k reached late off)) ∙ not_both (abandoned u k)
+    by_listed : (b : Bool) → Q k ≡ b → (abandoned u k && not (abandoned v k)) ≡ (abandoned u k && b)
+    by_listed true on = ap (λ (b : Bool). abandoned u k && not b) (anew on)
+    by_listed false off = by_given (abandoned u k) refl off
 
 -- of one number, what two tests leave
 two_tests : (P Q : ℕ → Bool) (k : ℕ) → (if P k && Q k then k ∷ [] else []) ≡ filter P (filter Q (k ∷ []))
@@ -109,24 +101,30 @@ two_tests P Q k = cases (P k) (Q k) refl refl
     cases false true e f = rw (f, e) refl
     cases false false e f = rw (f, e) refl
 
--- What a moment abandons of the first n tickets: of those that were late, the ones that are abandoned after it.
-moment_abandons : (e : EndView) (now n : ℕ) → e.moment ≤ now → GivesUpLateAt e now → newly_abandoned e.sender (ticked e now).sender n ≡ filter (λ k. abandoned (ticked e now).sender k) (filter (λ k. is_to_expire e.sender now k) (count_up 1 n))
-moment_abandons e now zero reached late = refl
-moment_abandons e now (suc n) reached late =
-    let P : ℕ → Bool = λ k. abandoned (ticked e now).sender k in
-    let Q : ℕ → Bool = λ k. is_to_expire e.sender now k in
-    ap (λ (xs : List ℕ). xs ++ if_newly_abandoned e.sender (ticked e now).sender (suc n)) (moment_abandons e now n reached late)
-    ∙ ap (λ (b : Bool). filter P (filter Q (count_up 1 n)) ++ (if b then suc n ∷ [] else [])) (newly_late e now (suc n) reached late)
+-- Of the first n tickets: those that were listed, and are abandoned after it.
+pub abandons_listed : (v u : SenderView) (Q : ℕ → Bool) (n : ℕ) → ((k : ℕ) → Q k ≡ true → abandoned v k ≡ false) → ((k : ℕ) → abandoned u k ≡ true → Q k ≡ false → abandoned v k ≡ true)
+    → newly_abandoned v u n ≡ filter (λ k. abandoned u k) (filter Q (count_up 1 n))
+abandons_listed v u Q zero anew spares = refl
+abandons_listed v u Q (suc n) anew spares =
+    let P : ℕ → Bool = λ k. abandoned u k in
+    ap (λ (xs : List ℕ). xs ++ if_newly_abandoned v u (suc n)) (abandons_listed v u Q n anew spares)
+    ∙ ap (λ (b : Bool). filter P (filter Q (count_up 1 n)) ++ (if b then suc n ∷ [] else [])) (newly_listed v u Q (suc n) (anew (suc n)) (spares (suc n)))
     ∙ ap (λ (xs : List ℕ). filter P (filter Q (count_up 1 n)) ++ xs) (two_tests P Q (suc n))
     ∙ sym (ap (filter P) (filter-more Q n) ∙ filter-append P (filter Q (count_up 1 n)) (filter Q (suc n ∷ [])))
 
--- the tickets that are late are those to look at again
-pub watched_is : (e : EndView) (now : ℕ) (tickets : List Ticket) → IsSound e → e.moment ≤ now → GivesUpLateAt e now
-    → map ticket_number tickets ≡ late_tickets e.sender now → IsWatched e now tickets
-watched_is e now tickets sound reached only late =
+-- a moment abandons of those that it may give up
+moment_abandons : (e : EndView) (now n : ℕ) → GivesUpAlone (at_moment e now)
+    → newly_abandoned e.sender (ticked e now).sender n ≡ filter (λ k. abandoned (ticked e now).sender k) (filter (is_to_give_up (at_moment e now)) (count_up 1 n))
+moment_abandons e now n gives =
+    abandons_listed e.sender (ticked e now).sender (is_to_give_up (at_moment e now)) n (λ k on. gives.anew k on) (λ k given off. moment_spares e now k gives off given)
+
+-- the tickets to give up are those to look at again
+pub watched_is : (e : EndView) (now : ℕ) (tickets : List Ticket) → IsSound e → GivesUpAlone (at_moment e now)
+    → map ticket_number tickets ≡ tickets_to_give_up e now → IsWatched e now tickets
+watched_is e now tickets sound gives listed =
     let u : SenderView = (ticked e now).sender in
     ap (λ (n : ℕ). newly_abandoned e.sender u n) (moments_keep_logs e now sound).tickets
-    ∙ (moment_abandons e now e.sender.tickets reached only ∙ ap (λ (ks : List ℕ). filter (λ k. abandoned u k) ks) (sym late))
+    ∙ (moment_abandons e now e.sender.tickets gives ∙ ap (λ (ks : List ℕ). filter (λ k. abandoned u k) ks) (sym listed))
 
 -- ---- what is noted
 

@@ -3,7 +3,7 @@ pub mod AnswerLemmas
 pub mod BagLemmas
 pub mod BuiltLemmas
 pub mod ClockLemmas
-pub mod LateLemmas
+pub mod ListedLemmas
 pub mod MemoryLemmas
 pub mod NotesLemmas
 pub mod PromiseLemmas
@@ -16,4 +16,6 @@ pub mod TakeLemmas
 pub mod TakenLemmas
 pub mod TimeLemmas
 pub mod UnforgedLemmas
+pub mod WatchedLemmas
+pub mod WornLemmas
 pub mod ReportLemmas

@@ -1,11 +1,11 @@
 -- What is promised of a course: with the one that led to its world it is one course, and the theorem speaks of each of its worlds.
-use Rattle.std.proofs.Common.{◌≡◌, ◌∷◌, ◌++◌, Option, sym, subst, ap, ◌∙◌}
+use Rattle.std.proofs.Common.{◌∷◌, ◌++◌, Option, sym, subst, ap, ◌∙◌}
 use Rattle.sctp_model.specs.world.World.{World, start}
 use Rattle.sctp_model.specs.world.Events.{Event, Outcome}
 use Rattle.sctp_model.specs.world.Steps.{Step, PassesThrough, last_of}
 use Rattle.sctp_safety.specs.Runs.{PassingGoesOn, KeepBothPromises, EachWorldIsSafe}
 use Rattle.sctp_outcomes.specs.Users.{UsersTakeWhatWasSent}
-use Rattle.sctp_pair.specs.PairRuns.{Course, one_event, LeadsOn, IsRunTo, Promised}
+use Rattle.sctp_pair.specs.PairRuns.{Course, one_event, LeadsOn, Promised}
 
 pub promised_run : PassingGoesOn → EachWorldIsSafe → UsersTakeWhatWasSent → (w : World) (c : Course) → LeadsOn w c → Promised w c
 promised_run goes_on safe users w c leads s before run =

@@ -10,12 +10,12 @@ use Rattle.sctp_model.specs.end.UserCalls.{is_established, Refused, NotOpen, ans
 use Rattle.sctp_model.specs.world.World.{World, Side}
 use Rattle.sctp_model.specs.world.Events.{Send, Outcome}
 use Rattle.sctp_model.specs.world.Steps.{Step}
-use Rattle.sctp_association.specs.CallAnswers.{call_of}
+use Rattle.sctp_association.specs.CallAnswers.{call_with}
 
 pub is_refused : (v : EndView) (c : Call) (r : Refusal) → hears is_established v.phase ≡ true → refusal v.sender c.lane.stream c.bytes ≡ Some r → send_answer v c ≡ Refused r
 is_refused v c r heard is =
     ap (λ (b : Bool). if b then answer_for v (refusal v.sender c.lane.stream c.bytes) else NotOpen) heard ∙ ap (λ (o : Option Refusal). answer_for v o) is
 
-pub same_bytes : (w : World) (s : Side) (l : Lane) (payload : ℕ) (copy bytes : List ℕ) (until : Option ℕ) (o : Option Outcome) (x : World) → copy ≡ bytes →
-    Step w (Send s (call_of l payload copy until)) o x → Step w (Send s (call_of l payload bytes until)) o x
-same_bytes w s l payload copy bytes until o x same step = subst (λ (xs : List ℕ). Step w (Send s (call_of l payload xs until)) o x) same step
+pub same_bytes : (w : World) (s : Side) (l : Lane) (payload : ℕ) (copy bytes : List ℕ) (until limit : Option ℕ) (o : Option Outcome) (x : World) → copy ≡ bytes →
+    Step w (Send s (call_with l payload copy until limit)) o x → Step w (Send s (call_with l payload bytes until limit)) o x
+same_bytes w s l payload copy bytes until limit o x same step = subst (λ (xs : List ℕ). Step w (Send s (call_with l payload xs until limit)) o x) same step

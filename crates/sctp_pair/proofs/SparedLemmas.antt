@@ -1,218 +1,219 @@
--- Abandoning one message makes no other late: so what isn't late before EXPIRE is abandoned by it only if it was before (RFC 3758, 3.5).
-use Rattle.std.proofs.Common.{◌≡◌, ℕ, suc, List, [], ◌∷◌, ◌++◌, Bool, true, false, Option, Some, None, refl, sym, ap, ◌∙◌, subst, arith}
-use Rattle.std.specs.Prelude.{◌==◌, not, ◌&&◌, ◌||◌, if◌then◌else◌, fold, find, option_map, option_and_then}
-use Rattle.std.specs.Option.{option_or, option_map_or}
-use Rattle.std.proofs.lemmas.Bool.{and_parts}
+-- The chunks of a packet abandon nothing, and bring no message to its limit of retransmissions.
+use Rattle.std.proofs.Common.{◌≡◌, ℕ, ◌+◌, ◌<◌, ◌≤◌, Bool, true, false, List, [], ◌∷◌, length, Option, refl, sym, ap, subst, ◌∙◌, arith}
+use Rattle.std.specs.Prelude.{not, ◌&&◌, ◌||◌, ◌==◌, nat_lt}
+use Rattle.std.specs.List.{list_any}
+use Rattle.std.proofs.lemmas.Bool.{and_parts, and_from, or_left, or_right}
 use Rattle.std.proofs.lemmas.Bool.Decides.{nat_tests}
-use Rattle.sctp_model.specs.messages.Format.{Lane, same_lane}
-use Rattle.sctp_model.specs.messages.Plan.{Message, Entry, End, Plan, message_at}
-use Rattle.sctp_model.specs.sender.SenderView.{Queued, SenderView}
-use Rattle.sctp_model.specs.sender.Words.{first_there, some_passes, count_up}
-use Rattle.sctp_model.specs.sender.Entries.{entry_message, is_of, any_from, is_in_part, continued}
-use Rattle.sctp_model.specs.sender.Assigning.{with_entry}
-use Rattle.sctp_model.specs.sender.Abandoning.{Name, name_at, name_among, name_of, waits, without, has_ticket, is_abandoned, has_uncovered, is_covered, ended, with_abandoned, may_abandon_named, abandon_after, may_abandon, is_past, is_overdue, expire_one, is_to_expire, expired}
+use Rattle.sctp_model.specs.wire.Chunk.{ChunkMeaning, Data, IData, Init, InitAck, Sack, Heartbeat, HeartbeatAck, Abort, Shutdown, ShutdownAck, Error, CookieEcho, CookieAck, ShutdownComplete, ForwardTsn, IForwardTsn, Unknown}
+use Rattle.sctp_model.specs.wire.Packet.{Packet}
+use Rattle.sctp_model.specs.wire.Typed.{typed_in}
+use Rattle.sctp_model.specs.sender.SenderView.{SenderView, fresh_sender}
+use Rattle.sctp_model.specs.sender.Words.{count_up}
+use Rattle.sctp_model.specs.sender.Entries.{is_of_abandoned, passes_at}
+use Rattle.sctp_model.specs.sender.Abandoning.{is_worn, ticket_at, marking}
 use Rattle.sctp_model.specs.sender.Readers.{abandoned}
-use Rattle.sctp_model.proofs.sender.AbandonCases.{lanes_same, may_be_given, after_abandon, after_end, given_other}
-use Rattle.sctp_model.proofs.sender.LateLaws.{expires_none}
-use Rattle.sctp_model.proofs.sender.OwnLaws.{name_among-append, name_among-same}
-use Rattle.sctp_model.proofs.sender.PlanLaws.{continued_more}
-use Rattle.sctp_model.proofs.sender.QueueLaws.{without_other, apart_tests}
+use Rattle.sctp_model.specs.sender.Reached.{IsReached, Covers}
+use Rattle.sctp_model.specs.sender.Reached.{Closes as Shuts}
+use Rattle.sctp_model.specs.sender.SackTaken.{sack_taken, shutdown_taken}
+use Rattle.sctp_model.specs.end.EndView.{Aborted, Configuration, Terms, EndView, format_for, format_of}
+use Rattle.sctp_model.specs.end.Pacing.{Pace}
+use Rattle.sctp_model.specs.end.Clock.{closed, sender_heard}
+use Rattle.sctp_model.specs.end.Closing.{rested}
+use Rattle.sctp_model.specs.end.PeerFaults.{GoesOn, Ends, Replies, Note}
+use Rattle.sctp_model.specs.end.Opening.{AcceptedAck, RefusedAck, EchoedAgain, CookieAcked}
+use Rattle.sctp_model.specs.end.Acting.{Acts, ForwardComes, PieceComes, IsOld, SackStale, ShutdownStale, HeartbeatCounts, SackCounts, ShutdownCounts, Closes, SaysNothing, Crosses, Again, AckCompletes, CompleteCompleted, PieceEmpty, WrongFormat, SackWrong, ShutdownWrong, WrongKind, IsBad, ReconfigComes, IsUnknown}
+use Rattle.sctp_model.specs.end.Strays.{Verdict}
+use Rattle.sctp_model.specs.end.Arriving.{Notes, AllAct}
+use Rattle.sctp_model.proofs.sender.HeardLaws.{heard_cases, heard_reached}
+use Rattle.sctp_safety.proofs.machine.EndWords.{Keeps, all_act_keeps, rested_cases}
+use Rattle.sctp_safety.proofs.machine.Sides.{unknown_goes, unknown_ends, unknown_never_replies}
+use Rattle.sctp_safety.proofs.machine.Reconfigured.{parameters_same}
+use Rattle.sctp_outcomes.specs.Kept.{is_before, IsSound, KeepsLogs}
+use Rattle.sctp_outcomes.proofs.logs.Ends.{keeps_itself, keeps_on, rested_keeps}
+use Rattle.sctp_outcomes.proofs.logs.Heard.{goes_keeps, ends_keeps, replies_keeps}
+use Rattle.sctp_outcomes.proofs.ReachedEnds.{IsReachedAt, reached_anew, reached_reconfigured}
+use Rattle.sctp_send.specs.SenderAnswers.{is_limit_at, is_at_limit}
 
--- ---- whose a name is
+-- ---- a sender
 
--- the message of the name that is found for a ticket has the ticket
-found_has : (p : Plan) (t : ℕ) (es : List Entry) (n : Name) → name_among p t es ≡ Some n → has_ticket t (message_at p n.lane n.number) ≡ true
-found_has p t [] n is = absurd (cc)
-found_has p t (e ∷ es) n is = by_test (has_ticket t (entry_message p e)) refl is (λ there. found_has p t es n there)
+-- of numbers that one test lets through, another one lets through all
+any_too : (P Q : ℕ → Bool) (ks : List ℕ) → ((k : ℕ) → P k ≡ true → Q k ≡ true) → list_any P ks ≡ true → list_any Q ks ≡ true
+any_too P Q [] all on = absurd (cc)
+any_too P Q (k ∷ ks) all on = by_here (P k) refl on (λ later. any_too P Q ks all later)
   where
-    by_test : (b : Bool) → has_ticket t (entry_message p e) ≡ b → option_map name_at (if b then Some e else find (λ x. has_ticket t (entry_message p x)) es) ≡ Some n
-        → (name_among p t es ≡ Some n → has_ticket t (message_at p n.lane n.number) ≡ true) → has_ticket t (message_at p n.lane n.number) ≡ true
-    by_test true on here further = let same : name_at e ≡ n = cc in subst (λ (y : Name). has_ticket t (message_at p y.lane y.number) ≡ true) same on
-    by_test false off here further = further here
+    by_here : (b : Bool) → P k ≡ b → (b || list_any P ks) ≡ true → (list_any P ks ≡ true → list_any Q ks ≡ true) → (Q k || list_any Q ks) ≡ true
+    by_here true is here further = or_left (Q k) (list_any Q ks) (all k is)
+    by_here false is here further = or_right (Q k) (list_any Q ks) (further here)
 
--- a message has one ticket
-one_ticket : (m : Option Message) (t k : ℕ) → has_ticket t m ≡ true → has_ticket k m ≡ true → t ≡ k
-one_ticket None t k on also = absurd (cc)
-one_ticket (Some m) t k on also = let one : m.ticket ≡ t = grind (arith, nat_tests) in let two : m.ticket ≡ k = grind (arith, nat_tests) in sym one ∙ two
+-- The same messages are abandoned, and those at their limit were at it.
+pub record SparesIn (v u : SenderView) : Type 0 where
+  pub limit : (k : ℕ) → is_at_limit u k ≡ true → is_at_limit v k ≡ true
+  pub same : (k : ℕ) → abandoned u k ≡ abandoned v k
 
--- two names are one
-abbrev IsSameName : Name → Name → Type 0
-IsSameName n m = (m.lane ≡ n.lane) × (m.number ≡ n.number)
+spares_itself : (v : SenderView) → SparesIn v v
+spares_itself v = record { limit = λ k on. on; same = λ k. refl }
 
--- another ticket's message has another name
-names_apart : (v : SenderView) (t k : ℕ) (n m : Name) → name_of v t ≡ Some n → name_of v k ≡ Some m → (t ≡ k → ⊥) → IsSameName n m → ⊥
-names_apart v t k n m is also ne same =
-    let mine = found_has v.plan t v.plan.entries n is in
-    let its = found_has v.plan k v.plan.entries m also in
-    let on_lane : has_ticket t (message_at v.plan m.lane n.number) ≡ true = subst (λ (l : Lane). has_ticket t (message_at v.plan l n.number) ≡ true) (sym same.0) mine in
-    let here : has_ticket t (message_at v.plan m.lane m.number) ≡ true = subst (λ (y : ℕ). has_ticket t (message_at v.plan m.lane y) ≡ true) (sym same.1) on_lane in
-    ne (one_ticket (message_at v.plan m.lane m.number) t k here its)
+spares_next : (v u w : SenderView) → SparesIn v u → SparesIn u w → SparesIn v w
+spares_next v u w a b = record { limit = λ k on. a.limit k (b.limit k on); same = λ k. b.same k ∙ a.same k }
 
--- another ticket names what it named
-name_stays : (v : SenderView) (t k : ℕ) (n : Name) → name_of v t ≡ Some n → (t ≡ k → ⊥) → name_of (with_abandoned v n) k ≡ name_of v k
-name_stays v t k n is ne =
-    after_end (λ (p : Plan). name_among p k p.entries ≡ name_of v k) v n (λ off. refl)
-    (λ on. name_among-same v.plan (with_entry v.plan mark) k (v.plan.entries ++ mark ∷ []) (λ e. refl) ∙ name_among-append v.plan k v.plan.entries (mark ∷ [])
-    ∙ of_mark (has_ticket k (message_at v.plan n.lane n.number)) refl)
+-- if CUM goes on
+acknowledged_spares : (v : SenderView) (c rwnd : ℕ) (covered marked : ℕ → Bool) → v.cum ≤ c → SparesIn v (record v { cum = c; rwnd = rwnd; covered = covered; marked = marked })
+acknowledged_spares v c rwnd covered marked low = record {
+  limit = λ k on. any_too (λ i. is_limit_at u i && (ticket_at u i == k)) (λ i. is_limit_at v i && (ticket_at v i == k)) (count_up 1 (length v.plan.entries)) (λ i. each k i) on;
+  same = λ k. refl;
+}
   where
-    mark : Entry
-    mark = End n.lane n.number
+    u : SenderView
+    u = record v { cum = c; rwnd = rwnd; covered = covered; marked = marked }
 
-    or_none : (o : Option Name) → option_or o None ≡ o
-    or_none None = refl
-    or_none (Some m) = refl
+    each : (k i : ℕ) → (is_limit_at u i && (ticket_at u i == k)) ≡ true → (is_limit_at v i && (ticket_at v i == k)) ≡ true
+    each k i here =
+        let both = and_parts (is_limit_at u i) (ticket_at u i == k) here in
+        let parts = and_parts (nat_lt c i) (passes_at v.plan (λ j e. not (is_of_abandoned v e) && is_worn v j e) i) both.0 in
+        let past = parts.0 in
+        let above : nat_lt v.cum i ≡ true = grind (arith, nat_tests) in
+        and_from (is_limit_at v i) (ticket_at v i == k) (and_from (nat_lt v.cum i) (passes_at v.plan (λ j e. not (is_of_abandoned v e) && is_worn v j e) i) above parts.1) both.1
 
-    of_mark : (b : Bool) → has_ticket k (message_at v.plan n.lane n.number) ≡ b → option_or (name_of v k) (option_map name_at (if b then Some mark else None)) ≡ name_of v k
-    of_mark false off = or_none (name_of v k)
-    of_mark true on = absurd (ne (one_ticket (message_at v.plan n.lane n.number) t k (found_has v.plan t v.plan.entries n is) on))
+forward : (a b : ℕ) → a ≤ a + b
+forward a b = omega arith
 
--- messages stay where they are
-message_stays : (v : SenderView) (n m : Name) → message_at (ended v n) m.lane m.number ≡ message_at v.plan m.lane m.number
-message_stays v n m = after_end (λ (p : Plan). message_at p m.lane m.number ≡ message_at v.plan m.lane m.number) v n (λ off. refl) (λ on. refl)
+-- what an acknowledgement leaves, with marks or without
+heard_spares : (o : Option Pace) (now : ℕ) (v u : SenderView) → SparesIn v u → ((test : ℕ → Bool) → SparesIn v (marking u test)) → SparesIn v (sender_heard o now v u)
+heard_spares o now v u taken marked = heard_cases (SparesIn v) o now v u taken marked
 
--- ---- the end mark of another message
+-- a sender that was asked for nothing, after another one
+pub fresh_spares : (v u : SenderView) (fragment initial streams size rwnd : ℕ) (partial : Bool) → v ≡ fresh_sender 0 0 fragment 0 false → u ≡ fresh_sender initial streams size rwnd partial → SparesIn v u
+fresh_spares v u fragment initial streams size rwnd partial before after =
+    subst (λ (x : SenderView). SparesIn x u) (sym before)
+    (subst (λ (x : SenderView). SparesIn (fresh_sender 0 0 fragment 0 false) x) (sym after) (record { limit = λ k on. absurd (cc); same = λ k. refl }))
 
-mark_is_other : (n m : Name) → (IsSameName n m → ⊥) → is_of m.lane m.number (End n.lane n.number) ≡ false
-mark_is_other n m ne = by_tests (same_lane m.lane n.lane) (m.number == n.number) refl refl
-  where
-    by_tests : (a b : Bool) → same_lane m.lane n.lane ≡ a → (m.number == n.number) ≡ b → (a && b) ≡ false
-    by_tests true true lane number = absurd (ne (lanes_same m.lane n.lane lane, grind (arith, nat_tests)))
-    by_tests true false lane number = refl
-    by_tests false b lane number = refl
+-- ---- an end
 
--- one entry more, which doesn't pass
-any_more : (test : ℕ → Entry → Bool) (i : ℕ) (es : List Entry) (x : Entry) → ((j : ℕ) → test j x ≡ false) → any_from test i (es ++ x ∷ []) ≡ any_from test i es
-any_more test i [] x off = ap (λ (b : Bool). b || false) (off i)
-any_more test i (e ∷ es) x off = ap (λ (b : Bool). test i e || b) (any_more test (suc i) es x off)
+-- its sender spares, and stays one that calls reach
+pub record Spares (e t : EndView) : Type 0 where
+  pub sender : SparesIn e.sender t.sender
+  pub reached : IsReachedAt e → IsReachedAt t
+  pub configuration : t.configuration ≡ e.configuration
 
--- the message's indexes are covered as they were
-uncovered_stays : (v : SenderView) (n m : Name) → (IsSameName n m → ⊥) → has_uncovered (with_abandoned v n) m ≡ has_uncovered v m
-uncovered_stays v n m ne =
-    after_end (λ (p : Plan). any_from test 1 p.entries ≡ has_uncovered v m) v n (λ off. refl)
-    (λ on. any_more test 1 v.plan.entries (End n.lane n.number) (λ j. ap (λ (b : Bool). b && not (v.covered j)) (mark_is_other n m ne)))
-  where
-    test : ℕ → Entry → Bool
-    test j e = is_of m.lane m.number e && not (v.covered j)
+pub spares_on : (e t u : EndView) → Spares e t → Spares t u → Spares e u
+spares_on e t u a b = record { sender = spares_next e.sender t.sender u.sender a.sender b.sender; reached = λ r. b.reached (a.reached r); configuration = b.configuration ∙ a.configuration }
 
--- it isn't in part if it wasn't
-part_stays : (v : SenderView) (n m : Name) → is_in_part v m.lane m.number ≡ false → is_in_part (with_abandoned v n) m.lane m.number ≡ false
-part_stays v n m whole =
-    after_end (λ (p : Plan). some_passes (is_of m.lane m.number) (continued p m.lane.stream) ≡ false) v n (λ off. whole)
-    (λ on. ap (some_passes (is_of m.lane m.number)) (continued_more v.plan (End n.lane n.number) m.lane.stream) ∙ by_stream (n.lane.stream == m.lane.stream))
-  where
-    by_stream : (b : Bool) → some_passes (is_of m.lane m.number) (if b then None else continued v.plan m.lane.stream) ≡ false
-    by_stream true = refl
-    by_stream false = whole
+pub same_spares : (e t : EndView) → t.sender ≡ e.sender → t.configuration ≡ e.configuration → t.terms ≡ e.terms → Spares e t
+same_spares e t sender configuration terms = record {
+  sender = subst (λ (x : SenderView). SparesIn e.sender x) (sym sender) (spares_itself e.sender);
+  reached = λ r some.
+      subst (λ (x : Terms). IsReached (format_for x.interleave) t.sender) (sym terms)
+      (subst (λ (x : SenderView). IsReached (format_of e) x) (sym sender) (r (subst (λ (x : Configuration). 0 < x.fragment) configuration some)));
+  configuration = configuration;
+}
 
--- it is acknowledged whole if it was
-covered_stays : (v : SenderView) (n m : Name) → (IsSameName n m → ⊥) → is_covered v m ≡ true → is_covered (with_abandoned v n) m ≡ true
-covered_stays v n m ne whole =
-    let parts = and_parts (not (is_in_part v m.lane m.number)) (not (has_uncovered v m)) whole in
-    rw (part_stays v n m (off (is_in_part v m.lane m.number) parts.0), uncovered_stays v n m ne, off (has_uncovered v m) parts.1) refl
-  where
-    off : (b : Bool) → not b ≡ true → b ≡ false
-    off true on = absurd (cc)
-    off false on = refl
+rested_spares : (e : EndView) → Spares e (rested e)
+rested_spares e = rested_cases (Spares e) e (same_spares e e refl refl refl) (λ t is d. same_spares e _ refl refl refl) (λ t is d. same_spares e _ refl refl refl)
 
--- ---- what abandons one message spares another that isn't late
+-- ---- a chunk
 
--- the ticket's message isn't late, and is abandoned only if it was before
-abbrev IsSpared : SenderView → (now ticket : ℕ) → SenderView → Type 0
-IsSpared v now k u = (is_to_expire u now k ≡ false) × (abandoned u k ≡ abandoned v k)
+-- one after which the packet goes on
+goes_spares : (e : EndView) (tag : ℕ) (x : ChunkMeaning) (y : Note) (t : EndView) → IsSound e → Acts e tag x (GoesOn y t) → Spares e t
+goes_spares e tag (Data p) y t s (PieceComes _ _ _ _ _ _ _ _ _) = same_spares e t refl refl refl
+goes_spares e tag (IData p) y t s (PieceComes _ _ _ _ _ _ _ _ _) = same_spares e t refl refl refl
+goes_spares e tag (Init m) y t s h = absurd (cc)
+goes_spares e tag (InitAck m) y t s (AcceptedAck d xs is _ _ _) =
+    record { sender = fresh_spares e.sender t.sender _ _ _ _ _ _ (s.bare (ap is_before is)).sender refl; reached = λ r. reached_anew t _ _ _ _ refl; configuration = refl }
+goes_spares e tag (Sack k) y t s (SackStale _ _) = same_spares e t refl refl refl
+goes_spares e tag (Sack k) y t s (SackCounts _ none) = record {
+  sender = heard_spares e.pace e.moment e.sender (sack_taken e.sender k) (acknowledged_spares e.sender _ _ _ _ (forward e.sender.cum _)) (λ test. acknowledged_spares e.sender _ _ _ _ (forward e.sender.cum _));
+  reached = λ r some. heard_reached (format_of e) e.pace e.moment e.sender (sack_taken e.sender k) (Covers e.sender k (r some) none);
+  configuration = refl;
+}
+goes_spares e tag (Heartbeat i) y t s (HeartbeatCounts _) = same_spares e t refl refl refl
+goes_spares e tag (HeartbeatAck i) y t s h = let q : t ≡ e = cc in subst (Spares e) (sym q) (same_spares e e refl refl refl)
+goes_spares e tag (Abort b xs) y t s h = absurd (cc)
+goes_spares e tag (Shutdown n) y t s (ShutdownStale _ _ _ _ _) = same_spares e t refl refl refl
+goes_spares e tag (Shutdown n) y t s (ShutdownCounts _ _ _ _ none) = record {
+  sender = heard_spares e.pace e.moment e.sender (shutdown_taken e.sender n) (acknowledged_spares e.sender _ _ _ _ (forward e.sender.cum _)) (λ test. acknowledged_spares e.sender _ _ _ _ (forward e.sender.cum _));
+  reached = λ r some. heard_reached (format_of e) e.pace e.moment e.sender (shutdown_taken e.sender n) (Shuts e.sender n (r some) none);
+  configuration = refl;
+}
+goes_spares e tag (Shutdown n) y t s (Crosses _ _) = same_spares e t refl refl refl
+goes_spares e tag (Shutdown n) y t s (Again _ _) = same_spares e t refl refl refl
+goes_spares e tag ShutdownAck y t s h = elim h [ ]
+goes_spares e tag (Error xs) y t s (SaysNothing _) = same_spares e t refl refl refl
+goes_spares e tag (CookieEcho xs) y t s (EchoedAgain _ _ _ _ _ _ _) = same_spares e t refl refl refl
+goes_spares e tag CookieAck y t s (CookieAcked _ _ _) = same_spares e t refl refl refl
+goes_spares e tag (ShutdownComplete b) y t s h = elim h [ ]
+goes_spares e tag (ForwardTsn m) y t s (IsOld _ _ _ _ _ _ _) = same_spares e t refl refl refl
+goes_spares e tag (ForwardTsn m) y t s (ForwardComes _ _ _ _ _ _ _) = same_spares e t refl refl refl
+goes_spares e tag (IForwardTsn m) y t s (IsOld _ _ _ _ _ _ _) = same_spares e t refl refl refl
+goes_spares e tag (IForwardTsn m) y t s (ForwardComes _ _ _ _ _ _ _) = same_spares e t refl refl refl
+goes_spares e tag (Unknown n f v) y t s (ReconfigComes c _ _) =
+    let u = parameters_same c e (typed_in v) in
+    record {
+      sender = subst (λ (x : SenderView). SparesIn e.sender x) (sym u.sender.1) (record { limit = λ k on. on; same = λ k. refl });
+      reached = λ r. reached_reconfigured e t u r;
+      configuration = u.configuration;
+    }
+goes_spares e tag (Unknown n f v) y t s (IsUnknown _ _ h) = let u = unknown_goes e y t n f v h in subst (Spares e) (sym u.same) (same_spares e _ refl refl refl)
 
--- another message leaves the queue
-find_other : (t k : ℕ) (qs : List Queued) → (t ≡ k → ⊥) → find (λ q. q.message.ticket == k) (without t qs) ≡ find (λ q. q.message.ticket == k) qs
-find_other t k [] ne = refl
-find_other t k (q ∷ qs) ne = by_test (q.message.ticket == t) refl (find_other t k qs ne)
-  where
-    by_test : (b : Bool) → (q.message.ticket == t) ≡ b → find (λ x. x.message.ticket == k) (without t qs) ≡ find (λ x. x.message.ticket == k) qs
-        → find (λ x. x.message.ticket == k) (if b then qs else q ∷ without t qs) ≡ (if q.message.ticket == k then Some q else find (λ x. x.message.ticket == k) qs)
-    by_test true on rest =
-        let same : q.message.ticket ≡ t = grind (arith, nat_tests) in
-        let off : (q.message.ticket == k) ≡ false = apart_tests q.message.ticket k (λ e. ne (sym same ∙ e)) in
-        rw off refl
-    by_test false off rest = ap (λ (o : Option Queued). if q.message.ticket == k then Some q else o) rest
+-- one that ends it
+ends_spares : (e : EndView) (tag : ℕ) (x : ChunkMeaning) (t : EndView) → Acts e tag x (Ends t) → Spares e t
+ends_spares e tag (Data p) t h = elim h [ ]
+ends_spares e tag (IData p) t h = elim h [ ]
+ends_spares e tag (Init m) t h = absurd (cc)
+ends_spares e tag (InitAck m) t h = elim h [ ]
+ends_spares e tag (Sack k) t h = elim h [ ]
+ends_spares e tag (Heartbeat i) t h = elim h [ ]
+ends_spares e tag (HeartbeatAck i) t h = absurd (cc)
+ends_spares e tag (Abort b xs) t h = let q : t ≡ closed Aborted e = cc in subst (Spares e) (sym q) (same_spares e (closed Aborted e) refl refl refl)
+ends_spares e tag (Shutdown n) t h = elim h [ ]
+ends_spares e tag ShutdownAck t h = elim h [ ]
+ends_spares e tag (Error xs) t (Closes _) = same_spares e t refl refl refl
+ends_spares e tag (CookieEcho xs) t h = elim h [ ]
+ends_spares e tag CookieAck t h = elim h [ ]
+ends_spares e tag (ShutdownComplete b) t (CompleteCompleted _) = same_spares e t refl refl refl
+ends_spares e tag (ForwardTsn m) t h = elim h [ ]
+ends_spares e tag (IForwardTsn m) t h = elim h [ ]
+ends_spares e tag (Unknown n f v) t (IsUnknown _ _ h) = let u = unknown_ends e t n f v h in subst (Spares e) (sym u.same) (same_spares e _ refl refl refl)
 
-withdrawn_spares : (v : SenderView) (now t k : ℕ) → (t ≡ k → ⊥) → is_to_expire (record v { queue = without t v.queue }) now k ≡ is_to_expire v now k
-withdrawn_spares v now t k ne = rw (find_other t k v.queue ne, without_other t k v.queue ne) refl
+-- one that is answered
+replies_spares : (e : EndView) (tag : ℕ) (x : ChunkMeaning) (t : EndView) (p : Packet) → Acts e tag x (Replies t p) → Spares e t
+replies_spares e tag (Data q) t p (PieceEmpty _ _ _ _ _) = same_spares e t refl refl refl
+replies_spares e tag (Data q) t p (WrongFormat _ _ _ _ _ _) = same_spares e t refl refl refl
+replies_spares e tag (IData q) t p (PieceEmpty _ _ _ _ _) = same_spares e t refl refl refl
+replies_spares e tag (IData q) t p (WrongFormat _ _ _ _ _ _) = same_spares e t refl refl refl
+replies_spares e tag (Init m) t p h = absurd (cc)
+replies_spares e tag (InitAck m) t p (RefusedAck _ _ _ _ _) = same_spares e t refl refl refl
+replies_spares e tag (Sack k) t p (SackWrong _ _ _ _ _) = same_spares e t refl refl refl
+replies_spares e tag (Heartbeat i) t p h = elim h [ ]
+replies_spares e tag (HeartbeatAck i) t p h = absurd (cc)
+replies_spares e tag (Abort b xs) t p h = absurd (cc)
+replies_spares e tag (Shutdown n) t p (ShutdownWrong _ _ _ _ _) = same_spares e t refl refl refl
+replies_spares e tag ShutdownAck t p (AckCompletes _ _ _ _) = same_spares e t refl refl refl
+replies_spares e tag (Error xs) t p h = elim h [ ]
+replies_spares e tag (CookieEcho xs) t p h = elim h [ ]
+replies_spares e tag CookieAck t p h = elim h [ ]
+replies_spares e tag (ShutdownComplete b) t p h = elim h [ ]
+replies_spares e tag (ForwardTsn m) t p (WrongKind _ _ _ _ _) = same_spares e t refl refl refl
+replies_spares e tag (ForwardTsn m) t p (IsBad _ _ _ _ _ _ _) = same_spares e t refl refl refl
+replies_spares e tag (IForwardTsn m) t p (WrongKind _ _ _ _ _) = same_spares e t refl refl refl
+replies_spares e tag (IForwardTsn m) t p (IsBad _ _ _ _ _ _ _) = same_spares e t refl refl refl
+replies_spares e tag (Unknown n f v) t p (IsUnknown _ _ h) = absurd (unknown_never_replies e t p n f v h)
 
--- another message with a number is abandoned
-given_spares : (v : SenderView) (now t k : ℕ) (n : Name) → name_of v t ≡ Some n → (t ≡ k → ⊥) → is_to_expire v now k ≡ false → IsSpared v now k (with_abandoned v n)
-given_spares v now t k n is ne off = by_name (name_of v k) refl
-  where
-    -- past its time, if this is the message of its name
-    is_late_by : Option Message → Bool
-    is_late_by m = some_passes (is_past now) (first_there (option_map (λ q. q.message) (find (λ q. q.message.ticket == k) v.queue) ∷ m ∷ []))
+-- ---- a packet
 
-    -- to expire, if this is its name
-    expires_by : SenderView → Option Name → Bool
-    expires_by u o = is_late_by (option_and_then (λ m. message_at u.plan m.lane m.number) o) && option_map_or (may_abandon_named u) o (waits k v.queue)
+-- what is known after some chunks
+abbrev IsLeftBy : EndView → EndView → Type 0
+IsLeftBy o e = KeepsLogs o e × Spares o e
 
-    -- abandoned, if this is its name
-    is_given_by : SenderView → Option Name → Bool
-    is_given_by u o = some_passes (is_abandoned u) o
+each_spares : (tag : ℕ) (o : EndView) → Keeps tag (IsLeftBy o) (λ (x : ChunkMeaning). Unit {0}) (λ (p : Packet). Unit {0})
+each_spares tag o = record {
+  goes = λ e x y t any k act.
+      let mid = goes_keeps e tag x y t k.0.sound act in
+      let on = spares_on e t (rested t) (goes_spares e tag x y t k.0.sound act) (rested_spares t) in
+      (keeps_on o e (rested t) k.0 (keeps_on e t (rested t) mid (rested_keeps t mid.sound)), spares_on o e (rested t) k.1 on);
+  ends = λ e x t any k act. (keeps_on o e t k.0 (ends_keeps e tag x t k.0.sound act), spares_on o e t k.1 (ends_spares e tag x t act));
+  replies = λ e x t p any k act. ((keeps_on o e t k.0 (replies_keeps e tag x t p k.0.sound act), spares_on o e t k.1 (replies_spares e tag x t p act)), tt);
+}
 
-    -- what is acknowledged whole may not be abandoned
-    fewer : (late partial given b c : Bool) → (c ≡ true → b ≡ true) → (late && (partial && (not given && not c))) ≡ false → (late && (partial && (not given && not b))) ≡ false
-    fewer false partial given b c whole none = refl
-    fewer true false given b c whole none = refl
-    fewer true true true b c whole none = refl
-    fewer true true false true c whole none = refl
-    fewer true true false false true whole none = absurd (let no = whole refl in cc)
-    fewer true true false false false whole none = none
-
-    by_name : (o : Option Name) → name_of v k ≡ o → IsSpared v now k (with_abandoned v n)
-    by_name None none =
-        let here : name_of (with_abandoned v n) k ≡ None = name_stays v t k n is ne ∙ none in
-        (ap (expires_by (with_abandoned v n)) here ∙ sym (ap (expires_by v) none) ∙ off, ap (is_given_by (with_abandoned v n)) here ∙ sym (ap (is_given_by v) none))
-    by_name (Some m) some =
-        let here : name_of (with_abandoned v n) k ≡ Some m = name_stays v t k n is ne ∙ some in
-        let apart = names_apart v t k n m is some ne in
-        let given : is_abandoned (with_abandoned v n) m ≡ is_abandoned v m = given_other v n m.lane m.number apart in (
-          ap (expires_by (with_abandoned v n)) here
-              ∙ ap (λ (x : Option Message). is_late_by x && may_abandon_named (with_abandoned v n) m) (message_stays v n m)
-              ∙ ap (λ (b : Bool). is_late_by (message_at v.plan m.lane m.number) && (v.partial && (not b && not (is_covered (with_abandoned v n) m)))) given
-              ∙ fewer (is_late_by (message_at v.plan m.lane m.number)) v.partial (is_abandoned v m) (is_covered (with_abandoned v n) m) (is_covered v m) (covered_stays v n m apart) (sym (ap (expires_by v) some) ∙ off),
-          ap (is_given_by (with_abandoned v n)) here ∙ given ∙ sym (ap (is_given_by v) some),
-        )
-
--- ---- one ticket after the other
-
--- each turn spares it: its own, since it isn't late, and another's
-turn_spares : (now k t : ℕ) (v u : SenderView) → IsSpared v now k u → IsSpared v now k (expire_one now u t)
-turn_spares now k t v u h = by_turn (is_to_expire u now t) refl
-  where
-    other : is_to_expire u now t ≡ true → t ≡ k → ⊥
-    other on same = let here : is_to_expire u now k ≡ true = subst (λ (x : ℕ). is_to_expire u now x ≡ true) same on in let off = h.0 in cc
-
-    given : (n : Name) → is_to_expire u now t ≡ true → name_of u t ≡ Some n → IsSpared v now k (with_abandoned u n)
-    given n on is = let r = given_spares u now t k n is (other on) h.0 in (r.0, r.1 ∙ h.1)
-
-    by_due : (b : Bool) → is_to_expire u now t ≡ true → IsSpared v now k (if b then abandon_after u t else u)
-    by_due false on = h
-    by_due true on = after_abandon (IsSpared v now k) u t h (λ waiting. (withdrawn_spares u now t k (other on) ∙ h.0, h.1)) (λ n is kept. given n on is)
-
-    by_turn : (b : Bool) → is_to_expire u now t ≡ b → IsSpared v now k (expire_one now u t)
-    by_turn false off = subst (λ (x : SenderView). IsSpared v now k x) (sym (expires_none u now t off)) h
-    by_turn true on = by_due (is_overdue u now t) on
-
-turns_spare : (now k : ℕ) (v u : SenderView) (ts : List ℕ) → IsSpared v now k u → IsSpared v now k (fold (expire_one now) u ts)
-turns_spare now k v u [] h = h
-turns_spare now k v u (t ∷ ts) h = turns_spare now k v (expire_one now u t) ts (turn_spares now k t v u h)
-
--- What isn't late is abandoned by EXPIRE only if it was before.
-pub expiry_spares : (v : SenderView) (now k : ℕ) → is_to_expire v now k ≡ false → abandoned (expired v now) k ≡ abandoned v k
-expiry_spares v now k off = (turns_spare now k v v (count_up 1 v.tickets) (off, refl)).1
-
--- What is late wasn't abandoned yet.
-pub late_is_kept : (v : SenderView) (now k : ℕ) → is_to_expire v now k ≡ true → abandoned v k ≡ false
-late_is_kept v now k on = by_name (name_of v k) refl
-  where
-    may : may_abandon v k ≡ true
-    may = (and_parts (is_overdue v now k) (may_abandon v k) on).1
-
-    by_name : (o : Option Name) → name_of v k ≡ o → abandoned v k ≡ false
-    by_name None none = ap (some_passes (is_abandoned v)) none
-    by_name (Some n) some =
-        let rule : may_abandon_named v n ≡ true = sym (ap (λ (o : Option Name). option_map_or (may_abandon_named v) o (waits k v.queue)) some) ∙ may in
-        ap (some_passes (is_abandoned v)) some ∙ (may_be_given v n rule).1
+pub acts_spare : (tag : ℕ) (e : EndView) (b : Notes) (xs : List ChunkMeaning) (t : EndView) (m : Notes) (v : Verdict) → IsSound e → AllAct tag e b xs t m v → Spares e t
+acts_spare tag e b xs t m v s acts =
+    (all_act_keeps tag (IsLeftBy e) (λ (x : ChunkMeaning). Unit {0}) (λ (p : Packet). Unit {0}) (each_spares tag e) e b xs t m v (λ x h. tt) (keeps_itself e s, same_spares e e refl refl refl) acts).0.1

@@ -5,13 +5,12 @@ use Rattle.sctp_model.specs.wire.Packet.{Packet, size_of_packet}
 use Rattle.sctp_model.specs.receiver.ReceiverView.{Handed}
 use Rattle.sctp_model.specs.world.Calls.{Call}
 use Rattle.sctp_model.specs.end.EndView.{Draw, EndView}
-use Rattle.sctp_model.specs.end.Pacing.{Pace}
 use Rattle.sctp_model.specs.end.Clock.{at_moment}
 use Rattle.sctp_model.specs.end.Strays.{Verdict, Taken, Dropped, Answer}
 use Rattle.sctp_model.specs.end.Arriving.{Receives, IsCutShort}
 use Rattle.sctp_model.specs.end.Building.{Builds, packet_of}
 use Rattle.sctp_model.specs.end.UserCalls.{SendAnswer, send_answer, send_leaves, abandons, abandoned_at, UserTakes, shutdown_answer, shut, AbortAnswer, Aborts, NoPeer, TooLong, abort_answer, abort_leaves}
-use Rattle.sctp_model.specs.world.World.{Side, A, B, World, Log, end_of, bag_of, log_of, with_end, with_packet, with_log, came, logged_one, logged_packet, order_heard}
+use Rattle.sctp_model.specs.world.World.{Side, A, B, World, Log, end_of, bag_of, log_of, with_end, with_packet, with_log, came, logged_one, logged_packet}
 use Rattle.sctp_model.specs.world.Events.{Event, Build, Abandon, Send, Take, Shutdown, Abort, Outcome, Sent, Quiet, Fate, Told, Acted, NotActed, Answered, RefusedState, AbortTooLong, next_number, told, with_verdict, abort_told, with_abort, message_told, shutdown_told}
 use Rattle.sctp_model.specs.world.Steps as steps
 use Rattle.sctp_model.specs.world.Steps.{Step, Brings, accepted, named_at}
@@ -35,17 +34,13 @@ log_here : (w : World) (s : Side) (t : EndView) (l : Log) → with_log (with_end
 log_here w A t l = refl
 log_here w B t l = refl
 
--- without a pace nothing was abandoned at the packet's end
-order_stays : (w : World) (s : Side) (t : EndView) → t.pace ≡ None → logged_packet w s t ≡ log_of w s
-order_stays w s t none = ap (λ (p : Option Pace). record (log_of w s) { order = order_heard p w s t }) none
+came_here : (w : World) (s : Side) (t : EndView) → came w s t ≡ left w s (side t (bag_of w s) (logged_packet w s t))
+came_here w A t = refl
+came_here w B t = refl
 
-came_here : (w : World) (s : Side) (t : EndView) → t.pace ≡ None → came w s t ≡ left w s (side t (bag_of w s) (log_of w s))
-came_here w A t none = ap (λ (l : Log). record w { a = t; log_a = l; openable = false }) (order_stays w A t none)
-came_here w B t none = ap (λ (l : Log). record w { b = t; log_b = l; openable = false }) (order_stays w B t none)
-
-answer_here : (w : World) (s : Side) (t : EndView) (p : Packet) → t.pace ≡ None → with_packet (came w s t) s p ≡ left w s (side t (bag_of w s ++ p ∷ []) (log_of w s))
-answer_here w A t p none = ap (λ (l : Log). record w { a = t; from_a = w.from_a ++ p ∷ []; log_a = l; openable = false }) (order_stays w A t none)
-answer_here w B t p none = ap (λ (l : Log). record w { b = t; from_b = w.from_b ++ p ∷ []; log_b = l; openable = false }) (order_stays w B t none)
+answer_here : (w : World) (s : Side) (t : EndView) (p : Packet) → with_packet (came w s t) s p ≡ left w s (side t (bag_of w s ++ p ∷ []) (logged_packet w s t))
+answer_here w A t p = refl
+answer_here w B t p = refl
 
 same_side : (w : World) (s : Side) → with_side w s (side_of w s) ≡ w
 same_side w A = refl
@@ -89,31 +84,31 @@ arrived w e s clock d p t v brings c r a =
     (subst (λ (n : ℕ). Receives (end_of w s) n w.draw p t v) (sym c) (subst (λ (x : Draw). Receives (end_of w s) clock x p t v) (sym r) a))
 
 pub acts : (w : World) (e : Event) (s : Side) (clock : ℕ) (d : Draw) (p : Option Packet) (t : EndView) (v : Verdict) → Brings w e s p → w.clock ≡ clock → w.draw ≡ d →
-    t.pace ≡ None → Receives (end_of w s) clock d p t v → v ≡ Taken → Step w e (Some Acted) (left w s (side t (bag_of w s) (log_of w s)))
-acts w e s clock d p t v brings c r none a is =
-    subst (λ (x : World). Step w e (Some Acted) x) (came_here w s t none)
+    Receives (end_of w s) clock d p t v → v ≡ Taken → Step w e (Some Acted) (left w s (side t (bag_of w s) (logged_packet w s t)))
+acts w e s clock d p t v brings c r a is =
+    subst (λ (x : World). Step w e (Some Acted) x) (came_here w s t)
     (subst (λ (u : Verdict). Step w e (Some (told w s u)) (with_verdict (came w s t) s u)) is (arrived w e s clock d p t v brings c r a))
 
 pub drops : (w : World) (e : Event) (s : Side) (clock : ℕ) (d : Draw) (p : Option Packet) (t : EndView) (v : Verdict) (n : ℕ) → Brings w e s p → w.clock ≡ clock → w.draw ≡ d →
-    t.pace ≡ None → Receives (end_of w s) clock d p t v → v ≡ Dropped n → Step w e (Some (NotActed n)) (left w s (side t (bag_of w s) (log_of w s)))
-drops w e s clock d p t v n brings c r none a is =
-    subst (λ (x : World). Step w e (Some (NotActed n)) x) (came_here w s t none)
+    Receives (end_of w s) clock d p t v → v ≡ Dropped n → Step w e (Some (NotActed n)) (left w s (side t (bag_of w s) (logged_packet w s t)))
+drops w e s clock d p t v n brings c r a is =
+    subst (λ (x : World). Step w e (Some (NotActed n)) x) (came_here w s t)
     (subst (λ (u : Verdict). Step w e (Some (told w s u)) (with_verdict (came w s t) s u)) is (arrived w e s clock d p t v brings c r a))
 
 answered_so : (n m : ℕ) (size long : ℕ) → n ≡ m → size ≡ long → Some (Answered n size) ≡ Some (Answered m long)
 answered_so n m size long a b = ap (λ (k : ℕ). Some (Answered k size)) a ∙ ap (λ (k : ℕ). Some (Answered m k)) b
 
 pub answers : (w : World) (e : Event) (s : Side) (clock : ℕ) (d : Draw) (p : Option Packet) (t : EndView) (q : Packet) (number long : ℕ) → Brings w e s p → w.clock ≡ clock →
-    w.draw ≡ d → t.pace ≡ None → next_number w s ≡ number → size_of_packet q.chunks ≡ long → Receives (end_of w s) clock d p t (Answer q) →
-    Step w e (Some (Answered number long)) (left w s (side t (bag_of w s ++ q ∷ []) (log_of w s)))
-answers w e s clock d p t q number long brings c r none n l a =
-    moved w _ _ e _ _ (answered_so _ _ _ _ n l) (answer_here w s t q none) (arrived w e s clock d p t (Answer q) brings c r a)
+    w.draw ≡ d → next_number w s ≡ number → size_of_packet q.chunks ≡ long → Receives (end_of w s) clock d p t (Answer q) →
+    Step w e (Some (Answered number long)) (left w s (side t (bag_of w s ++ q ∷ []) (logged_packet w s t)))
+answers w e s clock d p t q number long brings c r n l a =
+    moved w _ _ e _ _ (answered_so _ _ _ _ n l) (answer_here w s t q) (arrived w e s clock d p t (Answer q) brings c r a)
 
 -- memory was wanted
 pub is_cut : (w : World) (e : Event) (s : Side) (clock : ℕ) (d : Draw) (p : Option Packet) (t : EndView) → Brings w e s p → w.clock ≡ clock → w.draw ≡ d →
-    t.pace ≡ None → IsCutShort (end_of w s) clock d p t → Step w e None (left w s (side t (bag_of w s) (log_of w s)))
-is_cut w e s clock d p t brings c r none cut =
-    subst (λ (x : World). Step w e None x) (came_here w s t none)
+    IsCutShort (end_of w s) clock d p t → Step w e None (left w s (side t (bag_of w s) (logged_packet w s t)))
+is_cut w e s clock d p t brings c r cut =
+    subst (λ (x : World). Step w e None x) (came_here w s t)
     (steps.PacketCut e s p t brings
     (subst (λ (n : ℕ). IsCutShort (end_of w s) n w.draw p t) (sym c) (subst (λ (x : Draw). IsCutShort (end_of w s) clock x p t) (sym r) cut)))
 

@@ -2,17 +2,17 @@
 use Rattle.std.specs.Prelude.{◌≡◌, ◌&&◌, max, true, false, Some, slice_get}
 use Rattle.sctp_model.specs.numbers.Lists.{item_at}
 use Rattle.sctp_model.specs.wire.Packet.{Packet}
-use Rattle.sctp_model.specs.sender.Abandoning.{has_late}
 use Rattle.sctp_model.specs.sender.Readers.{abandoned}
 use Rattle.sctp_model.specs.receiver.ReceiverView.{Handed}
 use Rattle.sctp_model.specs.world.World.{Side, are_alike, World, end_of, bag_of}
 use Rattle.sctp_model.specs.world.Events.{Event, OpenBoth, At, Drawing, Connect, Build, Deliver, Foreign, Send, Abandon, Take, Reset, WasReset, Shutdown, Abort}
+use Rattle.sctp_pair.specs.Noted.{has_to_give_up}
 
 -- Something grows in this world if the event happens: endpoints are made, if they may be; a log of what a time or a user abandons, or of a message
 -- taken; a bag. Random values, a call, the reset of a stream and a shutdown allocate nothing, nor does a packet that the bag doesn't have.
 abbrev pub TakesMemory : World → Event → Type 0
 TakesMemory w (OpenBoth x y) = (w.openable && are_alike w.a.configuration w.b.configuration) ≡ true
-TakesMemory w (At m) = (s : Side) × (has_late (end_of w s).sender (max w.clock m) ≡ true)
+TakesMemory w (At m) = (s : Side) × (has_to_give_up (end_of w s) (max w.clock m) ≡ true)
 TakesMemory w (Drawing d) = ⊥
 TakesMemory w (Connect d) = ⊥
 TakesMemory w (Build s) = Unit {0}

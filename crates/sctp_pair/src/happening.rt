@@ -59,7 +59,7 @@ impl Pair {
         self.openable && are_alike(self.a.end.config(), self.b.end.config())
     }
 
-    /// Advances the clock and notifies both endpoints; messages whose lifetime ends are logged as abandoned. A time before the clock counts as
+    /// Advances the clock and notifies both endpoints; the messages that they abandon then are logged. A time before the clock counts as
     /// the clock's. Space for both logs is reserved before either endpoint is notified.
     ///
     /// # Errors
@@ -136,14 +136,14 @@ impl Pair {
                     return Ok(Outcome::Absent);
                 };
                 self.openable = false;
-                arrive(&mut self.b, self.clock, self.draw, packet)
+                arrive(self.alloc, &mut self.b, self.clock, self.draw, packet)
             }
             Side::B => {
                 let Some(packet) = packet_at(&self.b.bag, number) else {
                     return Ok(Outcome::Absent);
                 };
                 self.openable = false;
-                arrive(&mut self.a, self.clock, self.draw, packet)
+                arrive(self.alloc, &mut self.a, self.clock, self.draw, packet)
             }
         }
     }
@@ -161,8 +161,8 @@ impl Pair {
         one_packet();
         self.openable = false;
         match side {
-            Side::A => arrive(&mut self.a, self.clock, self.draw, bytes),
-            Side::B => arrive(&mut self.b, self.clock, self.draw, bytes),
+            Side::A => arrive(self.alloc, &mut self.a, self.clock, self.draw, bytes),
+            Side::B => arrive(self.alloc, &mut self.b, self.clock, self.draw, bytes),
         }
     }
 }

@@ -7,8 +7,6 @@ ghost use Rattle.sctp_model.specs.world.World as world;
 ghost use Rattle.sctp_model.specs.world.World.{World, no_log};
 ghost use Rattle.sctp_model.specs.world.Events as meaning;
 ghost use Rattle.sctp_model.specs.world.Steps.{Step};
-ghost use Rattle.sctp_send.specs.SenderAnswers.{lane_for};
-ghost use Rattle.sctp_association.specs.CallAnswers.{call_of};
 ghost use Rattle.sctp_outcomes.specs.Kept.{HasNoLogs};
 ghost use Rattle.sctp_endpoint.specs.EndpointStands.{EndpointStands};
 ghost use Rattle.sctp_events.specs.Events.{refusal_meaning, outcome_meaning, answer_of};
@@ -16,9 +14,8 @@ ghost use Rattle.sctp_pair.specs.Memory.{TakesMemory};
 ghost use Rattle.sctp_pair.specs.Sides.{SideView, side_of, with_side, SideStands, Carries, ArePackets};
 
 use crate::taken::{StreamLog, fresh_logs, make_room_at, note_at, wipe};
-use sctp_endpoint::{Endpoint, Refused, Sent, written_packet_reads};
+use sctp_endpoint::{Endpoint, Sent, written_packet_reads};
 use sctp_events::{Outcome, Refusal};
-use sctp_send::SendFault;
 use sctp_terms::AbortFault;
 use sctp_values::{NoMemory, Ticket};
 use std::alloc::Global;
@@ -114,38 +111,6 @@ pub(crate) fn build_at(side: &mut OneSide, clock: u64) -> Result<Outcome, NoMemo
                 length,
             })
         }
-    }
-}
-
-/// The endpoint's user sends a message; the endpoint gets a copy of its bytes.
-///
-/// # Errors
-/// An allocation failed; nothing has changed.
-#[tactic(auto, unfolding(crate::specs::Sides::SideStands))]
-pub(crate) fn send_at(
-    alloc: Global,
-    side: &mut OneSide,
-    stream: u16,
-    ordered: bool,
-    payload_id: u32,
-    bytes: &[u8],
-    until: Option<u64>,
-) -> Result<Outcome, NoMemory>
-    ensures { (w : World) (s : world.Side) → SideStands side.old (side_of w s)
-        → (h : SideView) × Step w (meaning.Send s (call_of (lane_for stream ordered) payload_id bytes.now until)) (answer_of result) (with_side w s h) × SideStands side.new h }
-{
-    // law: the endpoint is sound
-    side.end.sound();
-    let copy = Vec::from_slice(alloc, bytes).map_err(|_| NoMemory)?;
-    match side.end.send(stream, ordered, payload_id, copy, until) {
-        Ok(ticket) => Ok(Outcome::Ticket { ticket }),
-        Err(Refused::NotOpen) => refused(Refusal::NotOpen),
-        Err(Refused::Fault(SendFault::NoSuchStream)) => refused(Refusal::NoSuchStream),
-        Err(Refused::Fault(SendFault::Empty)) => refused(Refusal::Empty),
-        Err(Refused::Fault(SendFault::TooLong)) => refused(Refusal::TooLong),
-        Err(Refused::Fault(SendFault::QueueFull)) => refused(Refusal::QueueFull),
-        Err(Refused::Fault(SendFault::Spent)) => refused(Refusal::Spent),
-        Err(Refused::Fault(SendFault::NoMemory)) => Err(NoMemory),
     }
 }
 

@@ -149,7 +149,19 @@ impl Pair {
                 payload_id,
                 bytes,
                 until,
-            } => self.send(*side, *stream, *ordered, *payload_id, bytes, *until),
+            } => self.send(*side, *stream, *ordered, *payload_id, bytes, *until, None),
+            Event::SendWithMaxRetransmits {
+                side,
+                stream,
+                ordered,
+                payload_id,
+                bytes,
+                until,
+                max_retransmits,
+            } => {
+                let limit = Some(*max_retransmits);
+                self.send(*side, *stream, *ordered, *payload_id, bytes, *until, limit)
+            }
             Event::Abandon { side, ticket } => self.abandon(*side, *ticket),
             Event::Take { side, stream } => self.take(*side, *stream),
             Event::Shutdown { side } => Ok(self.shutdown(*side)),

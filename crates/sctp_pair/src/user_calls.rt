@@ -5,20 +5,21 @@ ghost use Rattle.sctp_model.specs.world.World.{World};
 ghost use Rattle.sctp_model.specs.world.Events as meaning;
 ghost use Rattle.sctp_model.specs.world.Steps.{Step};
 ghost use Rattle.sctp_send.specs.SenderAnswers.{lane_for};
-ghost use Rattle.sctp_association.specs.CallAnswers.{call_of};
+ghost use Rattle.sctp_association.specs.CallAnswers.{call_with};
 ghost use Rattle.sctp_events.specs.Events.{side_meaning, outcome_meaning, answer_of};
 ghost use Rattle.sctp_pair.specs.Memory.{TakesMemory};
 ghost use Rattle.sctp_pair.specs.PairStands.{PairStands};
 
 use crate::moments::abandon_at;
-use crate::one_side::{abort_at, send_at, shut_down, take_at};
+use crate::one_side::{abort_at, shut_down, take_at};
 use crate::pair::Pair;
+use crate::sending::send_at;
 use sctp_events::{Outcome, Side};
 use sctp_values::{NoMemory, Ticket};
 
 #[tactic(auto, unfolding(crate::specs::PairStands::PairStands))]
 impl Pair {
-    /// An endpoint's user sends a message.
+    /// An endpoint's user sends a message, with a lifetime and a limit of retransmissions, if it has them.
     ///
     /// # Errors
     /// An allocation failed; nothing has changed.
@@ -30,9 +31,10 @@ impl Pair {
         payload_id: u32,
         bytes: &[u8],
         until: Option<u64>,
+        limit: Option<u16>,
     ) -> Result<Outcome, NoMemory>
         ensures { (w : World) → PairStands self.old w
-            → (x : World) × Step w (meaning.Send (side_meaning side) (call_of (lane_for stream ordered) payload_id bytes.now until)) (answer_of result) x
+            → (x : World) × Step w (meaning.Send (side_meaning side) (call_with (lane_for stream ordered) payload_id bytes.now until limit)) (answer_of result) x
             × PairStands self.new x }
     {
         let alloc = self.alloc;
@@ -45,6 +47,7 @@ impl Pair {
                 payload_id,
                 bytes,
                 until,
+                limit,
             ),
             Side::B => send_at(
                 alloc,
@@ -54,6 +57,7 @@ impl Pair {
                 payload_id,
                 bytes,
                 until,
+                limit,
             ),
         }
     }

@@ -8,8 +8,9 @@ use Rattle.sctp_model.specs.world.World.{Side, A, B}
 use Rattle.sctp_terms.specs.declared.mode.Mode.{Mode}
 use Rattle.sctp_terms.specs.declared.mode.Mode.TheVariants.{Data, PartialData, IData, PartialIData}
 use Rattle.sctp_words.specs.Fields.{IsNumber, IsUntil, kind_word, mode_word, delay_word, Values, AreValues}
-use Rattle.sctp_script.specs.Fields.{Field, ASide, ANumber, ATag, AMode, ADelay, AKind, AnUntil, SomeBytes, Value, IsValue}
+use Rattle.sctp_script.specs.Fields.{Field, ASide, ANumber, ATag, AMode, ADelay, AKind, AnUntil, ALimit, SomeBytes, Value, IsValue}
 use Rattle.sctp_script.specs.OutcomeText.{side_word}
+use Rattle.sctp_words.proofs.LimitLemmas.{one_limit, limit_or_none}
 use Rattle.sctp_text.specs.Numerals.{IsDecimal, SaysOneNumber, SaysOneList}
 
 -- what is known of words: each says one number or none, and one list of bytes or none
@@ -72,6 +73,7 @@ one_value say AMode word m n a b = one_mode m n (sym a ∙ b)
 one_value say ADelay word u v a b = refl
 one_value say AKind word k l a b = one_kind k l (sym a ∙ b)
 one_value say AnUntil word t u a b = one_until say word t u a b
+one_value say ALimit word (t, m) (u, n) a b = let same = one_limit word t u m n a b in λ i. (same.0 i, same.1 i)
 one_value say SomeBytes word xs ys a b = (say.bytes word).one xs ys a b
 
 -- ---- a value or none
@@ -159,6 +161,9 @@ until_or_none say w =
       | inr other ↦ elim (number_or_none say 64 w) [ inl n ↦ inl (Some n.0, n.1) | inr none ↦ inr (no_until w other none) ]
     ]
 
+limit_said : (w : List ℕ) → IsSaid ALimit w
+limit_said w = elim (limit_or_none w) [ inl is ↦ inl ((is.0, is.1), is.2) | inr none ↦ inr (λ v is. none v.0 v.1 is) ]
+
 pub value_or_none : (say : WordsSay) (f : Field) (w : List ℕ) → IsSaid f w
 value_or_none say ASide w = side_or_none w
 value_or_none say (ANumber bits) w = number_or_none say bits w
@@ -167,6 +172,7 @@ value_or_none say AMode w = mode_or_none w
 value_or_none say ADelay w = delay_or_none w
 value_or_none say AKind w = kind_or_none w
 value_or_none say AnUntil w = until_or_none say w
+value_or_none say ALimit w = limit_said w
 value_or_none say SomeBytes w = (say.bytes w).decided
 
 -- ---- the words of several fields

@@ -12,3 +12,4 @@ mod OptionsDecided
 mod PlacedLemmas
 mod ConfigurationLemmas
 mod PlaceLemmas
+mod LimitedLemmas

@@ -43,7 +43,7 @@ abbrev pub first_of : List (List ℕ) → List ℕ
 first_of [] = []
 first_of (w ∷ ws) = w
 
-abbrev others_of : List (List ℕ) → List (List ℕ)
+abbrev pub others_of : List (List ℕ) → List (List ℕ)
 others_of [] = []
 others_of (w ∷ ws) = ws
 

@@ -1,5 +1,5 @@
 -- What the words of each command say is right.
-use Rattle.std.proofs.Common.{◌≡◌, ℕ, Bool, true, false, not, List, [], ◌∷◌, Option, None, Some, MatchOption, refl, sym, ap, ◌∙◌, subst, arith}
+use Rattle.std.proofs.Common.{◌≡◌, ℕ, Bool, true, false, not, inl, inr, List, [], ◌∷◌, Option, None, Some, MatchOption, refl, sym, ap, ◌∙◌, subst, arith}
 use Rattle.sctp_model.specs.messages.Format.{Kind}
 use Rattle.sctp_model.specs.messages.Framing.{lane_kind}
 use Rattle.sctp_model.specs.end.EndView.{Configuration, Draw, IsDraw}
@@ -21,6 +21,8 @@ use Rattle.sctp_script.specs.Configuration.{sizes, IsOfPair}
 use Rattle.sctp_script.specs.Grammar.{LineMeaning, Silent, Pairs, Acts, Fault, CommandValues, AreGood, Spells, Says, meaning_of, draw_of}
 use Rattle.sctp_script.proofs.FieldLemmas.{Given, AreGiven, first_value, other_values}
 use Rattle.sctp_script.specs.Fields.{ATag, ANumber}
+use Rattle.sctp_script.specs.LimitedSends.{limited_send}
+use Rattle.sctp_script.specs.Places.{Place, Unpaired, Behind, Acted, Plain, SaysPaired, SaysAt, is_paired}
 
 -- ---- what is wanted may be
 
@@ -87,6 +89,24 @@ pub follows : (paired : Bool) (line : List ℕ) (w : Wanted) → Says paired lin
 follows true line w says = refl
 follows false line w says = absurd (says.0 PairOrder (says.1.0, says.1.1, says.1.2, not_pair says.1.0 says.1.1 w says.1.3))
 
+paired_can_be : (o : Bool) (line : List ℕ) (w : Wanted) → SaysPaired o line (Plain (Acts w)) → CanBe w
+paired_can_be false line w says = can_be true line w says
+paired_can_be true line w (inl (vs, is, same)) =
+    let wanted : w ≡ limited_send vs = cc in
+    subst CanBe (sym wanted) tt
+paired_can_be true line w (inr (none, says)) = can_be true line w says
+
+pub follows_at : (place : Place) (line : List ℕ) (w : Wanted) → SaysAt place line (Plain (Acts w)) → is_paired place ≡ true
+follows_at Unpaired line w says = follows false line w says
+follows_at (Behind o a b) line w says = refl
+follows_at (Acted o) line w says = refl
+
+pub can_be_at : (place : Place) (line : List ℕ) (w : Wanted) → SaysAt place line (Plain (Acts w)) → CanBe w
+can_be_at Unpaired line w says = can_be false line w says
+can_be_at (Behind o a b) line w (inl options) = absurd options.3
+can_be_at (Behind o a b) line w (inr plain) = paired_can_be o line w plain.1
+can_be_at (Acted o) line w says = paired_can_be o line w says
+
 abbrev IsNoPair : LineMeaning → Type 0
 IsNoPair Silent = Unit {0}
 IsNoPair (Pairs c) = ⊥
@@ -124,9 +144,9 @@ kind_again true k is = is
 kind_again false k is = is
 
 -- a message of this kind and these bytes is the one that is sent
-pub sends : (x : Side) (stream payload : ℕ) (until : Option ℕ) (b : Bool) (k : Kind) (bs cs : List ℕ) → lane_kind b ≡ k → bs ≡ cs
-    → Acts (Happens (Send x (record { lane = lane_for stream (not b); payload = payload; bytes = bs; until = until; limit = None })))
-    ≡ Acts (Happens (Send x (record { lane = record { stream = stream; kind = k }; payload = payload; bytes = cs; until = until; limit = None })))
-sends x stream payload until b k bs cs kind bytes =
-    let call = λ (l : Kind) (ds : List ℕ). Acts (Happens (Send x (record { lane = record { stream = stream; kind = l }; payload = payload; bytes = ds; until = until; limit = None }))) in
+pub sends : (x : Side) (stream payload : ℕ) (until limit : Option ℕ) (b : Bool) (k : Kind) (bs cs : List ℕ) → lane_kind b ≡ k → bs ≡ cs
+    → Happens (Send x (record { lane = lane_for stream (not b); payload = payload; bytes = bs; until = until; limit = limit }))
+    ≡ Happens (Send x (record { lane = record { stream = stream; kind = k }; payload = payload; bytes = cs; until = until; limit = limit }))
+sends x stream payload until limit b k bs cs kind bytes =
+    let call = λ (l : Kind) (ds : List ℕ). Happens (Send x (record { lane = record { stream = stream; kind = l }; payload = payload; bytes = ds; until = until; limit = limit })) in
     ap (λ (l : Kind). call l bs) (kind_again b k kind) ∙ ap (λ (ds : List ℕ). call k ds) bytes

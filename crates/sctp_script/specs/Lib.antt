@@ -10,6 +10,7 @@ pub mod Ends
 pub mod Options
 pub mod OptionLines
 pub mod OptionsAnswer
+pub mod LimitedSends
 pub mod Places
 pub mod PlacedAnswer
 pub mod inner

@@ -6,6 +6,7 @@ use Rattle.sctp_words.specs.declared.line_fault.LineError.{LineError}
 use Rattle.sctp_words.specs.declared.line_fault.LineError.TheVariants as error
 use Rattle.sctp_script.specs.declared.placed.Place.{Place}
 use Rattle.sctp_script.specs.declared.placed.Place.TheVariants as place
+use Rattle.sctp_script.specs.declared.placed.Preamble.{Preamble}
 use Rattle.sctp_script.specs.declared.placed.Placed.{Placed}
 use Rattle.sctp_script.specs.declared.placed.Placed.TheVariants as placed
 use Rattle.sctp_script.specs.Grammar.{Silent, Pairs, Acts, Fault}
@@ -16,14 +17,18 @@ use Rattle.sctp_script.specs.ReadLineAnswer.{Refuses}
 -- the place
 abbrev pub place_meaning : Place → places.Place
 place_meaning place.Unpaired = places.Unpaired
-place_meaning (place.Behind configs) = places.Behind configs.a configs.b
-place_meaning place.Acted = places.Acted
+place_meaning (place.Behind configs with_options) = places.Behind with_options configs.a configs.b
+place_meaning (place.Acted with_options) = places.Acted with_options
 
--- the place of a line, by whether there was a `pair` line, and the configurations that are kept until a line asks something of the endpoints
-abbrev pub place_at : Bool → Option TwoConfigs → places.Place
-place_at false fresh = places.Unpaired
-place_at true (Some configs) = places.Behind configs.a configs.b
-place_at true None = places.Acted
+-- the place of a line after the `pair` line, by the configurations that are kept until a line asks something of the endpoints
+abbrev pub paired_place : Option TwoConfigs → (with_options : Bool) → places.Place
+paired_place (Some configs) with_options = places.Behind with_options configs.a configs.b
+paired_place None with_options = places.Acted with_options
+
+-- the place of a line, by whether there was a `pair` line, and what the lines before it said
+abbrev pub place_at : (paired : Bool) → Preamble → places.Place
+place_at false preamble = places.Unpaired
+place_at true preamble = paired_place preamble.fresh preamble.with_options
 
 -- what a line that asks for something says; of a pair A's configuration, since B's is alike
 abbrev pub placed_meaning : Placed → PlacedMeaning

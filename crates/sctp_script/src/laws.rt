@@ -7,7 +7,7 @@ ghost use Rattle.sctp_script.specs.CanBe.{CanBe};
 ghost use Rattle.sctp_events.specs.Alike.{turned_round};
 ghost use Rattle.sctp_script.specs.Configuration.{IsOfPair, AreOfPair};
 ghost use Rattle.sctp_script.specs.Grammar.{Pairs, Acts, Says, SaysOneThing};
-ghost use Rattle.sctp_script.specs.Places.{Place, Behind, Plain, Configures, SaysAt, SaysOneThingAt};
+ghost use Rattle.sctp_script.specs.Places.{Place, Behind, Plain, Configures, is_paired, SaysAt, SaysOneThingAt};
 
 use sctp_text::words_say_one_value;
 
@@ -31,7 +31,8 @@ pub fn one_meaning_at()
 /// What the `pair` line and lines of options after it say of both endpoints is right: the pair's ports, and configurations without a fault.
 pub fn configurations_are_right()
     ensures pair { (place : Place) (line : List ℕ) (c : Configuration) → SaysAt place line (Plain (Pairs c)) → AreOfPair c (turned_round c) }
-    ensures options { (line : List ℕ) (a b c d : Configuration) → AreOfPair a b → SaysAt (Behind a b) line (Configures c d) → AreOfPair c d }
+    ensures options { (line : List ℕ) (with_options : Bool) (a b c d : Configuration) → AreOfPair a b
+        → SaysAt (Behind with_options a b) line (Configures c d) → AreOfPair c d }
 {}
 
 // law
@@ -51,4 +52,11 @@ pub fn events_follow_the_pair()
 /// What a line asks for is possible: tags aren't 0, times have 64 bits, and the bytes of a third party are bytes.
 pub fn events_can_happen()
     ensures { (paired : Bool) (line : List ℕ) (wanted : Wanted) → Says paired line (Acts wanted) → CanBe wanted }
+{}
+
+// law
+/// At its place too a line asks for an event only after a `pair` line, and what it asks for is possible.
+pub fn events_at_their_place()
+    ensures follow { (place : Place) (line : List ℕ) (wanted : Wanted) → SaysAt place line (Plain (Acts wanted)) → is_paired place ≡ true }
+    ensures can_be { (place : Place) (line : List ℕ) (wanted : Wanted) → SaysAt place line (Plain (Acts wanted)) → CanBe wanted }
 {}

@@ -5,7 +5,8 @@
 //! by the number of words), `specs/Fields` the values of a field, `specs/Grammar` what a line says, which faults it has and which of
 //! them counts. After the `pair` line there may be lines of options, which set the configurations of both endpoints: `specs/Options` has the
 //! options, their fields and what each sets, `specs/OptionLines` which lines are such lines and what they leave, `specs/Places` what a line says
-//! at its place in a script. In a script without such a line every line says what `specs/Grammar` says. `specs/OutcomeText` has the line of each outcome, `specs/ReportText` the report.
+//! at its place in a script. In a script without such a line every line says what `specs/Grammar` says; in one with it a line `send` may give a
+//! limit of retransmissions, too (`specs/LimitedSends`). `specs/OutcomeText` has the line of each outcome, `specs/ReportText` the report.
 //!
 //! # Promises
 //!
@@ -13,7 +14,7 @@
 //!   it returns the fault with the smallest kind, and only if the line has it. `NoMemory` is possible only for a line of `foreign`, `send`
 //!   or `abort` with its number of words.
 //! - `read_line_at` returns what a line says at its place: before the `pair` line, after it until a line asks something of the pair, or after
-//!   that. Right after the `pair` line a line of options gives the configurations that it leaves; if it leaves none its fault is `BadValue`. Every other
+//!   that. `Place::of` makes the place of the `Preamble`: what the lines before said of the endpoints. Right after the `pair` line a line of options gives the configurations that it leaves; if it leaves none its fault is `BadValue`. Every other
 //!   line is read as by `read_line`.
 //! - `put_outcome` appends exactly the line of the outcome; endpoint and stream in it are those of the event that it answers.
 //! - `put_end` appends `end X STATE WHY`; `put_numbered`, `put_abandoned`, `put_handed` and `put_count` append the line with all tickets or
@@ -23,7 +24,8 @@
 //! Laws, over all lines: `one_meaning` (a line says exactly one thing), `one_meaning_at` (at its place too), `configurations_are_right` (the
 //! configurations that the `pair` line and lines of options say have the pair's ports and no fault), `the_pair_comes_first` (a line makes a pair only if none was made
 //! before, and its configuration has the pair's ports and no fault), `events_follow_the_pair` (a line asks for an event only after a
-//! `pair` line), `events_can_happen` (tags aren't 0, times have 64 bits, a third party's bytes are bytes).
+//! `pair` line), `events_can_happen` (tags aren't 0, times have 64 bits, a third party's bytes are bytes), `events_at_their_place` (both of these
+//! at a line's place, too).
 //!
 //! An event is one of the model's, or brings the bytes of a third party to an endpoint (`Wanted` of `sctp_events/specs/Events`): how these
 //! bytes read as a packet isn't this crate's matter. The report is a function of the model's world (`report`); the functions here write its
@@ -52,6 +54,7 @@
 mod command;
 mod command_words;
 mod laws;
+mod limited_send;
 mod line;
 mod option_name;
 mod options;
@@ -63,10 +66,10 @@ mod side_word;
 mod ticket_line;
 
 pub use laws::{
-    configurations_are_right, events_can_happen, events_follow_the_pair, one_meaning,
-    one_meaning_at, the_pair_comes_first,
+    configurations_are_right, events_at_their_place, events_can_happen, events_follow_the_pair,
+    one_meaning, one_meaning_at, the_pair_comes_first,
 };
 pub use line::{Acting, read_line};
 pub use outcome_line::put_outcome;
-pub use placed::{Place, Placed, read_line_at};
+pub use placed::{Place, Placed, Preamble, read_line_at};
 pub use report::{put_abandoned, put_count, put_end, put_handed, put_numbered};

@@ -13,6 +13,9 @@ pub enum OptionName {
     Mode,
     Delay,
     StandardClosing,
+    FastRetransmit,
+    CongestionControl,
+    RtoMin,
 }
 
 impl OptionName {
@@ -28,6 +31,9 @@ impl OptionName {
             b"mode" => Some(OptionName::Mode),
             b"delay" => Some(OptionName::Delay),
             b"standard-closing" => Some(OptionName::StandardClosing),
+            b"fast-retransmit" => Some(OptionName::FastRetransmit),
+            b"congestion-control" => Some(OptionName::CongestionControl),
+            b"rto-min" => Some(OptionName::RtoMin),
             _ => None,
         }
     }
@@ -37,8 +43,15 @@ impl OptionName {
         ensures { result ≡ words_taken self }
     {
         match self {
-            OptionName::Delay | OptionName::StandardClosing => 0,
-            OptionName::Limit | OptionName::Fragment | OptionName::Buffer | OptionName::Mode => 1,
+            OptionName::Delay
+            | OptionName::StandardClosing
+            | OptionName::FastRetransmit
+            | OptionName::CongestionControl => 0,
+            OptionName::Limit
+            | OptionName::Fragment
+            | OptionName::Buffer
+            | OptionName::Mode
+            | OptionName::RtoMin => 1,
             OptionName::Streams => 2,
         }
     }

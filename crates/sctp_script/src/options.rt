@@ -172,5 +172,8 @@ fn set(option: OptionName, words: &mut Words<'_>, settings: Settings) -> Option<
         OptionName::Mode => Some(settings.with_mode(read_mode(words.next_word())?)),
         OptionName::Delay => Some(settings.with_delay()),
         OptionName::StandardClosing => Some(settings.with_standard_closing()),
+        OptionName::FastRetransmit => Some(settings.with_fast_retransmit()),
+        OptionName::CongestionControl => Some(settings.with_congestion_control()),
+        OptionName::RtoMin => Some(settings.with_rto_min(read_u32(words.next_word())?)),
     }
 }

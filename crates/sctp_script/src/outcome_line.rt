@@ -60,6 +60,7 @@ fn side_named(event: &Event) -> Side
         Event::Build { side } => *side,
         Event::Foreign { side, .. } => *side,
         Event::Send { side, .. } => *side,
+        Event::SendWithMaxRetransmits { side, .. } => *side,
         Event::Abandon { side, .. } => *side,
         Event::Take { side, .. } => *side,
         Event::Shutdown { side } => *side,

@@ -62,6 +62,7 @@ keeps_told f s v t r ms k told long here others = record {
   };
   forward = k.forward;
   unreset = k.unreset;
+  before = k.before;
   reached = k.reached;
 }
   where
@@ -103,6 +104,7 @@ keeps_awake f s v size es ms b k are long each woken = record {
   };
   forward = k.forward;
   unreset = k.unreset;
+  before = k.before;
   reached = k.reached;
 }
   where
@@ -151,6 +153,7 @@ keeps_passed f s v n last k end most queue rests items = record {
   };
   forward = k.forward;
   unreset = k.unreset;
+  before = k.before;
   reached = k.reached;
 }
 

@@ -10,6 +10,7 @@ use Rattle.sctp_model.specs.sender.SenderView.{SenderView}
 use Rattle.sctp_model.specs.messages.Acknowledgement.{in_blocks}
 use Rattle.sctp_model.specs.sender.SackTaken.{index_of, sack_fault, sack_covers, covered_by, sack_after, shutdown_fault, shutdown_after}
 use Rattle.sctp_model.specs.sender.Entries.{entry_message, is_of_abandoned}
+use Rattle.sctp_model.specs.sender.Words.{last_that}
 use Rattle.sctp_model.specs.sender.Reached.{Covers, Closes}
 use Rattle.sctp_model.proofs.sender.Bounds.{is_bounded}
 use Rattle.sctp_model.proofs.sender.OwedLaws.{is_promised}
@@ -110,9 +111,9 @@ idle_sacked v now t n true test xs left stays none =
     let before = ap (λ (ys : List Item). some_late now t (standing_messages true ys)) (sym are) ∙ late_behind now t n true xs none in
     ap (λ (ys : List Item). some_late now t (standing_messages true (items_told test 1 ys))) are ∙ stays_told v test now t (v.cum + n) 1 (drop (v.cum + n) v.plan.entries) (λ i le. stays refl i (omega (arith, le))) before
 
-pub keeps_sacked : (f : Format) (s : Kept) (v : SenderView) (x : SackMeaning) (n : ℕ) (rs : Option (List CoveredRun)) → Keeps f s v → (s.asleep ≡ true → (i : ℕ) → 0 < i → v.covered (v.cum + n + i) ≡ true → in_blocks 0 x.blocks i ≡ true) → IsPassing v x.cumulative n → sack_fault v x ≡ None → AreOfBlocks rs x.blocks
-    → Keeps f (record s { cum = (s.cum + n) % 2 ^ 64; rwnd = x.rwnd; items = items_told (in_blocks 0 x.blocks) 1 (drop n s.items); runs = rs }) (sack_after v x)
-keeps_sacked f s v x n rs k stays p none runs =
+pub keeps_sacked : (f : Format) (s : Kept) (v : SenderView) (x : SackMeaning) (n b : ℕ) (rs : Option (List CoveredRun)) → Keeps f s v → b ≡ last_that v.sent (v.cum + n) → (s.asleep ≡ true → (i : ℕ) → 0 < i → v.covered (v.cum + n + i) ≡ true → in_blocks 0 x.blocks i ≡ true) → IsPassing v x.cumulative n → sack_fault v x ≡ None → AreOfBlocks rs x.blocks
+    → Keeps f (record s { cum = (s.cum + n) % 2 ^ 64; rwnd = x.rwnd; items = items_told (in_blocks 0 x.blocks) 1 (drop n s.items); runs = rs; before = b }) (sack_after v x)
+keeps_sacked f s v x n b rs k before stays p none runs =
     let c = v.cum + n in
     let start : suc (c + 0) ≡ suc c = omega arith in
     let told = rw start at (told_items v c (sack_covers c x.blocks) (drop c v.plan.entries) 0) in
@@ -152,6 +153,7 @@ keeps_sacked f s v x n rs k stays p none runs =
       };
       forward = k.forward;
       unreset = k.unreset;
+      before = before ∙ ap (last_that v.sent) (sym p.index);
       reached = Covers v x k.reached none;
     })
 
@@ -172,9 +174,9 @@ beyond_stays v c (e ∷ es) i lt apart =
     by_cover true on = rw (apart i on) refl
     by_cover false off = and_true (v.marked i)
 
-pub keeps_shut : (f : Format) (s : Kept) (v : SenderView) (wire n : ℕ) → Keeps f s v → IsPassing v wire n → shutdown_fault v wire ≡ None
-    → Keeps f (record s { cum = (s.cum + n) % 2 ^ 64; items = drop n s.items; runs = option_map (runs_behind n) s.runs }) (shutdown_after v wire)
-keeps_shut f s v wire n k p none =
+pub keeps_shut : (f : Format) (s : Kept) (v : SenderView) (wire n b : ℕ) → Keeps f s v → b ≡ last_that v.sent (v.cum + n) → IsPassing v wire n → shutdown_fault v wire ≡ None
+    → Keeps f (record s { cum = (s.cum + n) % 2 ^ 64; items = drop n s.items; runs = option_map (runs_behind n) s.runs; before = b }) (shutdown_after v wire)
+keeps_shut f s v wire n b k before p none =
     let c = v.cum + n in
     let stays = beyond_stays v c (drop c v.plan.entries) (suc c) (omega arith) (is_bounded f v k.reached).apart in
     let fewer = length-drop n s.items in
@@ -199,5 +201,6 @@ keeps_shut f s v wire n k p none =
       due = record { many = k.due.many; each = λ t now lt. let i = k.due.each t now lt in record { queue = i.queue; items = λ on. late_behind now t n s.asleep s.items (i.items on); tracks = i.tracks } };
       forward = k.forward;
       unreset = k.unreset;
+      before = before ∙ ap (last_that v.sent) (sym p.index);
       reached = Closes v wire k.reached none;
     })

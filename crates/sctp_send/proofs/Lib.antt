@@ -4,7 +4,6 @@ pub mod OverLemmas
 pub mod DueLemmas
 pub mod KeepLemmas
 pub mod UnresetLemmas
-pub mod LimitLemmas
 pub mod TimerLemmas
 pub mod QueueLemmas
 pub mod ReaderLemmas

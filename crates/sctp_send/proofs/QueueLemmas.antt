@@ -96,12 +96,12 @@ promised_is f s v k =
 
 -- ---- a message more
 
-pub keeps_queued : (f : Format) (s : Kept) (v : SenderView) (lane : Lane) (payload ticket : ℕ) (bytes : List ℕ) (until : Option ℕ) → Keeps f s v → refusal v lane.stream bytes ≡ None → ticket ≡ suc v.tickets → unwrap_or until LAST_MOMENT < 2 ^ 64
-    → Keeps f (record s { queue = s.queue ++ record { lane = lane; message = record { ticket = ticket; payload = payload; fragments = cut s.fragment bytes; until = until; limit = None } } ∷ []; fates = s.fates ++ StillQueued ∷ []; moments = s.moments ++ unwrap_or until LAST_MOMENT ∷ [] })
-    (queued v lane payload bytes until None)
-keeps_queued f s v lane payload ticket bytes until k free given small =
-    let u = queued v lane payload bytes until None in
-    let q : Queued = record { lane = lane; message = record { ticket = suc v.tickets; payload = payload; fragments = cut v.fragment bytes; until = until; limit = None } } in
+pub keeps_queued : (f : Format) (s : Kept) (v : SenderView) (lane : Lane) (payload ticket : ℕ) (bytes : List ℕ) (until limit : Option ℕ) → Keeps f s v → refusal v lane.stream bytes ≡ None → ticket ≡ suc v.tickets → unwrap_or until LAST_MOMENT < 2 ^ 64
+    → Keeps f (record s { queue = s.queue ++ record { lane = lane; message = record { ticket = ticket; payload = payload; fragments = cut s.fragment bytes; until = until; limit = limit } } ∷ []; fates = s.fates ++ StillQueued ∷ []; moments = s.moments ++ unwrap_or until LAST_MOMENT ∷ [] })
+    (queued v lane payload bytes until limit)
+keeps_queued f s v lane payload ticket bytes until limit k free given small =
+    let u = queued v lane payload bytes until limit in
+    let q : Queued = record { lane = lane; message = record { ticket = suc v.tickets; payload = payload; fragments = cut v.fragment bytes; until = until; limit = limit } } in
     let last : fate_here u (1 + v.tickets) ≡ StillQueued =
     let one : 1 + v.tickets ≡ suc v.tickets = omega arith in
     let here : (suc v.tickets == suc v.tickets) ≡ true = grind (arith, nat_tests) in
@@ -139,14 +139,15 @@ keeps_queued f s v lane payload ticket bytes until k free given small =
             let i = k.due.each t now more.0 in
             let held = k.due.many in
             record {
-              queue = late_queue_more now t s.queue _ i.queue (late_before now t (record { ticket = ticket; payload = payload; fragments = cut s.fragment bytes; until = until; limit = None }) (λ same. more.1 (omega (arith, held, given, same))));
+              queue = late_queue_more now t s.queue _ i.queue (late_before now t (record { ticket = ticket; payload = payload; fragments = cut s.fragment bytes; until = until; limit = limit }) (λ same. more.1 (omega (arith, held, given, same))));
               items = i.items;
               tracks = i.tracks;
             };
       };
       forward = k.forward;
       unreset = k.unreset;
-      reached = Queues v lane payload bytes until None k.reached free;
+      before = k.before;
+      reached = Queues v lane payload bytes until limit k.reached free;
     }
   where
     or_true : (b : Bool) → (b || true) ≡ true

@@ -1,38 +1,98 @@
--- What the data timer leaves of what is kept, and a sender that was given nothing.
-use Rattle.std.proofs.Common.{◌≡◌, ℕ, suc, ◌+◌, ◌<◌, List, [], ◌∷◌, length, map, drop, Bool, true, false, Some, None, refl, sym, ap, ◌∙◌, subst, arith}
-use Rattle.std.specs.Prelude.{slice_get, replicate}
-use Rattle.std.proofs.lemmas.List.{length-map}
+-- What marks leave of what is kept, and a sender that was given nothing.
+use Rattle.std.proofs.Common.{◌≡◌, ℕ, suc, ◌+◌, ◌-◌, ◌<◌, ◌≤◌, List, [], ◌∷◌, length, map, drop, Bool, true, false, Some, None, refl, sym, ap, ◌∙◌, arith}
+use Rattle.std.specs.Prelude.{◌&&◌, ◌||◌, nat_le, nat_lt, if◌then◌else◌, slice_get, replicate}
+use Rattle.std.proofs.lemmas.Bool.Decides.{nat_tests}
 use Rattle.sctp_model.specs.messages.Format.{Format}
 use Rattle.sctp_model.specs.messages.Plan.{Entry, entry_at}
 use Rattle.sctp_model.specs.sender.SenderView.{SenderView, fresh_sender}
-use Rattle.sctp_model.specs.sender.Abandoning.{timed_out}
+use Rattle.sctp_model.specs.sender.Abandoning.{is_to_repeat, marking}
 use Rattle.sctp_model.specs.sender.Reached.{Begins, Repeats}
 use Rattle.sctp_model.proofs.sender.OwedLaws.{sum-zero}
 use Rattle.sctp_model.proofs.sender.PointLaws.{get-drop}
-use Rattle.sctp_send.specs.SenderKept.{Kept}
-use Rattle.sctp_send.specs.SenderStands.{items_from, Keeps}
+use Rattle.sctp_send.specs.SenderKept.{Item, Kept}
+use Rattle.sctp_send.specs.SenderStands.{item_here, items_from, Keeps}
+use Rattle.sctp_send.specs.OutstandingFields.{item_meaning}
+use Rattle.sctp_send.specs.inner.Dues.{some_late, standing_message, standing_messages}
+use Rattle.sctp_send.specs.inner.Walks.{any_item}
+use Rattle.sctp_send.specs.inner.Marking.{AreCapped}
+use Rattle.sctp_send.specs.declared.kept.entry.Entry.{Entry as EntryFields}
 use Rattle.sctp_send.proofs.TableLemmas.{table-replicate}
-use Rattle.sctp_send.proofs.LimitLemmas.{AreUnlimited, may_repeat}
-use Rattle.sctp_send.proofs.kept.ItemLemmas.{timed_item}
-use Rattle.sctp_send.proofs.OverLemmas.{same_items, no_rests}
-use Rattle.sctp_send.proofs.DueLemmas.{late_same, late_no_rests}
+use Rattle.sctp_send.proofs.sack.MarkLemmas.{timed_item, timed_items}
+use Rattle.sctp_send.proofs.OverLemmas.{no_rests}
+use Rattle.sctp_send.proofs.DueLemmas.{late_no_rests}
 
--- ---- the data timer
+-- ---- marks
 
--- what the data timer marks
-timed-items_from : (v : SenderView) (i : ℕ) (es : List Entry) → AreUnlimited (items_from v i es) → ((j : ℕ) → j < length es → entry_at v.plan (i + j) ≡ slice_get es j) → map timed_item (items_from v i es) ≡ items_from (timed_out v) i es
-timed-items_from v i [] free there = refl
-timed-items_from v i (e ∷ es) free there =
-    let zeroed : i + 0 ≡ i = omega arith in
-    let here : entry_at v.plan i ≡ Some e = rw zeroed at (there 0 (omega arith)) in
-    let again = may_repeat v i e free.0 in
-    let rest = timed-items_from v (suc i) es free.1 (λ j lt. let next : suc i + j ≡ i + suc j = omega arith in rw next (there (suc j) (omega arith))) in
-    rw (here, again, rest) refl
+-- each entry says how often its index was retransmitted
+pub capped_from : (size : ℕ) (v : SenderView) (j : ℕ) (es : List EntryFields) (ds : List Entry) → map (item_meaning size) es ≡ items_from v (suc (v.cum + j)) ds → AreCapped (λ k. v.repeats (suc (v.cum + k))) j es
+capped_from size v j [] ds is = tt
+capped_from size v j (e ∷ es) [] is = absurd (cc)
+capped_from size v j (e ∷ es) (d ∷ ds) is =
+    let next : suc (suc (v.cum + j)) ≡ suc (v.cum + suc j) = omega arith in
+    let head : item_meaning size e ≡ item_here v (suc (v.cum + j)) d = cc in
+    let tail : map (item_meaning size) es ≡ items_from v (suc (suc (v.cum + j))) ds = cc in
+    (ap (λ (x : Item). x.repeats) head, capped_from size v (suc j) es ds (tail ∙ ap (λ (i : ℕ). items_from v i ds) next))
 
-pub keeps_timed : (f : Format) (s : Kept) (v : SenderView) → Keeps f s v → AreUnlimited s.items → Keeps f (record s { items = map timed_item s.items }) (timed_out v)
-keeps_timed f s v k free =
-    let marks = timed-items_from v (suc v.cum) (drop v.cum v.plan.entries) (subst AreUnlimited k.holds.items free) (λ j lt. let next : suc v.cum + j ≡ suc (v.cum + j) = omega arith in rw next (get-drop v.cum v.plan.entries j)) in
-    let long = length-map s.items timed_item in
+pub kept_capped : (f : Format) (s : Kept) (v : SenderView) (size : ℕ) (es : List EntryFields) → Keeps f s v → s.items ≡ map (item_meaning size) es → AreCapped (λ k. v.repeats (suc (v.cum + k))) 0 es
+kept_capped f s v size es k is = let zeroed : v.cum + 0 ≡ v.cum = omega arith in capped_from size v 0 es (drop v.cum v.plan.entries) (rw zeroed (sym is ∙ k.holds.items))
+
+-- a mark leaves the message
+marked_message : (p : Bool) (r : ℕ) (x : Item) (b : Bool) → (if b then timed_item p r x else x).message ≡ x.message
+marked_message p r x true = refl
+marked_message p r x false = refl
+
+marked_standing : (a p : Bool) (r : ℕ) (x : Item) (b : Bool) → standing_message a (if b then timed_item p r x else x) ≡ standing_message a x
+marked_standing a p r x true = refl
+marked_standing a p r x false = refl
+
+same_timed : (t : ℕ) (p : Bool) (rs : ℕ → ℕ) (test : ℕ → Bool) (i : ℕ) (xs : List Item) → any_item t (timed_items p rs test i xs) ≡ any_item t xs
+same_timed t p rs test i [] = refl
+same_timed t p rs test i (x ∷ xs) = rw (marked_message p (rs i) x (test i), same_timed t p rs test (suc i) xs) refl
+
+late_timed : (now t : ℕ) (a p : Bool) (rs : ℕ → ℕ) (test : ℕ → Bool) (i : ℕ) (xs : List Item) → some_late now t (standing_messages a (timed_items p rs test i xs)) ≡ some_late now t (standing_messages a xs)
+late_timed now t a p rs test i [] = refl
+late_timed now t a p rs test i (x ∷ xs) = rw (marked_standing a p (rs i) x (test i), late_timed now t a p rs test (suc i) xs) refl
+
+length-timed : (p : Bool) (rs : ℕ → ℕ) (test : ℕ → Bool) (i : ℕ) (xs : List Item) → length (timed_items p rs test i xs) ≡ length xs
+length-timed p rs test i [] = refl
+length-timed p rs test i (x ∷ xs) = ap suc (length-timed p rs test (suc i) xs)
+
+-- the items of the view with its marks
+timed-items_from : (v : SenderView) (test t : ℕ → Bool) (j : ℕ) (es : List Entry) → ((k : ℕ) → k < length es → t (j + k) ≡ test (suc (v.cum + (j + k))))
+    → ((k : ℕ) → k < length es → entry_at v.plan (suc (v.cum + (j + k))) ≡ slice_get es k)
+    → timed_items v.partial (λ k. v.repeats (suc (v.cum + k))) t j (items_from v (suc (v.cum + j)) es) ≡ items_from (marking v test) (suc (v.cum + j)) es
+timed-items_from v test t j [] tells there = refl
+timed-items_from v test t j (e ∷ es) tells there =
+    let zeroed : j + 0 ≡ j = omega arith in
+    let next : suc (suc (v.cum + j)) ≡ suc (v.cum + suc j) = omega arith in
+    let here : entry_at v.plan (suc (v.cum + j)) ≡ Some e = rw zeroed at (there 0 (omega arith)) in
+    let passes : t j ≡ test (suc (v.cum + j)) = rw zeroed at (tells 0 (omega arith)) in
+    let rest = timed-items_from v test t (suc j) es
+    (λ k lt. let more : suc j + k ≡ j + suc k = omega arith in rw more (tells (suc k) (omega arith)))
+    (λ k lt. let more : suc j + k ≡ j + suc k = omega arith in rw more (there (suc k) (omega arith))) in
+    rw (here, ← passes, next, rest) (ap (λ (x : Item). x ∷ items_from (marking v test) (suc (v.cum + suc j)) es) (one (suc (v.cum + j)) (t j)))
+  where
+    no_mark : (b : Bool) → (b || false) ≡ b
+    no_mark true = refl
+    no_mark false = refl
+
+    one : (i : ℕ) (b : Bool) → (if b then timed_item v.partial (v.repeats i) (item_here v i e) else item_here v i e) ≡ record (item_here v i e) { marked = v.marked i || (b && is_to_repeat v i e) }
+    one i true = refl
+    one i false = ap (λ (m : Bool). record (item_here v i e) { marked = m }) (sym (no_mark (v.marked i)))
+
+-- What is kept once the entries at some offsets are marked, where the test passes their indexes alone.
+pub keeps_marked : (f : Format) (s : Kept) (v : SenderView) (test : ℕ → Bool) (from to : ℕ) → Keeps f s v → ((k : ℕ) → k < length s.items → (nat_le from k && nat_lt k to) ≡ test (suc (v.cum + k)))
+    → Keeps f (record s { items = timed_items s.partial (λ k. v.repeats (suc (v.cum + k))) (λ k. nat_le from k && nat_lt k to) 0 s.items }) (marking v test)
+keeps_marked f s v test from to k tells =
+    let within : ℕ → Bool = λ j. nat_le from j && nat_lt j to in
+    let rs : ℕ → ℕ = λ j. v.repeats (suc (v.cum + j)) in
+    let zeroed : v.cum + 0 ≡ v.cum = omega arith in
+    let many : length s.items ≡ length (drop v.cum v.plan.entries) = ap (λ (xs : List Item). length xs) k.holds.items ∙ count_from v (suc v.cum) (drop v.cum v.plan.entries) in
+    let marks : timed_items v.partial rs within 0 (items_from v (suc v.cum) (drop v.cum v.plan.entries)) ≡ items_from (marking v test) (suc v.cum) (drop v.cum v.plan.entries) =
+    rw zeroed at (timed-items_from v test within 0 (drop v.cum v.plan.entries)
+    (λ j lt. let zero_on : 0 + j ≡ j = omega arith in rw zero_on (tells j (omega (arith, lt, many))))
+    (λ j lt. let zero_on : 0 + j ≡ j = omega arith in rw zero_on (get-drop v.cum v.plan.entries j))) in
+    let long = length-timed s.partial rs within 0 s.items in
     let room = k.holds.room in
     record {
       holds = record {
@@ -43,23 +103,51 @@ keeps_timed f s v k free =
         cum = k.holds.cum;
         rwnd = k.holds.rwnd;
         turn = k.holds.turn;
-        items = ap (map timed_item) k.holds.items ∙ marks;
+        items = ap (λ (p : Bool). timed_items p rs within 0 s.items) k.holds.partial ∙ ap (timed_items v.partial rs within 0) k.holds.items ∙ marks;
         queue = k.holds.queue;
         tracks = k.holds.tracks;
         fates = k.holds.fates;
         covered = k.holds.covered;
         room = omega (arith, long, room);
       };
-      over = record { within = k.over.within; each = λ t le. let o = k.over.each t le in record { queue = o.queue; tracks = o.tracks; items = same_items t timed_item s.items (λ y. refl) ∙ o.items } };
-      due = record { many = k.due.many; each = λ t now lt. let i = k.due.each t now lt in record { queue = i.queue; items = λ on. late_same now t s.asleep timed_item s.items (λ y. refl) ∙ i.items on; tracks = i.tracks } };
+      over = record { within = k.over.within; each = λ t le. let o = k.over.each t le in record { queue = o.queue; tracks = o.tracks; items = same_timed t s.partial rs within 0 s.items ∙ o.items } };
+      due = record { many = k.due.many; each = λ t now lt. let i = k.due.each t now lt in record { queue = i.queue; items = λ on. late_timed now t s.asleep s.partial rs within 0 s.items ∙ i.items on; tracks = i.tracks } };
       forward = k.forward;
       unreset = k.unreset;
-      reached = Repeats v (λ i. true) k.reached;
+      before = k.before;
+      reached = Repeats v test k.reached;
     }
+  where
+    count_from : (u : SenderView) (i : ℕ) (es : List Entry) → length (items_from u i es) ≡ length es
+    count_from u i [] = refl
+    count_from u i (e ∷ es) = ap suc (count_from u (suc i) es)
+
+-- ---- ranges of indexes
+
+-- offsets from an index on, below another
+pub offsets_between : (cum from below k : ℕ) → (nat_le (from - cum - 1) k && nat_lt k (below - cum - 1)) ≡ (nat_le from (suc (cum + k)) && nat_lt (suc (cum + k)) below)
+offsets_between cum from below k = ap (λ (b : Bool). b && nat_lt k (below - cum - 1)) first ∙ ap (λ (b : Bool). nat_le from (suc (cum + k)) && b) last
+  where
+    le_same : (a b c d : ℕ) → (a ≤ b → c ≤ d) → (b < a → d < c) → nat_le a b ≡ nat_le c d
+    le_same a b c d on off = by_test (nat_le a b) refl
+      where
+        by_test : (t : Bool) → nat_le a b ≡ t → nat_le a b ≡ nat_le c d
+        by_test true is = let le : a ≤ b = grind (arith, nat_tests) in let further = on le in grind (arith, nat_tests)
+        by_test false is = let gt : b < a = grind (arith, nat_tests) in let further = off gt in grind (arith, nat_tests)
+
+    first : nat_le (from - cum - 1) k ≡ nat_le from (suc (cum + k))
+    first = le_same (from - cum - 1) k from (suc (cum + k)) (λ h. omega (arith, h)) (λ h. omega (arith, h))
+
+    last : nat_lt k (below - cum - 1) ≡ nat_lt (suc (cum + k)) below
+    last = le_same (suc k) (below - cum - 1) (suc (suc (cum + k))) below (λ h. omega (arith, h)) (λ h. omega (arith, h))
+
+-- all offsets
+pub offsets_all : (last k : ℕ) → k < last → (nat_le 0 k && nat_lt k last) ≡ true
+offsets_all last k lt = let one : nat_le 0 k ≡ true = grind (arith, nat_tests) in let two : nat_lt k last ≡ true = grind (arith, nat_tests) in rw (one, two) refl
 
 -- a sender that was given nothing
 pub keeps_fresh : (f : Format) (initial streams fragment rwnd capacity : ℕ) (partial : Bool) → 0 < fragment
-    → Keeps f (record { initial = initial; streams = streams; fragment = fragment; partial = partial; cum = 0; rwnd = rwnd; turn = 0; items = []; queue = []; tracks = replicate streams (record { ordered = 0; unordered = 0; rest = None }); fates = []; ended = 0; runs = Some []; capacity = capacity; passed = 0; moments = []; asleep = false; forward = None })
+    → Keeps f (record { initial = initial; streams = streams; fragment = fragment; partial = partial; cum = 0; rwnd = rwnd; turn = 0; items = []; queue = []; tracks = replicate streams (record { ordered = 0; unordered = 0; rest = None }); fates = []; ended = 0; runs = Some []; capacity = capacity; passed = 0; moments = []; asleep = false; before = 0; forward = None })
     (fresh_sender initial streams fragment rwnd partial)
 keeps_fresh f initial streams fragment rwnd capacity partial large = record {
   holds = record {
@@ -81,5 +169,6 @@ keeps_fresh f initial streams fragment rwnd capacity partial large = record {
   due = record { many = refl; each = λ t now lt. record { queue = refl; items = λ on. refl; tracks = λ on. late_no_rests now t streams } };
   forward = tt;
   unreset = record { base = refl; sending = refl; pending = refl };
+  before = refl;
   reached = Begins initial streams fragment rwnd partial large;
 }

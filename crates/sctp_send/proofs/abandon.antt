@@ -6,3 +6,6 @@ pub mod UntilLemmas
 pub mod MomentKept
 pub mod AnswerLemmas
 pub mod ExpireKept
+pub mod WearLemmas
+pub mod LimitLemmas
+pub mod LimitLaws

@@ -18,6 +18,7 @@ pub mod ListParts
 pub mod OrderLemmas
 pub mod OrderShortened
 pub mod TicketWalks
+pub mod SpentWalks
 pub mod PartSeatLemmas
 pub mod PartLookLemmas
 pub mod PartStreams

@@ -8,4 +8,5 @@ pub mod SenderFields
 pub mod SenderAnswers
 pub mod Waiting
 pub mod FillAnswers
+pub mod PaceAnswers
 pub mod inner

@@ -1,5 +1,5 @@
 -- What an entry above CUM says: its message, what its index has, how far it came.
-use Rattle.std.specs.Prelude.{ℕ, Bool, true, false, List, map, None, Some}
+use Rattle.std.specs.Prelude.{ℕ, Bool, true, false, List, map, Some}
 use Rattle.sctp_model.specs.messages.Format.{Lane}
 use Rattle.sctp_model.specs.messages.Plan.{Message, Entry, Part, End}
 use Rattle.sctp_model.specs.sender.SenderView.{Queued}
@@ -30,9 +30,9 @@ is_marked Marked = true
 abbrev pub lane_meaning : MessageFields → Lane
 lane_meaning m = record { stream = m.stream; kind = kind_meaning m.kind }
 
--- the message that was handed in, cut into fragments (RFC 9260, 6.9), each of which is repeated until it is acknowledged
+-- the message that was handed in, cut into fragments (RFC 9260, 6.9), with the limit of retransmissions of each (RFC 7496, 3.1)
 abbrev pub message_meaning : ℕ → MessageFields → Message
-message_meaning size m = record { ticket = m.ticket; payload = m.payload_id; fragments = cut size m.bytes.items; until = m.until; limit = None }
+message_meaning size m = record { ticket = m.ticket; payload = m.payload_id; fragments = cut size m.bytes.items; until = m.until; limit = m.limit }
 
 -- the same message while it waits for its number
 abbrev pub queued_meaning : ℕ → MessageFields → Queued
@@ -52,6 +52,7 @@ item_meaning size e = record {
   marked = is_marked e.standing;
   covered = e.covered;
   abandoned = e.abandoned;
+  repeats = e.repeats;
 }
 
 -- the lane of a stream and a kind

@@ -1,14 +1,16 @@
 -- What the calls of a sender answer, in terms of a view that it stands for, and the view that they leave.
-use Rattle.std.specs.Prelude.{◌≡◌, ℕ, suc, nat_lt, Bool, not, ◌&&◌, List, Option, None, Some, Result, Ok, Err}
+use Rattle.std.specs.Prelude.{◌≡◌, ℕ, suc, nat_lt, ◌==◌, Bool, not, ◌&&◌, List, length, Option, None, Some, Result, Ok, Err}
+use Rattle.std.specs.List.{list_any}
 use Rattle.sctp_model.specs.messages.Format.{Lane}
 use Rattle.sctp_model.specs.messages.Framing.{lane_kind}
 use Rattle.sctp_model.specs.sender.SenderView.{SenderView}
-use Rattle.sctp_model.specs.sender.Words.{lowest}
+use Rattle.sctp_model.specs.sender.Words.{lowest, count_up}
+use Rattle.sctp_model.specs.sender.Entries.{is_of_abandoned, passes_at}
 use Rattle.sctp_model.specs.sender.Queueing as model
 use Rattle.sctp_model.specs.sender.Queueing.{refusal, queued}
 use Rattle.sctp_model.specs.sender.SackTaken as taken
 use Rattle.sctp_model.specs.sender.Abandoning as gone
-use Rattle.sctp_model.specs.sender.Abandoning.{is_to_expire}
+use Rattle.sctp_model.specs.sender.Abandoning.{is_to_expire, is_worn, ticket_at}
 use Rattle.sctp_send.specs.declared.abandon.Abandoned.{Abandoned as AbandonedFields}
 use Rattle.sctp_send.specs.declared.abandon.Abandoned.TheVariants.{Withdrawn, Abandoned, Acknowledged, Unknown, Reliable}
 use Rattle.sctp_values.specs.declared.ticket.Ticket.{Ticket}
@@ -78,3 +80,17 @@ answer_code Reliable = 5
 -- the lowest ticket above this one whose message is past its time and may be abandoned
 abbrev pub next_late : SenderView → (last now : ℕ) → Option ℕ
 next_late v last now = lowest (λ t. nat_lt last t && is_to_expire v now t) v.tickets
+
+-- ---- the messages at their limit of retransmissions
+
+-- an outstanding fragment at an index, of a message that isn't abandoned, was retransmitted as often as that allows (RFC 7496, 3.1)
+abbrev pub is_limit_at : SenderView → (index : ℕ) → Bool
+is_limit_at v i = nat_lt v.cum i && passes_at v.plan (λ j e. not (is_of_abandoned v e) && is_worn v j e) i
+
+-- the message with this ticket has such a fragment
+abbrev pub is_at_limit : SenderView → (ticket : ℕ) → Bool
+is_at_limit v t = list_any (λ i. is_limit_at v i && (ticket_at v i == t)) (count_up 1 (length v.plan.entries))
+
+-- the lowest ticket above this one of such a message
+abbrev pub next_at_limit : SenderView → (last : ℕ) → Option ℕ
+next_at_limit v last = lowest (λ t. nat_lt last t && is_at_limit v t) v.tickets

@@ -14,6 +14,8 @@ pub record Item : Type 0 where
   pub marked : Bool
   pub covered : Bool
   pub abandoned : Bool
+  -- how often it was retransmitted, 65535 at most
+  pub repeats : ℕ
 
 -- the fragment that a message in part takes next
 pub record Rest : Type 0 where
@@ -51,5 +53,7 @@ pub record Kept : Type 0 where
   pub moments : List ℕ
   -- that is said of messages whose entries are covered, too, unless this is so
   pub asleep : Bool
+  -- the highest index up to CUM that was sent
+  pub before : ℕ
   -- the FORWARD that was built last
   pub forward : Option LastForward

@@ -1,11 +1,12 @@
 -- When a sender stands for a view: what it keeps is what the view says, and the view is one that calls reach.
-use Rattle.std.specs.Prelude.{◌≡◌, ℕ, zero, suc, ◌+◌, ◌≤◌, max, false, if◌then◌else◌, List, [], ◌∷◌, length, drop, Option, None, Some}
+use Rattle.std.specs.Prelude.{◌≡◌, ℕ, zero, suc, ◌+◌, ◌≤◌, min, max, false, if◌then◌else◌, List, [], ◌∷◌, length, drop, Option, None, Some}
 use Rattle.sctp_model.specs.messages.Format.{Format, ordered_lane, unordered_lane}
 use Rattle.sctp_model.specs.messages.Plan.{Entry, Plan}
 use Rattle.sctp_model.specs.sender.Outgoing.{Outgoing, Sends}
 use Rattle.sctp_model.specs.sender.SenderView.{SenderView}
 use Rattle.sctp_model.specs.sender.Entries.{entry_message, is_of_abandoned, continued, in_part}
 use Rattle.sctp_model.specs.sender.Abandoning.{Name, name_of, waits, is_abandoned}
+use Rattle.sctp_model.specs.sender.Words.{last_that}
 use Rattle.sctp_model.specs.sender.Reached.{IsReached}
 use Rattle.sctp_send.specs.SenderKept.{Item, Rest, Track, Kept}
 use Rattle.sctp_send.specs.OutstandingFields.{no_base}
@@ -23,7 +24,15 @@ table f i (suc n) = f i ∷ table f (suc i) n
 
 -- what the view says of an entry at an index
 abbrev pub item_here : SenderView → ℕ → Entry → Item
-item_here v i e = record { entry = e; message = entry_message v.plan e; sent = v.sent i; marked = v.marked i; covered = v.covered i; abandoned = is_of_abandoned v e }
+item_here v i e = record {
+  entry = e;
+  message = entry_message v.plan e;
+  sent = v.sent i;
+  marked = v.marked i;
+  covered = v.covered i;
+  abandoned = is_of_abandoned v e;
+  repeats = min (v.repeats i) 65535;
+}
 
 -- the same of entries one behind the other, the first of them at this index
 abbrev pub items_from : SenderView → ℕ → List Entry → List Item
@@ -94,6 +103,7 @@ pub record Keeps (f : Format) (s : Kept) (v : SenderView) : Type 0 where
   pub due : AreDue s v.tickets
   pub forward : IsForwardKept f v.streams v.plan.entries s.forward
   pub unreset : IsUnreset v.resets
+  pub before : s.before ≡ last_that v.sent v.cum
   pub reached : IsReached f v
 
 -- Stands for: hidden from the crates above, which know it by the clauses alone.

@@ -1,8 +1,10 @@
 pub mod Changes
+pub mod Marking
 pub mod Acknowledging
 pub mod Walks
 pub mod Expiring
 pub mod Wishing
+pub mod Weighing
 pub mod Newcomers
 pub mod Stocking
 pub mod Ordering
@@ -15,3 +17,4 @@ pub mod PartSeats
 pub mod FateBlocks
 pub mod Stretching
 pub mod Dues
+pub mod Wearing

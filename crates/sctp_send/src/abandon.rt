@@ -1,5 +1,6 @@
 //! Abandoning a message on request (RFC 3758, 3.5; RFC 8260, 2.3.1).
 
+pub mod at_limit;
 pub mod expire;
 pub mod moments;
 pub mod wear;
@@ -202,5 +203,6 @@ fn end_mark(ending: Ending) -> Entry
         standing: Standing::Unsent,
         covered: false,
         abandoned: true,
+        repeats: 0,
     }
 }

@@ -8,31 +8,39 @@
 //! |---|---|
 //! | [`Sender::new`] | the sender stands for the fresh view of its arguments, also with 0 streams |
 //! | [`Sender::queue`] | `answer`: the first of NoSuchStream, Empty, TooLong, QueueFull, Spent that applies, each if and only if it is the first; NoMemory only if none applies; an accepted message has the next ticket. `step`: the view with the message at the end of its queue, cut into fragments, or the same view |
+//! | [`Sender::queue_limited`] | as `queue`, of a message each of whose fragments is retransmitted at most so often, if there is a limit |
 //! | [`Sender::fill`] | `step`: the packet gets the longest list of chunks of which each is the next to be sent and may go (it fits, the flow rule and the window allow it), after its own chunks; the sender stands for the view after them; the tickets returned are those of the messages that began, in the order of their first TSNs. `memory`: after NoMemory it stands for the same view. `some`: the packet then has a beginning of that list, each chunk whole, and one more would go |
 //! | [`Sender::on_sack`] | `answer`: the first of Stale, Beyond, BadBlock that applies, in this order, each if and only if it is the first. `step`: the view with the SACK's CUM, gap blocks (in place of those of the last SACK) and window, or the same view |
 //! | [`Sender::on_shutdown`] | as `on_sack` for the cumulative TSN of a SHUTDOWN; what gap blocks acknowledged beyond it stays acknowledged |
-//! | [`Sender::on_timeout`] | every chunk that was sent and is neither acknowledged nor abandoned is marked for retransmission |
+//! | [`Sender::on_timeout`] | every chunk that was sent and is neither acknowledged nor abandoned is marked for retransmission, unless it was retransmitted as often as its message's limit allows |
+//! | [`Sender::on_missed`] | so are those with the indexes from one on, below another |
 //! | [`Sender::abandon`] | `answer`: the first of the five answers that applies. `step`: a message without a TSN leaves the queue; one with TSNs is abandoned, with its marks; one sent in part gets an end mark |
 //! | [`Sender::wear`] | each message is abandoned, as by `abandon`, if one of its outstanding fragments was retransmitted as often as its limit allows |
-//! | [`Sender::limits`] | None if no message that is held has a limit of retransmissions: then `wear` abandons nothing, nor does it after `expire` |
+//! | [`Sender::wear_between`] | so is each message if one of its outstanding fragments with the indexes from one on, below another, was |
+//! | [`Sender::next_at_limit`] | the lowest ticket above one of a message that isn't abandoned and has an outstanding fragment retransmitted as often as its limit allows |
 //! | [`Sender::expire`] | each message whose lifetime is over is abandoned, by rising ticket, as `abandon` would |
 //! | [`Sender::put_forward`] | `answer`: true if and only if the FORWARD goes past CUM and fits what is left of the packet. `after`: the packet has it after its other chunks, or is as before. `reaches`: with the least packet limit or more it goes past CUM whenever the point does. `memory`, `unchanged`: NoMemory only if the chunk would have gone in, and the packet is then as before |
 //! | [`Sender::keep_forward`] | the sender stands for the same views: it builds the FORWARD ahead, for `put_forward` to take |
 //! | [`Sender::has_late`], [`Sender::next_late`] | whether a message that may be abandoned is late, and the lowest such ticket above one; if none is, `expire` changes nothing (`idle`) |
 //! | [`Sender::cum`], [`Sender::point`], [`Sender::unsettled`], [`Sender::outstanding`], [`Sender::drained`], [`Sender::acknowledged`], [`Sender::abandoned`], [`Sender::tickets`], [`Sender::peer_window`] | exactly the functions of `sender/Readers` of the model; at most 32,767 are outstanding (`bound`) |
+//! | [`Sender::in_flight`], [`Sender::last_sent`], [`Sender::room_of_repeats`] | the bytes in flight, the highest index that was sent, the space of the retransmissions among what `fill` would put into a packet: exactly `in_flight`, `last_sent`, `room_of_repeats` of the model |
+//! | [`Sender::first_missed`], [`Sender::is_marked_or_covered`] | the lowest index in flight from one on, below another; whether an index is marked or acknowledged |
+//! | [`Sender::weigh`], [`Sender::weigh_shutdown`], [`Weight`] | of a SACK or a SHUTDOWN without a fault, before it is taken: whether it moves CUM, CUM after it, the highest indexes and the bytes that it newly acknowledges, and whether the chunk that is timed is among them (`IsWeight`) |
 //! | [`Sender::queued`], [`Sender::queued_bytes`] | the length and the bytes of the queue; at most 1,024 messages of 65,536 bytes (`bound`) |
 //! | [`Sender::reached`] | a law: each view that a sender stands for is one that its calls reach |
+//! | [`Sender::limited`] | laws: an abandoned message isn't at its limit (`gone`), and `wear` and `wear_between` abandon only messages that `next_at_limit` gives (`only`) |
 //!
-//! Only `new`, `queue`, `fill` and `put_forward` return NoMemory; `keep_forward` may allocate, and the others don't. So that `abandon`, `expire` and SACKs
-//! needn't, a message that begins reserves one entry for its end mark, besides those of the messages in part (`room` of `Holds`), and the first entry
-//! reserves the space for the runs of SACKs.
+//! Only `new`, `queue`, `queue_limited`, `fill` and `put_forward` return NoMemory; `keep_forward` may allocate, and the others don't. So that
+//! `abandon`, `expire`, `wear` and SACKs needn't, a message that begins reserves one entry for its end mark, besides those of the messages in part
+//! (`room` of `Holds`), and the first entry reserves the space for the runs of SACKs.
 //!
 //! Laws of every view that calls reach, by induction over the calls (`sctp_model/proofs/sender`): CUM is no more than the TSNs assigned, all up to it
 //! is acknowledged, nothing beyond the last TSN is said (`Bounds`); TSNs after CUM and messages in part are at most 32,767, TSNs assigned and owed at
 //! most 2^63 - 1 (`OwedLaws`); a ticket is of one message at most (`TicketLaws`), by which its entries are found (`NameLaws`); only `abandon`,
-//! `expire` and `wear` abandon a message (`AbandonedLaws`); the point is the largest index up to which all after CUM is abandoned (`point_is_point`); a FORWARD
-//! lists the largest number of each numbered (stream, kind) that it skips, by rising stream (`forward_is_forward`), and goes as far as a packet lets it
-//! (`ForwardEnd`); what a packet is filled with is one list (`FillLaws`).
+//! `expire`, `wear` and `wear_between` abandon a message (`AbandonedLaws`); none goes out again more often than its limit allows (`WornLaws`); the
+//! point is the largest index up to which all after CUM is abandoned (`point_is_point`); a FORWARD lists the largest number of each numbered (stream,
+//! kind) that it skips, by rising stream (`forward_is_forward`), and goes as far as a packet lets it (`ForwardEnd`); what a packet is filled with is
+//! one list (`FillLaws`).
 //!
 //! Words of the code, by the RFCs' words: an *index* counts TSNs from 1, the initial TSN; *CUM* is the Cumulative TSN Ack Point, the *point* the
 //! Advanced.Peer.Ack.Point; an entry is *covered* if a gap block of the last SACK acknowledges it, *marked* if it waits for retransmission; a *lane* is a
@@ -41,13 +49,17 @@
 //!
 //! Costs: a chunk costs its bytes and a constant, a SACK its blocks, the runs of the last one, what CUM passes, and what is newly acknowledged or no
 //! longer so (64 entries at a time, if they are alike); a FORWARD a walk over what it passes the first time, and its list when it is sent again;
-//! `on_timeout` all that is outstanding; `expire` and `next_late` the tickets whose deadlines have passed; readers are constant, `abandon` and
-//! `acknowledged` a binary search and the message's own entries. What is kept for that is in `kept`, and each part's counts are its invariant.
+//! `on_timeout` and `wear` all that is outstanding, `on_missed` and `wear_between` what is of their range, `next_at_limit` the outstanding entries of
+//! higher tickets up to the one that it finds; `expire` and `next_late` the tickets whose deadlines have passed; `weigh` what the SACK does but for what is
+//! no longer acknowledged, each entry once, `first_missed` its range, `room_of_repeats` the entries from the first marked one on, `last_sent` the
+//! entries after it, which were never sent; other readers are constant, `abandon` and `acknowledged` a binary search and the message's own entries. What is kept for that is in `kept`, and each part's counts are its invariant: an entry
+//! takes 32 bytes with the count of its retransmissions, which ends at 65,535, as limits do.
 //!
 //! The files of `src` form a path on which each imports only what is before it: `due_pages`, `last_forward`, `message`, `ordered`; `blocks`, `by_ticket`,
 //! `due_table`, `entry`, `seats`, `track`; `dues`, `fates`, `part_lists`, `pieces`; `looking`, `queue`, `told`, `wishes`; `counts`, `streams`; `stretches`;
-//! `outstanding`; `by_message`, `entries`, `lanes`, `pushing`, `run_room`, `searching`, `stock`, `telling`; `assigning`, `covered`, `indexed`, `sender`,
-//! `waking`; `entering`, `fill`, `laws`, `queueing`, `readers`, `sack`, `wear`; `abandon`, `keeping`, `moments`; `expire`, `forward`, `putting`.
+//! `outstanding`; `by_message`, `entries`, `flying`, `lanes`, `marking`, `pushing`, `repeats`, `run_room`, `searching`, `stock`, `tally`, `telling`,
+//! `weight`; `assigning`, `covered`, `indexed`, `sender`, `waking`; `at_limit`, `entering`, `fill`, `last`, `laws`, `pace`, `passing`, `queueing`,
+//! `readers`, `sack`, `wear`, `weighing`; `abandon`, `keeping`, `moments`; `expire`, `forward`, `putting`.
 //!
 //! What a body may still get away with: nothing that a caller can see but costs, how much memory is kept, and the texts of `Debug` and of faults. Only
 //! tested: `crates/sctp_call_rows` compares each answer and each packet's bytes at the limits (docs/CALLS.md).
@@ -58,6 +70,7 @@ mod fill;
 mod forward;
 mod kept;
 mod laws;
+mod pace;
 mod queueing;
 mod readers;
 mod sack;
@@ -66,8 +79,8 @@ mod stock;
 mod told;
 
 pub use abandon::Abandoned;
-pub use abandon::wear::Limits;
 pub use fill::Filled;
+pub use pace::weight::Weight;
 pub use queueing::SendFault;
 pub use sack::SackFault;
 pub use sctp_values::{NoMemory, Ticket};

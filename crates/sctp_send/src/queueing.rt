@@ -1,12 +1,13 @@
 //! Messages from the user: queued, or refused for the first reason that applies (RFC 9260, 6.1 and 6.9).
 
-ghost use Rattle.std.specs.Prelude.{◌≡◌, ℕ, ◌<◌, ◌≤◌, ◌++◌, ◌∷◌, [], true, false, map, length, None, OnOk, OnErr, IfErr, IfSome, IfNone};
+pub mod passing;
+
+ghost use Rattle.std.specs.Prelude.{◌≡◌, ℕ, ◌<◌, ◌++◌, ◌∷◌, [], map, length, None, OnOk, OnErr, IfErr, IfSome, IfNone};
 ghost use Rattle.sctp_model.specs.numbers.Limits.{TICKET_LIMIT};
 ghost use Rattle.sctp_model.specs.sender.SenderView.{SenderView};
 ghost use Rattle.sctp_model.specs.sender.Queueing.{promised, refusal};
-ghost use Rattle.sctp_send.specs.OutstandingFields.{item_meaning, queued_meaning};
-ghost use Rattle.sctp_send.specs.SenderFields.{queued_by, track_meaning};
-ghost use Rattle.sctp_send.specs.inner.Walks.{any_item, any_rest};
+ghost use Rattle.sctp_send.specs.OutstandingFields.{queued_meaning};
+ghost use Rattle.sctp_send.specs.SenderFields.{queued_by};
 ghost use Rattle.sctp_send.specs.declared.queueing.SendFault.TheVariants.{NoMemory as FaultNoMemory};
 ghost use Rattle.sctp_send.specs.SenderStands.{StandsFor};
 ghost use Rattle.sctp_send.specs.SenderAnswers.{QueueAnswer, queue_after, lane_for, refused_with};
@@ -14,9 +15,7 @@ ghost use Rattle.sctp_send.specs.SenderAnswers.{QueueAnswer, queue_after, lane_f
 use crate::kept::dues::Dues;
 use crate::kept::fates::Fates;
 use crate::kept::message::{Fate, Message, fragments_of, in_shell, owed};
-use crate::kept::outstanding::Outstanding;
 use crate::kept::queue::Queue;
-use crate::kept::streams::Streams;
 use crate::sender::Sender;
 use sctp_framing::Framing;
 use sctp_values::{Kind, LONGEST_MESSAGE, NoMemory, QUEUE_LIMIT, TICKET_LIMIT, TSN_LIMIT, Ticket};
@@ -67,7 +66,27 @@ impl<F: Framing> Sender<F> {
         ensures step { (v : SenderView) → StandsFor F.format self.old v
             → StandsFor F.format self.new (queue_after v (lane_for stream ordered) payload_id bytes.items until None result) }
     {
-        match self.accept(stream, ordered, payload_id, bytes, until) {
+        self.queue_limited(stream, ordered, payload_id, bytes, until, None)
+    }
+
+    /// As `queue`, of a message each of whose fragments is retransmitted at most `limit` times, if there is a limit (RFC 7496, 3.1).
+    ///
+    /// # Errors
+    /// As `queue`.
+    pub fn queue_limited(
+        &mut self,
+        stream: u16,
+        ordered: bool,
+        payload_id: u32,
+        bytes: Vec<u8>,
+        until: Option<u64>,
+        limit: Option<u16>,
+    ) -> Result<Ticket, SendFault>
+        ensures answer { (v : SenderView) → StandsFor F.format self.old v → QueueAnswer v stream bytes.items result }
+        ensures step { (v : SenderView) → StandsFor F.format self.old v
+            → StandsFor F.format self.new (queue_after v (lane_for stream ordered) payload_id bytes.items until limit result) }
+    {
+        match self.accept(stream, ordered, payload_id, bytes, until, limit) {
             Ok(ticket) => {
                 self.end_tickets();
                 self.pass_tickets();
@@ -85,10 +104,11 @@ impl<F: Framing> Sender<F> {
         payload_id: u32,
         bytes: Vec<u8>,
         until: Option<u64>,
+        limit: Option<u16>,
     ) -> Result<Ticket, SendFault>
         ensures answer { (v : SenderView) → StandsFor F.format self.old v → QueueAnswer v stream bytes.items result }
         ensures step { (v : SenderView) → StandsFor F.format self.old v
-            → StandsFor F.format self.new (queue_after v (lane_for stream ordered) payload_id bytes.items until None result) }
+            → StandsFor F.format self.new (queue_after v (lane_for stream ordered) payload_id bytes.items until limit result) }
     {
         if let Some(fault) = self.refusal(stream, &bytes) {
             return Err(fault);
@@ -105,6 +125,7 @@ impl<F: Framing> Sender<F> {
             kind: Kind::of_flag(!ordered),
             payload_id,
             until,
+            limit,
             bytes,
         };
         enqueue(
@@ -147,35 +168,6 @@ impl<F: Framing> Sender<F> {
             return Some(SendFault::Spent);
         }
         None
-    }
-
-    /// Where nothing is kept of a block of tickets but their fates, these stand for good, and take less room where they are alike.
-    fn end_tickets(&mut self)
-        ensures { (v : SenderView) → StandsFor F.format self.old v → StandsFor F.format self.new v }
-    {
-        let Some(last) = self.told.fates.next_end() else {
-            return;
-        };
-        if !is_past(&self.parts.streams, &self.parts.outstanding, last) {
-            return;
-        }
-        self.told.fates.end_block();
-    }
-
-    /// Where nothing is kept of the messages of a page of tickets, these are passed: they are never late.
-    fn pass_tickets(&mut self)
-        ensures { (v : SenderView) → StandsFor F.format self.old v → StandsFor F.format self.new v }
-    {
-        let Some(last) = self.told.dues.first_page() else {
-            return;
-        };
-        if !is_past(&self.parts.streams, &self.parts.outstanding, last) {
-            return;
-        }
-        if !self.parts.queue.is_past(last) {
-            return;
-        }
-        self.told.dues.pass_page();
     }
 
     /// The TSNs assigned, and those that the accepted messages may still take.
@@ -225,12 +217,4 @@ fn enqueue(
         Ok(()) => Ok(()),
         Err(_) => Err(SendFault::NoMemory),
     }
-}
-
-/// No message up to this ticket is in part, or has an entry above CUM.
-fn is_past(streams: &Streams, outstanding: &Outstanding, last: u64) -> bool
-    ensures tracks { (size t : ℕ) → result ≡ true → t ≤ last → any_rest t (map (track_meaning size) streams.now.items) ≡ false }
-    ensures items { (size t : ℕ) → result ≡ true → t ≤ last → any_item t (map (item_meaning size) outstanding.now.items) ≡ false }
-{
-    outstanding.is_past(last) && streams.is_past(last)
 }

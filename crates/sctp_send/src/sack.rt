@@ -10,20 +10,22 @@
 
 pub mod covered;
 pub mod entries;
+pub mod marking;
 pub mod telling;
 pub mod waking;
 
-ghost use Rattle.std.specs.Prelude.{◌≡◌, ◌≤◌, length, IfOk};
+ghost use Rattle.std.specs.Prelude.{◌≡◌, ◌≤◌, ◌&&◌, nat_le, nat_lt, length, IfOk};
 ghost use Rattle.sctp_model.specs.sender.SenderView.{SenderView};
 ghost use Rattle.sctp_model.specs.sender.SackTaken.{some_is_bad, some_ends_past, sack_fault, sack_after, shutdown_fault, shutdown_after};
-ghost use Rattle.sctp_model.specs.sender.Abandoning.{timed_out};
+ghost use Rattle.sctp_model.specs.sender.Abandoning.{timed_out, marking};
 ghost use Rattle.sctp_wire.specs.ChunkTree.{sack_meaning};
 ghost use Rattle.sctp_send.specs.SenderStands.{StandsFor};
 ghost use Rattle.sctp_send.specs.SenderAnswers.{reason_meaning};
 ghost use Rattle.sctp_send.specs.inner.Acknowledging.{PassingAnswer};
 
 use crate::sack::covered::cover_blocks;
-use crate::sack::entries::{forget, mark_unsettled, move_on};
+use crate::sack::entries::{forget, move_on};
+use crate::sack::marking::{mark_between, offset_of};
 use crate::sack::waking::wake_for;
 use crate::sender::Sender;
 use sctp_framing::Framing;
@@ -64,6 +66,7 @@ impl<F: Framing> Sender<F> {
         if are_disordered(&sack.blocks) {
             return Err(SackFault::BadBlock);
         }
+        let before = self.last_sent_within(passed as usize);
         let is_known = self.told.is_known;
         wake_for(
             &mut self.told.dues,
@@ -91,6 +94,7 @@ impl<F: Framing> Sender<F> {
             &sack.blocks,
         );
         self.told.cum = self.told.cum.wrapping_add(u64::from(passed));
+        self.told.before = before;
         self.told.rwnd = sack.rwnd;
         Ok(())
     }
@@ -105,6 +109,7 @@ impl<F: Framing> Sender<F> {
         ensures step { (v : SenderView) → StandsFor F.format self.old v → StandsFor F.format self.new (shutdown_after v tsn) }
     {
         let passed = self.passed_by(tsn)?;
+        let before = self.last_sent_within(passed as usize);
         forget(
             &mut self.parts.outstanding,
             &mut self.told.shells,
@@ -114,19 +119,36 @@ impl<F: Framing> Sender<F> {
         let gone = passed as usize;
         move_on(&mut self.told.covered, gone);
         self.told.cum = self.told.cum.wrapping_add(u64::from(passed));
+        self.told.before = before;
         Ok(())
     }
 
-    /// The data timer expired: every chunk that was sent and is neither acknowledged nor abandoned is marked for retransmission (RFC 9260, 6.3.3). It
-    /// doesn't allocate.
+    /// The data timer expired: every chunk that was sent and is neither acknowledged nor abandoned is marked for retransmission (RFC 9260, 6.3.3), unless
+    /// it was retransmitted as often as its message's limit allows (RFC 7496, 3.1). It doesn't allocate.
     pub fn on_timeout(&mut self)
         ensures { (v : SenderView) → StandsFor F.format self.old v → StandsFor F.format self.new (timed_out v) }
     {
-        mark_unsettled(&mut self.parts.outstanding);
+        let last = self.parts.outstanding.len();
+        mark_between(&mut self.parts.outstanding, self.told.partial, 0, last);
+    }
+
+    /// The chunks with the indexes from `from` on, below `below`, are missing at the peer: each that was sent and is neither acknowledged nor abandoned
+    /// is marked for retransmission (RFC 9260, 7.2.4), unless it was retransmitted as often as its message's limit allows (RFC 7496, 3.1). Indexes
+    /// count TSNs from 1, the initial TSN. It doesn't allocate.
+    pub fn on_missed(&mut self, from: u64, below: u64)
+        ensures { (v : SenderView) → StandsFor F.format self.old v → StandsFor F.format self.new (marking v (λ i. nat_le from i && nat_lt i below)) }
+    {
+        let cum = self.told.cum;
+        mark_between(
+            &mut self.parts.outstanding,
+            self.told.partial,
+            offset_of(cum, from),
+            offset_of(cum, below),
+        );
     }
 
     /// How many entries a cumulative TSN passes.
-    fn passed_by(&self, wire: u32) -> Result<u32, SackFault>
+    pub(crate) fn passed_by(&self, wire: u32) -> Result<u32, SackFault>
         ensures answer { (v : SenderView) → StandsFor F.format self.now v → PassingAnswer v wire result }
         ensures within { IfOk result (λ passed. passed ≤ length self.now.items) }
     {

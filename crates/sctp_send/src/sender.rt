@@ -56,6 +56,7 @@ impl<F: Framing> Model for Sender<F> {
       passed = s.told.dues.passed;
       moments = s.told.dues.moments;
       asleep = s.told.dues.asleep;
+      before = s.told.before;
       forward = s.told.forward;
     } };
 
@@ -93,6 +94,7 @@ impl<F: Framing> Sender<F> {
                 fragment,
                 partial,
                 cum: 0,
+                before: 0,
                 rwnd: peer_rwnd,
                 fates: Fates::new(alloc),
                 dues: Dues::new(alloc),

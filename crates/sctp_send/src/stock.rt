@@ -3,10 +3,11 @@
 ghost use Rattle.std.specs.Prelude.{◌≡◌, ℕ, ◌<◌, ◌≤◌, ◌+◌, ◌++◌, ◌∷◌, [], set, length, OnOk};
 ghost use Rattle.std.specs.Vec.{vec_len, vec_capacity};
 ghost use Rattle.sctp_send.specs.PartsKept.{changed_at, changed};
-ghost use Rattle.sctp_send.specs.inner.Undoing.{parts_of, undone, origin, stands_so, waits_again, counted_to, IsKeptRoom};
+ghost use Rattle.sctp_send.specs.inner.Changes.{stood};
+ghost use Rattle.sctp_send.specs.inner.Undoing.{parts_of, undone, origin, waits_again, counted_to, IsKeptRoom};
 ghost use Rattle.sctp_send.specs.declared.stock.Change.TheVariants.{Begun};
 
-use crate::kept::entry::{Entry, Standing};
+use crate::kept::entry::{Entry, State};
 use crate::kept::message::Message;
 use crate::kept::outstanding::Outstanding;
 use crate::kept::queue::Queue;
@@ -30,10 +31,10 @@ pub(crate) struct Stock {
 /// One change, with what was before it.
 #[derive(Drop)]
 pub(crate) enum Change {
-    /// The entry at an offset went out; it stood so.
+    /// The entry at an offset went out; this was before.
     Out {
         at: usize,
-        standing: Standing,
+        state: State,
     },
     /// A message that waited at this place of the queue took its number: its entries stand from this offset on; the turn was so.
     Begun {
@@ -145,7 +146,7 @@ fn undo(stock: &mut Stock, change: Change)
     ensures room { IsKeptRoom stock.old stock.new }
 {
     match change {
-        Change::Out { at, standing } => stand_again(&mut stock.outstanding, at, standing),
+        Change::Out { at, state } => stand_again(&mut stock.outstanding, at, state),
         Change::Begun { place, from, turn } => wait_again(stock, place, from, turn),
         Change::Left { stream, track } => go_on_again(&mut stock.streams, stream, track),
         Change::Continued {
@@ -161,14 +162,11 @@ fn undo(stock: &mut Stock, change: Change)
 }
 
 /// The entry at an offset, where there is one, stands as before.
-fn stand_again(outstanding: &mut Outstanding, at: usize, standing: Standing)
-    ensures { outstanding.new ≡ changed (stands_so standing) at outstanding.old }
+fn stand_again(outstanding: &mut Outstanding, at: usize, state: State)
+    ensures { outstanding.new ≡ changed (stood state) at outstanding.old }
 {
     if at < outstanding.len() {
-        let entry = outstanding.get(at);
-        let covered = entry.covered;
-        let abandoned = entry.abandoned;
-        outstanding.stand(at, standing, covered, abandoned);
+        outstanding.stand(at, state);
     }
 }
 

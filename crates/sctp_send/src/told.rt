@@ -18,6 +18,8 @@ pub(crate) struct Told {
     pub(crate) partial: bool,
     // CUM: all indexes up to it are acknowledged
     pub(crate) cum: u64,
+    // the highest index up to CUM that was sent
+    pub(crate) before: u64,
     // the peer's last advertised window, in bytes
     pub(crate) rwnd: u32,
     // by ticket, from 1 on

@@ -13,8 +13,12 @@ use sctp_values::{
 };
 use std::marker::Model;
 
-/// The configuration of an endpoint: both ports, sizes in bytes, streams each way, which extensions it asks for, whether it delays its SACKs, and
-/// by which timers it closes. Contracts see the definitions' `Configuration`, which is within its limits.
+/// RTO.Min in milliseconds, if nothing else is asked for (RFC 9260, 16).
+const RTO_MIN: u32 = 1_000;
+
+/// The configuration of an endpoint: both ports, sizes in bytes, streams each way, which extensions it asks for, whether it delays its SACKs,
+/// by which timers it closes, and how it detects loss and limits what it sends. Contracts see the definitions' `Configuration`, which is within its
+/// limits.
 #[derive(Clone, Copy, Debug, PartialEq, Eq)]
 pub struct Config {
     pub(crate) own_port: u16,
@@ -28,13 +32,16 @@ pub struct Config {
     pub(crate) partial: bool,
     pub(crate) delay: bool,
     pub(crate) standard_closing: bool,
+    pub(crate) fast_retransmit: bool,
+    pub(crate) congestion_control: bool,
+    /// RTO.Min in milliseconds.
+    pub(crate) rto_min: u32,
 }
 
 impl Model for Config {
     ghost use Rattle.sctp_model.specs.end.EndView.{Configuration};
     ghost use Rattle.sctp_model.specs.end.Configured.{IsConfiguration};
     ghost use Rattle.std.specs.Prelude.{false};
-    ghost use Rattle.sctp_model.specs.numbers.Limits.{LEAST_WAIT};
 
     ghost Value = { Configuration };
 
@@ -50,9 +57,9 @@ impl Model for Config {
       partial = c.partial;
       delay = c.delay;
       standard_closing = c.standard_closing;
-      fast_retransmit = false;
-      least_wait = LEAST_WAIT;
-      congestion_control = false;
+      fast_retransmit = c.fast_retransmit;
+      least_wait = c.rto_min;
+      congestion_control = c.congestion_control;
       reset = false;
     } };
 
@@ -68,6 +75,9 @@ impl Model for Config {
       partial = c.partial;
       delay = c.delay;
       standard_closing = c.standard_closing;
+      fast_retransmit = c.fast_retransmit;
+      congestion_control = c.congestion_control;
+      rto_min = c.least_wait;
     } };
 
     ghost invariant = { λ c. IsConfiguration (record {
@@ -82,9 +92,9 @@ impl Model for Config {
       partial = c.partial;
       delay = c.delay;
       standard_closing = c.standard_closing;
-      fast_retransmit = false;
-      least_wait = LEAST_WAIT;
-      congestion_control = false;
+      fast_retransmit = c.fast_retransmit;
+      least_wait = c.rto_min;
+      congestion_control = c.congestion_control;
       reset = false;
     }) };
 }
@@ -92,7 +102,8 @@ impl Model for Config {
 impl Config {
     /// The configuration of an endpoint at `own_port` whose peer is at `peer_port`: it sends packets of at most `limit` bytes, cuts messages into
     /// fragments of `fragment` bytes, has a receive buffer of `buffer` bytes, and asks for `outbound` streams to its peer and `inbound` from it.
-    /// Neither extension is asked for, SACKs aren't delayed, and it closes by this profile's timers.
+    /// Neither extension is asked for, SACKs aren't delayed, it closes by this profile's timers, what is lost waits for the data timer, only the peer's
+    /// window limits what is sent, and RTO.Min is 1,000 ms.
     ///
     /// # Errors
     /// Of the faults that these values have, the one with the smallest code.
@@ -137,6 +148,9 @@ impl Config {
             partial: false,
             delay: false,
             standard_closing: false,
+            fast_retransmit: false,
+            congestion_control: false,
+            rto_min: RTO_MIN,
         })
     }
 

@@ -6,7 +6,7 @@ ghost use Rattle.sctp_model.specs.wire.Chunk.{padded};
 ghost use Rattle.sctp_model.specs.end.Configured.{IsConfiguration};
 
 use crate::config::Config;
-use crate::unset::{Pace, Reset};
+use crate::unset::Reset;
 
 impl Config {
     /// The endpoint's own port, which isn't 0.
@@ -101,19 +101,11 @@ impl Config {
         self.standard_closing
     }
 
-    /// What an endpoint measures round trips and paces its user data by (RFC 9260, 6.3.1 and 7.2); None without fast retransmit. No call sets it.
-    pub fn pace(&self) -> Option<Pace>
-        ensures { MatchOption result (self.now.fast_retransmit ≡ false) (λ pace. self.now.fast_retransmit ≡ true) }
-    {
-        // The proof sees the fields where one is read.
-        let _ = &self.own_port;
-        None
-    }
-
     /// With what it asks for the reset of streams (RFC 6525); None if it doesn't. No call sets it.
     pub fn reset(&self) -> Option<Reset>
         ensures { MatchOption result (self.now.reset ≡ false) (λ reset. self.now.reset ≡ true) }
     {
+        // The proof sees the fields if one is read.
         let _ = &self.own_port;
         None
     }

@@ -7,9 +7,10 @@
 //!
 //! | public function | what is promised |
 //! |---|---|
-//! | [`Config::new`] | the configuration with just these values, if it has no fault: neither extension asked for, a SACK for each packet, closing by this profile's timers; otherwise the first fault that it has (`configuration_fault`, in the order of the codes) |
+//! | [`Config::new`] | the configuration with just these values, if it has no fault: neither extension asked for, a SACK for each packet, closing by this profile's timers, no fast retransmission or congestion control; otherwise the first fault that it has (`configuration_fault`, in the order of the codes) |
 //! | [`Config::with_partial`], [`Config::with_interleave`] | this configuration, asking also for partial reliability, for I-DATA |
 //! | [`Config::with_delay`], [`Config::with_standard_closing`] | this configuration, with delayed SACKs; closing by the RFC's timers |
+//! | [`Config::with_fast_retransmit`], [`Config::with_congestion_control`], [`Config::with_rto_min`] | this configuration, with fast retransmission; with congestion control and fast retransmission; with another RTO.Min |
 //! | [`Config::limit`] and the other readers | the value that it was made with, within its limits |
 //! | [`Settings::of`], [`Settings::with_limit`] and the others, [`Settings::checked`] | a configuration's values; the same with other ones; the configuration with these values, None if they have a fault |
 //! | [`faultless_is_configured`] (law) | a configuration with ports of 16 bits has no fault if and only if it is within its limits |
@@ -29,6 +30,7 @@ mod draw;
 mod laws;
 mod life;
 mod mode;
+mod pacing;
 mod reason;
 mod settings;
 mod unset;
@@ -42,4 +44,4 @@ pub use life::{End, State};
 pub use mode::Mode;
 pub use reason::Reason;
 pub use settings::Settings;
-pub use unset::{Pace, Reset};
+pub use unset::Reset;

@@ -24,12 +24,15 @@ pub struct Settings {
     partial: bool,
     delay: bool,
     standard_closing: bool,
+    fast_retransmit: bool,
+    congestion_control: bool,
+    /// RTO.Min in milliseconds.
+    rto_min: u32,
 }
 
 impl Model for Settings {
     ghost use Rattle.sctp_model.specs.end.EndView.{Configuration};
     ghost use Rattle.std.specs.Prelude.{false};
-    ghost use Rattle.sctp_model.specs.numbers.Limits.{LEAST_WAIT};
 
     ghost Value = { Configuration };
 
@@ -45,9 +48,9 @@ impl Model for Settings {
       partial = c.partial;
       delay = c.delay;
       standard_closing = c.standard_closing;
-      fast_retransmit = false;
-      least_wait = LEAST_WAIT;
-      congestion_control = false;
+      fast_retransmit = c.fast_retransmit;
+      least_wait = c.rto_min;
+      congestion_control = c.congestion_control;
       reset = false;
     } };
 
@@ -63,6 +66,9 @@ impl Model for Settings {
       partial = c.partial;
       delay = c.delay;
       standard_closing = c.standard_closing;
+      fast_retransmit = c.fast_retransmit;
+      congestion_control = c.congestion_control;
+      rto_min = c.least_wait;
     } };
 }
 
@@ -83,6 +89,9 @@ impl Settings {
             partial: config.partial,
             delay: config.delay,
             standard_closing: config.standard_closing,
+            fast_retransmit: config.fast_retransmit,
+            congestion_control: config.congestion_control,
+            rto_min: config.rto_min,
         }
     }
 
@@ -149,6 +158,37 @@ impl Settings {
         }
     }
 
+    /// These values with fast retransmission (RFC 9260, 6.3.1 and 7.2.4).
+    pub fn with_fast_retransmit(self) -> Settings
+        ensures { result ≡ record self { fast_retransmit = true } }
+    {
+        Settings {
+            fast_retransmit: true,
+            ..self
+        }
+    }
+
+    /// These values with congestion control, and with fast retransmission, which it needs (RFC 9260, 7.2).
+    pub fn with_congestion_control(self) -> Settings
+        ensures { result ≡ record self { fast_retransmit = true; congestion_control = true } }
+    {
+        Settings {
+            fast_retransmit: true,
+            congestion_control: true,
+            ..self
+        }
+    }
+
+    /// These values with another RTO.Min, in milliseconds (RFC 9260, 6.3.1 and 16).
+    pub fn with_rto_min(self, milliseconds: u32) -> Settings
+        ensures { result ≡ record self { least_wait = milliseconds } }
+    {
+        Settings {
+            rto_min: milliseconds,
+            ..self
+        }
+    }
+
     /// The configuration with these values. None if they have a fault.
     pub fn checked(self) -> Option<Config>
         ensures { MatchOption result (configuration_fault self ≡ None → ⊥) (λ config. (config ≡ self) × (configuration_fault self ≡ None)) }
@@ -169,13 +209,24 @@ impl Settings {
 
     /// A configuration of these values which has the extensions and the options too.
     fn switched(self, config: Config) -> Config
-        ensures { result ≡ record config { interleave = self.interleave; partial = self.partial; delay = self.delay; standard_closing = self.standard_closing } }
+        ensures { result ≡ record config {
+          interleave = self.interleave;
+          partial = self.partial;
+          delay = self.delay;
+          standard_closing = self.standard_closing;
+          fast_retransmit = self.fast_retransmit;
+          congestion_control = self.congestion_control;
+          least_wait = self.least_wait;
+        } }
     {
         Config {
             interleave: self.interleave,
             partial: self.partial,
             delay: self.delay,
             standard_closing: self.standard_closing,
+            fast_retransmit: self.fast_retransmit,
+            congestion_control: self.congestion_control,
+            rto_min: self.rto_min,
             ..config
         }
     }

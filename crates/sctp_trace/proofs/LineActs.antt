@@ -14,9 +14,10 @@ use Rattle.sctp_events.specs.declared.config.PairConfig.{PairConfig}
 use Rattle.sctp_events.specs.declared.two_configs.TwoConfigs.{TwoConfigs}
 use Rattle.sctp_events.specs.declared.event.Event.{Event}
 use Rattle.sctp_script.specs.Grammar.{Pairs, Acts}
-use Rattle.sctp_script.specs.Places.{Place, PlacedMeaning, Plain, Configures, SaysAt, is_paired}
+use Rattle.sctp_script.specs.Places.{Place, Acted, PlacedMeaning, Plain, Configures, SaysAt, is_paired, has_options}
 use Rattle.sctp_script.specs.OutcomeText.{outcome_line}
-use Rattle.sctp_script.specs.PlacedAnswer.{placed_meaning, place_at, FindsAt}
+use Rattle.sctp_script.specs.PlacedAnswer.{placed_meaning, paired_place, place_at, FindsAt}
+use Rattle.sctp_script.specs.declared.placed.Preamble.{Preamble}
 use Rattle.sctp_script.specs.declared.placed.Placed.{Placed}
 use Rattle.sctp_script.specs.declared.placed.Placed.TheVariants as placed
 use Rattle.sctp_pair.specs.declared.pair.Pair.{Pair}
@@ -30,10 +31,23 @@ use Rattle.sctp_trace.specs.inner.ScriptSteps.{StandsAt, IsSetUp, IsGatheredOf, 
 -- ---- one line acts
 
 -- a place behind the `pair` line has a pair
-pub paired : (b : Bool) (fresh : Option TwoConfigs) → is_paired (place_at b fresh) ≡ b
-paired false fresh = refl
-paired true (Some configs) = refl
-paired true None = refl
+pub paired : (b : Bool) (preamble : Preamble) → is_paired (place_at b preamble) ≡ b
+paired false preamble = refl
+paired true preamble = behind_pair preamble.fresh preamble.with_options
+  where
+    behind_pair : (fresh : Option TwoConfigs) (with_options : Bool) → is_paired (paired_place fresh with_options) ≡ true
+    behind_pair (Some configs) with_options = refl
+    behind_pair None with_options = refl
+
+-- and keeps whether there was a line of options
+kept_options : (fresh : Option TwoConfigs) (with_options : Bool) → has_options (paired_place fresh with_options) ≡ with_options
+kept_options (Some configs) with_options = refl
+kept_options None with_options = refl
+
+pub options_kept : (option : Option Pair) (pair : Pair) (preamble : Preamble) (stage : Stage) → option ≡ Some pair → place_at (is_some option) preamble ≡ place_of stage
+    → has_options (place_of stage) ≡ preamble.with_options
+options_kept None pair preamble stage e at = absurd (none-some pair e)
+options_kept (Some other) pair preamble stage e at = ap has_options (sym at) ∙ kept_options preamble.fresh preamble.with_options
 
 -- The world of a pair that is there. The equations of pairs go to lemmas on any type: `cc` would go through all of a pair's parts.
 pub world_there : (option : Option Pair) (pair : Pair) (state : Option World) → option ≡ Some pair → StandsAt option state
@@ -45,37 +59,41 @@ world_there (Some other) pair (Some w) e stands =
 
 -- what is wanted came to pass, and what was written of its outcome
 pub outcome_leaves : (result : Result (Unit {0}) ScriptFault) (n : ℕ) (stage : Stage) (w x : World) (line : List ℕ) (wanted : Wanted) (e : meaning.Event)
-    (o : meaning.Outcome) (here : List ℕ) (pair : Pair) → world_of stage ≡ Some w → SaysAt (place_of stage) line (Plain (Acts wanted)) → IsMeant wanted e
-    → Step w e (Some o) x → PairStands pair x → IsGatheredOf result (outcome_line wanted o) here → LineLeaves result n stage line here (Some pair) None
-outcome_leaves (Ok u) n stage w x line wanted e o here pair is says meant step stands written =
-    (Reached x, (Plain (Acts wanted), says, (w, x, e, o, meant, is, step, written, refl)), (stands, refl))
-outcome_leaves (Err Read) n stage w x line wanted e o here pair is says meant step stands written = absurd written
-outcome_leaves (Err Write) n stage w x line wanted e o here pair is says meant step stands written = absurd written
-outcome_leaves (Err NoMemory) n stage w x line wanted e o here pair is says meant step stands written = written
-outcome_leaves (Err (Line m fault)) n stage w x line wanted e o here pair is says meant step stands written = absurd written
+    (o : meaning.Outcome) (here : List ℕ) (pair : Pair) (with_options : Bool) → world_of stage ≡ Some w → SaysAt (place_of stage) line (Plain (Acts wanted)) → IsMeant wanted e
+    → Step w e (Some o) x → PairStands pair x → has_options (place_of stage) ≡ with_options → IsGatheredOf result (outcome_line wanted o) here
+    → LineLeaves result n stage line here (Some pair) (record { fresh = None; with_options = with_options })
+outcome_leaves (Ok u) n stage w x line wanted e o here pair with_options is says meant step stands kept written = (
+  Reached (has_options (place_of stage)) x,
+  (Plain (Acts wanted), says, (w, x, e, o, meant, is, step, written, refl)),
+  (stands, ap (λ (b : Bool). Acted b) (sym kept)),
+)
+outcome_leaves (Err Read) n stage w x line wanted e o here pair with_options is says meant step stands kept written = absurd written
+outcome_leaves (Err Write) n stage w x line wanted e o here pair with_options is says meant step stands kept written = absurd written
+outcome_leaves (Err NoMemory) n stage w x line wanted e o here pair with_options is says meant step stands kept written = written
+outcome_leaves (Err (Line m fault)) n stage w x line wanted e o here pair with_options is says meant step stands kept written = absurd written
 
 -- two endpoints were set up, as the `pair` line or a line of options says
 pub pair_leaves : (result : Result (Unit {0}) ScriptFault) (n : ℕ) (stage : Stage) (line : List ℕ) (config : PairConfig) (configs : TwoConfigs) (pair : Option Pair)
-    (fresh : Option TwoConfigs) → SaysAt (place_of stage) line (Plain (Pairs config.a)) → configs.a ≡ config.a → configs.b ≡ turned_round config.a
-    → IsSetUp result configs pair fresh → LineLeaves result n stage line [] pair fresh
-pair_leaves (Ok u) n stage line config configs pair fresh says is_a is_b (s, under, stand) =
-    let same : SetUp configs.a configs.b s ≡ SetUp config.a (turned_round config.a) s =
-    ap (λ (a : Configuration). SetUp a configs.b s) is_a ∙ ap (λ (b : Configuration). SetUp config.a b s) is_b in
-    (SetUp configs.a configs.b s, (Plain (Pairs config.a), says, (s, under, refl, same)), stand)
-pair_leaves (Err Read) n stage line config configs pair fresh says is_a is_b set = absurd set
-pair_leaves (Err Write) n stage line config configs pair fresh says is_a is_b set = absurd set
-pair_leaves (Err NoMemory) n stage line config configs pair fresh says is_a is_b set = refl
-pair_leaves (Err (Line m fault)) n stage line config configs pair fresh says is_a is_b set = absurd set
+    (preamble : Preamble) → SaysAt (place_of stage) line (Plain (Pairs config.a)) → configs.a ≡ config.a → configs.b ≡ turned_round config.a
+    → IsSetUp result configs false pair preamble → LineLeaves result n stage line [] pair preamble
+pair_leaves (Ok u) n stage line config configs pair preamble says is_a is_b (s, under, stand) =
+    let same : SetUp false configs.a configs.b s ≡ SetUp false config.a (turned_round config.a) s =
+    ap (λ (a : Configuration). SetUp false a configs.b s) is_a ∙ ap (λ (b : Configuration). SetUp false config.a b s) is_b in
+    (SetUp false configs.a configs.b s, (Plain (Pairs config.a), says, (s, under, refl, same)), stand)
+pair_leaves (Err Read) n stage line config configs pair preamble says is_a is_b set = absurd set
+pair_leaves (Err Write) n stage line config configs pair preamble says is_a is_b set = absurd set
+pair_leaves (Err NoMemory) n stage line config configs pair preamble says is_a is_b set = refl
+pair_leaves (Err (Line m fault)) n stage line config configs pair preamble says is_a is_b set = absurd set
 
 pub options_leave : (result : Result (Unit {0}) ScriptFault) (n : ℕ) (stage : Stage) (line : List ℕ) (configs : TwoConfigs) (pair : Option Pair)
-    (fresh : Option TwoConfigs) → SaysAt (place_of stage) line (Configures configs.a configs.b) → IsSetUp result configs pair fresh
-    → LineLeaves result n stage line [] pair fresh
-options_leave (Ok u) n stage line configs pair fresh says (s, under, stand) =
-    (SetUp configs.a configs.b s, (Configures configs.a configs.b, says, (s, under, refl, refl)), stand)
-options_leave (Err Read) n stage line configs pair fresh says set = absurd set
-options_leave (Err Write) n stage line configs pair fresh says set = absurd set
-options_leave (Err NoMemory) n stage line configs pair fresh says set = refl
-options_leave (Err (Line m fault)) n stage line configs pair fresh says set = absurd set
+    (preamble : Preamble) → SaysAt (place_of stage) line (Configures configs.a configs.b) → IsSetUp result configs true pair preamble
+    → LineLeaves result n stage line [] pair preamble
+options_leave (Ok u) n stage line configs pair preamble says (s, under, stand) =
+    (SetUp true configs.a configs.b s, (Configures configs.a configs.b, says, (s, under, refl, refl)), stand)
+options_leave (Err Read) n stage line configs pair preamble says set = absurd set
+options_leave (Err Write) n stage line configs pair preamble says set = absurd set
+options_leave (Err NoMemory) n stage line configs pair preamble says set = refl
+options_leave (Err (Line m fault)) n stage line configs pair preamble says set = absurd set
 
 -- ---- what calls answered
 

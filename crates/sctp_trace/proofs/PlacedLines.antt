@@ -1,25 +1,30 @@
--- A line that is no line of options says at its place what it says anywhere.
-use Rattle.std.proofs.Common.{◌≡◌, ℕ, true, false, List, inl, inr, refl}
+-- What a line makes of a pair it makes at any place, and where options are set.
+use Rattle.std.proofs.Common.{◌≡◌, ℕ, Bool, true, false, List, inl, inr, refl}
 use Rattle.sctp_model.specs.end.EndView.{Configuration}
-use Rattle.sctp_events.specs.Events.{Wanted}
-use Rattle.sctp_script.specs.Grammar.{Silent, Pairs, Acts, Fault, Says}
-use Rattle.sctp_script.specs.Places.{Place, Unpaired, Behind, Acted, Plain, Configures, SaysAt, is_paired}
+use Rattle.sctp_script.specs.Grammar.{Pairs, Says}
+use Rattle.sctp_script.specs.Places.{Place, Unpaired, Behind, Acted, Plain, Configures, SaysPaired, SaysAt, is_paired}
 
-pub event_plain : (place : Place) (line : List ℕ) (wanted : Wanted) → SaysAt place line (Plain (Acts wanted)) → Says (is_paired place) line (Acts wanted)
-event_plain Unpaired line wanted says = says
-event_plain (Behind a b) line wanted (inl options) = absurd options.3
-event_plain (Behind a b) line wanted (inr plain) = plain.1
-event_plain Acted line wanted says = says
+-- a line with a limit of retransmissions makes no pair
+paired_plain : (o : Bool) (line : List ℕ) (c : Configuration) → SaysPaired o line (Plain (Pairs c)) → Says true line (Pairs c)
+paired_plain false line c says = says
+paired_plain true line c (inl (vs, is, same)) = cc
+paired_plain true line c (inr (none, says)) = says
 
 pub pair_plain : (place : Place) (line : List ℕ) (c : Configuration) → SaysAt place line (Plain (Pairs c)) → Says (is_paired place) line (Pairs c)
 pair_plain Unpaired line c says = says
-pair_plain (Behind a b) line c (inl options) = absurd options.3
-pair_plain (Behind a b) line c (inr plain) = plain.1
-pair_plain Acted line c says = says
+pair_plain (Behind o a b) line c (inl options) = absurd options.3
+pair_plain (Behind o a b) line c (inr plain) = paired_plain o line c plain.1
+pair_plain (Acted o) line c says = paired_plain o line c says
+
+-- and sets no options
+no_options : (o : Bool) (line : List ℕ) (c d : Configuration) → SaysPaired o line (Configures c d) → ⊥
+no_options false line c d says = says
+no_options true line c d (inl (vs, is, same)) = cc
+no_options true line c d (inr (none, says)) = says
 
 -- only behind the pair options are set
 pub where_set : (place : Place) (line : List ℕ) (c d : Configuration) → SaysAt place line (Configures c d)
-    → (a b : Configuration) × (place ≡ Behind a b) × SaysAt (Behind a b) line (Configures c d)
+    → (o : Bool) × (a b : Configuration) × (place ≡ Behind o a b) × SaysAt (Behind o a b) line (Configures c d)
 where_set Unpaired line c d says = absurd says
-where_set (Behind a b) line c d says = (a, b, refl, says)
-where_set Acted line c d says = absurd says
+where_set (Behind o a b) line c d says = (o, a, b, refl, says)
+where_set (Acted o) line c d says = absurd (no_options o line c d says)

@@ -8,7 +8,7 @@ use Rattle.sctp_text.specs.declared.line_reader.ReadFault.{ReadFault}
 use Rattle.sctp_text.specs.declared.line_reader.ReadFault.TheVariants as read
 use Rattle.sctp_script.specs.Grammar.{Fault}
 use Rattle.sctp_script.specs.Places.{Plain, SaysAt}
-use Rattle.sctp_events.specs.declared.two_configs.TwoConfigs.{TwoConfigs}
+use Rattle.sctp_script.specs.declared.placed.Preamble.{Preamble}
 use Rattle.sctp_trace.specs.Stages.{Stage, Unpaired, place_of, world_of}
 use Rattle.sctp_text.specs.TextLines.{Reading, HasGiven, IsOneLine, IsTooLong, ended, joined, lines_of, first_length}
 use Rattle.sctp_text.specs.NextLineAnswer.{given_by, IsAnswer, GivesOn}
@@ -30,7 +30,7 @@ use Rattle.sctp_trace.proofs.ScriptRuns.{first_length-ended, first_length-last, 
 -- it acted
 pub line_acted : (s t : Running) (text done : List ℕ) (lines : List (List ℕ)) (state after : Stage) (bytes line here : List ℕ)
     → IsSoFar s text done lines state → HasGiven (text ++ bytes) (lines ++ line ∷ []) t.lines → LineActs state line here after
-    → Stand t.pair t.fresh after → t.number ≡ s.number + 1 → IsSoFar t (text ++ bytes) (done ++ here) (lines ++ line ∷ []) after
+    → Stand t.pair t.preamble after → t.number ≡ s.number + 1 → IsSoFar t (text ++ bytes) (done ++ here) (lines ++ line ∷ []) after
 line_acted s t text done lines state after bytes line here so given acts stands number = record {
   given = given;
   goes = goes-push lines line Unpaired state after done here so.goes acts;
@@ -69,25 +69,25 @@ line_unmade s text done lines state bytes rest here so small on none =
     rw same (lines, rest, done, [], state, front_of s text done lines state bytes rest so small on, sym (append-nil done))
 
 -- a line that a line feed ends stops the script
-pub ended_stops : (end : Type 0) (fault : ScriptFault) (s : Running) (now : Reading) (text done : List ℕ) (lines : List (List ℕ)) (state : Stage) (bytes line here : List ℕ) (pair : Option Pair) (fresh : Option TwoConfigs)
+pub ended_stops : (end : Type 0) (fault : ScriptFault) (s : Running) (now : Reading) (text done : List ℕ) (lines : List (List ℕ)) (state : Stage) (bytes line here : List ℕ) (pair : Option Pair) (preamble : Preamble)
     → HasCome s text done lines state bytes (ended line ++ now.held) line → HasGiven (text ++ bytes) (lines ++ line ∷ []) now → now.given ≤ LONGEST_TEXT
-    → LineLeaves (Err fault) s.number state line here pair fresh → EndsAs end (Err fault) (text ++ bytes) (done ++ here)
-ended_stops end Read s now text done lines state bytes line here pair fresh come given small leaves = absurd leaves
-ended_stops end Write s now text done lines state bytes line here pair fresh come given small leaves = absurd leaves
-ended_stops end NoMemory s now text done lines state bytes line here pair fresh come given small leaves =
+    → LineLeaves (Err fault) s.number state line here pair preamble → EndsAs end (Err fault) (text ++ bytes) (done ++ here)
+ended_stops end Read s now text done lines state bytes line here pair preamble come given small leaves = absurd leaves
+ended_stops end Write s now text done lines state bytes line here pair preamble come given small leaves = absurd leaves
+ended_stops end NoMemory s now text done lines state bytes line here pair preamble come given small leaves =
     inl (line_unmade s text done lines state bytes (ended line ++ now.held) here come.so come.small come.on leaves)
-ended_stops end (Line n fault) s now text done lines state bytes line here pair fresh come given small leaves =
+ended_stops end (Line n fault) s now text done lines state bytes line here pair preamble come given small leaves =
     line_faulty end s text done lines state bytes (ended line ++ now.held) line here n fault come (inl (now.held, refl)) leaves.0 leaves.1 leaves.2
 
 -- a last line stops the script
-pub last_stops : (end : Type 0) (fault : ScriptFault) (s : Running) (text done : List ℕ) (lines : List (List ℕ)) (state : Stage) (bytes line here : List ℕ) (pair : Option Pair) (fresh : Option TwoConfigs)
+pub last_stops : (end : Type 0) (fault : ScriptFault) (s : Running) (text done : List ℕ) (lines : List (List ℕ)) (state : Stage) (bytes line here : List ℕ) (pair : Option Pair) (preamble : Preamble)
     → end → HasCome s text done lines state bytes line line → 0 < length line → length (text ++ bytes) ≤ LONGEST_TEXT → lines_of (text ++ bytes) ≡ lines ++ line ∷ []
-    → LineLeaves (Err fault) s.number state line here pair fresh → EndsAs end (Err fault) (text ++ bytes) (done ++ here)
-last_stops end Read s text done lines state bytes line here pair fresh e come some small all leaves = absurd leaves
-last_stops end Write s text done lines state bytes line here pair fresh e come some small all leaves = absurd leaves
-last_stops end NoMemory s text done lines state bytes line here pair fresh e come some small all leaves =
+    → LineLeaves (Err fault) s.number state line here pair preamble → EndsAs end (Err fault) (text ++ bytes) (done ++ here)
+last_stops end Read s text done lines state bytes line here pair preamble e come some small all leaves = absurd leaves
+last_stops end Write s text done lines state bytes line here pair preamble e come some small all leaves = absurd leaves
+last_stops end NoMemory s text done lines state bytes line here pair preamble e come some small all leaves =
     inl (line_unmade s text done lines state bytes line here come.so come.small come.on leaves)
-last_stops end (Line n fault) s text done lines state bytes line here pair fresh e come some small all leaves =
+last_stops end (Line n fault) s text done lines state bytes line here pair preamble e come some small all leaves =
     line_faulty end s text done lines state bytes line line here n fault come (inr (e, some, refl)) leaves.0 leaves.1 leaves.2
 
 -- What a reader of lines gave in answer, behind what was given before.
@@ -138,7 +138,7 @@ last_small s text done lines state bytes line now got =
 
 -- the last line acted
 pub last_over : (s t : Running) (text done : List ℕ) (lines : List (List ℕ)) (state after : Stage) (bytes : List ℕ) (line : Vec ℕ Global) (now : Reading) (here : List ℕ)
-    → Got s text done lines state bytes (Last line) now → LineActs state line.items here after → Stand t.pair t.fresh after
+    → Got s text done lines state bytes (Last line) now → LineActs state line.items here after → Stand t.pair t.preamble after
     → IsOver t (text ++ bytes) (done ++ here) after
 last_over s t text done lines state after bytes line now here got acts stands = record {
   small = last_small s text done lines state bytes line now got;

@@ -1,5 +1,5 @@
 -- LINES is defined for every text: first lines without a fault go on to the first line with one, or to the last that a line feed ends.
-use Rattle.std.proofs.Common.{◌≡◌, ℕ, ◌+◌, ◌<◌, ◌≤◌, ◌⊎◌, inl, inr, Bool, true, List, [], ◌∷◌, ◌++◌, length, Option, Some, None, refl, sym, ap, ◌∙◌, subst, arith, append_assoc, length-append}
+use Rattle.std.proofs.Common.{◌≡◌, ℕ, ◌+◌, ◌<◌, ◌≤◌, ◌⊎◌, inl, inr, true, false, List, [], ◌∷◌, ◌++◌, length, Option, Some, None, refl, sym, ap, ◌∙◌, subst, arith, append_assoc, length-append}
 use Rattle.std.specs.List.{All}
 use Rattle.std.proofs.lemmas.Bool.{cases_lt}
 use Rattle.std.proofs.lemmas.List.Elements.{All-nil, All-cons, All-head, All-tail}
@@ -14,11 +14,10 @@ use Rattle.sctp_pair.specs.Happens.{IsMeant}
 use Rattle.sctp_words.specs.declared.line_fault.LineFault.TheVariants.{TooLong}
 use Rattle.sctp_script.specs.CanBe.{CanBe}
 use Rattle.sctp_script.specs.Grammar.{Silent, Pairs, Acts, Fault, Says}
-use Rattle.sctp_script.specs.Places.{Place, PlacedMeaning, Plain, Configures, SaysAt, SaysOneThingAt, is_paired}
+use Rattle.sctp_script.specs.Places.{Place, PlacedMeaning, Plain, Configures, SaysAt, SaysOneThingAt, is_paired, has_options}
 use Rattle.sctp_events.specs.Alike.{turned_round}
 use Rattle.sctp_events.specs.Setups.{setup_with}
 use Rattle.sctp_trace.specs.Stages.{LISTENER_KEY, Stage, Unpaired, SetUp, Reached, place_of, world_of}
-use Rattle.sctp_trace.proofs.PlacedLines.{event_plain}
 use Rattle.sctp_trace.proofs.ScriptReached.{IsReached, one_step, run_to, all_lines}
 use Rattle.sctp_text.specs.TextLines.{SplitInOneWay}
 use Rattle.sctp_text.specs.TextLines as split
@@ -31,8 +30,8 @@ use Rattle.sctp_text.specs.declared.limits.TheConstants.{LINE_FEED, LONGEST_LINE
 -- the laws of the script's grammar, of its lines, of packets and seals, and of the world of two ends
 pub record Laws : Type 0 where
   pub one_meaning : (place : Place) (line : List ℕ) → SaysOneThingAt place line
-  pub events_follow : (paired : Bool) (line : List ℕ) (wanted : Wanted) → Says paired line (Acts wanted) → paired ≡ true
-  pub can_be : (paired : Bool) (line : List ℕ) (wanted : Wanted) → Says paired line (Acts wanted) → CanBe wanted
+  pub events_follow : (place : Place) (line : List ℕ) (wanted : Wanted) → SaysAt place line (Plain (Acts wanted)) → is_paired place ≡ true
+  pub can_be : (place : Place) (line : List ℕ) (wanted : Wanted) → SaysAt place line (Plain (Acts wanted)) → CanBe wanted
   pub splits : (lines : List (List ℕ)) (rest : List ℕ) → SplitInOneWay lines rest
   pub lines : (text : List ℕ) → split.IsLines text
   pub packets : (bytes : List ℕ) → ReadInOneWay bytes
@@ -80,8 +79,8 @@ pub record IsDone (state : Stage) (m : PlacedMeaning) : Type 0 where
 -- a stage behind the `pair` line has a world
 has_world : (state : Stage) → is_paired (place_of state) ≡ true → (w : World) × (world_of state ≡ Some w)
 has_world Unpaired paired = cc
-has_world (SetUp a b s) paired = (start (setup_with a b s), refl)
-has_world (Reached w) paired = (w, refl)
+has_world (SetUp o a b s) paired = (start (setup_with a b s), refl)
+has_world (Reached o w) paired = (w, refl)
 
 done_event : EventsHaveOutcomes → (state : Stage) (wanted : Wanted) → HasEvent wanted → IsReached state → is_paired (place_of state) ≡ true
     → IsDone state (Plain (Acts wanted))
@@ -91,7 +90,7 @@ done_event outcomes state wanted its reached paired =
     let told = outcomes run.setup run.events run.answers w run.run its.event (its.can w) in
     record {
       written = outcome_line wanted told.0;
-      after = Reached told.1;
+      after = Reached (has_options (place_of state)) told.1;
       does = (w, told.1, its.event, told.0, its.meant, was, told.2, refl, refl);
       reached = one_step w told.1 its.event told.0 run told.2;
     }
@@ -102,14 +101,13 @@ one_line : (laws : Laws) (state : Stage) (line : List ℕ) (m : PlacedMeaning) �
 one_line laws state line (Plain Silent) reached says = inr (record { written = []; after = state; does = (refl, refl); reached = reached })
 one_line laws state line (Plain (Pairs c)) reached says =
     let s = laws.seals LISTENER_KEY in
-    inr (record { written = []; after = SetUp c (turned_round c) s.0; does = (s.0, s.1, refl, refl); reached = tt })
+    inr (record { written = []; after = SetUp false c (turned_round c) s.0; does = (s.0, s.1, refl, refl); reached = tt })
 one_line laws state line (Configures a b) reached says =
     let s = laws.seals LISTENER_KEY in
-    inr (record { written = []; after = SetUp a b s.0; does = (s.0, s.1, refl, refl); reached = tt })
+    inr (record { written = []; after = SetUp true a b s.0; does = (s.0, s.1, refl, refl); reached = tt })
 one_line laws state line (Plain (Acts wanted)) reached says =
-    let plain = event_plain (place_of state) line wanted says in
-    let its = has_event laws.packets wanted (laws.can_be (is_paired (place_of state)) line wanted plain) in
-    inr (done_event laws.outcomes state wanted its reached (laws.events_follow (is_paired (place_of state)) line wanted plain))
+    let its = has_event laws.packets wanted (laws.can_be (place_of state) line wanted says) in
+    inr (done_event laws.outcomes state wanted its reached (laws.events_follow (place_of state) line wanted says))
 one_line laws state line (Plain (Fault f)) reached says = inl (f, refl)
 
 -- whether the next line is too long is decided

@@ -7,7 +7,7 @@ use Rattle.sctp_words.specs.declared.line_fault.LineFault.{LineFault}
 use Rattle.sctp_words.specs.declared.line_fault.LineFault.TheVariants.{TooLong}
 use Rattle.sctp_script.specs.Grammar.{Silent, Pairs, Acts, Fault}
 use Rattle.sctp_script.specs.Places as places
-use Rattle.sctp_script.specs.Places.{Place, PlacedMeaning, Plain, Configures, SaysPlain, SaysAt, SaysOneThingAt}
+use Rattle.sctp_script.specs.Places.{Place, Acted, PlacedMeaning, Plain, Configures, SaysPlain, SaysPaired, SaysAt, SaysOneThingAt, has_options}
 use Rattle.sctp_text.specs.TextLines.{IsOneLine, is_line_feed, ended, joined, first_length}
 use Rattle.sctp_trace.specs.Stages.{Stage, Unpaired, place_of}
 use Rattle.sctp_trace.specs.Script.{Does, LineActs, Goes, BeginsWith, HasFirstFault}
@@ -82,19 +82,25 @@ short_plain b line (Plain (Acts wanted)) state after here says does = within lin
 short_plain b line (Plain (Fault f)) state after here says does = absurd does
 short_plain b line (Configures c d) state after here says does = absurd says
 
+short_paired : (o : Bool) (line : List ℕ) (m : PlacedMeaning) (state after : Stage) (here : List ℕ)
+    → SaysPaired o line m → Does state m here after → length line ≤ LONGEST_LINE
+short_paired false line m state after here says does = short_plain true line m state after here says does
+short_paired true line m state after here (inl (vs, is, same)) does = is.short
+short_paired true line m state after here (inr (none, says)) does = short_plain true line m state after here says does
+
 short_line : (place : Place) (line : List ℕ) (m : PlacedMeaning) (state after : Stage) (here : List ℕ)
     → SaysAt place line m → Does state m here after → length line ≤ LONGEST_LINE
 short_line places.Unpaired line m state after here says does = short_plain false line m state after here says does
-short_line (places.Behind a b) line m state after here (inl options) does = options.2.0
-short_line (places.Behind a b) line m state after here (inr (plain, says)) does = short_plain true line m state after here says does
-short_line places.Acted line m state after here says does = short_plain true line m state after here says does
+short_line (places.Behind o a b) line m state after here (inl options) does = options.2.0
+short_line (places.Behind o a b) line m state after here (inr (plain, says)) does = short_paired o line m state after here says does
+short_line (places.Acted o) line m state after here says does = short_paired o line m state after here says does
 
 -- both lead to one place
 both_placed : (m : PlacedMeaning) (s t p q : Stage) (v w : List ℕ) → Does s m v p → Does t m w q → place_of s ≡ place_of t → place_of p ≡ place_of q
 both_placed (Plain Silent) s t p q v w a b e = ap place_of a.1 ∙ e ∙ ap place_of (sym b.1)
 both_placed (Plain (Pairs c)) s t p q v w a b e = ap place_of a.3 ∙ ap place_of (sym b.3)
 both_placed (Configures c d) s t p q v w a b e = ap place_of a.3 ∙ ap place_of (sym b.3)
-both_placed (Plain (Acts wanted)) s t p q v w a b e = ap place_of a.8 ∙ ap place_of (sym b.8)
+both_placed (Plain (Acts wanted)) s t p q v w a b e = ap place_of a.8 ∙ ap (λ (place : Place). Acted (has_options place)) e ∙ ap place_of (sym b.8)
 both_placed (Plain (Fault f)) s t p q v w a b e = absurd a
 
 -- a line that acts has no first fault in its place

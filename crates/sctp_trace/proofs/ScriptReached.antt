@@ -22,8 +22,8 @@ pub record IsRunTo (w : World) : Type 0 where
 -- a script's stage: before the pair, or one with such a world
 abbrev pub IsReached : Stage → Type 0
 IsReached Unpaired = Unit {0}
-IsReached (SetUp a b s) = Unit {0}
-IsReached (Reached w) = IsRunTo w
+IsReached (SetUp o a b s) = Unit {0}
+IsReached (Reached o w) = IsRunTo w
 
 run_push : (v w x : World) (es : List Event) (os : List (Option Outcome)) (e : Event) (o : Option Outcome) → Run v es os w → Step w e o x
     → Run v (es ++ e ∷ []) (os ++ o ∷ []) x
@@ -45,8 +45,8 @@ at_start s = record { setup = s; events = []; answers = []; run = Rest (start s)
 -- the world of such a stage
 pub run_to : (state : Stage) (w : World) → IsReached state → world_of state ≡ Some w → IsRunTo w
 run_to Unpaired w r was = cc
-run_to (SetUp a b s) w r was = subst IsRunTo (same_Some (start (setup_with a b s)) w was) (at_start (setup_with a b s))
-run_to (Reached v) w r was = subst IsRunTo (same_Some v w was) r
+run_to (SetUp o a b s) w r was = subst IsRunTo (same_Some (start (setup_with a b s)) w was) (at_start (setup_with a b s))
+run_to (Reached o v) w r was = subst IsRunTo (same_Some v w was) r
 
 does_reach : (state : Stage) (m : PlacedMeaning) (written : List ℕ) (after : Stage) → IsReached state → Does state m written after → IsReached after
 does_reach state (Plain Silent) written after r does = subst IsReached (sym does.1) r

@@ -50,8 +50,8 @@ goes_none (l ∷ lines) state after done goes e =
 -- a stage without a world is the one before the pair
 pub no_world_yet : (state : Stage) → world_of state ≡ None → state ≡ Unpaired
 no_world_yet Unpaired e = refl
-no_world_yet (SetUp a b s) e = cc
-no_world_yet (Reached w) e = cc
+no_world_yet (SetUp o a b s) e = cc
+no_world_yet (Reached o w) e = cc
 
 -- ---- first lines that go on
 

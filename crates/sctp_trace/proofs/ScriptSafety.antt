@@ -22,17 +22,17 @@ use Rattle.sctp_events.specs.Setups.{setup_with}
 use Rattle.sctp_script.specs.Configuration.{AreOfPair}
 use Rattle.sctp_script.specs.Grammar.{Silent, Pairs, Acts, Fault, Says}
 use Rattle.sctp_script.specs.Places as places
-use Rattle.sctp_script.specs.Places.{Place, Behind, Acted, Plain, Configures, SaysAt, is_paired}
+use Rattle.sctp_script.specs.Places.{Place, Behind, Acted, Plain, Configures, SaysAt, has_options}
 use Rattle.sctp_trace.specs.Stages.{LISTENER_KEY, Stage, Unpaired, SetUp, Reached, world_of}
 use Rattle.sctp_trace.specs.Script.{Goes}
-use Rattle.sctp_trace.proofs.PlacedLines.{event_plain, pair_plain}
+use Rattle.sctp_trace.proofs.PlacedLines.{pair_plain, where_set}
 use Rattle.sctp_trace.specs.ScriptSafe.{AreEventsOf, Course}
 
 -- the laws of `pair` lines and lines of options, and of configurations
 pub record PairLaws : Type 0 where
   pub first : (paired : Bool) (line : List ℕ) (c : Configuration) → Says paired line (Pairs c) → paired ≡ false
   pub pair : (place : Place) (line : List ℕ) (c : Configuration) → SaysAt place line (Plain (Pairs c)) → AreOfPair c (turned_round c)
-  pub options : (line : List ℕ) (a b c d : Configuration) → AreOfPair a b → SaysAt (Behind a b) line (Configures c d) → AreOfPair c d
+  pub options : (line : List ℕ) (with_options : Bool) (a b c d : Configuration) → AreOfPair a b → SaysAt (Behind with_options a b) line (Configures c d) → AreOfPair c d
   pub within : (c : Configuration) → c.own_port < 2 ^ 16 → c.peer_port < 2 ^ 16 → configuration_fault c ≡ None → IsConfiguration c
 
 -- the limits hold at both ends
@@ -47,26 +47,27 @@ both_configured laws a b s right B =
 -- ---- a course from a world on
 
 -- what lines behind one that acts lead through from a world to a world
-record GoesThrough (v w : World) (lines : List (List ℕ)) : Type 0 where
+record GoesThrough (with_options : Bool) (v w : World) (lines : List (List ℕ)) : Type 0 where
   pub events : List Event
-  pub theirs : AreEventsOf Acted lines events
+  pub theirs : AreEventsOf (Acted with_options) lines events
   pub outcomes : List Outcome
   pub worlds : List World
   pub passes : PassesThrough v events (map Some outcomes) worlds
   pub ends : last_of v worlds ≡ w
 
-goes_through : PairLaws → (v w : World) (lines : List (List ℕ)) (written : List ℕ) (after : Stage) → Goes (Reached v) lines written after → world_of after ≡ Some w
-    → GoesThrough v w lines
-goes_through laws v w [] written after goes there =
+goes_through : PairLaws → (with_options : Bool) (v w : World) (lines : List (List ℕ)) (written : List ℕ) (after : Stage) → Goes (Reached with_options v) lines written after → world_of after ≡ Some w
+    → GoesThrough with_options v w lines
+goes_through laws with_options v w [] written after goes there =
     record { events = []; theirs = refl; outcomes = []; worlds = []; passes = tt; ends = same_Some v w (ap world_of (sym goes.1) ∙ there) }
-goes_through laws v w (line ∷ lines) written after (here, behind, mid, (Plain Silent, says, does), rest, whole) there =
-    let on = goes_through laws v w lines behind after (subst (λ (s : Stage). Goes s lines behind after) does.1 rest) there in
+goes_through laws with_options v w (line ∷ lines) written after (here, behind, mid, (Plain Silent, says, does), rest, whole) there =
+    let on = goes_through laws with_options v w lines behind after (subst (λ (s : Stage). Goes s lines behind after) does.1 rest) there in
     record { events = on.events; theirs = inl (says, on.theirs); outcomes = on.outcomes; worlds = on.worlds; passes = on.passes; ends = on.ends }
-goes_through laws v w (line ∷ lines) written after (here, behind, mid, (Plain (Pairs c), says, does), rest, whole) there =
-    let no = laws.first true line c says in cc
-goes_through laws v w (line ∷ lines) written after (here, behind, mid, (Configures c d, says, does), rest, whole) there = absurd says
-goes_through laws v w (line ∷ lines) written after (here, behind, mid, (Plain (Acts wanted), says, (u, x, e, o, meant, was, step, writes, is)), rest, whole) there =
-    let on = goes_through laws x w lines behind after (subst (λ (s : Stage). Goes s lines behind after) is rest) there in
+goes_through laws with_options v w (line ∷ lines) written after (here, behind, mid, (Plain (Pairs c), says, does), rest, whole) there =
+    let no = laws.first true line c (pair_plain (Acted with_options) line c says) in cc
+goes_through laws with_options v w (line ∷ lines) written after (here, behind, mid, (Configures c d, says, does), rest, whole) there =
+    let set = where_set (Acted with_options) line c d says in cc
+goes_through laws with_options v w (line ∷ lines) written after (here, behind, mid, (Plain (Acts wanted), says, (u, x, e, o, meant, was, step, writes, is)), rest, whole) there =
+    let on = goes_through laws with_options x w lines behind after (subst (λ (s : Stage). Goes s lines behind after) is rest) there in
     record {
       events = e ∷ on.events;
       theirs = inr (inr (inr (wanted, e, on.events, says, meant, on.theirs, refl)));
@@ -75,7 +76,7 @@ goes_through laws v w (line ∷ lines) written after (here, behind, mid, (Plain 
       passes = (subst (λ (y : World). Step y e (Some o) x) (sym (same_Some v u was)) step, on.passes);
       ends = on.ends;
     }
-goes_through laws v w (line ∷ lines) written after (here, behind, mid, (Plain (Fault fault), says, does), rest, whole) there = absurd does
+goes_through laws with_options v w (line ∷ lines) written after (here, behind, mid, (Plain (Fault fault), says, does), rest, whole) there = absurd does
 
 -- ---- a course from START on
 
@@ -111,8 +112,8 @@ one_more place next line lines w on theirs = record {
 }
 
 -- no line: the world is the one that the endpoints were set up in
-nothing_asked : (a b : Configuration) (s : Sealing) (w : World) → IsUnder LISTENER_KEY s → AreOfPair a b → Some (start (setup_with a b s)) ≡ Some w → HasCourse (Behind a b) [] w
-nothing_asked a b s w under right is = record {
+nothing_asked : (with_options : Bool) (a b : Configuration) (s : Sealing) (w : World) → IsUnder LISTENER_KEY s → AreOfPair a b → Some (start (setup_with a b s)) ≡ Some w → HasCourse (Behind with_options a b) [] w
+nothing_asked with_options a b s w under right is = record {
   a = a;
   b = b;
   seal = s;
@@ -127,21 +128,21 @@ nothing_asked a b s w under right is = record {
 }
 
 -- a line that says nothing, and a line of options
-silent_first : (a b : Configuration) (line : List ℕ) (lines : List (List ℕ)) (w : World) → SaysAt (Behind a b) line (Plain Silent) → HasCourse (Behind a b) lines w → HasCourse (Behind a b) (line ∷ lines) w
-silent_first a b line lines w says on = one_more (Behind a b) (Behind a b) line lines w on (inl (says, on.theirs))
+silent_first : (with_options : Bool) (a b : Configuration) (line : List ℕ) (lines : List (List ℕ)) (w : World) → SaysAt (Behind with_options a b) line (Plain Silent) → HasCourse (Behind with_options a b) lines w → HasCourse (Behind with_options a b) (line ∷ lines) w
+silent_first with_options a b line lines w says on = one_more (Behind with_options a b) (Behind with_options a b) line lines w on (inl (says, on.theirs))
 
-options_first : (a b c d : Configuration) (line : List ℕ) (lines : List (List ℕ)) (w : World) → SaysAt (Behind a b) line (Configures c d) → HasCourse (Behind c d) lines w → HasCourse (Behind a b) (line ∷ lines) w
-options_first a b c d line lines w says on = one_more (Behind a b) (Behind c d) line lines w on (inr (inr (inl (c, d, says, on.theirs))))
+options_first : (with_options : Bool) (a b c d : Configuration) (line : List ℕ) (lines : List (List ℕ)) (w : World) → SaysAt (Behind with_options a b) line (Configures c d) → HasCourse (Behind true c d) lines w → HasCourse (Behind with_options a b) (line ∷ lines) w
+options_first with_options a b c d line lines w says on = one_more (Behind with_options a b) (Behind true c d) line lines w on (inr (inr (inl (c, d, says, on.theirs))))
 
 -- behind the pair no line is a `pair` line
-no_pair_more : PairLaws → (a b : Configuration) (line : List ℕ) (lines : List (List ℕ)) (w : World) (c : Configuration) → SaysAt (Behind a b) line (Plain (Pairs c)) → HasCourse (Behind a b) (line ∷ lines) w
-no_pair_more laws a b line lines w c says = let no : true ≡ false = laws.first true line c (pair_plain (Behind a b) line c says) in cc
+no_pair_more : PairLaws → (with_options : Bool) (a b : Configuration) (line : List ℕ) (lines : List (List ℕ)) (w : World) (c : Configuration) → SaysAt (Behind with_options a b) line (Plain (Pairs c)) → HasCourse (Behind with_options a b) (line ∷ lines) w
+no_pair_more laws with_options a b line lines w c says = let no : true ≡ false = laws.first true line c (pair_plain (Behind with_options a b) line c says) in cc
 
 -- the first line that asks something of the two endpoints
-asks_first : (a b : Configuration) (s : Sealing) (line : List ℕ) (lines : List (List ℕ)) (w u x : World) (wanted : Wanted) (e : Event) (o : Outcome) → IsUnder LISTENER_KEY s → AreOfPair a b
-    → SaysAt (Behind a b) line (Plain (Acts wanted)) → IsMeant wanted e → Some (start (setup_with a b s)) ≡ Some u → Step u e (Some o) x → GoesThrough x w lines
-    → HasCourse (Behind a b) (line ∷ lines) w
-asks_first a b s line lines w u x wanted e o under right says meant was step on = record {
+asks_first : (with_options : Bool) (a b : Configuration) (s : Sealing) (line : List ℕ) (lines : List (List ℕ)) (w u x : World) (wanted : Wanted) (e : Event) (o : Outcome) → IsUnder LISTENER_KEY s → AreOfPair a b
+    → SaysAt (Behind with_options a b) line (Plain (Acts wanted)) → IsMeant wanted e → Some (start (setup_with a b s)) ≡ Some u → Step u e (Some o) x → GoesThrough with_options x w lines
+    → HasCourse (Behind with_options a b) (line ∷ lines) w
+asks_first with_options a b s line lines w u x wanted e o under right says meant was step on = record {
   a = a;
   b = b;
   seal = s;
@@ -156,27 +157,27 @@ asks_first a b s line lines w u x wanted e o under right says meant was step on 
 }
 
 -- lines behind the pair, whose configurations are right
-behind_pair : PairLaws → (a b : Configuration) (s : Sealing) (lines : List (List ℕ)) (written : List ℕ) (after : Stage) (w : World) → IsUnder LISTENER_KEY s → AreOfPair a b
-    → Goes (SetUp a b s) lines written after → world_of after ≡ Some w → HasCourse (Behind a b) lines w
-behind_pair laws a b s [] written after w under right goes there = nothing_asked a b s w under right (ap world_of (sym goes.1) ∙ there)
-behind_pair laws a b s (line ∷ lines) written after w under right (here, behind, mid, (Plain Silent, says, does), rest, whole) there =
-    silent_first a b line lines w says (behind_pair laws a b s lines behind after w under right (subst (λ (x : Stage). Goes x lines behind after) does.1 rest) there)
-behind_pair laws a b s (line ∷ lines) written after w under right (here, behind, mid, (Plain (Pairs c), says, does), rest, whole) there =
-    no_pair_more laws a b line lines w c says
-behind_pair laws a b s (line ∷ lines) written after w under right (here, behind, mid, (Configures c d, says, (t, seals, writes, is)), rest, whole) there =
-    options_first a b c d line lines w says (behind_pair laws c d t lines behind after w seals (laws.options line a b c d right says) (subst (λ (x : Stage). Goes x lines behind after) is rest) there)
-behind_pair laws a b s (line ∷ lines) written after w under right (here, behind, mid, (Plain (Acts wanted), says, (u, x, e, o, meant, was, step, writes, is)), rest, whole) there =
-    asks_first a b s line lines w u x wanted e o under right says meant was step (goes_through laws x w lines behind after (subst (λ (y : Stage). Goes y lines behind after) is rest) there)
-behind_pair laws a b s (line ∷ lines) written after w under right (here, behind, mid, (Plain (Fault fault), says, does), rest, whole) there = absurd does
+behind_pair : PairLaws → (with_options : Bool) (a b : Configuration) (s : Sealing) (lines : List (List ℕ)) (written : List ℕ) (after : Stage) (w : World) → IsUnder LISTENER_KEY s → AreOfPair a b
+    → Goes (SetUp with_options a b s) lines written after → world_of after ≡ Some w → HasCourse (Behind with_options a b) lines w
+behind_pair laws with_options a b s [] written after w under right goes there = nothing_asked with_options a b s w under right (ap world_of (sym goes.1) ∙ there)
+behind_pair laws with_options a b s (line ∷ lines) written after w under right (here, behind, mid, (Plain Silent, says, does), rest, whole) there =
+    silent_first with_options a b line lines w says (behind_pair laws with_options a b s lines behind after w under right (subst (λ (x : Stage). Goes x lines behind after) does.1 rest) there)
+behind_pair laws with_options a b s (line ∷ lines) written after w under right (here, behind, mid, (Plain (Pairs c), says, does), rest, whole) there =
+    no_pair_more laws with_options a b line lines w c says
+behind_pair laws with_options a b s (line ∷ lines) written after w under right (here, behind, mid, (Configures c d, says, (t, seals, writes, is)), rest, whole) there =
+    options_first with_options a b c d line lines w says (behind_pair laws true c d t lines behind after w seals (laws.options line with_options a b c d right says) (subst (λ (x : Stage). Goes x lines behind after) is rest) there)
+behind_pair laws with_options a b s (line ∷ lines) written after w under right (here, behind, mid, (Plain (Acts wanted), says, (u, x, e, o, meant, was, step, writes, is)), rest, whole) there =
+    asks_first with_options a b s line lines w u x wanted e o under right says meant was step (goes_through laws with_options x w lines behind after (subst (λ (y : Stage). Goes y lines behind after) is rest) there)
+behind_pair laws with_options a b s (line ∷ lines) written after w under right (here, behind, mid, (Plain (Fault fault), says, does), rest, whole) there = absurd does
 
 -- before a `pair` line there is no world
 no_world : (place : Place) (lines : List (List ℕ)) (u w : World) → None ≡ Some u → HasCourse place lines w
 no_world place lines u w none = cc
 
 -- the `pair` line, and a line that says nothing
-pair_first : (c : Configuration) (line : List ℕ) (lines : List (List ℕ)) (w : World) → SaysAt places.Unpaired line (Plain (Pairs c)) → HasCourse (Behind c (turned_round c)) lines w
+pair_first : (c : Configuration) (line : List ℕ) (lines : List (List ℕ)) (w : World) → SaysAt places.Unpaired line (Plain (Pairs c)) → HasCourse (Behind false c (turned_round c)) lines w
     → HasCourse places.Unpaired (line ∷ lines) w
-pair_first c line lines w says on = one_more places.Unpaired (Behind c (turned_round c)) line lines w on (inr (inl (c, says, on.theirs)))
+pair_first c line lines w says on = one_more places.Unpaired (Behind false c (turned_round c)) line lines w on (inr (inl (c, says, on.theirs)))
 
 silent_start : (line : List ℕ) (lines : List (List ℕ)) (w : World) → SaysAt places.Unpaired line (Plain Silent) → HasCourse places.Unpaired lines w → HasCourse places.Unpaired (line ∷ lines) w
 silent_start line lines w says on = one_more places.Unpaired places.Unpaired line lines w on (inl (says, on.theirs))
@@ -188,7 +189,7 @@ from_start laws [] written after w goes there = no_world places.Unpaired [] w w 
 from_start laws (line ∷ lines) written after w (here, behind, mid, (Plain Silent, says, does), rest, whole) there =
     silent_start line lines w says (from_start laws lines behind after w (subst (λ (x : Stage). Goes x lines behind after) does.1 rest) there)
 from_start laws (line ∷ lines) written after w (here, behind, mid, (Plain (Pairs c), says, (s, under, writes, is)), rest, whole) there =
-    pair_first c line lines w says (behind_pair laws c (turned_round c) s lines behind after w under (laws.pair places.Unpaired line c says) (subst (λ (x : Stage). Goes x lines behind after) is rest) there)
+    pair_first c line lines w says (behind_pair laws false c (turned_round c) s lines behind after w under (laws.pair places.Unpaired line c says) (subst (λ (x : Stage). Goes x lines behind after) is rest) there)
 from_start laws (line ∷ lines) written after w (here, behind, mid, (Configures c d, says, does), rest, whole) there = absurd says
 from_start laws (line ∷ lines) written after w (here, behind, mid, (Plain (Acts wanted), says, (u, x, e, o, meant, was, step, writes, is)), rest, whole) there =
     no_world places.Unpaired (line ∷ lines) u w was
@@ -213,7 +214,7 @@ has_course laws lines written stage w goes there =
 
 -- the laws of what a line asks for, and of what is read
 pub record StrangerLaws : Type 0 where
-  pub can_be : (paired : Bool) (line : List ℕ) (wanted : Wanted) → Says paired line (Acts wanted) → CanBe wanted
+  pub can_be : (place : Place) (line : List ℕ) (wanted : Wanted) → SaysAt place line (Plain (Acts wanted)) → CanBe wanted
   pub byte_cookies : WhatIsReadHasByteCookies
 
 same_packet : (s x : Side) (q p : Packet) → Foreign s (Some q) ≡ Foreign x (Some p) → q ≡ p
@@ -223,25 +224,25 @@ not_unread : (s x : Side) (p : Packet) → Foreign s None ≡ Foreign x (Some p)
 not_unread s x p is = cc
 
 -- a stranger's packet was read from the bytes of its line
-cookies_of : StrangerLaws → (paired : Bool) (line : List ℕ) (wanted : Wanted) (e : Event) (x : Side) (p : Packet) → Says paired line (Acts wanted) → IsMeant wanted e
+cookies_of : StrangerLaws → (place : Place) (line : List ℕ) (wanted : Wanted) (e : Event) (x : Side) (p : Packet) → SaysAt place line (Plain (Acts wanted)) → IsMeant wanted e
     → e ≡ Foreign x (Some p) → HasByteCookies p
-cookies_of laws paired line (Happens d) e x p says meant is =
-    absurd (subst (λ (f : Event). CanBe (Happens f)) (sym meant ∙ is) (laws.can_be paired line (Happens d) says))
-cookies_of laws paired line (BringsBytes s bytes) e x p says (Some q, reads, meant) is =
+cookies_of laws place line (Happens d) e x p says meant is =
+    absurd (subst (λ (f : Event). CanBe (Happens f)) (sym meant ∙ is) (laws.can_be place line (Happens d) says))
+cookies_of laws place line (BringsBytes s bytes) e x p says (Some q, reads, meant) is =
     let same : q ≡ p = same_packet s x q p (sym meant ∙ is) in
-    subst HasByteCookies same (laws.byte_cookies bytes q (laws.can_be paired line (BringsBytes s bytes) says) reads)
-cookies_of laws paired line (BringsBytes s bytes) e x p says (None, reads, meant) is = absurd (not_unread s x p (sym meant ∙ is))
+    subst HasByteCookies same (laws.byte_cookies bytes q (laws.can_be place line (BringsBytes s bytes) says) reads)
+cookies_of laws place line (BringsBytes s bytes) e x p says (None, reads, meant) is = absurd (not_unread s x p (sym meant ∙ is))
 
 pub have_byte_cookies : StrangerLaws → (place : Place) (lines : List (List ℕ)) (events : List Event) → AreEventsOf place lines events → HaveByteCookies events
 have_byte_cookies laws place [] events none x p has = let has : Has [] (Foreign x (Some p)) = rw none at has in absurd has
 have_byte_cookies laws place (line ∷ lines) events (inl silent) x p has = have_byte_cookies laws place lines events silent.1 x p has
-have_byte_cookies laws place (line ∷ lines) events (inr (inl pair)) x p has = have_byte_cookies laws (Behind pair.0 (turned_round pair.0)) lines events pair.2 x p has
-have_byte_cookies laws place (line ∷ lines) events (inr (inr (inl options))) x p has = have_byte_cookies laws (Behind options.0 options.1) lines events options.3 x p has
+have_byte_cookies laws place (line ∷ lines) events (inr (inl pair)) x p has = have_byte_cookies laws (Behind false pair.0 (turned_round pair.0)) lines events pair.2 x p has
+have_byte_cookies laws place (line ∷ lines) events (inr (inr (inl options))) x p has = have_byte_cookies laws (Behind true options.0 options.1) lines events options.3 x p has
 have_byte_cookies laws place (line ∷ lines) events (inr (inr (inr (wanted, e, es, says, meant, theirs, is)))) x p has =
     let has : Has (e ∷ es) (Foreign x (Some p)) = rw is at has in
     elim has [
-      | inl this ↦ cookies_of laws (is_paired place) line wanted e x p (event_plain place line wanted says) meant this
-      | inr behind ↦ have_byte_cookies laws Acted lines es theirs x p behind
+      | inl this ↦ cookies_of laws place line wanted e x p says meant this
+      | inr behind ↦ have_byte_cookies laws (Acted (has_options place)) lines es theirs x p behind
     ]
 
 -- ---- safety

@@ -1,6 +1,6 @@
 -- What a script writes, and which of its lines has the first fault: over its bytes, the grammar of its lines and the steps of two endpoints.
 -- A failed allocation is no answer of a step here.
-use Rattle.std.specs.Prelude.{◌≡◌, ℕ, suc, ◌<◌, ◌≤◌, ◌⊎◌, List, [], ◌∷◌, ◌++◌, length, Some, Result, Ok, Err}
+use Rattle.std.specs.Prelude.{◌≡◌, ℕ, suc, ◌<◌, ◌≤◌, ◌⊎◌, true, false, List, [], ◌∷◌, ◌++◌, length, Some, Result, Ok, Err}
 use Rattle.std.specs.List.{All}
 use Rattle.sctp_model.specs.end.Sealing.{Sealing}
 use Rattle.sctp_model.specs.world.World.{World}
@@ -12,7 +12,7 @@ use Rattle.sctp_pair.specs.Happens.{IsMeant}
 use Rattle.sctp_words.specs.declared.line_fault.LineFault.{LineFault}
 use Rattle.sctp_words.specs.declared.line_fault.LineFault.TheVariants.{TooLong, PairOrder}
 use Rattle.sctp_script.specs.Grammar.{Silent, Pairs, Acts, Fault}
-use Rattle.sctp_script.specs.Places.{Place, PlacedMeaning, Plain, Configures, SaysAt}
+use Rattle.sctp_script.specs.Places.{Place, PlacedMeaning, Plain, Configures, has_options, SaysAt}
 use Rattle.sctp_text.specs.TextLines.{IsOneLine, IsTooLong, ended, joined, lines_of, ended_lines_of}
 use Rattle.sctp_script.specs.OutcomeText.{outcome_line}
 use Rattle.sctp_script.specs.ReportText.{report}
@@ -26,11 +26,11 @@ use Rattle.sctp_text.specs.declared.limits.TheConstants.{LONGEST_TEXT}
 -- what is written for what a line says, and the stage that it leads to
 abbrev pub Does : Stage → PlacedMeaning → List ℕ → Stage → Type 0
 Does stage (Plain Silent) written after = (written ≡ []) × (after ≡ stage)
-Does stage (Plain (Pairs c)) written after = (s : Sealing) × IsUnder LISTENER_KEY s × (written ≡ []) × (after ≡ SetUp c (turned_round c) s)
-Does stage (Configures a b) written after = (s : Sealing) × IsUnder LISTENER_KEY s × (written ≡ []) × (after ≡ SetUp a b s)
+Does stage (Plain (Pairs c)) written after = (s : Sealing) × IsUnder LISTENER_KEY s × (written ≡ []) × (after ≡ SetUp false c (turned_round c) s)
+Does stage (Configures a b) written after = (s : Sealing) × IsUnder LISTENER_KEY s × (written ≡ []) × (after ≡ SetUp true a b s)
 Does stage (Plain (Acts wanted)) written after =
     (w x : World) × (e : Event) × (o : Outcome) × IsMeant wanted e × (world_of stage ≡ Some w) × Step w e (Some o) x
-    × (written ≡ outcome_line wanted o) × (after ≡ Reached x)
+    × (written ≡ outcome_line wanted o) × (after ≡ Reached (has_options (place_of stage)) x)
 Does stage (Plain (Fault fault)) written after = ⊥
 
 -- a line without a fault writes this and leads to this stage

@@ -1,6 +1,6 @@
 -- The theorem on scripts: if only third parties send besides the two endpoints, and no packet arrives too late, each world that the lines of a script lead
 -- through is safe.
-use Rattle.std.specs.Prelude.{◌≡◌, ℕ, ◌⊎◌, List, [], ◌∷◌, map, Some}
+use Rattle.std.specs.Prelude.{◌≡◌, ℕ, ◌⊎◌, true, false, List, [], ◌∷◌, map, Some}
 use Rattle.sctp_model.specs.end.EndView.{Configuration}
 use Rattle.sctp_model.specs.end.Configured.{IsConfiguration}
 use Rattle.sctp_model.specs.world.World.{Side, World, Setup, configuration_of, start}
@@ -15,7 +15,7 @@ use Rattle.sctp_pair.specs.Happens.{IsMeant}
 use Rattle.sctp_pair.specs.Unforged.{KeyPremises}
 use Rattle.sctp_events.specs.Alike.{turned_round}
 use Rattle.sctp_script.specs.Grammar.{Silent, Pairs, Acts}
-use Rattle.sctp_script.specs.Places.{Place, Unpaired, Behind, Acted, Plain, Configures, SaysAt}
+use Rattle.sctp_script.specs.Places.{Place, Unpaired, Behind, Acted, Plain, Configures, has_options, SaysAt}
 use Rattle.sctp_trace.specs.Stages as stages
 use Rattle.sctp_trace.specs.Stages.{LISTENER_KEY, Stage, world_of}
 use Rattle.sctp_trace.specs.Script.{Goes}
@@ -25,9 +25,9 @@ abbrev pub AreEventsOf : Place → List (List ℕ) → List Event → Type 0
 AreEventsOf place [] events = events ≡ []
 AreEventsOf place (line ∷ lines) events =
     (SaysAt place line (Plain Silent) × AreEventsOf place lines events)
-    ⊎ (((c : Configuration) × SaysAt place line (Plain (Pairs c)) × AreEventsOf (Behind c (turned_round c)) lines events)
-    ⊎ (((a b : Configuration) × SaysAt place line (Configures a b) × AreEventsOf (Behind a b) lines events)
-    ⊎ ((wanted : Wanted) × (e : Event) × (es : List Event) × SaysAt place line (Plain (Acts wanted)) × IsMeant wanted e × AreEventsOf Acted lines es
+    ⊎ (((c : Configuration) × SaysAt place line (Plain (Pairs c)) × AreEventsOf (Behind false c (turned_round c)) lines events)
+    ⊎ (((a b : Configuration) × SaysAt place line (Configures a b) × AreEventsOf (Behind true a b) lines events)
+    ⊎ ((wanted : Wanted) × (e : Event) × (es : List Event) × SaysAt place line (Plain (Acts wanted)) × IsMeant wanted e × AreEventsOf (Acted (has_options place)) lines es
     × (events ≡ e ∷ es))))
 
 -- What the lines of a script lead through to a world: two endpoints are set up within the limits, each with a configuration of its own, and the events of these lines, none of which

@@ -11,7 +11,7 @@ use crate::gathered::{close, finish, gather_outcome, pass_on};
 use crate::script_laws::lines_are_there;
 use sctp_cookie::keys_have_seals;
 use sctp_pair::{Pair, TwoConfigs};
-use sctp_script::{Place, Placed, events_follow_the_pair, read_line_at};
+use sctp_script::{Place, Placed, Preamble, events_at_their_place, read_line_at};
 use sctp_text::{LineReader, NextLine, ReadFault, Sink, Source, line_after_line};
 use sctp_words::{LineError, LineFault};
 use std::alloc::Global;
@@ -101,14 +101,14 @@ fn run_all<R: Source, W: Sink>(
     finish(&running.pair, gathered)
 }
 
-/// The state of a run: the reader of the script's lines, the pair once there is one, its configurations until a line asks something of it, and the
-/// number of the next line.
+/// The state of a run: the reader of the script's lines, the pair once there is one, what was said of its endpoints, and the number of the next
+/// line.
 #[derive(Drop)]
 struct Running {
     alloc: Global,
     lines: LineReader,
     pair: Option<Pair>,
-    fresh: Option<TwoConfigs>,
+    preamble: Preamble,
     number: u64,
 }
 
@@ -121,7 +121,7 @@ impl Running {
             alloc,
             lines: LineReader::new(alloc),
             pair: None,
-            fresh: None,
+            preamble: Preamble::default(),
             number: 1,
         }
     }
@@ -153,7 +153,7 @@ impl Running {
                 act(
                     self.alloc,
                     &mut self.pair,
-                    &mut self.fresh,
+                    &mut self.preamble,
                     self.number,
                     &line,
                     gathered,
@@ -165,7 +165,7 @@ impl Running {
                 act(
                     self.alloc,
                     &mut self.pair,
-                    &mut self.fresh,
+                    &mut self.preamble,
                     self.number,
                     &line,
                     gathered,
@@ -183,25 +183,27 @@ impl Running {
 fn act(
     alloc: Global,
     pair: &mut Option<Pair>,
-    fresh: &mut Option<TwoConfigs>,
+    preamble: &mut Preamble,
     number: u64,
     line: &[u8],
     gathered: &mut Vec<u8>,
 ) -> Result<(), ScriptFault>
-    ensures leaves { (stage : Stage) → Stand pair.old fresh.old stage
-        → (here : List ℕ) × (gathered.new.items ≡ gathered.old.items ++ here) × LineLeaves result number stage line.now here pair.new fresh.new }
+    ensures leaves { (stage : Stage) → Stand pair.old preamble.old stage
+        → (here : List ℕ) × (gathered.new.items ≡ gathered.old.items ++ here) × LineLeaves result number stage line.now here pair.new preamble.new }
     ensures no_calls { (failed_reads result ≡ 0) × (failed_writes result ≡ 0) }
 {
     // law: an event is after the `pair` line
-    events_follow_the_pair();
-    match read_line_at(alloc, line, Place::of(pair.is_some(), *fresh)) {
+    events_at_their_place();
+    match read_line_at(alloc, line, Place::of(pair.is_some(), *preamble)) {
         Ok(None) => Ok(()),
-        Ok(Some(Placed::Pair(config))) => set_up(alloc, &TwoConfigs::alike(config), pair, fresh),
-        Ok(Some(Placed::Options(configs))) => set_up(alloc, &configs, pair, fresh),
+        Ok(Some(Placed::Pair(config))) => {
+            set_up(alloc, &TwoConfigs::alike(config), false, pair, preamble)
+        }
+        Ok(Some(Placed::Options(configs))) => set_up(alloc, &configs, true, pair, preamble),
         Ok(Some(Placed::Event(event))) => {
             let Some(pair) = pair else { unreachable!() };
             let outcome = pair.step(&event).map_err(|_| ScriptFault::NoMemory)?;
-            *fresh = None;
+            preamble.fresh = None;
             gather_outcome(alloc, &event, &outcome, gathered)
         }
         Err(LineError::Fault(fault)) => Err(ScriptFault::Line(number, fault)),
@@ -209,21 +211,25 @@ fn act(
     }
 }
 
-/// Makes the pair with these configurations, in place of the one that is there.
+/// Makes the pair with these configurations, in place of the one that is there. `with_options` says whether a line of options gives them.
 fn set_up(
     alloc: Global,
     configs: &TwoConfigs,
+    with_options: bool,
     pair: &mut Option<Pair>,
-    fresh: &mut Option<TwoConfigs>,
+    preamble: &mut Preamble,
 ) -> Result<(), ScriptFault>
-    ensures { IsSetUp result configs.now pair.new fresh.new }
+    ensures { IsSetUp result configs.now with_options pair.new preamble.new }
 {
     // law: the listener's key has a seal
     keys_have_seals();
     match Pair::of_two(alloc, *configs) {
         Ok(made) => {
             drop(pair.replace(made));
-            *fresh = Some(*configs);
+            *preamble = Preamble {
+                fresh: Some(*configs),
+                with_options,
+            };
             Ok(())
         }
         Err(_) => Err(ScriptFault::NoMemory),

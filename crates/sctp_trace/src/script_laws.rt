@@ -11,8 +11,7 @@ use sctp_outcomes::{every_event_has_an_outcome, users_take_what_was_sent};
 use sctp_pair::premises_are_the_keys;
 use sctp_safety::each_world_on_the_way_is_safe;
 use sctp_script::{
-    configurations_are_right, events_can_happen, events_follow_the_pair, one_meaning_at,
-    the_pair_comes_first,
+    configurations_are_right, events_at_their_place, one_meaning_at, the_pair_comes_first,
 };
 use sctp_terms::faultless_is_configured;
 use sctp_text::lines_in_one_way;
@@ -30,7 +29,7 @@ pub fn every_script_is_safe()
     the_pair_comes_first();
     configurations_are_right();
     faultless_is_configured();
-    events_can_happen();
+    events_at_their_place();
     premises_are_the_keys();
     each_world_on_the_way_is_safe();
     users_take_what_was_sent();
@@ -42,8 +41,7 @@ pub fn lines_are_there()
     ensures { LinesAreThere }
 {
     one_meaning_at();
-    events_follow_the_pair();
-    events_can_happen();
+    events_at_their_place();
     lines_in_one_way();
     one_packet();
     keys_have_seals();

@@ -1,9 +1,10 @@
 -- What a word may say, by its field, and the words of several fields.
-use Rattle.std.specs.Prelude.{◌≡◌, ℕ, ◌<◌, ◌^◌, List, [], ◌∷◌, Option, None, Some, codes}
+use Rattle.std.specs.Prelude.{◌≡◌, ℕ, ◌<◌, ◌^◌, List, [], ◌∷◌, ◌++◌, Option, None, Some, codes}
 use Rattle.sctp_model.specs.messages.Format.{Kind, Ordered, Unordered}
 use Rattle.sctp_terms.specs.declared.mode.Mode.{Mode}
 use Rattle.sctp_terms.specs.declared.mode.Mode.TheVariants.{Data, PartialData, IData, PartialIData}
 use Rattle.sctp_text.specs.Numerals.{IsDecimal}
+use Rattle.sctp_words.specs.declared.fields.TheConstants.{LIMIT_MARK}
 
 -- a number that a field of this many bits holds
 abbrev pub IsNumber : ℕ → List ℕ → ℕ → Type 0
@@ -33,10 +34,40 @@ delay_word = codes "delay"
 abbrev pub standard_closing_word : List ℕ
 standard_closing_word = codes "standard-closing"
 
+-- what has three miss indications is retransmitted at once (RFC 9260, 7.2.4)
+abbrev pub fast_retransmit_word : List ℕ
+fast_retransmit_word = codes "fast-retransmit"
+
+-- a congestion window limits what is in flight (RFC 9260, 7.2)
+abbrev pub congestion_control_word : List ℕ
+congestion_control_word = codes "congestion-control"
+
+-- before RTO.Min in milliseconds (RFC 9260, 6.3.1)
+abbrev pub rto_min_word : List ℕ
+rto_min_word = codes "rto-min"
+
 -- the end of a message's lifetime, in milliseconds, or no limit
 abbrev pub IsUntil : List ℕ → Option ℕ → Type 0
 IsUntil word None = word ≡ codes "-"
 IsUntil word (Some n) = IsNumber 64 word n
+
+-- the end of a lifetime as a word has it before a limit of retransmissions: nothing for none
+abbrev pub IsTimeBefore : List ℕ → Option ℕ → Type 0
+IsTimeBefore time None = time ≡ []
+IsTimeBefore time (Some t) = IsNumber 64 time t
+
+-- the word has a limit of retransmissions (RFC 7496, 3.1): the time, or nothing, then `x`, then how often each fragment may be retransmitted
+pub record HasLimit (word : List ℕ) (until : Option ℕ) (n : ℕ) : Type 0 where
+  pub time : List ℕ
+  pub count : List ℕ
+  pub whole : word ≡ time ++ LIMIT_MARK ∷ count
+  pub lifetime : IsTimeBefore time until
+  pub number : IsNumber 16 count n
+
+-- the end of a message's lifetime, and its limit of retransmissions if it has one
+abbrev pub IsUntilLimit : List ℕ → (until limit : Option ℕ) → Type 0
+IsUntilLimit word until None = IsUntil word until
+IsUntilLimit word until (Some n) = HasLimit word until n
 
 -- ---- the words of several fields: F is what a program has as fields, Value what a word of a field says, and IsValue that it does
 

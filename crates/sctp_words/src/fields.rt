@@ -4,13 +4,16 @@ ghost use Rattle.std.specs.Prelude.{◌≡◌, ◌↔◌, ℕ, List, Option, IsT
 ghost use Rattle.sctp_model.specs.messages.Format as format;
 ghost use Rattle.sctp_values.specs.Meanings.{kind_meaning};
 ghost use Rattle.sctp_text.specs.Numerals.{IsHex};
-ghost use Rattle.sctp_words.specs.Fields.{IsNumber, IsTag, IsUntil, kind_word, mode_word, delay_word, standard_closing_word};
+ghost use Rattle.sctp_words.specs.Fields.{IsNumber, IsTag, IsUntil, IsTimeBefore, IsUntilLimit, kind_word, mode_word, delay_word, standard_closing_word, fast_retransmit_word, congestion_control_word, rto_min_word};
 
-use crate::numbers::{read_u32, read_u64};
+use crate::numbers::{read_u16, read_u32, read_u64};
 use sctp_terms::{Draw, Mode};
 use sctp_text::{Bytes, read_hex};
 use sctp_values::{Kind, NoMemory};
 use std::alloc::Global;
+
+/// What a limit of retransmissions begins with in a word, `x`.
+pub const LIMIT_MARK: u8 = 120;
 
 /// Reads random values: a verification tag, not 0, and an initial TSN. None if a word isn't its value.
 pub fn read_draw(tag: &[u8], tsn: &[u8]) -> Option<Draw>
@@ -55,6 +58,36 @@ pub fn read_until(word: &[u8]) -> Option<Option<u64>>
     Some(Some(read_u64(word)?))
 }
 
+/// Reads the end of a message's lifetime and how often each fragment of it may be retransmitted (RFC 7496, 3.1), 0 to 65,535: `TxN` for a time T
+/// in milliseconds and a limit N, `xN` for a limit alone, and without a limit as `read_until`. None for another word.
+pub fn read_until_limit(word: &[u8]) -> Option<(Option<u64>, Option<u16>)>
+    ensures { MatchOption result
+        ((until limit : Option ℕ) → IsUntilLimit word.now until limit → ⊥)
+        (λ found. IsUntilLimit word.now found.0 found.1) }
+{
+    match word.iter().position(|&byte| byte == LIMIT_MARK) {
+        Some(at) => {
+            let until = read_time_before(&word[..at])?;
+            let limit = read_u16(&word[at + 1..])?;
+            Some((until, Some(limit)))
+        }
+        None => {
+            let until = read_until(word)?;
+            Some((until, None))
+        }
+    }
+}
+
+/// Reads the end of a lifetime before a limit of retransmissions: nothing for none. None for another word.
+fn read_time_before(time: &[u8]) -> Option<Option<u64>>
+    ensures { MatchOption result ((until : Option ℕ) → IsTimeBefore time.now until → ⊥) (λ until. IsTimeBefore time.now until) }
+{
+    if time.is_empty() {
+        return Some(None);
+    }
+    Some(Some(read_u64(time)?))
+}
+
 /// Reads a mode: `data`, `data-pr`, `idata` or `idata-pr`. None for another word.
 pub fn read_mode(word: &[u8]) -> Option<Mode>
     ensures { MatchOption result ((m : Mode) → word.now ≡ mode_word m → ⊥) (λ m. word.now ≡ mode_word m) }
@@ -80,4 +113,25 @@ pub fn is_standard_closing(word: &[u8]) -> bool
     ensures { IsTrue result ↔ word.now ≡ standard_closing_word }
 {
     word == b"standard-closing".as_slice()
+}
+
+/// Whether the word is `fast-retransmit`: what has three miss indications is retransmitted at once (RFC 9260, 7.2.4).
+pub fn is_fast_retransmit(word: &[u8]) -> bool
+    ensures { IsTrue result ↔ word.now ≡ fast_retransmit_word }
+{
+    word == b"fast-retransmit".as_slice()
+}
+
+/// Whether the word is `congestion-control`: a congestion window limits what is in flight (RFC 9260, 7.2).
+pub fn is_congestion_control(word: &[u8]) -> bool
+    ensures { IsTrue result ↔ word.now ≡ congestion_control_word }
+{
+    word == b"congestion-control".as_slice()
+}
+
+/// Whether the word is `rto-min`, before RTO.Min in milliseconds (RFC 9260, 6.3.1).
+pub fn is_rto_min(word: &[u8]) -> bool
+    ensures { IsTrue result ↔ word.now ≡ rto_min_word }
+{
+    word == b"rto-min".as_slice()
 }

@@ -1,7 +1,7 @@
 //! What the sender puts into a packet: FORWARD-TSN, and user data after all control chunks (RFC 9260, 6.1 and 6.3.2; RFC 3758, 3.5; RFC 8260, 2.2
 //! and 2.3.1).
 
-ghost use Rattle.std.specs.Prelude.{◌≡◌, ◌≤◌, ◌&&◌, map, IfOk, OnOk, OnErr};
+ghost use Rattle.std.specs.Prelude.{◌≡◌, ◌≤◌, ◌&&◌, nat_lt, length, None, map, IfOk, OnOk, OnErr};
 ghost use Rattle.sctp_model.specs.numbers.Limits.{LEAST_PACKET, GREATEST_PACKET};
 ghost use Rattle.sctp_model.specs.messages.Format.{Format};
 ghost use Rattle.sctp_model.specs.sender.SenderView.{SenderView};
@@ -10,19 +10,22 @@ ghost use Rattle.sctp_model.specs.sender.Filling.{fill, newly_numbered, chunk_of
 ghost use Rattle.sctp_model.specs.sender.SentChunks.{forward_chunk_of};
 ghost use Rattle.sctp_model.specs.end.EndView.{EndView, format_of};
 ghost use Rattle.sctp_model.specs.end.Clock.{is_point_past};
+ghost use Rattle.sctp_model.specs.end.Building.{room_behind, filled_behind, sent};
 ghost use Rattle.sctp_packet.specs.Draft.{room_in, with_chunks, has_room, after_try};
 ghost use Rattle.sctp_send.specs.SenderStands.{StandsFor};
 ghost use Rattle.sctp_association.specs.StartsMean.{starts_at, with_fragments};
 ghost use Rattle.sctp_association.specs.TrafficStands.{TrafficStands};
-ghost use Rattle.sctp_association.specs.Drafted.{IsOf, IsQuiet};
+ghost use Rattle.sctp_association.specs.Drafted.{drafted, IsOf, IsOwn};
 ghost use Rattle.sctp_association.specs.FillsBehind.{FillsBehind};
 ghost use Rattle.sctp_association.specs.declared.time.starts.Starts as starts;
 ghost use Rattle.sctp_association.specs.declared.build.packing.Marks as marks;
 
+use crate::build::pacing::fill_by;
 use crate::build::packing::Packing;
 use crate::time::starts::Starts;
 use crate::time::timer::Alarm;
 use crate::traffic::Traffic;
+use sctp_congestion::Pacing;
 use sctp_framing::Framing;
 use sctp_packet::PacketWriter;
 use sctp_send::{Filled, Sender};
@@ -118,10 +121,16 @@ pub(crate) fn fill_rest(
     traffic: &mut Traffic,
     writer: &mut PacketWriter,
 ) -> Result<Fragments, NoMemory>
-    ensures filled { (e : EndView) (m : marks.Marks) (n : starts.Starts) → TrafficStands traffic.old (format_of e) e.sender e.receiver → IsQuiet e
-        → IsOf e (record { writer = writer.old; marks = m })
+    ensures filled { (e : EndView) (m : marks.Marks) (n : starts.Starts) → TrafficStands traffic.old (format_of e) e.sender e.receiver
+        → room_in writer.old ≡ room_behind (drafted m e) writer.old.chunks → IsOwn e (record { writer = writer.old; marks = m })
         → IfOk result (λ fragments. starts_at n ≡ with_fragments fragments.some (starts_at m.starts)
         → FillsBehind e (record { writer = writer.old; marks = m }) (record { writer = writer.new; marks = record m { starts = n } }) traffic.new fragments.tickets) }
+    ensures step { (e : EndView) (m : marks.Marks) → TrafficStands traffic.old (format_of e) e.sender e.receiver
+        → room_in writer.old ≡ room_behind (drafted m e) writer.old.chunks
+        → OnOk result (TrafficStands traffic.new (format_of e) (filled_behind (drafted m e) writer.old.chunks).view e.receiver) }
+    ensures some { (e : EndView) (m : marks.Marks) → TrafficStands traffic.old (format_of e) e.sender e.receiver
+        → room_in writer.old ≡ room_behind (drafted m e) writer.old.chunks
+        → IfOk result (λ fragments. fragments.some ≡ nat_lt 0 (length (filled_behind (drafted m e) writer.old.chunks).wishes)) }
     ensures memory { (f : Format) (s : SenderView) (r : ReceiverView) → TrafficStands traffic.old f s r → OnErr result (TrafficStands traffic.new f s r) }
 {
     let before = writer.room();
@@ -133,19 +142,26 @@ pub(crate) fn fill_rest(
     })
 }
 
-/// Fills what is left after the control chunks with user data, which starts the data timer.
+/// Fills what is left after the control chunks with user data, as far as the pace allows, which starts the data timer. The time is that of the packet,
+/// in milliseconds.
 ///
 /// # Errors
-/// `NoMemory` if an allocation was refused; nothing of the traffic changed then.
+/// `NoMemory` if an allocation was refused; nothing of the traffic and of the pace changed then.
 pub(crate) fn fill_behind(
     traffic: &mut Traffic,
+    pace: &mut Option<Pacing>,
+    moment: u64,
     packing: &mut Packing,
 ) -> Result<Vec<Ticket>, NoMemory>
-    ensures filled { (e : EndView) → TrafficStands traffic.old (format_of e) e.sender e.receiver → IsQuiet e → IsOf e packing.old
+    ensures filled { (e : EndView) → TrafficStands traffic.old (format_of e) e.sender e.receiver → pace.old ≡ e.pace → moment ≡ e.moment → IsOf e packing.old
         → IfOk result (λ tickets. FillsBehind e packing.old packing.new traffic.new tickets) }
+    ensures paced { (e : EndView) → TrafficStands traffic.old (format_of e) e.sender e.receiver → pace.old ≡ e.pace → moment ≡ e.moment → IsOf e packing.old
+        → OnOk result (pace.new ≡ (sent (drafted packing.old.marks e) packing.old.writer.chunks).pace) }
     ensures memory { (f : Format) (s : SenderView) (r : ReceiverView) → TrafficStands traffic.old f s r → OnErr result (TrafficStands traffic.new f s r) }
+    ensures kept { OnErr result (pace.new ≡ pace.old) }
+    ensures unpaced { pace.old ≡ None → pace.new ≡ None }
 {
-    let fragments = fill_rest(traffic, &mut packing.writer)?;
+    let fragments = fill_by(traffic, pace, moment, &mut packing.writer)?;
     start_fragments(&mut packing.marks.starts, fragments.some);
     Ok(fragments.tickets)
 }

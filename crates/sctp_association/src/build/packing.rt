@@ -4,18 +4,20 @@
 ghost use Rattle.std.specs.Prelude.{◌≡◌, ◌≤◌, ℕ, List, [], length, option_map, IfSome, MatchOption};
 ghost use Rattle.sctp_model.specs.wire.Typed.{Typed, WritesTyped};
 ghost use Rattle.sctp_model.specs.wire.Packet.{size_of_packet};
+ghost use Rattle.sctp_model.specs.receiver.SackMade.{sack_sent};
 ghost use Rattle.sctp_model.specs.end.EndView as model;
 ghost use Rattle.sctp_model.specs.end.EndView.{EndView};
 ghost use Rattle.sctp_packet.specs.Draft.{packet_of};
 ghost use Rattle.sctp_packet.specs.PacketBytes.{WritesPacket};
 ghost use Rattle.sctp_association.specs.DueStands.{DueStands, info_bytes};
-ghost use Rattle.sctp_association.specs.Drafted.{value_left, causes_left, due_left, drafted, IsFresh, IsEmpty};
+ghost use Rattle.sctp_association.specs.Drafted.{value_left, causes_left, receiver_left, delayed_left, due_left, drafted, IsFresh, IsEmpty};
 ghost use Rattle.sctp_association.specs.MachineStands.{MachineStands};
 
 use crate::build::Built;
 use crate::machine::Machine;
 use crate::state::carried::{HeartbeatInfo, WaitingCauses};
 use crate::state::due::Due;
+use crate::state::life::Life;
 use crate::time::starts::Starts;
 use sctp_packet::PacketWriter;
 use sctp_values::Ticket;
@@ -93,6 +95,31 @@ impl Machine {
                 self.recycle(room);
                 None
             }
+        }
+    }
+
+    /// If a SACK that was due went out, the duplicates that it reported are forgotten, and no SACK is delayed any more (RFC 9260, 6.2).
+    pub(crate) fn when_sack_sent(&mut self, was_due: bool, is_due: bool)
+        ensures { (v : EndView) → MachineStands self.old v
+            → MachineStands self.new (record v { delayed = delayed_left was_due is_due v.delayed; receiver = receiver_left was_due is_due v.receiver }) }
+    {
+        if !was_due {
+            return;
+        }
+        if is_due {
+            return;
+        }
+        self.delayed = None;
+        self.sack_sent();
+    }
+
+    /// A SACK went out: the duplicates that it reported are forgotten.
+    fn sack_sent(&mut self)
+        ensures { (v : EndView) → MachineStands self.old v → MachineStands self.new (record v { receiver = sack_sent v.receiver }) }
+    {
+        match &mut self.life {
+            Life::Unjoined(_) => {}
+            Life::Joined(association) => association.traffic.sack_sent(),
         }
     }
 }

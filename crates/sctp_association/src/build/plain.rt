@@ -1,7 +1,7 @@
-//! The fast path of most packets: while the association is open and nothing is due but a SACK, no other chunk that may be due is looked at (RFC 9260,
+//! The fast path of most packets: while the association is open without a pace and nothing is due but a SACK, no other chunk that may be due is looked at (RFC 9260,
 //! 6.1, 6.2 and 6.10). SACK and user data go in by the same functions as in any other packet.
 
-ghost use Rattle.std.specs.Prelude.{◌≡◌, ◌≤◌, ℕ, [], true, false, length, IfOk, OnErr, IfSome, MatchOption};
+ghost use Rattle.std.specs.Prelude.{◌≡◌, ◌≤◌, ℕ, [], true, false, None, length, IfOk, OnErr, IfSome, MatchOption};
 ghost use Rattle.sctp_model.specs.messages.Format.{Format};
 ghost use Rattle.sctp_model.specs.sender.SenderView.{SenderView};
 ghost use Rattle.sctp_model.specs.receiver.ReceiverView.{ReceiverView};
@@ -66,12 +66,15 @@ impl Due {
 
 #[tactic(auto, unfolding(crate::specs::MachineStands::MachineStands))]
 impl Machine {
-    /// The association is open, and nothing is due but a SACK at most.
+    /// The association is open and has no pace, and nothing is due but a SACK at most.
     #[inline(always)]
     pub(crate) fn is_plain(&self) -> bool
         ensures { (v : EndView) → MachineStands self.now v → result ≡ true
-            → (t : model.Tags) × (g : model.Stage) × (v.phase ≡ model.Open t g) × IsPlain self.now.due v.due }
+            → (t : model.Tags) × (g : model.Stage) × (v.phase ≡ model.Open t g) × (v.pace ≡ None) × IsPlain self.now.due v.due }
     {
+        if self.pace.is_some() {
+            return false;
+        }
         match self.opened() {
             Some(_) => self.due.is_plain(),
             None => false,
@@ -84,7 +87,7 @@ impl Machine {
     /// `NoMemory` if an allocation was refused; nothing changed then, not even the clock.
     #[inline(always)]
     pub(crate) fn build_plain(&mut self, moment: u64) -> Result<Option<Built>, NoMemory>
-        ensures built { (v : EndView) (t : model.Tags) (g : model.Stage) → MachineStands self.old v → v.phase ≡ model.Open t g → IsPlain self.old.due v.due
+        ensures built { (v : EndView) (t : model.Tags) (g : model.Stage) → MachineStands self.old v → v.phase ≡ model.Open t g → v.pace ≡ None → IsPlain self.old.due v.due
             → IfOk result (λ built. BuildAnswer (record v { moment = moment }) built self.new) }
         ensures memory { (v : EndView) → MachineStands self.old v → OnErr result (MachineStands self.new v) }
     {
@@ -99,9 +102,9 @@ impl Machine {
     /// `NoMemory` if an allocation was refused.
     #[inline(always)]
     fn pack_plain(&mut self, writer: &mut PacketWriter) -> Result<Plain, NoMemory>
-        ensures packed { (v : EndView) (t : model.Tags) (g : model.Stage) (moment : ℕ) → MachineStands self.old v → v.phase ≡ model.Open t g → IsPlain self.old.due v.due
+        ensures packed { (v : EndView) (t : model.Tags) (g : model.Stage) (moment : ℕ) → MachineStands self.old v → v.phase ≡ model.Open t g → v.pace ≡ None → IsPlain self.old.due v.due
             → IsEmpty (record v { moment = moment }) (record { writer = writer.old; marks = plain_marks self.old.due self.old.due.sack false })
-            → IfOk result (λ p. (s : SenderView) × IsPacked (record v { moment = moment }) s (record { writer = writer.new; marks = plain_marks self.old.due p.sack p.fragments }) p.tickets
+            → IfOk result (λ p. (s : SenderView) × IsPacked (record v { moment = moment }) s v.pace (record { writer = writer.new; marks = plain_marks self.old.due p.sack p.fragments }) p.tickets
             × MachineStands self.new (record v { sender = s })) }
         ensures memory { (v : EndView) → MachineStands self.old v → OnErr result (MachineStands self.new v) }
         ensures kept { self.new ≡ record self.old { life = self.new.life } }
@@ -147,9 +150,9 @@ fn put_plain(
     sack: bool,
     writer: &mut PacketWriter,
 ) -> Result<Plain, NoMemory>
-    ensures packed { (e : EndView) (t : model.Tags) (g : model.Stage) (d : kept.Due) → e.phase ≡ model.Open t g → IsPlain d e.due → IsQuiet e
+    ensures packed { (e : EndView) (t : model.Tags) (g : model.Stage) (d : kept.Due) → e.phase ≡ model.Open t g → e.pace ≡ None → IsPlain d e.due → IsQuiet e
         → TrafficStands traffic.old (format_of e) e.sender e.receiver → IsEmpty e (record { writer = writer.old; marks = plain_marks d sack false })
-        → IfOk result (λ p. (s : SenderView) × IsPacked e s (record { writer = writer.new; marks = plain_marks d p.sack p.fragments }) p.tickets
+        → IfOk result (λ p. (s : SenderView) × IsPacked e s e.pace (record { writer = writer.new; marks = plain_marks d p.sack p.fragments }) p.tickets
         × TrafficStands traffic.new (format_of e) s e.receiver) }
     ensures memory { (f : Format) (s : SenderView) (r : ReceiverView) → TrafficStands traffic.old f s r → OnErr result (TrafficStands traffic.new f s r) }
 {

@@ -93,7 +93,8 @@ impl Machine {
     }
 
     /// Processes a SACK: what it acknowledges is acknowledged, a FORWARD-TSN is due if it skips something, and the data timer counts its
-    /// retransmissions anew (RFC 9260, 6.2.1 and 6.3.2; RFC 3758, 3.5). It doesn't allocate.
+    /// retransmissions anew; an endpoint with a pace acts on the round trip and the misses that it reports (RFC 9260, 6.2.1, 6.3 and 7.2; RFC 3758,
+    /// 3.5). It doesn't allocate.
     ///
     /// # Errors
     /// Its first fault; nothing changed then.
@@ -107,12 +108,14 @@ impl Machine {
             → OnErr result (MachineStands self.new v) }
     {
         let before = self.cum();
+        let weighed = self.weigh(sack);
         match self.take_sack(sack) {
             Ok(()) => {
                 let moved = before < self.cum();
                 self.due.owe_forward(true);
                 self.settle();
                 self.renew(Alarm::Fragments, moved);
+                self.follow(weighed);
                 Ok(())
             }
             Err(fault) => Err(fault),
@@ -156,7 +159,7 @@ impl Machine {
     }
 
     /// Processes the cumulative TSN of a SHUTDOWN, which acknowledges; with standard closing one that acknowledges something new restarts the data
-    /// timer as a SACK does (RFC 9260, 6.3.2 and 9.2). It doesn't allocate.
+    /// timer as a SACK does, and an endpoint with a pace acts on it as on a SACK (RFC 9260, 6.3, 7.2 and 9.2). It doesn't allocate.
     ///
     /// # Errors
     /// Its first fault; nothing changed then.
@@ -169,10 +172,12 @@ impl Machine {
             → OnErr result (MachineStands self.new v) }
     {
         let before = self.cum();
+        let weighed = self.weigh_shutdown(tsn);
         match self.take_shutdown(tsn) {
             Ok(()) => {
                 self.settle();
                 self.renew_shut(before < self.cum());
+                self.follow(weighed);
                 Ok(())
             }
             Err(fault) => Err(fault),

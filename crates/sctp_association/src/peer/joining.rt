@@ -1,13 +1,13 @@
 //! How an endpoint enters an association: a listener by the cookie that returns to it, a caller by the INIT ACK that it accepts, two endpoints without
 //! packets (RFC 9260, 5.1). Sender and receiver are created first, which alone may allocate; then the state changes.
 
-ghost use Rattle.std.specs.Prelude.{◌≡◌, ℕ, false, List, ◌<◌, ◌+◌, ◌^◌, length, IfOk, OnOk, OnErr};
+ghost use Rattle.std.specs.Prelude.{◌≡◌, ℕ, List, ◌<◌, ◌+◌, ◌^◌, length, IfOk, OnOk, OnErr};
 ghost use Rattle.sctp_model.specs.sender.SenderView.{fresh_sender};
 ghost use Rattle.sctp_model.specs.receiver.ReceiverView.{fresh_receiver};
 ghost use Rattle.sctp_model.specs.end.EndView.{EndView, format_for};
 ghost use Rattle.sctp_model.specs.end.EndView as model;
 ghost use Rattle.sctp_model.specs.end.Clock.{timers_in};
-ghost use Rattle.sctp_model.specs.end.Opening.{begun, echoing, opened};
+ghost use Rattle.sctp_model.specs.end.Opening.{pace_for, begun, echoing, opened};
 ghost use Rattle.sctp_wire.specs.ChunkTree.{init_meaning};
 ghost use Rattle.sctp_cookie.specs.CookieTree.{body_meaning};
 ghost use Rattle.sctp_association.specs.TimersMean.{timers_meaning};
@@ -23,12 +23,17 @@ use crate::state::stage::{Stage, Tags};
 use crate::time::timer::Alarm;
 use crate::time::timers::Timers;
 use crate::traffic::{Sizes, Traffic};
+use sctp_congestion::{Pacing, RoundTrip};
 use sctp_cookie::CookieBody;
 use sctp_opening::Terms;
 use sctp_terms::{Config, Draw};
+use sctp_values::FIRST_WAIT;
 use sctp_wire::{Init, NoMemory};
 use std::alloc::Global;
 use std::mem::replace;
+
+/// The bytes of a packet's common header (RFC 9260, 3.1).
+const HEADER: u16 = 12;
 
 #[tactic(auto, unfolding(crate::specs::MachineStands::MachineStands))]
 impl Machine {
@@ -41,6 +46,7 @@ impl Machine {
     {
         let terms = Terms::alike(&config, own, peer);
         let traffic = begun_for(alloc, &config, terms, config.buffer())?;
+        let pace = pace_for(&config, config.buffer());
         let tags = Tags {
             own: own.tag(),
             peer: peer.tag(),
@@ -59,6 +65,7 @@ impl Machine {
                 progress: Progress::Open(Stage::Established),
                 traffic,
             }),
+            pace,
             room: Vec::new(alloc),
         })
     }
@@ -84,8 +91,10 @@ impl Machine {
             traffic,
         };
         drop(replace(&mut self.life, Life::Joined(joined)));
+        self.pace = pace_for(&self.config, body.caller_rwnd);
         self.due.begin();
         turn_timers(&mut self.timers, Stage::Established);
+        self.measure(Some(RoundTrip::between(body.made, self.moment)), FIRST_WAIT);
         Ok(())
     }
 
@@ -117,40 +126,41 @@ impl Machine {
             traffic,
         };
         drop(replace(&mut self.life, Life::Joined(joined)));
+        self.pace = pace_for(&self.config, offer.rwnd);
         self.due.echo(reported);
         echo_timers(&mut self.timers);
         Ok(())
     }
 }
 
-/// It asks for no fast retransmit: no call of [`Config`] sets that (RFC 9260, 7.2.4).
-fn without_pace(config: &Config)
-    ensures { config.now.fast_retransmit ≡ false }
-{
-    if let Some(pace) = config.pace() {
-        match pace {}
-    }
-}
-
-/// Sender and receiver of an endpoint of this configuration, on these terms: it has no pace. `peer_rwnd` is the window that the peer advertised, in
-/// bytes.
+/// Sender and receiver of an endpoint of this configuration, on these terms. `peer_rwnd` is the window that the peer advertised, in bytes.
 fn begun_for(
     alloc: Global,
     config: &Config,
     terms: Terms,
     peer_rwnd: u32,
 ) -> Result<Traffic, NoMemory>
-    ensures unpaced { config.now.fast_retransmit ≡ false }
-    ensures begins { IfOk result (λ t. TrafficStands t (format_for terms.interleave)
+    ensures { IfOk result (λ t. TrafficStands t (format_for terms.interleave)
         (fresh_sender terms.own_tsn terms.outbound config.now.fragment peer_rwnd terms.partial)
         (fresh_receiver terms.peer_tsn terms.inbound config.now.buffer)) }
 {
-    without_pace(config);
     let sizes = Sizes {
         fragment: config.fragment(),
         buffer: config.buffer(),
     };
     Traffic::begun(alloc, terms, sizes, peer_rwnd)
+}
+
+/// The pace of a new association of this configuration, if it asks for fast retransmit (RFC 9260, 6.3.1 and 7.2). `peer_rwnd` is the window that the
+/// peer advertised, in bytes.
+fn pace_for(config: &Config, peer_rwnd: u32) -> Option<Pacing>
+    ensures { result ≡ pace_for config.now peer_rwnd }
+{
+    if !config.fast_retransmit() {
+        return None;
+    }
+    let pmdcs = config.limit() - HEADER;
+    Some(Pacing::fresh(config.congestion_control(), pmdcs, peer_rwnd))
 }
 
 /// The timers of a caller that echoes its cookie.

@@ -5,7 +5,7 @@ ghost use Rattle.std.specs.Prelude.{◌≡◌, true, false, ◌≤◌, ◌<◌, 
 ghost use Rattle.sctp_model.specs.end.EndView.{EndView};
 ghost use Rattle.sctp_model.specs.end.EndView as model;
 ghost use Rattle.sctp_model.specs.end.Sealing.{Sealing};
-ghost use Rattle.sctp_model.specs.end.Clock.{closed};
+ghost use Rattle.sctp_model.specs.end.Clock.{turned, closed};
 ghost use Rattle.sctp_model.specs.end.Closing.{with_due};
 ghost use Rattle.sctp_model.specs.end.Options.{value_of};
 ghost use Rattle.sctp_model.specs.end.PeerFaults.{packet_to, abort_for};
@@ -27,6 +27,7 @@ use crate::machine::Machine;
 use crate::state::closing::turn_timers;
 use crate::state::life::{Life, Progress, Role, Unjoined};
 use crate::state::stage::Stage;
+use crate::time::timer::Alarm;
 use sctp_cookie::Key;
 use sctp_opening::{AckFault, CookieReading, Outside, Stray, ack_abort, cookie_of, read_cookie};
 use sctp_terms::{Draw, End};
@@ -98,10 +99,21 @@ impl Machine {
         Ok(packet)
     }
 
-    /// A COOKIE ACK arrived: the caller's association is established (RFC 9260, 5.1, E).
+    /// A COOKIE ACK arrived: the caller's association is established (RFC 9260, 5.1, E). With a pace it measures the round trip of the COOKIE ECHO.
     pub fn establish(&mut self)
         ensures { (v : EndView) (t : model.Tags) (xs : List ℕ) → MachineStands self.old v → v.phase ≡ model.Echoing t xs
             → MachineStands self.new (acknowledged_echo t v) }
+    {
+        let cookie = self.timers.get(Alarm::Cookie);
+        let trip = cookie.trip(self.moment);
+        self.enter_established();
+        self.measure(trip, cookie.wait);
+    }
+
+    /// The caller's association enters ESTABLISHED.
+    fn enter_established(&mut self)
+        ensures { (v : EndView) (t : model.Tags) (xs : List ℕ) → MachineStands self.old v → v.phase ≡ model.Echoing t xs
+            → MachineStands self.new (turned (model.Open t model.Established) v) }
     {
         self.due.turn(Stage::Established);
         turn_timers(&mut self.timers, Stage::Established);

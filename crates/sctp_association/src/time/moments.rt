@@ -1,12 +1,13 @@
-//! What the time does to an endpoint: messages whose lifetime is over are abandoned, then each timer that is due expires once, and a delayed SACK is
-//! due (RFC 9260, 5.1, 6.2, 6.3.3 and 9.2; RFC 3758, 3.5). Nothing here allocates.
+//! What the time does to an endpoint: messages past their lifetime or at their limit of retransmissions are abandoned, then each timer that is due
+//! expires once, and a delayed SACK is due (RFC 9260, 5.1, 6.2, 6.3.3 and 9.2; RFC 3758, 3.5; RFC 7496, 3.1). Nothing here allocates.
 
-ghost use Rattle.std.specs.Prelude.{◌≡◌, true};
+ghost use Rattle.std.specs.Prelude.{◌≡◌, true, option_map};
 ghost use Rattle.sctp_model.specs.sender.SenderView.{SenderView};
 ghost use Rattle.sctp_model.specs.sender.Readers.{point};
 ghost use Rattle.sctp_model.specs.end.EndView.{EndView};
 ghost use Rattle.sctp_model.specs.end.EndView as model;
 ghost use Rattle.sctp_model.specs.end.Clock.{at_moment, settled};
+ghost use Rattle.sctp_model.specs.end.Pacing.{expired_pace};
 ghost use Rattle.sctp_model.specs.end.Moments.{after_abandoning, due_again, ring, waited, is_data_due, given_up, passed, ticked, next_moment};
 ghost use Rattle.sctp_association.specs.TimersMean.{alarm_meaning};
 ghost use Rattle.sctp_association.specs.MachineStands.{MachineStands};
@@ -25,8 +26,9 @@ impl Machine {
         self.moment = self.moment.max(now);
     }
 
-    /// Sets the clock to this time, in milliseconds: messages whose lifetime is over are abandoned, then each timer that is due expires once, and a
-    /// SACK that was delayed long enough is due. An expiry past the last retransmission closes the endpoint.
+    /// Sets the clock to this time, in milliseconds: messages whose lifetime is over are abandoned and, if the data timer is due, those that may not be
+    /// retransmitted again; then each timer that is due expires once, and a SACK that was delayed long enough is due. An expiry past the last
+    /// retransmission closes the endpoint.
     pub fn on_moment(&mut self, now: u64)
         ensures { (v : EndView) → MachineStands self.old v → MachineStands self.new (ticked v now) }
     {
@@ -123,13 +125,24 @@ impl Machine {
         }
     }
 
-    /// All outstanding user data is due again, and a FORWARD-TSN if it skips something.
+    /// All outstanding user data is due again, and a FORWARD-TSN if it skips something; the pace notes the expiry.
     fn repeat_fragments(&mut self)
         ensures { (v : EndView) → MachineStands self.old v → MachineStands self.new (due_again model.DataAlarm v) }
     {
         let past = self.is_point_past();
         self.due.owe_forward(past);
         self.repeat();
+        self.expire_pace();
+    }
+
+    /// The data timer expired: nothing is timed, misses are counted anew, and the congestion window is one packet (RFC 9260, 6.3.3 and 7.2.3).
+    fn expire_pace(&mut self)
+        ensures { (v : EndView) → MachineStands self.old v → MachineStands self.new (record v { pace = option_map expired_pace v.pace }) }
+    {
+        match &mut self.pace {
+            None => {}
+            Some(pace) => pace.expire(),
+        }
     }
 
     /// The time of the next event, in milliseconds: the earliest expiry of a timer that runs, or of a delayed SACK. Lifetimes of messages aren't

@@ -6,6 +6,7 @@ ghost use Rattle.sctp_model.specs.end.EndView.{unused_timer};
 ghost use Rattle.sctp_model.specs.end.Clock.{running, stopped, expired_timer, is_over_at, repeats_of, renewed, renewed_expiry};
 ghost use Rattle.sctp_association.specs.TimersMean.{alarm_meaning, timer_meaning, kept_if};
 ghost use Rattle.sctp_association.specs.StartsMean.{started_if};
+ghost use Rattle.sctp_association.specs.Weighing.{followed};
 
 use sctp_values::{FIRST_WAIT, LONGEST_WAIT, OPENING_REPEATS, REPEATS};
 
@@ -28,8 +29,8 @@ pub(crate) enum Alarm {
 /// it runs.
 #[derive(Clone, Copy)]
 pub(crate) struct Timer {
-    wait: u64,
-    repeats: u32,
+    pub(crate) wait: u64,
+    pub(crate) repeats: u32,
     pub(crate) expiry: Option<u64>,
 }
 
@@ -97,6 +98,26 @@ impl Timer {
             wait: self.wait.saturating_mul(2).min(LONGEST_WAIT),
             repeats: self.repeats + 1,
             expiry: None,
+        }
+    }
+
+    /// The data timer after an acknowledgement at an endpoint with a pace, with this RTO in milliseconds: one that runs is restarted if `restarts`, one
+    /// that doesn't is started if `flies`, that is, if data is in flight (RFC 9260, 6.3.2, R3 and R4; 7.2.4, step 4).
+    pub(crate) fn followed(self, now: u64, rto: u64, restarts: bool, flies: bool) -> Timer
+        ensures { timer_meaning result ≡ followed now rto restarts flies (timer_meaning self) }
+    {
+        let runs = match self.expiry {
+            None => flies,
+            Some(_) => restarts,
+        };
+        Timer {
+            wait: rto,
+            expiry: if runs {
+                Some(now.saturating_add(rto))
+            } else {
+                self.expiry
+            },
+            ..self
         }
     }
 

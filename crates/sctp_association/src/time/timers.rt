@@ -1,12 +1,14 @@
 //! The five timers of an endpoint: which start and stop together, and which expires first (RFC 9260, 6.3 and 9.2).
 
 ghost use Rattle.std.specs.Prelude.{◌≡◌, Bool};
+ghost use Rattle.sctp_model.specs.end.EndView as model;
 ghost use Rattle.sctp_model.specs.end.EndView.{unused_timer};
 ghost use Rattle.sctp_model.specs.end.Clock.{stopped, replaced};
 ghost use Rattle.sctp_model.specs.end.Moments.{earlier, earliest, all_alarms};
 ghost use Rattle.sctp_association.specs.TimersMean.{alarm_meaning, timer_meaning, timers_meaning, kept_if, open_timers, resting};
 ghost use Rattle.sctp_association.specs.StartsMean.{starts_at, started_from};
 ghost use Rattle.sctp_association.specs.PlainPacket.{fragments_alone};
+ghost use Rattle.sctp_association.specs.Weighing.{followed};
 
 use crate::time::starts::Starts;
 use crate::time::timer::{Alarm, Timer};
@@ -90,6 +92,27 @@ impl Timers {
         ensures { timers_meaning self.new ≡ started_from (starts_at (fragments_alone starts)) now (timers_meaning self.old) }
     {
         self.fragments.start_if(starts, now);
+    }
+
+    /// Sets the data timer's RTO at its next start, in milliseconds.
+    pub(crate) fn set_data_rto(&mut self, rto: u64)
+        ensures { timers_meaning self.new ≡ replaced model.DataAlarm (record (timers_meaning self.old model.DataAlarm) { wait = rto }) (timers_meaning self.old) }
+    {
+        self.put(
+            Alarm::Fragments,
+            Timer {
+                wait: rto,
+                ..self.fragments
+            },
+        );
+    }
+
+    /// The data timer after an acknowledgement at an endpoint with a pace, as `Timer::followed` says.
+    pub(crate) fn follow(&mut self, now: u64, rto: u64, restarts: bool, flies: bool)
+        ensures { timers_meaning self.new ≡ replaced model.DataAlarm (followed now rto restarts flies (timers_meaning self.old model.DataAlarm)) (timers_meaning self.old) }
+    {
+        let timer = self.fragments.followed(now, rto, restarts, flies);
+        self.put(Alarm::Fragments, timer);
     }
 
     /// Stops a timer.

@@ -1,22 +1,21 @@
 //! An endpoint's sender and receiver in every state: before an association nothing was sent or received.
 
-ghost use Rattle.std.specs.Prelude.{◌≡◌, ℕ, ◌≤◌, option_map, true, false, None, MatchOption};
+ghost use Rattle.std.specs.Prelude.{◌≡◌, ℕ, ◌≤◌, option_map, true, false};
 ghost use Rattle.sctp_model.specs.numbers.Limits.{WINDOW};
 ghost use Rattle.sctp_model.specs.receiver.ReceiverView.{held_bytes, size_of_pieces};
 ghost use Rattle.sctp_model.specs.sender.Readers.{point, unsettled, drained, outstanding, acknowledged, abandoned};
 ghost use Rattle.sctp_model.specs.sender.Abandoning.{expired, worn, timed_out, abandon_answer, abandon_after};
 ghost use Rattle.sctp_model.specs.end.EndView.{EndView, has_association};
-ghost use Rattle.sctp_model.specs.end.Clock.{is_point_past, at_moment};
+ghost use Rattle.sctp_model.specs.end.Clock.{is_point_past};
 ghost use Rattle.sctp_model.specs.end.UserCalls.{is_open, UserTakes};
 ghost use Rattle.sctp_send.specs.SenderAnswers.{answer_meaning, QueueAnswer, queue_after, lane_for};
 ghost use Rattle.sctp_recv.specs.HandedOf.{handed_of};
-ghost use Rattle.sctp_association.specs.GivenUp.{GivesUpLate};
 ghost use Rattle.sctp_association.specs.MachineStands.{MachineStands};
 
 use crate::machine::Machine;
 use crate::state::life::{Life, Progress, Unjoined};
 use sctp_recv::{Message, resets_stay};
-use sctp_send::{Abandoned, Limits, SendFault};
+use sctp_send::{Abandoned, SendFault};
 use sctp_values::Ticket;
 
 #[tactic(auto, unfolding(crate::specs::MachineStands::MachineStands))]
@@ -155,17 +154,6 @@ impl Machine {
         }
     }
 
-    /// Whether messages with a limit of retransmissions may be held (RFC 7496, 3.1). None if none is: then `on_moment` abandons only messages that are
-    /// past their lifetime.
-    pub fn limits(&self) -> Option<Limits>
-        ensures { (v : EndView) → MachineStands self.now v → MatchOption result ((now : ℕ) → GivesUpLate (at_moment v now)) (λ limits. Unit {0}) }
-    {
-        match &self.life {
-            Life::Unjoined(_) => None,
-            Life::Joined(association) => association.traffic.limits(),
-        }
-    }
-
     /// Marks all outstanding user data for retransmission (RFC 9260, 6.3.3).
     pub(crate) fn repeat(&mut self)
         ensures { (v : EndView) → MachineStands self.old v → MachineStands self.new (record v { sender = timed_out v.sender }) }
@@ -187,7 +175,7 @@ impl Machine {
         }
     }
 
-    /// Queues a message at the sender.
+    /// Queues a message at the sender, with a lifetime and a limit of retransmissions, if it has them.
     ///
     /// # Errors
     /// Why it is refused; nothing changed.
@@ -198,15 +186,16 @@ impl Machine {
         payload_id: u32,
         bytes: Vec<u8>,
         until: Option<u64>,
+        limit: Option<u16>,
     ) -> Result<Ticket, SendFault>
         ensures answer { (v : EndView) → MachineStands self.old v → QueueAnswer v.sender stream bytes.items result }
-        ensures step { (v : EndView) → MachineStands self.old v → MachineStands self.new (record v { sender = queue_after v.sender (lane_for stream ordered) payload_id bytes.items until None result }) }
+        ensures step { (v : EndView) → MachineStands self.old v → MachineStands self.new (record v { sender = queue_after v.sender (lane_for stream ordered) payload_id bytes.items until limit result }) }
     {
         match &mut self.life {
             Life::Unjoined(_) => Err(SendFault::NoSuchStream),
             Life::Joined(association) => association
                 .traffic
-                .queue(stream, ordered, payload_id, bytes, until),
+                .queue(stream, ordered, payload_id, bytes, until, limit),
         }
     }
 

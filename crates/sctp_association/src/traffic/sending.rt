@@ -1,6 +1,6 @@
 //! The sender of an association, in either format (RFC 9260, 6; RFC 3758, 3.5; RFC 8260, 2.2).
 
-ghost use Rattle.std.specs.Prelude.{◌≡◌, ℕ, ◌<◌, ◌≤◌, nat_lt, true, false, None, MatchOption, option_map};
+ghost use Rattle.std.specs.Prelude.{◌≡◌, ℕ, ◌<◌, ◌≤◌, nat_lt, true, false, option_map};
 ghost use Rattle.sctp_model.specs.numbers.Limits.{WINDOW};
 ghost use Rattle.sctp_model.specs.messages.Format.{Format};
 ghost use Rattle.sctp_model.specs.sender.SenderView.{SenderView};
@@ -11,11 +11,11 @@ ghost use Rattle.sctp_model.specs.sender.SackTaken.{sack_fault, sack_after, shut
 ghost use Rattle.sctp_model.specs.sender.Abandoning.{has_late, expired, worn, timed_out, abandon_answer, abandon_after};
 ghost use Rattle.sctp_model.specs.end.Clock.{is_point_past};
 ghost use Rattle.sctp_wire.specs.ChunkTree.{sack_meaning};
-ghost use Rattle.sctp_send.specs.SenderAnswers.{reason_meaning, answer_meaning, QueueAnswer, queue_after, lane_for, next_late};
+ghost use Rattle.sctp_send.specs.SenderAnswers.{reason_meaning, answer_meaning, QueueAnswer, queue_after, lane_for, next_late, next_at_limit};
 ghost use Rattle.sctp_association.specs.TrafficStands.{TrafficStands};
 
 use crate::traffic::Traffic;
-use sctp_send::{Abandoned, Limits, SackFault, SendFault};
+use sctp_send::{Abandoned, SackFault, SendFault};
 use sctp_values::Ticket;
 use sctp_wire::Sack;
 
@@ -198,13 +198,14 @@ impl Traffic {
         }
     }
 
-    /// Whether messages with a limit of retransmissions may be held; None if none is (RFC 7496, 3.1).
-    pub(crate) fn limits(&self) -> Option<Limits>
-        ensures { (f : Format) (s : SenderView) (r : ReceiverView) → TrafficStands self.now f s r → MatchOption result ((now : ℕ) → worn (λ i. true) (expired s now) ≡ expired s now) (λ limits. Unit {0}) }
+    /// The lowest ticket above `last` of a message that isn't abandoned, with an outstanding fragment that was retransmitted as often as its limit
+    /// allows (RFC 7496, 3.1); `Ticket(0)` is below all.
+    pub(crate) fn next_at_limit(&self, last: Ticket) -> Option<Ticket>
+        ensures { (f : Format) (s : SenderView) (r : ReceiverView) → TrafficStands self.now f s r → option_map (λ t. t.0) result ≡ next_at_limit s last.0 }
     {
         match self {
-            Traffic::Plain(directions) => directions.sender.limits(),
-            Traffic::Interleaved(directions) => directions.sender.limits(),
+            Traffic::Plain(directions) => directions.sender.next_at_limit(last),
+            Traffic::Interleaved(directions) => directions.sender.next_at_limit(last),
         }
     }
 
@@ -219,7 +220,7 @@ impl Traffic {
         }
     }
 
-    /// Queues a message (RFC 9260, 11.1.5).
+    /// Queues a message, with a lifetime and a limit of retransmissions, if it has them (RFC 9260, 11.1.5; RFC 7496, 3.1).
     ///
     /// # Errors
     /// Why it is refused; nothing changed.
@@ -230,17 +231,18 @@ impl Traffic {
         payload_id: u32,
         bytes: Vec<u8>,
         until: Option<u64>,
+        limit: Option<u16>,
     ) -> Result<Ticket, SendFault>
         ensures answer { (f : Format) (s : SenderView) (r : ReceiverView) → TrafficStands self.old f s r → QueueAnswer s stream bytes.items result }
-        ensures step { (f : Format) (s : SenderView) (r : ReceiverView) → TrafficStands self.old f s r → TrafficStands self.new f (queue_after s (lane_for stream ordered) payload_id bytes.items until None result) r }
+        ensures step { (f : Format) (s : SenderView) (r : ReceiverView) → TrafficStands self.old f s r → TrafficStands self.new f (queue_after s (lane_for stream ordered) payload_id bytes.items until limit result) r }
     {
         match self {
             Traffic::Plain(directions) => directions
                 .sender
-                .queue(stream, ordered, payload_id, bytes, until),
+                .queue_limited(stream, ordered, payload_id, bytes, until, limit),
             Traffic::Interleaved(directions) => directions
                 .sender
-                .queue(stream, ordered, payload_id, bytes, until),
+                .queue_limited(stream, ordered, payload_id, bytes, until, limit),
         }
     }
 }

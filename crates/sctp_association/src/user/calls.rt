@@ -9,7 +9,7 @@ ghost use Rattle.sctp_send.specs.SenderAnswers.{answer_meaning, lane_for};
 ghost use Rattle.sctp_association.specs.TimersMean.{timers_meaning};
 ghost use Rattle.sctp_association.specs.MachineStands.{MachineStands};
 ghost use Rattle.sctp_association.specs.PhaseMeans.{is_idle};
-ghost use Rattle.sctp_association.specs.CallAnswers.{connect_meaning, connected, shutdown_meaning, call_of, SendAnswers, sent_view};
+ghost use Rattle.sctp_association.specs.CallAnswers.{connect_meaning, connected, shutdown_meaning, call_of, limited_call_of, call_with, SendAnswers, sent_view};
 
 use crate::machine::Machine;
 use crate::state::life::{Life, Unjoined};
@@ -79,13 +79,63 @@ impl Machine {
         ensures answer { (v : EndView) → MachineStands self.old v → SendAnswers v (call_of (lane_for stream ordered) payload_id bytes.items until) result }
         ensures step { (v : EndView) → MachineStands self.old v → MachineStands self.new (sent_view v (call_of (lane_for stream ordered) payload_id bytes.items until) result) }
     {
+        self.accept(stream, ordered, payload_id, bytes, until, None)
+    }
+
+    /// As `send`, of a message with a limit: if a fragment of it was retransmitted `max_retransmits` times, and both endpoints support partial
+    /// reliability, the message is abandoned in place of another retransmission (RFC 7496, 3.1).
+    ///
+    /// # Errors
+    /// As `send`.
+    pub fn send_with_max_retransmits(
+        &mut self,
+        stream: u16,
+        ordered: bool,
+        payload_id: u32,
+        bytes: Vec<u8>,
+        until: Option<u64>,
+        max_retransmits: u16,
+    ) -> Result<Ticket, Refused>
+        ensures answer { (v : EndView) → MachineStands self.old v
+            → SendAnswers v (limited_call_of (lane_for stream ordered) payload_id bytes.items until max_retransmits) result }
+        ensures step { (v : EndView) → MachineStands self.old v
+            → MachineStands self.new (sent_view v (limited_call_of (lane_for stream ordered) payload_id bytes.items until max_retransmits) result) }
+    {
+        self.accept(
+            stream,
+            ordered,
+            payload_id,
+            bytes,
+            until,
+            Some(max_retransmits),
+        )
+    }
+
+    /// Queues a message with a lifetime and a limit of retransmissions, if it has them.
+    ///
+    /// # Errors
+    /// As `send`.
+    fn accept(
+        &mut self,
+        stream: u16,
+        ordered: bool,
+        payload_id: u32,
+        bytes: Vec<u8>,
+        until: Option<u64>,
+        limit: Option<u16>,
+    ) -> Result<Ticket, Refused>
+        ensures answer { (v : EndView) → MachineStands self.old v
+            → SendAnswers v (call_with (lane_for stream ordered) payload_id bytes.items until limit) result }
+        ensures step { (v : EndView) → MachineStands self.old v
+            → MachineStands self.new (sent_view v (call_with (lane_for stream ordered) payload_id bytes.items until limit) result) }
+    {
         let Some(opened) = self.opened() else {
             return Err(Refused::NotOpen);
         };
         if !opened.stage.is_established() {
             return Err(Refused::NotOpen);
         }
-        match self.queue(stream, ordered, payload_id, bytes, until) {
+        match self.queue(stream, ordered, payload_id, bytes, until, limit) {
             Ok(ticket) => Ok(ticket),
             Err(fault) => Err(Refused::Fault(fault)),
         }

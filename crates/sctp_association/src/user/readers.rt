@@ -1,7 +1,7 @@
 //! Readers of an endpoint: its configuration, its state and how it ended, what both endpoints agreed on, issued tickets, expired messages, and
 //! messages to be taken (RFC 9260, 4 and 11.1). Beside them laws on every view that an endpoint stands for.
 
-ghost use Rattle.std.specs.Prelude.{◌≡◌, Some, None, MatchOption, option_map, slice_get};
+ghost use Rattle.std.specs.Prelude.{◌≡◌, false, Some, None, MatchOption, option_map, slice_get};
 ghost use Rattle.sctp_model.specs.sender.Abandoning.{has_late};
 ghost use Rattle.sctp_model.specs.end.EndView.{EndView, InStage, state_of, ended_of};
 ghost use Rattle.sctp_terms.specs.Meanings.{end_meaning, state_meaning};
@@ -18,7 +18,7 @@ use crate::machine::Machine;
 use crate::state::life::{Association, Life, Progress, Unjoined};
 use crate::state::stage::Stage;
 use sctp_recv::Message;
-use sctp_terms::{Config, End, Pace, State};
+use sctp_terms::{Config, End, State};
 use sctp_values::Ticket;
 
 #[tactic(auto, unfolding(crate::specs::MachineStands::MachineStands))]
@@ -100,14 +100,6 @@ impl Machine {
             Life::Unjoined(_) => {}
             Life::Joined(association) => association.traffic.reached(),
         }
-    }
-
-    /// What it measures round trips and paces its user data by (RFC 9260, 6.3.1 and 7.2); None if it doesn't. No call sets it up.
-    pub fn pace(&self) -> Option<Pace>
-        ensures { (v : EndView) → MachineStands self.now v → MatchOption result (v.pace ≡ None) (λ pace. v.pace ≡ None → ⊥) }
-    {
-        let _ = &self.moment;
-        None
     }
 
     // law

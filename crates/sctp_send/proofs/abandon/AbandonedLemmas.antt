@@ -1,6 +1,6 @@
 -- A message with a number that is abandoned: its entries above CUM, its fate, and the answers.
 use Rattle.std.proofs.Common.{◌≡◌, ℕ, zero, suc, ◌+◌, ◌-◌, ◌<◌, ◌≤◌, List, [], ◌∷◌, length, map, drop, set, Bool, true, false, Option, Some, None, refl, ap, ◌∙◌, arith, sym}
-use Rattle.std.specs.Prelude.{not, ◌&&◌, ◌==◌, if◌then◌else◌, slice_get, unwrap_or}
+use Rattle.std.specs.Prelude.{not, ◌&&◌, ◌==◌, min, if◌then◌else◌, slice_get, unwrap_or}
 use Rattle.std.specs.Option.{option_map_or}
 use Rattle.std.proofs.lemmas.Bool.{and_parts}
 use Rattle.std.proofs.lemmas.Bool.Decides.{nat_tests}
@@ -61,7 +61,7 @@ abandoned_one f v t n i e is all own here = by_name (is_of n.lane n.number e) re
     has = same_message v.plan v.tickets t v.plan.entries n (entry_lane e) (entry_number e) own is (found_owns v.plan v.tickets t v.plan.entries v.plan.entries n all is).1
 
     item : Option Message → Bool → Bool → Item
-    item m marked gone_now = record { entry = e; message = m; sent = v.sent i; marked = marked; covered = v.covered i; abandoned = gone_now }
+    item m marked gone_now = record { entry = e; message = m; sent = v.sent i; marked = marked; covered = v.covered i; abandoned = gone_now; repeats = min (v.repeats i) 65535 }
 
     alike : (m k : Option Message) (a b c d : Bool) → m ≡ k → a ≡ b → c ≡ d → item m a c ≡ item k b d
     alike m k a b c d x y z = ap (λ (h : Option Message). item h a c) x ∙ ap (λ (h : Bool). item k h c) y ∙ ap (item k b) z

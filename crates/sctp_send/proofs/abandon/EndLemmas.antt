@@ -1,6 +1,6 @@
 -- A message with a number that is abandoned: what is kept after it, where it was in part and where it wasn't.
 use Rattle.std.proofs.Common.{◌≡◌, ℕ, zero, suc, ◌+◌, ◌-◌, ◌<◌, List, [], ◌∷◌, ◌++◌, length, map, drop, set, Bool, true, false, Option, Some, None, refl, sym, ap, ◌∙◌, arith, append-nil, length-append, length-drop}
-use Rattle.std.specs.Prelude.{not, ◌&&◌, ◌||◌, if◌then◌else◌, slice_get}
+use Rattle.std.specs.Prelude.{not, ◌&&◌, ◌||◌, min, if◌then◌else◌, slice_get}
 use Rattle.std.proofs.lemmas.List.{length-map, drop-append-le}
 use Rattle.sctp_model.specs.messages.Format.{Format, Lane, ordered_lane, unordered_lane}
 use Rattle.sctp_model.specs.messages.Plan.{Message, Entry, Part, End, Plan, message_at}
@@ -10,6 +10,7 @@ use Rattle.sctp_model.specs.sender.Entries.{entry_message, is_of, is_in_part, pa
 use Rattle.sctp_model.specs.sender.Abandoning.{Name, has_ticket, is_covered, with_abandoned, abandon_after}
 use Rattle.sctp_model.specs.sender.Reached.{IsReached, Abandons}
 use Rattle.sctp_model.proofs.sender.Bounds.{is_bounded}
+use Rattle.sctp_model.proofs.sender.WornLaws.{is_limited}
 use Rattle.sctp_model.proofs.sender.CountLaws.{is_named}
 use Rattle.sctp_model.proofs.sender.WordLaws.{sum-same}
 use Rattle.sctp_model.proofs.sender.PointLaws.{get-drop}
@@ -127,18 +128,20 @@ keeps_abandoned f s v t n k m off partial none =
       due = record { many = k.due.many; each = λ x now lt. let i = k.due.each x now lt in record { queue = i.queue; items = λ on. late_abandoned now x t s.asleep s.items (i.items on); tracks = i.tracks } };
       forward = still_forward f v.streams v.plan.entries [] u.plan.entries s.forward (entries ∙ sym (append-nil v.plan.entries)) k.forward;
       unreset = k.unreset;
+      before = k.before;
       reached = rw after at reached;
     })
 
 -- its end mark
 end_here : (f : Format) (v : SenderView) (t : ℕ) (n : Name) (i : ℕ) → IsReached f v → length v.plan.entries < i → item_here (with_abandoned v n) i (End n.lane n.number)
-    ≡ record { entry = End n.lane n.number; message = message_at v.plan n.lane n.number; sent = false; marked = false; covered = false; abandoned = true }
+    ≡ record { entry = End n.lane n.number; message = message_at v.plan n.lane n.number; sent = false; marked = false; covered = false; abandoned = true; repeats = 0 }
 end_here f v t n i h past =
     let b = is_bounded f v h in
-    item_alike _ _ _ _ _ _ _ _ _ _ (same_entry_message v n (End n.lane n.number)) (b.unsent i past) (ap (λ (m : Bool). m && not (passes_at v.plan (λ j e. is_of n.lane n.number e) i)) (b.unmarked i past)) (b.uncovered i past) (given_itself v n)
+    ap (λ (r : ℕ). record (item_here (with_abandoned v n) i (End n.lane n.number)) { repeats = min r 65535 }) ((is_limited f v h).fresh i (b.unsent i past))
+    ∙ item_alike _ _ _ _ _ _ _ _ _ _ (same_entry_message v n (End n.lane n.number)) (b.unsent i past) (ap (λ (m : Bool). m && not (passes_at v.plan (λ j e. is_of n.lane n.number e) i)) (b.unmarked i past)) (b.uncovered i past) (given_itself v n)
   where
     item : Option Message → Bool → Bool → Bool → Bool → Item
-    item m sent marked covered b = record { entry = End n.lane n.number; message = m; sent = sent; marked = marked; covered = covered; abandoned = b }
+    item m sent marked covered b = record { entry = End n.lane n.number; message = m; sent = sent; marked = marked; covered = covered; abandoned = b; repeats = 0 }
 
     item_alike : (m k : Option Message) (a b c d x y g h : Bool) → m ≡ k → a ≡ b → c ≡ d → x ≡ y → g ≡ h → item m a c x g ≡ item k b d y h
     item_alike m k a b c d x y g h p q r z w =
@@ -160,7 +163,7 @@ keeps_ended f s v t n r tracks k m off partial ends =
     let named = is_named f v k.reached in
     let is = in_part_is v n named part in
     let entry : next.0 ≡ Part n.lane n.number (suc is.0) = some_same (sym next.1 ∙ ap (continued v.plan) (sym stream) ∙ is.1) in
-    let mark : end_item r ≡ record { entry = End n.lane n.number; message = message_at v.plan n.lane n.number; sent = false; marked = false; covered = false; abandoned = true } =
+    let mark : end_item r ≡ record { entry = End n.lane n.number; message = message_at v.plan n.lane n.number; sent = false; marked = false; covered = false; abandoned = true; repeats = 0 } =
     ap end_item (next.2 ∙ ap (λ (e : Entry). record { entry = e; message = entry_message v.plan e }) entry) in
     let plan : u.plan ≡ with_end v.plan n = ap (λ (b : Bool). if b then with_entry v.plan (End n.lane n.number) else v.plan) part in
     let bound = is_bounded f v k.reached in
@@ -223,6 +226,7 @@ keeps_ended f s v t n r tracks k m off partial ends =
         };
         forward = still_forward f v.streams v.plan.entries (End n.lane n.number ∷ []) u.plan.entries s.forward (ap (λ (p : Plan). p.entries) plan) k.forward;
         unreset = k.unreset;
+        before = k.before;
         reached = rw after at reached;
       }),
     )

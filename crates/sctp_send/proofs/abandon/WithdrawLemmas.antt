@@ -127,5 +127,6 @@ keeps_withdrawn f s v t k on =
       due = record { many = k.due.many; each = λ x now lt. let i = k.due.each x now lt in record { queue = late_without now x t s.queue i.queue; items = i.items; tracks = i.tracks } };
       forward = k.forward;
       unreset = k.unreset;
+      before = k.before;
       reached = rw after at reached;
     })

@@ -3,6 +3,7 @@ use Rattle.std.proofs.Common.{◌≡◌, ℕ, ◌-◌, List, [], ◌∷◌, ◌+
 use Rattle.std.specs.declared.sync.Arc.{Arc}
 use Rattle.std.specs.declared.alloc.Global.{Global}
 use Rattle.sctp_send.specs.PartsKept.{changed_at}
+use Rattle.sctp_send.specs.inner.Changes.{state_of}
 use Rattle.sctp_send.specs.inner.Stocking.{went_out}
 use Rattle.sctp_send.specs.inner.Undoing.{Parts, parts_of, before_all, origin, waits_again, waiting_again, fragment_entry, counted_to}
 use Rattle.sctp_send.specs.declared.stock.Change.{Change}
@@ -15,12 +16,12 @@ use Rattle.sctp_send.specs.declared.kept.track.Track.{Track}
 use Rattle.sctp_send.proofs.fill.UndoLemmas.{out_undone, taken_undone, cut_behind, before_last}
 
 -- an entry went out
-pub out_behind : (old : Stock) (cs : List Change) (es : List EntryFields) (at : ℕ) (x : EntryFields) → x ≡ get_or old.outstanding.items at x → cs ≡ old.log.items ++ Out at x.standing ∷ [] → es ≡ changed_at went_out at old.outstanding.items
+pub out_behind : (old : Stock) (cs : List Change) (es : List EntryFields) (at : ℕ) (x : EntryFields) → x ≡ get_or old.outstanding.items at x → cs ≡ old.log.items ++ Out at (state_of x) ∷ [] → es ≡ changed_at went_out at old.outstanding.items
     → before_all cs (record (parts_of old) { items = es }) ≡ origin old
 out_behind old cs es at x read noted went =
     ap (λ (ds : List Change). before_all ds (record (parts_of old) { items = es })) noted
-    ∙ ap (λ (ys : List EntryFields). before_all (old.log.items ++ Out at x.standing ∷ []) (record (parts_of old) { items = ys })) went
-    ∙ before_last old.log.items (Out at x.standing) (record (parts_of old) { items = changed_at went_out at old.outstanding.items })
+    ∙ ap (λ (ys : List EntryFields). before_all (old.log.items ++ Out at (state_of x) ∷ []) (record (parts_of old) { items = ys })) went
+    ∙ before_last old.log.items (Out at (state_of x)) (record (parts_of old) { items = changed_at went_out at old.outstanding.items })
     ∙ ap (λ (ys : List EntryFields). before_all old.log.items (record (parts_of old) { items = ys })) (out_undone at old.outstanding.items x read)
 
 -- a message took its number, and its first fragment came behind all entries

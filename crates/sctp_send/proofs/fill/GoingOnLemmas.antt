@@ -11,6 +11,7 @@ use Rattle.sctp_model.specs.sender.Entries.{entry_lane, entry_message, fragments
 use Rattle.sctp_model.specs.sender.Assigning.{with_entry}
 use Rattle.sctp_model.specs.sender.Reached.{IsReached}
 use Rattle.sctp_model.proofs.sender.Bounds.{is_bounded}
+use Rattle.sctp_model.proofs.sender.WornLaws.{is_limited}
 use Rattle.sctp_model.proofs.sender.PlanLaws.{continued_is, continued_more}
 use Rattle.sctp_model.proofs.sender.CountLaws.{is_named}
 use Rattle.sctp_model.proofs.sender.KeptLaws.{are_parts_kept}
@@ -43,7 +44,7 @@ gone_items f s v j turn e k on =
     let w = b.within in
     let past : length v.plan.entries < suc v.cum + length es = omega arith in
     let new : item_here u (suc v.cum + length es) e ≡ rest_item (record { entry = e; message = entry_message v.plan e }) =
-    rw (b.unsent (suc v.cum + length es) past, b.unmarked (suc v.cum + length es) past, b.uncovered (suc v.cum + length es) past, are_parts_kept f v k.reached j e on) refl in
+    rw (b.unsent (suc v.cum + length es) past, b.unmarked (suc v.cum + length es) past, b.uncovered (suc v.cum + length es) past, are_parts_kept f v k.reached j e on, (is_limited f v k.reached).fresh (suc v.cum + length es) (b.unsent (suc v.cum + length es) past)) refl in
     rw (drop-append-le v.cum v.plan.entries (e ∷ []) b.within, items_behind u (suc v.cum) es e, items_same v e turn (suc v.cum) es, new, k.holds.items) refl
 
 -- ---- streams

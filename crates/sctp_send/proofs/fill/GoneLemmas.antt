@@ -1,24 +1,38 @@
 -- A fragment that has its index goes out: its item counts as sent, and its mark ends.
-use Rattle.std.proofs.Common.{◌≡◌, ℕ, zero, suc, ◌+◌, ◌<◌, List, [], ◌∷◌, length, drop, get_or, set, true, false, Some, refl, sym, ap, ◌∙◌, arith, length-set}
-use Rattle.std.specs.Prelude.{◌==◌}
+use Rattle.std.proofs.Common.{◌≡◌, ℕ, zero, suc, ◌+◌, ◌<◌, List, [], ◌∷◌, Bool, length, drop, get_or, set, Bool, true, false, Some, refl, sym, ap, ◌∙◌, arith, length-set}
+use Rattle.std.specs.Prelude.{◌==◌, min, if◌then◌else◌}
 use Rattle.std.proofs.lemmas.Bool.Decides.{nat_tests}
 use Rattle.sctp_model.specs.messages.Format.{Format}
 use Rattle.sctp_model.specs.messages.Plan.{Entry}
 use Rattle.sctp_model.specs.sender.SenderView.{SenderView}
 use Rattle.sctp_model.specs.sender.Filling.{standing, with_sent, goes, gone}
 use Rattle.sctp_model.specs.sender.Reached.{Goes}
+use Rattle.sctp_model.specs.sender.Words.{last_that}
+use Rattle.sctp_model.specs.numbers.Lists.{at as sent_at}
 use Rattle.sctp_model.proofs.sender.FillLaws.{goes_parts}
 use Rattle.sctp_send.specs.SenderKept.{Item, Kept}
 use Rattle.sctp_send.specs.SenderStands.{item_here, items_from, Holds, Keeps}
 use Rattle.sctp_send.proofs.OverLemmas.{same_gone}
 use Rattle.sctp_send.proofs.DueLemmas.{late_gone}
+use Rattle.sctp_send.specs.inner.Newcomers.{repeats_after}
 pub use Rattle.sctp_send.specs.inner.Newcomers.{gone_item}
+
+-- what goes out above an index leaves the highest one up to it
+pub sent_above : (g : ℕ → Bool) (i n : ℕ) → n < i → last_that (sent_at g i true) n ≡ last_that g n
+sent_above g i zero lt = refl
+sent_above g i (suc n) lt = let off : (suc n == i) ≡ false = grind (arith, nat_tests) in rw (off, sent_above g i n (omega arith)) refl
 
 item_other : (v : SenderView) (i j : ℕ) (e : Entry) → (j ≡ i → ⊥) → item_here (with_sent v i) j e ≡ item_here v j e
 item_other v i j e apart = let off : (j == i) ≡ false = grind (arith, nat_tests) in rw off refl
 
 item_self : (v : SenderView) (i : ℕ) (e : Entry) → item_here (with_sent v i) i e ≡ gone_item (item_here v i e)
-item_self v i e = let on : (i == i) ≡ true = grind (arith, nat_tests) in rw on refl
+item_self v i e =
+    let on : (i == i) ≡ true = grind (arith, nat_tests) in
+    rw on (ap (λ (n : ℕ). record (gone_item (item_here v i e)) { repeats = n }) (by_sent (v.sent i)))
+  where
+    by_sent : (b : Bool) → min (if b then suc (v.repeats i) else v.repeats i) 65535 ≡ repeats_after b (min (v.repeats i) 65535)
+    by_sent true = omega arith
+    by_sent false = refl
 
 -- items that stand behind it stay
 items_behind : (v : SenderView) (i from : ℕ) (es : List Entry) → i < from → items_from (with_sent v i) from es ≡ items_from v from es
@@ -74,5 +88,6 @@ keeps_gone f s v room at d k first low =
       due = record { many = k.due.many; each = λ t now lt. let i = k.due.each t now lt in record { queue = i.queue; items = λ on. late_gone now t at s.asleep s.items d ∙ i.items on; tracks = i.tracks } };
       forward = k.forward;
       unreset = k.unreset;
+      before = k.before ∙ sym (sent_above v.sent (suc (v.cum + at)) v.cum (omega arith));
       reached = Goes v room (standing v (suc (v.cum + at))) k.reached parts.0 parts.1;
     }

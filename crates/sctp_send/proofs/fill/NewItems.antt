@@ -7,6 +7,7 @@ use Rattle.sctp_model.specs.sender.SenderView.{Queued, SenderView}
 use Rattle.sctp_model.specs.sender.Assigning.{with_message}
 use Rattle.sctp_model.specs.sender.Reached.{IsReached}
 use Rattle.sctp_model.proofs.sender.Bounds.{is_bounded}
+use Rattle.sctp_model.proofs.sender.WornLaws.{is_limited}
 use Rattle.sctp_model.proofs.sender.PlanLaws.{AllNamed, message_new, message_stays}
 use Rattle.sctp_model.proofs.sender.CountLaws.{is_named, new_kept}
 use Rattle.sctp_send.specs.SenderKept.{Item, Kept}
@@ -35,7 +36,7 @@ item_new : (f : Format) (v : SenderView) (q : Queued) (d : ℕ) (rest : List Que
     → item_here (numbered v q d rest turn) i (Part q.lane (length (v.plan.messages q.lane)) k) ≡ new_item (Part q.lane (length (v.plan.messages q.lane)) k) q.message
 item_new f v q d rest turn i k h past =
     let b = is_bounded f v h in
-    rw (message_new v.plan q d, b.unsent i past, b.unmarked i past, b.uncovered i past, new_kept f v q.lane h) refl
+    rw (message_new v.plan q d, b.unsent i past, b.unmarked i past, b.uncovered i past, new_kept f v q.lane h, (is_limited f v h).fresh i (b.unsent i past)) refl
 
 items_new : (f : Format) (v : SenderView) (q : Queued) (d : ℕ) (rest : List Queued) (turn i k c : ℕ) → IsReached f v → length v.plan.entries < i
     → items_from (numbered v q d rest turn) i (parts_from q.lane (length (v.plan.messages q.lane)) k c) ≡ new_items q.lane (length (v.plan.messages q.lane)) q.message k c

@@ -192,7 +192,7 @@ tried_put before after c put room tried = let on = tried.answer ∙ room in (on,
 
 -- an item, for an offset at which there is none
 pub no_item : Item
-no_item = record { entry = End (ordered_lane 0) 0; message = None; sent = false; marked = false; covered = false; abandoned = false }
+no_item = record { entry = End (ordered_lane 0) 0; message = None; sent = false; marked = false; covered = false; abandoned = false; repeats = 0 }
 
 -- the item behind some others
 pub item_behind : (xs : List Item) (x : Item) (ys : List Item) (none : Item) → get_or (xs ++ x ∷ ys) (length xs) none ≡ x

@@ -79,6 +79,13 @@ marked_next f s v at d k is =
     let sent = (is_marked_well f v k.reached).sent (suc (v.cum + at)) on in
     (r.within, record { next = wish_marked f s v at k is; flows = rw sent refl })
 
+-- what is marked was sent
+pub marked_sent : (f : Format) (s : Kept) (v : SenderView) (at : ℕ) (d : Item) → Keeps f s v → first_offset is_item_marked s.items ≡ Some at → v.sent (suc (v.cum + at)) ≡ true
+marked_sent f s v at d k is =
+    let r = found is_item_marked s.items at d is in
+    let there = kept_there f s v at d k r.within in
+    (is_marked_well f v k.reached).sent (suc (v.cum + at)) (sym (ap (λ (x : Item). x.marked) there.item) ∙ r.passes)
+
 -- and else what never went out
 pub unsent_next : (f : Format) (s : Kept) (v : SenderView) (at : ℕ) (d : Item) → Keeps f s v → first_offset is_item_marked s.items ≡ None → first_offset is_item_unsent s.items ≡ Some at
     → (at < length s.items) × IsNextUnsent f v at

@@ -93,12 +93,16 @@ is_quiet _ v _ (Whole q rest is) = record { sent = refl; rwnd = refl }
 is_quiet _ v _ (Begun j q lt idle first) = record { sent = refl; rwnd = refl }
 is_quiet _ v _ (Continued j e lt on) = record { sent = refl; rwnd = refl }
 
+-- what is assigned next was never sent
+pub unsent_new : (f : Format) (v u : SenderView) → IsReached f v → assigned f v ≡ Some u → u.sent (suc (length v.plan.entries)) ≡ false
+unsent_new f v u h is = ap (λ (g : ℕ → Bool). g (suc (length v.plan.entries))) (is_quiet f v u (assigned_cases f v u is)).sent ∙ (is_bounded f v h).unsent (suc (length v.plan.entries)) (omega arith)
+
 -- what is assigned next must leave no more outstanding than the window holds
 pub go_new : (f : Format) (s : Kept) (v u : SenderView) (room : ℕ) → Keeps f s v → assigned f v ≡ Some u
     → may_go f room (newcomer v u) ≡ (nat_le (room_of f (newcomer v u)) room && (lets_flow (item_flight s.items) (length (bytes_of_wish (newcomer v u))) s.rwnd && nat_le (outstanding u) WINDOW))
 go_new f s v u room k is =
     let quiet = is_quiet f v u (assigned_cases f v u is) in
-    let off : u.sent (suc (length v.plan.entries)) ≡ false = ap (λ (g : ℕ → Bool). g (suc (length v.plan.entries))) quiet.sent ∙ (is_bounded f v k.reached).unsent (suc (length v.plan.entries)) (omega arith) in
+    let off = unsent_new f v u k.reached is in
     let flight : in_flight u ≡ item_flight s.items = flight_assigned f v u k.reached is ∙ flight_kept f s v k in
     let rwnd : u.rwnd ≡ s.rwnd = quiet.rwnd ∙ sym k.holds.rwnd in
     rw (off, flight, rwnd) refl

@@ -6,16 +6,14 @@ use Rattle.std.proofs.lemmas.List.Edits.{length-insert, length-remove}
 use Rattle.std.specs.declared.sync.Arc.{Arc}
 use Rattle.std.specs.declared.alloc.Global.{Global}
 use Rattle.sctp_send.specs.PartsKept.{OutstandingKept, changed_at, changed}
-use Rattle.sctp_send.specs.inner.Changes.{stood}
+use Rattle.sctp_send.specs.inner.Changes.{state_of, stood}
 use Rattle.sctp_send.specs.inner.Stocking.{went_out}
-use Rattle.sctp_send.specs.inner.Undoing.{Parts, parts_of, stands_so, waits_again, waiting_again, undone, before_all, origin, IsSized, IsKeptRoom, IsBehind}
+use Rattle.sctp_send.specs.inner.Undoing.{Parts, parts_of, waits_again, waiting_again, undone, before_all, origin, IsSized, IsKeptRoom, IsBehind}
 use Rattle.sctp_send.specs.declared.stock.Change.{Change}
 use Rattle.sctp_send.specs.declared.stock.Change.TheVariants.{Out, Begun, Left, Continued}
 use Rattle.sctp_send.specs.declared.stock.Stock.{Stock}
 use Rattle.sctp_send.specs.declared.kept.message.Message.{Message}
 use Rattle.sctp_send.specs.declared.kept.entry.Entry.{Entry as EntryFields}
-use Rattle.sctp_send.specs.declared.kept.entry.Standing.{Standing}
-use Rattle.sctp_send.specs.declared.kept.entry.Standing.TheVariants.{Sent}
 
 -- ---- one element
 
@@ -34,9 +32,9 @@ changed_at_past f (suc n) (y ∷ ys) le = ap (λ zs. y ∷ zs) (changed_at_past 
 -- ---- one change is taken back
 
 -- an entry that went out stands as before
-pub out_undone : (at : ℕ) (es : List EntryFields) (x : EntryFields) → x ≡ get_or es at x → changed_at (stands_so x.standing) at (changed_at went_out at es) ≡ es
+pub out_undone : (at : ℕ) (es : List EntryFields) (x : EntryFields) → x ≡ get_or es at x → changed_at (stood (state_of x)) at (changed_at went_out at es) ≡ es
 out_undone at [] x read = refl
-out_undone zero (e ∷ es) x read = ap (λ (y : EntryFields). stands_so y.standing (went_out e) ∷ es) read
+out_undone zero (e ∷ es) x read = ap (λ (y : EntryFields). stood (state_of y) (went_out e) ∷ es) read
 out_undone (suc at) (e ∷ es) x read = ap (λ (ys : List EntryFields). e ∷ ys) (out_undone at es x read)
 
 inserted : {A : Type 0} (n : ℕ) (xs : List A) (x : A) → n < length xs → x ≡ get_or xs n x → insert (remove xs n) n x ≡ xs
@@ -65,12 +63,9 @@ cut_behind (x ∷ xs) (y ∷ ys) e is =
     let rest = cut_behind xs ys e tail in
     (rest.0, ap (λ zs. y ∷ zs) rest.1 ∙ ap (λ z. z ∷ xs) head)
 
--- an entry that was read stands as it is told
-pub stood_again : (w : OutstandingKept) (at : ℕ) (x : EntryFields) (s : Standing) → x ≡ get_or w.items at x → changed (stood s x.covered x.abandoned) at w ≡ changed (stands_so s) at w
-stood_again w at x s read = ap (λ (es : List EntryFields). record w { items = es }) (changed_at_like (stood s x.covered x.abandoned) (stands_so s) at w.items x read refl)
-
-pub stood_sent : (w : OutstandingKept) (at : ℕ) (x : EntryFields) → x ≡ get_or w.items at x → changed (stood Sent x.covered x.abandoned) at w ≡ changed went_out at w
-stood_sent w at x read = ap (λ (es : List EntryFields). record w { items = es }) (changed_at_like (stood Sent x.covered x.abandoned) went_out at w.items x read refl)
+-- what is told of an entry that was read and goes out
+pub stood_sent : (w : OutstandingKept) (at : ℕ) (x : EntryFields) → x ≡ get_or w.items at x → changed (stood (state_of (went_out x))) at w ≡ changed went_out at w
+stood_sent w at x read = ap (λ (es : List EntryFields). record w { items = es }) (changed_at_like (stood (state_of (went_out x))) went_out at w.items x read refl)
 
 pub stood_nowhere : (f : EntryFields → EntryFields) (w : OutstandingKept) (at : ℕ) → length w.items ≤ at → w ≡ changed f at w
 stood_nowhere f w at le = ap (λ (es : List EntryFields). record w { items = es }) (changed_at_past f at w.items le)
@@ -84,7 +79,7 @@ before_last (d ∷ cs) c p = ap (undone d) (before_last cs c p)
 
 -- no message is lost from the queue
 queue_grows : (c : Change) (p : Parts) → length p.queue ≤ length (undone c p).queue
-queue_grows (Out at standing) p = omega arith
+queue_grows (Out at state) p = omega arith
 queue_grows (Begun place from turn) p = by_entry (slice_get p.items from)
   where
     by_test : (m : Arc Message Global) (b : Bool) → nat_le place (length p.queue) ≡ b → length p.queue ≤ length (if b then insert p.queue place m else p.queue)

@@ -38,6 +38,7 @@ keeps_forward f s v o k built = record {
   due = record { many = k.due.many; each = λ t now lt. let i = k.due.each t now lt in record { queue = i.queue; items = i.items; tracks = i.tracks } };
   forward = built;
   unreset = k.unreset;
+  before = k.before;
   reached = k.reached;
 }
 

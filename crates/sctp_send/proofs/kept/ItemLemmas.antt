@@ -1,36 +1,8 @@
--- From entries to items: what is marked, changed one by one, or read, as clauses see it.
-use Rattle.std.proofs.Common.{◌≡◌, ℕ, zero, suc, ◌+◌, ◌≤◌, List, [], ◌∷◌, length, get_or, map, Bool, true, false, refl, sym, ap, ◌∙◌, arith}
-use Rattle.std.specs.Prelude.{not, ◌&&◌, ◌||◌}
+-- From entries to items: what is changed one by one, or read, as clauses see it.
+use Rattle.std.proofs.Common.{◌≡◌, ℕ, zero, suc, ◌+◌, ◌≤◌, List, [], ◌∷◌, length, get_or, map, refl, sym, ap, ◌∙◌, arith}
 use Rattle.sctp_send.specs.PartsKept.{changed_at}
-use Rattle.sctp_send.specs.SenderKept.{Item}
-use Rattle.sctp_send.specs.OutstandingFields.{was_sent, is_marked, item_meaning}
-use Rattle.sctp_send.specs.inner.Changes.{marked_if, timed, all_timed}
-use Rattle.sctp_send.specs.declared.kept.entry.Standing.{Standing}
-use Rattle.sctp_send.specs.declared.kept.entry.Standing.TheVariants.{Unsent, Sent, Marked}
+use Rattle.sctp_send.specs.OutstandingFields.{item_meaning}
 use Rattle.sctp_send.specs.declared.kept.entry.Entry.{Entry as EntryFields}
-
--- an item marked where it is unsettled
-abbrev pub timed_item : Item → Item
-timed_item x = record x { marked = x.marked || (x.sent && (not x.covered && not x.abandoned)) }
-
-was_sent-timed : (b : Bool) (s : Standing) → was_sent (marked_if b s) ≡ was_sent s
-was_sent-timed b Unsent = refl
-was_sent-timed true Sent = refl
-was_sent-timed false Sent = refl
-was_sent-timed b Marked = refl
-
-is_marked-timed : (b : Bool) (s : Standing) → is_marked (marked_if b s) ≡ (is_marked s || (was_sent s && b))
-is_marked-timed b Unsent = refl
-is_marked-timed true Sent = refl
-is_marked-timed false Sent = refl
-is_marked-timed b Marked = refl
-
-item-timed : (size : ℕ) (e : EntryFields) → item_meaning size (timed e) ≡ timed_item (item_meaning size e)
-item-timed size e = rw (was_sent-timed (not e.covered && not e.abandoned) e.standing, is_marked-timed (not e.covered && not e.abandoned) e.standing) refl
-
-pub items-timed : (size : ℕ) (es : List EntryFields) → map (item_meaning size) (all_timed es) ≡ map timed_item (map (item_meaning size) es)
-items-timed size [] = refl
-items-timed size (e ∷ es) = rw (item-timed size e, items-timed size es) refl
 
 -- ---- changing entry by entry
 

@@ -1,11 +1,10 @@
 -- What becomes of one entry is what its change says, and where it says nothing, all stays.
-use Rattle.std.proofs.Common.{◌≡◌, ℕ, zero, suc, List, [], ◌∷◌, get_or, Bool, true, false, refl, sym, ap, ◌∙◌, arith}
-use Rattle.std.specs.Prelude.{not, ◌&&◌, ◌==◌}
+use Rattle.std.proofs.Common.{◌≡◌, ℕ, zero, suc, List, [], ◌∷◌, get_or, true, false, refl, sym, ap, ◌∙◌, arith}
+use Rattle.std.specs.Prelude.{◌==◌}
 use Rattle.std.proofs.lemmas.Bool.Decides.{nat_tests}
 use Rattle.sctp_send.specs.PartsKept.{OutstandingKept, changed_at, changed}
-use Rattle.sctp_send.specs.inner.Changes.{unmarked, stood, marked_if, timed, as_abandoned}
+use Rattle.sctp_send.specs.inner.Changes.{unmarked, stood, as_abandoned}
 use Rattle.sctp_send.specs.declared.kept.entry.Standing.{Standing}
-use Rattle.sctp_send.specs.declared.kept.entry.Standing.TheVariants.{Unsent, Sent, Marked}
 use Rattle.sctp_send.specs.declared.kept.entry.Entry.{Entry as EntryFields}
 
 -- ---- what is outstanding, with one entry changed
@@ -31,39 +30,9 @@ changed_none f n w x read same = ap (λ (es : List EntryFields). record w { item
 -- ---- what becomes of an entry
 
 -- an entry of the message is abandoned
-pub abandoned_mine : (t : ℕ) (s : Standing) (x : EntryFields) → x.message.value.ticket ≡ t → s ≡ unmarked x.standing → stood s x.covered true x ≡ as_abandoned t x
+pub abandoned_mine : (t : ℕ) (s : Standing) (x : EntryFields) → x.message.value.ticket ≡ t → s ≡ unmarked x.standing → stood (record { standing = s; covered = x.covered; abandoned = true; repeats = x.repeats }) x ≡ as_abandoned t x
 abandoned_mine t s x mine is = let on : (x.message.value.ticket == t) ≡ true = grind (arith, nat_tests) in rw (on, is) refl
 
 -- another one stays
 pub abandoned_other : (t : ℕ) (x : EntryFields) → (x.message.value.ticket ≡ t → ⊥) → as_abandoned t x ≡ x
 abandoned_other t x other = let off : (x.message.value.ticket == t) ≡ false = grind (arith, nat_tests) in rw off refl
-
-both_off : (b c : Bool) → (not b && not c) ≡ true → (b ≡ false) × (c ≡ false)
-both_off true c is = absurd (cc)
-both_off false true is = absurd (cc)
-both_off false false is = (refl, refl)
-
--- an entry that went out, and that the peer may still need
-pub timed_sent : (x : EntryFields) → (not x.covered && not x.abandoned) ≡ true → x.standing ≡ Sent → stood Marked false false x ≡ timed x
-timed_sent x needed sent =
-    let offs = both_off x.covered x.abandoned needed in
-    let c : x.covered ≡ false = offs.0 in
-    let g : x.abandoned ≡ false = offs.1 in
-    rw (c, g, sent) refl
-
--- another one
-pub timed_unneeded : (x : EntryFields) → (not x.covered && not x.abandoned) ≡ false → timed x ≡ x
-timed_unneeded x off = rw off (by_standing x.standing)
-  where
-    by_standing : (s : Standing) → record x { standing = marked_if false s } ≡ record x { standing = s }
-    by_standing Unsent = refl
-    by_standing Sent = refl
-    by_standing Marked = refl
-
-pub timed_other : (x : EntryFields) → (x.standing ≡ Sent → ⊥) → timed x ≡ x
-timed_other x other = by_standing (not x.covered && not x.abandoned) x.standing other
-  where
-    by_standing : (b : Bool) (s : Standing) → (s ≡ Sent → ⊥) → record x { standing = marked_if b s } ≡ record x { standing = s }
-    by_standing b Unsent off = refl
-    by_standing b Sent off = absurd (off refl)
-    by_standing b Marked off = refl

@@ -4,6 +4,7 @@ use Rattle.sctp_send.specs.declared.kept.entry.Standing.{Standing}
 use Rattle.sctp_send.specs.declared.kept.entry.Standing.TheVariants.{Unsent, Sent, Marked}
 use Rattle.sctp_send.specs.CoveredRuns.{in_runs, AreInOrder}
 use Rattle.sctp_send.specs.declared.kept.entry.CoveredRun.{CoveredRun}
+use Rattle.sctp_send.specs.declared.kept.entry.State.{State}
 use Rattle.sctp_send.specs.declared.kept.entry.Entry.{Entry as EntryFields}
 
 -- the standing without its mark
@@ -12,9 +13,13 @@ unmarked Unsent = Unsent
 unmarked Sent = Sent
 unmarked Marked = Sent
 
--- an entry with this standing, covered or not, abandoned or not
-abbrev pub stood : Standing → (covered abandoned : Bool) → EntryFields → EntryFields
-stood s c g e = record e { standing = s; covered = c; abandoned = g }
+-- what became of an entry
+abbrev pub state_of : EntryFields → State
+state_of e = record { standing = e.standing; covered = e.covered; abandoned = e.abandoned; repeats = e.repeats }
+
+-- an entry of which this became
+abbrev pub stood : State → EntryFields → EntryFields
+stood s e = record e { standing = s.standing; covered = s.covered; abandoned = s.abandoned; repeats = s.repeats }
 
 -- ---- covered or not (RFC 9260, 6.2.1)
 
@@ -60,23 +65,6 @@ in_alone rs os i = in_runs rs i && not (in_runs os i)
 -- those that pass, and a run: after `from`, up to `to`
 abbrev pub or_run : (ℕ → Bool) → ℕ → ℕ → ℕ → Bool
 or_run test from to i = test i || (nat_lt from i && nat_le i to)
-
--- ---- the data timer expires (RFC 9260, 6.3.3)
-
--- a standing after the timer, of an entry that the peer may still need, or of another
-abbrev pub marked_if : Bool → Standing → Standing
-marked_if needed Unsent = Unsent
-marked_if true Sent = Marked
-marked_if false Sent = Sent
-marked_if needed Marked = Marked
-
--- an entry after the timer
-abbrev pub timed : EntryFields → EntryFields
-timed e = record e { standing = marked_if (not e.covered && not e.abandoned) e.standing }
-
--- all entries after the timer
-abbrev pub all_timed : List EntryFields → List EntryFields
-all_timed es = map timed es
 
 -- ---- abandoned (RFC 3758, 3.5)
 

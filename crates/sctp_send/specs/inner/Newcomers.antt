@@ -1,5 +1,5 @@
 -- What takes an index next, among what is kept, and what is kept then (RFC 9260, 6.9; RFC 8260, 2.2.2 and 3.2).
-use Rattle.std.specs.Prelude.{◌≡◌, ℕ, zero, suc, ◌-◌, ◌<◌, ◌≤◌, ◌⊎◌, nat_lt, Bool, true, false, List, [], ◌∷◌, ◌++◌, length, take, drop, slice_get, slice_set, Option, None, Some, option_and_then}
+use Rattle.std.specs.Prelude.{◌≡◌, ℕ, zero, suc, ◌-◌, ◌<◌, ◌≤◌, ◌⊎◌, min, nat_lt, if◌then◌else◌, Bool, true, false, List, [], ◌∷◌, ◌++◌, length, take, drop, slice_get, slice_set, Option, None, Some, option_and_then}
 use Rattle.std.specs.Prelude.{slice_index_or}
 use Rattle.sctp_model.specs.messages.Format.{Format, Kind, Ordered, Unordered, Lane}
 use Rattle.sctp_model.specs.messages.Plan.{Message, Entry, Part, End}
@@ -12,13 +12,17 @@ use Rattle.sctp_send.specs.declared.kept.message.Fate.TheVariants.{Numbered}
 
 -- ---- items
 
+-- how often a fragment was retransmitted once it goes out, by whether it went out already
+abbrev pub repeats_after : (sent : Bool) → (repeats : ℕ) → ℕ
+repeats_after sent n = if sent then min (suc n) 65535 else n
+
 -- the item went out
 abbrev pub gone_item : Item → Item
-gone_item x = record x { sent = true; marked = false }
+gone_item x = record x { sent = true; marked = false; repeats = repeats_after x.sent x.repeats }
 
 -- a fragment that never went out
 abbrev pub new_item : Entry → Message → Item
-new_item e m = record { entry = e; message = Some m; sent = false; marked = false; covered = false; abandoned = false }
+new_item e m = record { entry = e; message = Some m; sent = false; marked = false; covered = false; abandoned = false; repeats = 0 }
 
 -- so many fragments of a message, from one on
 abbrev pub new_items : Lane → (number : ℕ) → Message → (from many : ℕ) → List Item
@@ -32,7 +36,7 @@ begun_items l n m (suc d) = gone_item (new_item (Part l n 0) m) ∷ new_items l 
 
 -- the item of a rest's fragment
 abbrev pub rest_item : Rest → Item
-rest_item r = record { entry = r.entry; message = r.message; sent = false; marked = false; covered = false; abandoned = false }
+rest_item r = record { entry = r.entry; message = r.message; sent = false; marked = false; covered = false; abandoned = false; repeats = 0 }
 
 -- ---- streams
 

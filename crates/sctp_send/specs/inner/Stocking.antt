@@ -20,7 +20,7 @@ use Rattle.sctp_send.specs.PartsKept.{StreamsKept}
 use Rattle.sctp_send.specs.inner.Walks.{total, one_if_rest}
 use Rattle.sctp_send.specs.OutstandingFields.{was_sent, is_marked, item_meaning, lane_meaning, message_meaning, entry_meaning, no_base}
 use Rattle.sctp_send.specs.SenderFields.{queued_by, track_meaning}
-use Rattle.sctp_send.specs.inner.Newcomers.{counted_in, IsBegun, IsContinued, IsTurnBegun, IsTurnContinued}
+use Rattle.sctp_send.specs.inner.Newcomers.{repeats_after, counted_in, IsBegun, IsContinued, IsTurnBegun, IsTurnContinued}
 use Rattle.sctp_send.specs.declared.fill.assigning.Next.{Next}
 use Rattle.sctp_send.specs.declared.fill.assigning.Next.TheVariants.{Begins, Continues}
 use Rattle.sctp_send.specs.declared.stock.Stock.{Stock}
@@ -70,6 +70,7 @@ bare h = record {
   passed = h.dues.passed;
   moments = h.dues.moments;
   asleep = h.dues.asleep;
+  before = h.before;
   forward = h.forward;
 }
 
@@ -111,6 +112,7 @@ fragment_item size m n k standing = record {
   marked = is_marked standing;
   covered = false;
   abandoned = false;
+  repeats = 0;
 }
 
 -- what is left of a message from a fragment on
@@ -127,7 +129,7 @@ left_track rest t = record t { rest = rest }
 
 -- an entry went out
 abbrev pub went_out : EntryFields → EntryFields
-went_out e = record e { standing = Sent }
+went_out e = record e { standing = Sent; repeats = repeats_after (was_sent e.standing) e.repeats }
 
 -- The next wish went: its chunk is in the packet, and the stock keeps what it leaves.
 pub record IsPut (f : Format) (s : Kept) (v : SenderView) (before after : PacketDraft) (old new : Stock) : Type 0 where

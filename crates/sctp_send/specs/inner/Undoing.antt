@@ -4,6 +4,7 @@ use Rattle.std.specs.declared.sync.Arc.{Arc}
 use Rattle.std.specs.declared.alloc.Global.{Global}
 use Rattle.sctp_model.specs.numbers.Limits.{GREATEST_FRAGMENT}
 use Rattle.sctp_send.specs.PartsKept.{changed_at}
+use Rattle.sctp_send.specs.inner.Changes.{stood}
 use Rattle.sctp_send.specs.declared.stock.Change.{Change}
 use Rattle.sctp_send.specs.declared.stock.Change.TheVariants.{Out, Begun, Left, Continued}
 use Rattle.sctp_send.specs.declared.stock.Stock.{Stock}
@@ -26,17 +27,13 @@ pub record Parts : Type 0 where
 abbrev pub parts_of : Stock → Parts
 parts_of d = record { items = d.outstanding.items; queue = d.queue.items; tracks = d.streams.items; turn = d.turn }
 
--- an entry with this standing
-abbrev pub stands_so : Standing → EntryFields → EntryFields
-stands_so s e = record e { standing = s }
-
 -- a message waits again at its place, where there is such a place
 abbrev pub waits_again : (place : ℕ) → Arc Message Global → List (Arc Message Global) → List (Arc Message Global)
 waits_again place m ms = if nat_le place (length ms) then insert ms place m else ms
 
 -- the entry of a fragment
 abbrev pub fragment_entry : Arc Message Global → (number fragment : ℕ) → Standing → EntryFields
-fragment_entry m n k standing = record { message = m; number = n; content = Fragment k; standing = standing; covered = false; abandoned = false }
+fragment_entry m n k standing = record { message = m; number = n; content = Fragment k; standing = standing; covered = false; abandoned = false; repeats = 0 }
 
 -- how many messages of a kind have a number on a stream
 abbrev pub count_of : Kind → Track → ℕ
@@ -60,7 +57,7 @@ waiting_again place from turn (Some e) p = record {
 
 -- the parts before a change
 abbrev pub undone : Change → Parts → Parts
-undone (Out at standing) p = record p { items = changed_at (stands_so standing) at p.items }
+undone (Out at state) p = record p { items = changed_at (stood state) at p.items }
 undone (Begun place from turn) p = waiting_again place from turn (slice_get p.items from) p
 undone (Left stream track) p = record p { tracks = set p.tracks stream track }
 undone (Continued stream track turn) p = record p { items = take (length p.items - 1) p.items; tracks = set p.tracks stream track; turn = turn }

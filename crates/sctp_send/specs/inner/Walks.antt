@@ -112,4 +112,5 @@ end_item r = record {
   marked = false;
   covered = false;
   abandoned = true;
+  repeats = 0;
 }

@@ -1,33 +1,69 @@
 //! Abandoning messages that were retransmitted as often as they may be (RFC 7496, 3.1).
 
-ghost use Rattle.std.specs.Prelude.{◌≡◌, ℕ, true, MatchOption};
+ghost use Rattle.std.specs.Prelude.{◌≡◌, ℕ, suc, ◌+◌, ◌<◌, Bool, true, ◌&&◌, nat_le, nat_lt, length};
 ghost use Rattle.sctp_model.specs.sender.SenderView.{SenderView};
-ghost use Rattle.sctp_model.specs.sender.Abandoning.{expired, worn};
+ghost use Rattle.sctp_model.specs.sender.Abandoning.{wear_one, worn};
 ghost use Rattle.sctp_send.specs.SenderStands.{StandsFor};
+ghost use Rattle.sctp_send.specs.inner.Wearing.{WornAnswer};
 
+use crate::kept::wishes::{is_spent, is_unsettled};
+use crate::sack::marking::offset_of;
 use crate::sender::Sender;
 use sctp_framing::Framing;
+use sctp_values::Ticket;
 
 #[tactic(auto, unfolding(crate::specs::SenderStands::StandsFor))]
 impl<F: Framing> Sender<F> {
     /// For an expiry of the data timer, before `on_timeout`: each message is abandoned, as by `abandon`, if one of its outstanding fragments was
-    /// retransmitted as often as the message's limit allows (RFC 7496, 3.1). A message that `queue` accepted has no limit, so nothing changes. It
-    /// doesn't allocate.
+    /// retransmitted as often as the message's limit allows (RFC 7496, 3.1). It doesn't allocate.
     pub fn wear(&mut self)
         ensures { (v : SenderView) → StandsFor F.format self.old v → StandsFor F.format self.new (worn (λ i. true) v) }
     {
-        let _outstanding = &self.parts.outstanding;
+        let last = self.parts.outstanding.len();
+        self.wear_offsets(0, last);
     }
 
-    /// Whether messages with a limit of retransmissions may be held (RFC 7496, 3.1). None if none is: then `wear` abandons nothing, nor does it after
-    /// `expire`. `queue` accepts none.
-    pub fn limits(&self) -> Option<Limits>
-        ensures { (v : SenderView) → StandsFor F.format self.now v → MatchOption result ((now : ℕ) → worn (λ i. true) (expired v now) ≡ expired v now) (λ limits. Unit {0}) }
+    /// As `wear`, for the fragments with the indexes from `from` on, below `below`. Indexes count TSNs from 1, the initial TSN.
+    pub fn wear_between(&mut self, from: u64, below: u64)
+        ensures { (v : SenderView) → StandsFor F.format self.old v → StandsFor F.format self.new (worn (λ i. nat_le from i && nat_lt i below) v) }
     {
-        let _numbered = &self.parts.outstanding;
+        let cum = self.told.cum;
+        self.wear_offsets(offset_of(cum, from), offset_of(cum, below));
+    }
+
+    /// As `wear`, for the entries at the offsets from `from` on, below `to`, by rising offset. No end mark that it appends is looked at.
+    fn wear_offsets(&mut self, from: usize, to: usize)
+        ensures { (v : SenderView) → StandsFor F.format self.old v → (test : ℕ → Bool) → ((k : ℕ) → k < length self.old.items → (nat_le from k && nat_lt k to) ≡ test (suc (v.cum + k)))
+            → StandsFor F.format self.new (worn test v) }
+    {
+        let last = to.min(self.parts.outstanding.len());
+        let first = from.min(last);
+        for at in first..last {
+            self.wear_at(at);
+        }
+    }
+
+    /// The message of the entry at an offset is abandoned, if that was retransmitted as often as the limit allows.
+    fn wear_at(&mut self, at: usize)
+        ensures { (v : SenderView) → StandsFor F.format self.old v → (test : ℕ → Bool) → test (suc (v.cum + at)) ≡ true → StandsFor F.format self.new (wear_one test v (suc (v.cum + at))) }
+    {
+        if let Some(ticket) = self.worn_at(at) {
+            let _answer = self.abandon(Ticket(ticket));
+        }
+    }
+
+    /// The ticket of the message of the entry at an offset, if that was sent, is neither acknowledged nor abandoned, and was retransmitted as often as
+    /// the limit allows.
+    fn worn_at(&self, at: usize) -> Option<u64>
+        ensures { (v : SenderView) → StandsFor F.format self.now v → (test : ℕ → Bool) → test (suc (v.cum + at)) ≡ true → WornAnswer test v (suc (v.cum + at)) result }
+    {
+        if at >= self.parts.outstanding.len() {
+            return None;
+        }
+        let entry = self.parts.outstanding.get(at);
+        if is_unsettled(entry) && is_spent(entry, self.told.partial) {
+            return Some(entry.message.ticket);
+        }
         None
     }
 }
-
-/// That messages with a limit of retransmissions are held. No call accepts one, so that there is no value of this type.
-pub enum Limits {}

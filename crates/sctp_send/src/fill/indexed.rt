@@ -5,12 +5,13 @@ ghost use Rattle.sctp_model.specs.numbers.Serial.{tsn};
 ghost use Rattle.sctp_model.specs.sender.SenderView.{SenderView};
 ghost use Rattle.sctp_send.specs.SenderKept.{Item};
 ghost use Rattle.sctp_send.specs.SenderStands.{Keeps};
-ghost use Rattle.sctp_send.specs.OutstandingFields.{item_meaning};
+ghost use Rattle.sctp_send.specs.OutstandingFields.{was_sent, item_meaning};
 ghost use Rattle.sctp_send.specs.PartsKept.{changed};
+ghost use Rattle.sctp_send.specs.inner.Newcomers.{repeats_after};
 ghost use Rattle.sctp_send.specs.inner.Undoing.{IsSized, IsBehind};
 ghost use Rattle.sctp_send.specs.inner.Stocking.{bare, stocked, went_out, item_chunk, IsTried, PutAnswer, IsRefused, IsFlying, IsNextEntry, IsNextUnsent};
 
-use crate::kept::entry::Standing;
+use crate::kept::entry::{Entry, Standing, State};
 use crate::kept::outstanding::Outstanding;
 use crate::kept::pieces::{bytes_of, fits, put_fragment};
 use crate::kept::wishes::may_flow;
@@ -43,11 +44,11 @@ impl Told {
         if !fits::<F>(bytes, packet) {
             return Ok(false);
         }
-        let standing = entry.standing;
+        let state = entry.state();
         stock.log.reserve(1).map_err(|_| NoMemory)?;
         let put = self.put_at::<F>(stock, at, packet)?;
         if put {
-            note(&mut stock.log, Change::Out { at, standing });
+            note(&mut stock.log, Change::Out { at, state });
             send_out(&mut stock.outstanding, at);
         }
         Ok(put)
@@ -121,7 +122,21 @@ fn send_out(outstanding: &mut Outstanding, at: usize)
     ensures { outstanding.new ≡ changed went_out at outstanding.old }
 {
     let entry = outstanding.get(at);
-    let covered = entry.covered;
-    let abandoned = entry.abandoned;
-    outstanding.stand(at, Standing::Sent, covered, abandoned);
+    let state = State {
+        standing: Standing::Sent,
+        covered: entry.covered,
+        abandoned: entry.abandoned,
+        repeats: repeats_after(entry),
+    };
+    outstanding.stand(at, state);
+}
+
+/// How often an entry was retransmitted, once it goes out; 65,535 at most.
+fn repeats_after(entry: &Entry) -> u16
+    ensures { result ≡ repeats_after (was_sent entry.now.standing) entry.now.repeats }
+{
+    match entry.standing {
+        Standing::Unsent => entry.repeats,
+        Standing::Sent | Standing::Marked => entry.repeats.saturating_add(1),
+    }
 }

@@ -29,6 +29,7 @@ pub(crate) fn push_first(outstanding: &mut Outstanding, message: Arc<Message>, n
         standing: Standing::Sent,
         covered: false,
         abandoned: false,
+        repeats: 0,
     });
 }
 
@@ -57,6 +58,7 @@ pub(crate) fn push_fragment(
         standing,
         covered: false,
         abandoned: false,
+        repeats: 0,
     };
     outstanding.push(entry)
 }

@@ -7,12 +7,14 @@ ghost use Rattle.sctp_send.specs.PartsKept.{IsSameRoom, changed_at};
 ghost use Rattle.sctp_send.specs.inner.Changes.{as_abandoned, all_abandoned};
 ghost use Rattle.sctp_send.specs.inner.Counting.{IsCounted};
 ghost use Rattle.sctp_send.specs.inner.Dues.{IsItemUntil};
+ghost use Rattle.sctp_send.specs.inner.Wearing.{SaysSpent, NextSpentAnswer};
 ghost use Rattle.sctp_send.specs.inner.Walks.{any_item, any_uncovered, is_item_uncovered};
 
 use crate::kept::counts::{Counts, stand_one};
-use crate::kept::entry::{Entry, unmarked};
+use crate::kept::entry::{Entry, State, unmarked};
 use crate::kept::outstanding::Outstanding;
 use crate::kept::stretches::forget_stretch;
+use crate::kept::wishes::is_spent;
 use std::collections::VecDeque;
 
 impl Outstanding {
@@ -45,6 +47,20 @@ impl Outstanding {
         None
     }
 
+    /// The lowest ticket above `last` of a message an entry of which isn't abandoned and was retransmitted as often as the limit allows.
+    pub(crate) fn next_spent(&self, last: u64, partial: bool) -> Option<u64>
+        ensures { NextSpentAnswer partial last self.now.items result }
+    {
+        let start = self.by_ticket.rank(last, usize::MAX);
+        for rank in start..self.by_ticket.len() {
+            let entry = &self.entries[self.by_ticket.offset(rank)];
+            if is_at_limit(entry, partial) {
+                return Some(entry.message.ticket);
+            }
+        }
+        None
+    }
+
     /// All entries are of messages with tickets behind this one.
     pub(crate) fn is_past(&self, last: u64) -> bool
         ensures { (size t : ℕ) → result ≡ true → t ≤ last → any_item t (map (item_meaning size) self.now.items) ≡ false }
@@ -69,6 +85,13 @@ impl Outstanding {
     }
 }
 
+/// The entry isn't abandoned, and was retransmitted as often as its message's limit allows.
+fn is_at_limit(entry: &Entry, partial: bool) -> bool
+    ensures { SaysSpent partial entry.now result }
+{
+    !entry.abandoned && is_spent(entry, partial)
+}
+
 /// An entry of the message with this ticket is abandoned; its mark ends.
 fn abandon_one(
     entries: &mut VecDeque<Entry>,
@@ -85,8 +108,12 @@ fn abandon_one(
 {
     let entry = &entries[at];
     if entry.message.ticket == ticket {
-        let standing = unmarked(entry.standing);
-        let covered = entry.covered;
-        stand_one(entries, counts, size, at, standing, covered, true);
+        let state = State {
+            standing: unmarked(entry.standing),
+            covered: entry.covered,
+            abandoned: true,
+            repeats: entry.repeats,
+        };
+        stand_one(entries, counts, size, at, state);
     }
 }

@@ -10,7 +10,7 @@ ghost use Rattle.sctp_send.specs.inner.Counting.{entered, left, lowered, furthes
 ghost use Rattle.sctp_send.specs.inner.Walks.{abandoned_items};
 ghost use Rattle.sctp_send.specs.inner.Newcomers.{one_if};
 
-use crate::kept::entry::{Entry, Standing};
+use crate::kept::entry::{Entry, State};
 use crate::kept::wishes::{is_first_sending, is_repeat, is_unsettled, weight};
 use std::collections::VecDeque;
 
@@ -113,24 +113,23 @@ pub(crate) fn stand_one(
     counts: &mut Counts,
     size: u16,
     at: usize,
-    standing: Standing,
-    covered: bool,
-    abandoned: bool,
+    state: State,
 )
     requires within { at < length entries.old.items }
     requires counted { IsCounted size entries.old.items counts.old }
-    ensures items { entries.new.items ≡ changed_at (stood standing covered abandoned) at entries.old.items }
+    ensures items { entries.new.items ≡ changed_at (stood state) at entries.old.items }
     ensures counted { IsCounted size entries.new.items counts.new }
     ensures capacity { deque_capacity entries.new ≡ deque_capacity entries.old }
 {
     let entry = &mut entries[at];
     counts.leave(entry, size);
-    entry.standing = standing;
-    entry.covered = covered;
-    entry.abandoned = abandoned;
+    entry.standing = state.standing;
+    entry.covered = state.covered;
+    entry.abandoned = state.abandoned;
+    entry.repeats = state.repeats;
     counts.enter(entry, size);
     counts.lower(at, entry);
-    counts.front = front_after(counts.front, at, abandoned, entries);
+    counts.front = front_after(counts.front, at, state.abandoned, entries);
 }
 
 /// How many of the first entries are abandoned, where so many were before the one at an offset changed to one that is, or isn't.

@@ -1,7 +1,7 @@
 //! What the TSN of an index above CUM is: a fragment or an end mark, and runs of such entries.
 
 ghost use Rattle.std.specs.Prelude.{◌≡◌};
-ghost use Rattle.sctp_send.specs.inner.Changes.{unmarked};
+ghost use Rattle.sctp_send.specs.inner.Changes.{unmarked, state_of};
 
 use crate::kept::message::Message;
 use std::sync::Arc;
@@ -46,6 +46,32 @@ pub(crate) struct Entry {
     pub(crate) standing: Standing,
     pub(crate) covered: bool,
     pub(crate) abandoned: bool,
+    /// How often it was retransmitted; 65,535 says that it was so often or more often.
+    pub(crate) repeats: u16,
+}
+
+/// What became of an entry. The fields are those of `Entry`.
+#[derive(Clone, Copy)]
+pub(crate) struct State {
+    pub(crate) standing: Standing,
+    pub(crate) covered: bool,
+    pub(crate) abandoned: bool,
+    pub(crate) repeats: u16,
+}
+
+impl Entry {
+    /// What became of it.
+    #[inline(always)]
+    pub(crate) fn state(&self) -> State
+        ensures { result ≡ state_of self.now }
+    {
+        State {
+            standing: self.standing,
+            covered: self.covered,
+            abandoned: self.abandoned,
+            repeats: self.repeats,
+        }
+    }
 }
 
 /// A run of entries that the peer has, by their offsets above CUM: those behind `from`, up to `to`.

@@ -18,6 +18,8 @@ pub(crate) struct Message {
     pub(crate) payload_id: u32,
     /// The moment from which it is worthless, in milliseconds.
     pub(crate) until: Option<u64>,
+    /// How often each of its fragments may be retransmitted (RFC 7496, 3.1), if not without limit.
+    pub(crate) limit: Option<u16>,
     pub(crate) bytes: Vec<u8>,
 }
 
@@ -69,6 +71,7 @@ pub(crate) fn in_shell(
                 kind,
                 payload_id,
                 until,
+                limit,
                 bytes,
             } = message;
             gone.ticket = ticket;
@@ -76,6 +79,7 @@ pub(crate) fn in_shell(
             gone.kind = kind;
             gone.payload_id = payload_id;
             gone.until = until;
+            gone.limit = limit;
             gone.bytes = bytes;
             return Ok(shell);
         }

@@ -9,7 +9,7 @@ ghost use Rattle.sctp_send.specs.inner.Wishing.{item_flight};
 
 use crate::kept::by_ticket::{ByTicket, MOST};
 use crate::kept::counts::{Counts, front_behind, stand_one};
-use crate::kept::entry::{CoveredRun, Entry, Standing};
+use crate::kept::entry::{CoveredRun, Entry, State};
 use crate::kept::message::Message;
 use crate::kept::stretches::{Stretch, forget_stretch, keep_stretches};
 use sctp_values::NoMemory;
@@ -228,19 +228,11 @@ impl Outstanding {
     }
 
     /// Sets what became of the entry at an offset.
-    pub(crate) fn stand(&mut self, at: usize, standing: Standing, covered: bool, abandoned: bool)
+    pub(crate) fn stand(&mut self, at: usize, state: State)
         requires { at < length self.old.items }
-        ensures { self.new ≡ changed (stood standing covered abandoned) at self.old }
+        ensures { self.new ≡ changed (stood state) at self.old }
     {
         forget_stretch(&mut self.stretches, self.by_ticket.index(at));
-        stand_one(
-            &mut self.entries,
-            &mut self.counts,
-            self.size,
-            at,
-            standing,
-            covered,
-            abandoned,
-        );
+        stand_one(&mut self.entries, &mut self.counts, self.size, at, state);
     }
 }

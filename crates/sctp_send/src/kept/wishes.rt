@@ -3,6 +3,7 @@
 ghost use Rattle.std.specs.Prelude.{◌≡◌, ℕ, ◌<◌};
 ghost use Rattle.sctp_send.specs.OutstandingFields.{item_meaning};
 ghost use Rattle.sctp_send.specs.inner.Wishing.{is_item_marked, is_item_unsent, item_weight, lets_flow};
+ghost use Rattle.sctp_send.specs.inner.Marking.{IsCapped, is_spent};
 ghost use Rattle.sctp_send.specs.inner.Walks.{is_item_unsettled};
 
 use crate::kept::entry::{Entry, Standing};
@@ -39,6 +40,19 @@ pub(crate) fn is_unsettled(entry: &Entry) -> bool
     ensures { (size : ℕ) → result ≡ is_item_unsettled (item_meaning size entry.now) }
 {
     entry.standing != Standing::Unsent && !entry.covered && !entry.abandoned
+}
+
+/// The entry was retransmitted as often as its message's limit allows. Only if messages may be abandoned does a limit count.
+pub(crate) fn is_spent(entry: &Entry, partial: bool) -> bool
+    ensures { (r : ℕ) → IsCapped r entry.now → result ≡ is_spent partial r entry.now }
+{
+    if !partial {
+        return false;
+    }
+    match entry.message.limit {
+        Some(limit) => limit <= entry.repeats,
+        None => false,
+    }
 }
 
 /// A first sending of so many bytes needs that nothing is in flight, or that the peer's window has room (RFC 9260, 6.1, rule A).

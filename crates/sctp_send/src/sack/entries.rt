@@ -1,18 +1,18 @@
 //! The entries above the cumulative TSN acknowledged (CUM), the one of CUM + 1 in front: which of them a SACK acknowledges by gap blocks or
-//! cumulatively, and which the retransmission timer marks (RFC 9260, 6.2.1 and 6.3.3).
+//! cumulatively (RFC 9260, 6.2.1).
 
 ghost use Rattle.std.specs.Prelude.{◌≡◌, ℕ, Bool, true, false, ◌<◌, ◌≤◌, ◌-◌, List, [], length, drop, None};
 ghost use Rattle.std.specs.VecDeque.{deque_capacity};
-ghost use Rattle.sctp_send.specs.PartsKept.{IsSameRoom, changed};
+ghost use Rattle.sctp_send.specs.PartsKept.{IsSameRoom};
 ghost use Rattle.sctp_model.specs.messages.Acknowledgement.{in_blocks};
-ghost use Rattle.sctp_send.specs.inner.Changes.{all_told, or_run, timed, all_timed};
+ghost use Rattle.sctp_send.specs.inner.Changes.{all_told, or_run};
 ghost use Rattle.sctp_model.specs.sender.SackTaken.{some_is_bad};
 ghost use Rattle.sctp_send.specs.CoveredRuns.{run_behind, runs_behind, HoldsBlocks};
 ghost use Rattle.sctp_send.specs.inner.Acknowledging.{block_fault};
 ghost use Rattle.sctp_send.specs.declared.kept.entry.Entry.{Entry as EntryFields};
 
 use crate::kept::counts::Counts;
-use crate::kept::entry::{CoveredRun, Entry, RUNS, Standing};
+use crate::kept::entry::{CoveredRun, Entry, RUNS};
 use crate::kept::message::{Message, keep_shell};
 use crate::kept::outstanding::Outstanding;
 use sctp_wire::Blocks;
@@ -152,26 +152,4 @@ pub(crate) fn remember(runs: &mut Vec<CoveredRun>, blocks: &Blocks<'_>) -> bool
         }
     }
     true
-}
-
-/// Marks an entry for retransmission, if it was sent and is neither acknowledged nor abandoned.
-fn time_one(outstanding: &mut Outstanding, at: usize)
-    requires { at < length outstanding.old.items }
-    ensures { outstanding.new ≡ changed timed at outstanding.old }
-{
-    let entry = outstanding.get(at);
-    let needed = !entry.covered && !entry.abandoned;
-    if needed && entry.standing == Standing::Sent {
-        outstanding.stand(at, Standing::Marked, false, false);
-    }
-}
-
-/// Marks each entry for retransmission that was sent and is neither acknowledged nor abandoned.
-pub(crate) fn mark_unsettled(outstanding: &mut Outstanding)
-    ensures items { outstanding.new.items ≡ all_timed outstanding.old.items }
-    ensures kept { IsSameRoom outstanding.old outstanding.new }
-{
-    for at in 0..outstanding.len() {
-        time_one(outstanding, at);
-    }
 }

@@ -13,6 +13,7 @@ use Rattle.sctp_script.specs.ReportText.{report}
 use Rattle.sctp_model.specs.end.Sealing.{Sealing}
 use Rattle.sctp_cookie.specs.Seals.{IsUnder}
 use Rattle.sctp_events.specs.declared.two_configs.TwoConfigs.{TwoConfigs}
+use Rattle.sctp_script.specs.declared.placed.Preamble.{Preamble}
 use Rattle.sctp_pair.specs.declared.pair.Pair.{Pair}
 use Rattle.sctp_trace.specs.declared.script.Running.{Running}
 use Rattle.sctp_trace.specs.declared.script.ScriptFault.{ScriptFault}
@@ -30,16 +31,16 @@ StandsAt (Some pair) None = ⊥
 StandsAt (Some pair) (Some w) = PairStands pair w
 
 -- the pair stands for the world of a stage, and the next line has its place
-abbrev pub Stand : Option Pair → Option TwoConfigs → Stage → Type 0
-Stand pair fresh stage = StandsAt pair (world_of stage) × (place_at (is_some pair) fresh ≡ place_of stage)
+abbrev pub Stand : Option Pair → Preamble → Stage → Type 0
+Stand pair preamble stage = StandsAt pair (world_of stage) × (place_at (is_some pair) preamble ≡ place_of stage)
 
--- two endpoints were set up with these configurations, unless an allocation failed
-abbrev pub IsSetUp : Result (Unit {0}) ScriptFault → TwoConfigs → Option Pair → Option TwoConfigs → Type 0
-IsSetUp (Ok _) configs pair fresh = (s : Sealing) × IsUnder LISTENER_KEY s × Stand pair fresh (SetUp configs.a configs.b s)
-IsSetUp (Err Read) configs pair fresh = ⊥
-IsSetUp (Err Write) configs pair fresh = ⊥
-IsSetUp (Err NoMemory) configs pair fresh = Unit {0}
-IsSetUp (Err (Line n fault)) configs pair fresh = ⊥
+-- two endpoints were set up with these configurations, by a line of options or not, unless an allocation failed
+abbrev pub IsSetUp : Result (Unit {0}) ScriptFault → TwoConfigs → (with_options : Bool) → Option Pair → Preamble → Type 0
+IsSetUp (Ok _) configs with_options pair preamble = (s : Sealing) × IsUnder LISTENER_KEY s × Stand pair preamble (SetUp with_options configs.a configs.b s)
+IsSetUp (Err Read) configs with_options pair preamble = ⊥
+IsSetUp (Err Write) configs with_options pair preamble = ⊥
+IsSetUp (Err NoMemory) configs with_options pair preamble = Unit {0}
+IsSetUp (Err (Line n fault)) configs with_options pair preamble = ⊥
 
 -- why no line could be read
 abbrev pub fault_of : ReadFault → ScriptFault
@@ -71,12 +72,12 @@ IsPassedOn (Err NoMemory) gathered written rest = ⊥
 IsPassedOn (Err (Line n fault)) gathered written rest = ⊥
 
 -- what the line with this number leaves
-abbrev pub LineLeaves : Result (Unit {0}) ScriptFault → ℕ → Stage → List ℕ → List ℕ → Option Pair → Option TwoConfigs → Type 0
-LineLeaves (Ok _) n stage line here pair fresh = (after : Stage) × LineActs stage line here after × Stand pair fresh after
-LineLeaves (Err Read) n stage line here pair fresh = ⊥
-LineLeaves (Err Write) n stage line here pair fresh = ⊥
-LineLeaves (Err NoMemory) n stage line here pair fresh = here ≡ []
-LineLeaves (Err (Line m fault)) n stage line here pair fresh = (m ≡ n) × (here ≡ []) × SaysAt (place_of stage) line (Plain (Fault fault))
+abbrev pub LineLeaves : Result (Unit {0}) ScriptFault → ℕ → Stage → List ℕ → List ℕ → Option Pair → Preamble → Type 0
+LineLeaves (Ok _) n stage line here pair preamble = (after : Stage) × LineActs stage line here after × Stand pair preamble after
+LineLeaves (Err Read) n stage line here pair preamble = ⊥
+LineLeaves (Err Write) n stage line here pair preamble = ⊥
+LineLeaves (Err NoMemory) n stage line here pair preamble = here ≡ []
+LineLeaves (Err (Line m fault)) n stage line here pair preamble = (m ≡ n) × (here ≡ []) × SaysAt (place_of stage) line (Plain (Fault fault))
 
 -- what is gathered at the end of a script
 abbrev pub Closes : Result (Unit {0}) ScriptFault → Option World → List ℕ → Type 0
@@ -96,7 +97,7 @@ IsClosed ended result gathered written =
 pub record IsSoFar (s : Running) (text done : List ℕ) (lines : List (List ℕ)) (stage : Stage) : Type 0 where
   pub given : HasGiven text lines s.lines
   pub goes : Goes Unpaired lines done stage
-  pub stands : Stand s.pair s.fresh stage
+  pub stands : Stand s.pair s.preamble stage
   pub number : s.number ≡ suc (length lines)
 
 -- All lines of a text that was read acted, and wrote this.

@@ -1,4 +1,4 @@
-use Rattle.sctp_end.proofs.SetUpLemmas.{settings_not, settings}
+use Rattle.sctp_end.proofs.SetUpLemmas.{settings_not, settings, asked_plain, plain_has_none}
 use Rattle.std.proofs.Common.{refl}
 use Rattle.sctp_end.proofs.set_up.config_of.Goals as goal
 
@@ -36,3 +36,6 @@ returns-in-Ok-clause-exact c =
     c.in_ok-limit.ensures c.in_ok-fragment.ensures c.in_ok-buffer.ensures c.in_ok-streams.ensures c.in_ok-mode.ensures c.in_ok-own_port.ensures c.in_ok-peer_port.ensures
     c.in-Ok.ensures.exact.0 c.in-Ok.ensures.exact.1 in
     rw c.asked.ensures config
+
+pub returns-in-Ok-clause-plain : goal.returns-in-Ok-clause-plain
+returns-in-Ok-clause-plain c = rw c.asked.ensures (asked_plain _ _ (plain_has_none _ _ _ _ _ _ _ _ c.in-Ok.ensures.exact.0))

@@ -1,13 +1,13 @@
 use Rattle.std.proofs.Common.{◌<◌, length, arith}
 use Rattle.std.proofs.lemmas.Grind.{common_steps}
 use Rattle.sctp_pair.specs.Sides.{SideStands}
-use Rattle.sctp_pair.proofs.LateLemmas.{late_some}
+use Rattle.sctp_pair.proofs.ListedLemmas.{listed_some}
 use Rattle.sctp_pair.proofs.MemoryLemmas.{anyway}
 use Rattle.sctp_pair.proofs.moments.make_room.Goals as goal
 
-pub returns-clause-late : goal.returns-clause-late
+pub returns-clause-listed : goal.returns-clause-listed
 unfolding SideStands
-returns-clause-late c = λ v stands. c.in_ok-before.ensures.tickets v.end stands.end
+returns-clause-listed c = λ v stands. c.in_ok-before.ensures.tickets v.end stands.end
 
 pub returns-in_err-before-clause-memory : goal.returns-in_err-before-clause-memory
 unfolding SideStands
@@ -17,4 +17,4 @@ pub returns-in_err-map_err-clause-memory : goal.returns-in_err-map_err-clause-me
 unfolding SideStands
 returns-in_err-map_err-clause-memory c = λ v stands.
     let some : 0 < length c.in_ok-before.before.items = grind (arith, common_steps) in
-    anyway c.from_residual-in_err-map_err.result (late_some v.end.sender c.args.now c.in_ok-before.before.items (c.in_ok-before.ensures.tickets v.end stands.end) some)
+    anyway c.from_residual-in_err-map_err.result (listed_some v.end c.args.now c.in_ok-before.before.items (c.in_ok-before.ensures.tickets v.end stands.end) some)

@@ -11,12 +11,12 @@ use Rattle.sctp_pair.proofs.moments.tick.Goals as goal
 
 pub returns : goal.returns
 unfolding SideStands
-returns c = λ v stands reached late.
+returns c = λ v stands listed.
     let n = c.args.now in
     let t : EndView = ticked v.end n in
     let end = c.on_moment.ensures.step v.end stands.end in
     let keeps = moments_keep_logs v.end n (c.sound.ensures _ stands.end) in
-    let watched = watched_is v.end n c.args.before.now (c.sound.ensures _ stands.end) reached (λ joined. c.unlimited.ensures v.end stands.end n) late in
+    let watched = watched_is v.end n c.args.before.now (c.sound.ensures _ stands.end) (c.gives_up_alone.ensures v.end stands.end n) listed in
     let gone : List ℕ = newly_abandoned v.end.sender t.sender t.sender.tickets in
     let noted = c.note.ensures t end ∙ ap (λ (ks : List ℕ). map ticket_number c.args.side.now.abandoned.items ++ ks) (sym watched) in record {
       end = end;

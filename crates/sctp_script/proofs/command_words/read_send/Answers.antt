@@ -1,9 +1,10 @@
-use Rattle.std.proofs.Common.{◌≡◌, [], length, ap, arith, rules}
+use Rattle.std.proofs.Common.{◌≡◌, [], length, None, ap, arith, rules}
 use Rattle.std.proofs.lemmas.Grind.{common_steps}
 use Rattle.sctp_values.specs.Meanings.{kind_meaning}
 use Rattle.sctp_events.specs.Events.{side_meaning}
 use Rattle.sctp_words.specs.Fields.{IsNumber, IsUntil, kind_word}
 use Rattle.sctp_script.specs.OutcomeText.{side_word}
+use Rattle.sctp_script.specs.Grammar.{Acts}
 use Rattle.sctp_script.proofs.FieldLemmas.{no_words}
 use Rattle.sctp_script.proofs.SpellLemmas.{sends}
 use Rattle.sctp_script.proofs.command_words.read_send.Goals as goal
@@ -44,5 +45,5 @@ returns-in-Some c =
         ),
       ),
       tt,
-      sends _ _ _ _ _ _ _ _ c.flag.ensures c.into_vec.ensures,
+      ap Acts (sends _ _ _ _ None _ _ _ _ c.flag.ensures c.into_vec.ensures),
     )

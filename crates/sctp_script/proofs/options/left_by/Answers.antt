@@ -1,4 +1,4 @@
-use Rattle.std.proofs.Common.{◌≡◌, subst}
+use Rattle.std.proofs.Common.{subst}
 use Rattle.sctp_model.specs.end.EndView.{Configuration}
 use Rattle.sctp_script.specs.OptionLines.{Leave}
 use Rattle.sctp_script.proofs.OptionsLeave.{checked_left}

@@ -1,4 +1,4 @@
-use Rattle.std.proofs.Common.{◌≡◌, ◌+◌, ◌∷◌, [], ◌++◌, List, ℕ, length, ap, sym, ◌∙◌, append_assoc, arith}
+use Rattle.std.proofs.Common.{◌+◌, ◌∷◌, [], ◌++◌, List, ℕ, ap, sym, ◌∙◌, append_assoc}
 use Rattle.std.proofs.lemmas.List.{length-append}
 use Rattle.sctp_script.proofs.options.pass.Goals as goal
 

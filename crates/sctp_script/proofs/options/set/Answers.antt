@@ -74,3 +74,13 @@ returns-in_ok-read_u16-in-Streams-2 c =
         c.with_streams.ensures,
       ),
     )
+
+pub returns-in_err-read_u32-in-RtoMin : goal.returns-in_err-read_u32-in-RtoMin
+returns-in_err-read_u32-in-RtoMin c =
+    subst (λ (o : OptionName). IsTaken o c.args.words.now c.next_word-in-RtoMin.new.self c.args.settings c.from_residual-in_err-read_u32-in-RtoMin.result) (sym c.in-RtoMin.is)
+    (c.next_word-in-RtoMin.result.now ∷ [], c.next_word-in-RtoMin.ensures, refl, rw c.from_residual-in_err-read_u32-in-RtoMin.ensures (λ d sets. none_of_one (ANumber 32) _ c.in_err-read_u32-in-RtoMin.ensures sets.0 sets.1))
+
+pub returns-in_ok-read_u32-in-RtoMin : goal.returns-in_ok-read_u32-in-RtoMin
+returns-in_ok-read_u32-in-RtoMin c =
+    subst (λ (o : OptionName). IsTaken o c.args.words.now c.next_word-in-RtoMin.new.self c.args.settings (Some c.with_rto_min.result)) (sym c.in-RtoMin.is)
+    (c.next_word-in-RtoMin.result.now ∷ [], c.next_word-in-RtoMin.ensures, refl, ((c.in_ok-read_u32-in-RtoMin.field-0, tt), (_, _, refl, c.in_ok-read_u32-in-RtoMin.ensures, refl), c.with_rto_min.ensures))

@@ -16,5 +16,5 @@ returns-in-Behind c =
 
 pub returns-in-Acted : goal.returns-in-Acted
 returns-in-Acted c =
-    subst (λ (p : Place). MatchResult c.read_plain-in-Acted.result (λ found. FindsAt (place_meaning p) c.args.line.now found) (λ e. RefusesAt (place_meaning p) c.args.line.now e))
-    (sym c.in-Acted.is) (acted_says c.args.line.now c.read_plain-in-Acted.result c.read_plain-in-Acted.ensures)
+    subst (λ (p : Place). MatchResult c.read_paired.result (λ found. FindsAt (place_meaning p) c.args.line.now found) (λ e. RefusesAt (place_meaning p) c.args.line.now e))
+    (sym c.in-Acted.is) (acted_says c.in-Acted.with_options c.args.line.now c.read_paired.result c.read_paired.ensures)

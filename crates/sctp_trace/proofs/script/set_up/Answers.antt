@@ -12,4 +12,4 @@ pub returns-in-Ok : goal.returns-in-Ok
 returns-in-Ok c =
     let s = c.keys_have_seals.ensures.some LISTENER_KEY in
     let starts : PairStands c.in-Ok.made (start (setup_with c.args.configs.now.a c.args.configs.now.b s.0)) = c.in-Ok.ensures s.0 s.1 in
-    (s.0, s.1, (rw c.replace.ensures.after starts, ap (λ (o : Option Pair). place_at (is_some o) (Some c.args.configs.now)) c.replace.ensures.after))
+    (s.0, s.1, (rw c.replace.ensures.after starts, ap (λ (o : Option Pair). place_at (is_some o) (record { fresh = Some c.args.configs.now; with_options = c.args.with_options })) c.replace.ensures.after))

@@ -9,6 +9,6 @@ returns c = λ lines written stage w goes there.
       options = c.configurations_are_right.ensures.options;
       within = c.faultless_is_configured.ensures.within;
     } in
-    let strangers : StrangerLaws = record { can_be = c.events_can_happen.ensures; byte_cookies = c.premises_are_the_keys.ensures.bytes } in
+    let strangers : StrangerLaws = record { can_be = c.events_at_their_place.ensures.can_be; byte_cookies = c.premises_are_the_keys.ensures.bytes } in
     let course = has_course pairs lines written stage w goes there in
     (course, course_is_safe c.each_world_on_the_way_is_safe.ensures c.users_take_what_was_sent.ensures c.premises_are_the_keys.ensures.premises strangers lines w course)

@@ -5,10 +5,10 @@ pub returns : goal.returns
 returns c = λ text front rest written state is.
     let there = lines_behind (record {
       one_meaning = c.one_meaning_at.ensures;
-      events_follow = c.events_follow_the_pair.ensures;
+      events_follow = c.events_at_their_place.ensures.follow;
       splits = c.lines_in_one_way.ensures.split;
       lines = c.lines_in_one_way.ensures.exist;
-      can_be = c.events_can_happen.ensures;
+      can_be = c.events_at_their_place.ensures.can_be;
       packets = c.one_packet.ensures;
       seals = c.keys_have_seals.ensures.some;
       outcomes = c.every_event_has_an_outcome.ensures;

@@ -1,13 +1,14 @@
-use Rattle.std.proofs.Common.{◌∙◌, refl, sym, ap, true}
-use Rattle.sctp_model.specs.end.EndView.{Configuration}
+use Rattle.std.proofs.Common.{◌∙◌, ℕ, true, refl, ap, sym}
+use Rattle.std.specs.Prelude.{◌-◌, min, Some}
+use Rattle.sctp_model.specs.numbers.Limits.{FIRST_WAIT, LONGEST_WAIT}
+use Rattle.sctp_model.specs.end.EndView.{EndView}
 use Rattle.sctp_model.specs.end.EndView as model
-use Rattle.sctp_model.specs.end.Clock.{due_in}
-use Rattle.sctp_model.specs.end.Opening.{tags_of_body, terms_of_body}
+use Rattle.sctp_model.specs.end.Clock.{due_in, turned, measured}
+use Rattle.sctp_model.specs.end.Opening.{joined, begun, tags_of_body, terms_of_body}
 use Rattle.sctp_cookie.specs.CookieTree.{body_meaning}
 use Rattle.sctp_association.specs.MachineStands.{MachineStands}
-use Rattle.sctp_model.proofs.PacedEnds.{begun_unpaced}
 use Rattle.sctp_association.proofs.MachineLemmas.{at_view}
-use Rattle.sctp_association.proofs.JoinLemmas.{unpaced, joined_there}
+use Rattle.sctp_association.proofs.JoinLemmas.{joined_there}
 use Rattle.sctp_association.proofs.machine.Machine.begin.Goals as goal
 
 pub returns-clause-step : goal.returns-clause-step
@@ -15,7 +16,8 @@ unfolding MachineStands
 returns-clause-step c = λ v stands.
     let b = body_meaning c.args.body.now in
     let t = tags_of_body b in
-    let unset = c.in_ok-traffic.ensures.unpaced in
-    let none = unpaced v.configuration b.rwnd (sym (ap (λ (k : Configuration). k.fast_retransmit) stands.configuration) ∙ unset) in
-    rw c.replace.ensures.after (at_view _ _ _ (begun_unpaced b v none) (joined_there _ v _ _ _ (terms_of_body b) b.rwnd (model.Open t model.Established) (record (due_in (model.Open t model.Established) v.due) { cookie_ack = true }) stands unset
-    c.of_cookie-terms.ensures refl (c.begin.ensures v.due t stands.due) (c.turn_timers.ensures t) c.in_ok-traffic.ensures.begins))
+    let d : model.Due = record (due_in (model.Open t model.Established) v.due) { cookie_ack = true } in
+    let x : EndView = record (turned (model.Open t model.Established) (joined (terms_of_body b) b.rwnd v)) { due = d } in
+    let trip = c.between.ensures ∙ ap (λ (n : ℕ). min (n - b.made) LONGEST_WAIT) stands.clock in
+    at_view _ (begun b v) _ (ap (λ (n : ℕ). measured (Some n) FIRST_WAIT x) (sym trip)) (c.measure.ensures x (rw c.replace.ensures.after (joined_there _ v _ _ _ _ (terms_of_body b) b.rwnd (model.Open t model.Established) d stands c.pace_for-self.ensures
+    c.of_cookie-terms.ensures refl (c.begin.ensures v.due t stands.due) (c.turn_timers.ensures t) c.in_ok-traffic.ensures)))

@@ -9,6 +9,6 @@ pub returns-clause-built : goal.returns-clause-built
 returns-clause-built c = λ v stands.
     let n = c.args.moment in
     let kept = c.keep_forward.ensures v stands in
-    let packed = c.in_ok-tickets.ensures.packed v n (c.packing-packing.ensures.keeps v kept) (c.packing-packing.ensures.empty v n kept) in
-    answered (record v { moment = n }) packed.0 c.sent.result c.sent.new.self c.pack.new.packing c.in_ok-tickets.tickets packed.1
-    c.sent.ensures.packet c.sent.ensures.size c.sent.ensures.within c.sent.ensures.tickets (c.sent.ensures.stands (record v { sender = packed.0 }) packed.2)
+    let packed = c.in_ok-tickets.ensures.packed v (c.packing-packing.ensures.keeps v kept) (c.packing-packing.ensures.empty v n kept) in
+    answered (record v { moment = n }) packed.0 c.pack.new.self.pace c.sent.result c.sent.new.self c.pack.new.packing c.in_ok-tickets.tickets packed.1
+    c.sent.ensures.packet c.sent.ensures.size c.sent.ensures.within c.sent.ensures.tickets (c.sent.ensures.stands (record v { sender = packed.0; pace = c.pack.new.self.pace }) packed.2)

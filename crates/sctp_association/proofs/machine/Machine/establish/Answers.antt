@@ -1,11 +1,19 @@
-use Rattle.sctp_model.proofs.PacedEnds.{acknowledged_unpaced}
+use Rattle.std.proofs.Common.{◌≡◌, ◌∙◌, ℕ, ap, sym}
+use Rattle.std.specs.Prelude.{Option}
+use Rattle.sctp_model.specs.end.EndView.{Alarm, Timer, CookieAlarm, EndView}
+use Rattle.sctp_model.specs.end.EndView as model
+use Rattle.sctp_model.specs.end.Clock.{echo_trip, turned, measured}
+use Rattle.sctp_association.specs.TimersMean.{timer_meaning}
 use Rattle.sctp_association.specs.MachineStands.{MachineStands}
 use Rattle.sctp_association.proofs.MachineLemmas.{at_view}
-use Rattle.sctp_association.proofs.OpeningLemmas.{established_there}
 use Rattle.sctp_association.proofs.machine.Machine.establish.Goals as goal
 
-pub returns-in-Joined : goal.returns-in-Joined
+pub returns : goal.returns
 unfolding MachineStands
-returns-in-Joined c = λ v t xs stands phase.
-    at_view _ _ _ (acknowledged_unpaced t v stands.pace)
-    (established_there _ _ v t xs _ _ c.in-Joined.is stands phase (c.turn.ensures v.due t stands.due) (c.turn_timers.ensures t))
+returns c = λ v t xs stands phase.
+    let x : EndView = turned (model.Open t model.Established) v in
+    let at : timer_meaning c.get-cookie.result ≡ v.timers CookieAlarm = c.get-cookie.ensures ∙ ap (λ (f : Alarm → Timer). f CookieAlarm) stands.timers in
+    let trip : c.trip-trip.result ≡ echo_trip v.moment (v.timers CookieAlarm) =
+    c.trip-trip.ensures ∙ (ap (λ (n : ℕ). echo_trip n (timer_meaning c.get-cookie.result)) stands.clock ∙ ap (echo_trip v.moment) at) in
+    at_view _ _ _ (ap (λ (o : Option ℕ). measured o (v.timers CookieAlarm).wait x) (sym trip) ∙ ap (λ (y : Timer). measured c.trip-trip.result y.wait x) (sym at))
+    (c.measure.ensures x (c.enter_established.ensures v t xs stands phase))

@@ -16,4 +16,5 @@ returns c = λ r stands. record {
   life = record { terms = refl; sender = refl; receiver = refl };
   room = none_kept c.new.result _ c.new.ensures.capacity;
   pace = refl;
+  unpaced = λ off. refl;
 }

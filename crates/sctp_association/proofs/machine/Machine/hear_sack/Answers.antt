@@ -1,11 +1,12 @@
-use Rattle.std.proofs.Common.{nat_lt, true}
+use Rattle.std.proofs.Common.{nat_lt, true, refl, sym, ap, subst}
 use Rattle.sctp_model.specs.sender.SackTaken.{sack_taken}
 use Rattle.sctp_model.specs.end.EndView.{DataAlarm, EndView}
 use Rattle.sctp_model.specs.end.Clock.{renewed, settled}
-use Rattle.sctp_model.proofs.sender.HeardLaws.{unpaced}
+use Rattle.sctp_model.specs.sender.SenderView.{SenderView}
 use Rattle.sctp_wire.specs.ChunkTree.{sack_meaning}
 use Rattle.sctp_send.specs.SenderAnswers.{fault_meaning}
 use Rattle.sctp_association.specs.MachineStands.{MachineStands}
+use Rattle.sctp_association.specs.Weighing.{AreBefore}
 use Rattle.sctp_association.proofs.MachineLemmas.{at_view, with_due}
 use Rattle.sctp_association.proofs.HearingLemmas.{sack_counts, sack_left, moved_as}
 use Rattle.sctp_association.proofs.machine.Machine.hear_sack.Goals as goal
@@ -23,8 +24,10 @@ returns-in-Ok-clause-step c = λ v t g stands phase.
     let due : EndView = record counted { due = record v.due { forward = true } } in
     let now = c.settle.ensures due (with_due _ counted _ _ took (c.owe_forward.ensures v.due took.due)) in
     let rests = settled due in
-    at_view _ _ _ (unpaced v.sender (v.timers DataAlarm).wait (renewed v.moment (nat_lt v.sender.cum counted.sender.cum) (rests.timers DataAlarm)) rests now.pace)
-    (rw (← moved) (c.renew.ensures rests now))
+    let none = sym (c.in-Ok.ensures.answer v t g stands phase) in
+    c.follow.ensures v rests (renewed v.moment (nat_lt v.sender.cum counted.sender.cum) (rests.timers DataAlarm)) t g
+    (subst (λ (u : SenderView). AreBefore v u c.weigh-weighed.result) (sym (ap (λ (y : EndView). y.sender) (sack_counts v x (c.in-Ok.ensures.answer v t g stands phase))))
+    (c.weigh-weighed.ensures v t g stands phase none)) refl phase (rw (← moved) (c.renew.ensures rests now))
 
 pub returns-in-Err-clause-answer : goal.returns-in-Err-clause-answer
 returns-in-Err-clause-answer c = λ v t g stands phase. c.in-Err.ensures.answer v t g stands phase

@@ -1,11 +1,12 @@
 use Rattle.sctp_model.specs.sender.SackTaken.{shutdown_taken}
-use Rattle.std.proofs.Common.{nat_lt}
+use Rattle.std.proofs.Common.{nat_lt, refl, sym, ap, subst}
 use Rattle.sctp_model.specs.end.EndView.{DataAlarm, EndView}
 use Rattle.sctp_model.specs.end.Clock.{settled}
 use Rattle.sctp_model.specs.end.Acting.{shut_timer}
-use Rattle.sctp_model.proofs.sender.HeardLaws.{unpaced}
+use Rattle.sctp_model.specs.sender.SenderView.{SenderView}
 use Rattle.sctp_send.specs.SenderAnswers.{fault_meaning}
 use Rattle.sctp_association.specs.MachineStands.{MachineStands}
+use Rattle.sctp_association.specs.Weighing.{AreBefore}
 use Rattle.sctp_association.proofs.MachineLemmas.{at_view}
 use Rattle.sctp_association.proofs.HearingLemmas.{shutdown_counts, shutdown_left, moved_as}
 use Rattle.sctp_association.proofs.machine.Machine.hear_shutdown.Goals as goal
@@ -21,8 +22,10 @@ returns-in-Ok-clause-step c = λ v t g stands phase.
     let rests = c.settle.ensures counted took in
     let moved = moved_as v counted.sender _ _ (c.cum-before.ensures v stands) (c.cum.ensures (settled counted) rests) in
     let x = settled counted in
-    at_view _ _ _ (unpaced v.sender (v.timers DataAlarm).wait (shut_timer v.configuration.standard_closing (nat_lt v.sender.cum counted.sender.cum) v.moment (x.timers DataAlarm)) x rests.pace)
-    (rw (← moved) (c.renew_shut.ensures x rests))
+    let none = sym (c.in-Ok.ensures.answer v t g stands phase) in
+    c.follow.ensures v x (shut_timer v.configuration.standard_closing (nat_lt v.sender.cum counted.sender.cum) v.moment (x.timers DataAlarm)) t g
+    (subst (λ (u : SenderView). AreBefore v u c.weigh_shutdown-weighed.result) (sym (ap (λ (y : EndView). y.sender) (shutdown_counts v c.args.tsn (c.in-Ok.ensures.answer v t g stands phase))))
+    (c.weigh_shutdown-weighed.ensures v t g stands phase none)) refl phase (rw (← moved) (c.renew_shut.ensures x rests))
 
 pub returns-in-Err-clause-answer : goal.returns-in-Err-clause-answer
 returns-in-Err-clause-answer c = λ v t g stands phase. c.in-Err.ensures.answer v t g stands phase

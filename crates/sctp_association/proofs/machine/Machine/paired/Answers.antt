@@ -12,7 +12,7 @@ pub returns : goal.returns
 unfolding MachineStands
 returns c =
     let config = c.args.config in
-    let begins = rw c.buffer.ensures.exact at c.in_ok-traffic.ensures.begins in
+    let begins = rw c.buffer.ensures.exact at c.in_ok-traffic.ensures in
     record {
       configuration = refl;
       role = refl;
@@ -29,5 +29,6 @@ returns c =
         answers = refl;
       };
       room = rw c.new.ensures.capacity (omega arith);
-      pace = unpaced config config.buffer c.in_ok-traffic.ensures.unpaced;
+      pace = rw c.buffer-2.ensures.exact at c.pace_for-pace.ensures;
+      unpaced = unpaced config config.buffer;
     }

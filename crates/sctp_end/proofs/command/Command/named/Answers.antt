@@ -51,5 +51,8 @@ returns-in-held c = grind (arith, common_steps)
 pub returns-in-reassembly : goal.returns-in-reassembly
 returns-in-reassembly c = grind (arith, elements)
 
+pub returns-in-path : goal.returns-in-path
+returns-in-path c = grind (arith, common_steps)
+
 pub returns-in-status : goal.returns-in-status
 returns-in-status c = grind (arith, elements)

@@ -19,6 +19,9 @@ returns-in-Build c = rw c.in-Build.is c.build.ensures
 pub returns-in-Send : goal.returns-in-Send
 returns-in-Send c = rw c.in-Send.is c.send.ensures
 
+pub returns-in-SendWithMaxRetransmits : goal.returns-in-SendWithMaxRetransmits
+returns-in-SendWithMaxRetransmits c = rw c.in-SendWithMaxRetransmits.is c.send_with_max_retransmits.ensures
+
 pub returns-in-Abandon : goal.returns-in-Abandon
 returns-in-Abandon c = rw c.in-Abandon.is c.abandon.ensures
 
@@ -51,3 +54,6 @@ returns-in-Reassembly c = rw c.in-Reassembly.is (λ v stands. (v, TellsReassembl
 
 pub returns-in-Status : goal.returns-in-Status
 returns-in-Status c = rw c.in-Status.is c.status.ensures
+
+pub returns-in-Path : goal.returns-in-Path
+returns-in-Path c = rw c.in-Path.is c.path.ensures

@@ -1,5 +1,4 @@
-use Rattle.std.proofs.Common.{◌≡◌, true, ◌&&◌, refl, sym, ◌∙◌}
-use Rattle.sctp_model.specs.world.World.{World, are_alike}
+use Rattle.std.proofs.Common.{◌≡◌, true, refl, ◌∙◌}
 use Rattle.sctp_pair.specs.Sides.{SideStands}
 use Rattle.sctp_pair.specs.PairStands.{PairStands}
 use Rattle.sctp_pair.proofs.pair.Pair.may_open.Goals as goal

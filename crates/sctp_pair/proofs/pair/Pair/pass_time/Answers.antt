@@ -1,10 +1,10 @@
-use Rattle.std.proofs.Common.{◌≡◌, ℕ, ◌≤◌, max, true, refl, sym, subst, arith}
+use Rattle.std.proofs.Common.{◌≡◌, ℕ, max, true, refl, sym, subst, arith}
 use Rattle.std.proofs.lemmas.Grind.{common_steps}
 use Rattle.std.proofs.lemmas.Result.{err_from_is_err_and}
-use Rattle.sctp_model.specs.sender.Abandoning.{has_late}
 use Rattle.sctp_model.specs.world.World.{A, B, end_of}
 use Rattle.sctp_model.specs.world.Events as meaning
 use Rattle.sctp_model.specs.world.Steps as steps
+use Rattle.sctp_pair.specs.Noted.{has_to_give_up}
 use Rattle.sctp_pair.specs.Sides.{side_of}
 use Rattle.sctp_pair.specs.PairStands.{PairStands}
 use Rattle.sctp_pair.proofs.ClockLemmas.{on_time}
@@ -34,11 +34,8 @@ returns-clause-step c = λ w stands.
     let m = c.args.moment in
     let clock : max c.args.self.now.clock m ≡ n = grind (arith, common_steps) in
     let is : max w.clock m ≡ n = rw stands.clock clock in
-    let late : w.clock ≤ n = omega (arith, is) in
-    let of_a : w.a.moment ≤ n = let t = stands.on_time A in omega (arith, t, late) in
-    let of_b : w.b.moment ≤ n = let t = stands.on_time B in omega (arith, t, late) in
-    let a = c.tick.ensures (side_of w A) (c.make_room.ensures.same (side_of w A) stands.a) of_a (rw c.deref.ensures.value (c.in_ok-of_a.ensures.late (side_of w A) stands.a)) in
-    let b = c.tick-2.ensures (side_of w B) (c.make_room-2.ensures.same (side_of w B) stands.b) of_b (rw c.deref-2.ensures.value (c.in_ok-of_b.ensures.late (side_of w B) stands.b)) in
+    let a = c.tick.ensures (side_of w A) (c.make_room.ensures.same (side_of w A) stands.a) (rw c.deref.ensures.value (c.in_ok-of_a.ensures.listed (side_of w A) stands.a)) in
+    let b = c.tick-2.ensures (side_of w B) (c.make_room-2.ensures.same (side_of w B) stands.b) (rw c.deref-2.ensures.value (c.in_ok-of_b.ensures.listed (side_of w B) stands.b)) in
     let step = time_passes w m n (omega (arith, c.ranges.moment.fits)) is in
     (at_time w n, step, record { a = a; b = b; clock = refl; draw = stands.draw; openable = stands.openable; on_time = on_time w _ _ _ stands.on_time step })
 
@@ -49,7 +46,7 @@ returns-in_err-of_a-clause-memory c = λ w stands.
     let clock : max c.args.self.now.clock c.args.moment ≡ n = grind (arith, common_steps) in
     let is : max w.clock c.args.moment ≡ n = rw stands.clock clock in
     let late = c.in_err-of_a.ensures.memory (side_of w A) stands.a in
-    anyway c.from_residual.result (A, subst (λ (k : ℕ). has_late (end_of w A).sender k ≡ true) (sym is) late)
+    anyway c.from_residual.result (A, subst (λ (k : ℕ). has_to_give_up (end_of w A) k ≡ true) (sym is) late)
 
 pub returns-in_err-of_b-clause-memory : goal.returns-in_err-of_b-clause-memory
 unfolding PairStands
@@ -58,4 +55,4 @@ returns-in_err-of_b-clause-memory c = λ w stands.
     let clock : max c.args.self.now.clock c.args.moment ≡ n = grind (arith, common_steps) in
     let is : max w.clock c.args.moment ≡ n = rw stands.clock clock in
     let late = c.in_err-of_b.ensures.memory (side_of w B) stands.b in
-    anyway c.from_residual-in_err-of_b.result (B, subst (λ (k : ℕ). has_late (end_of w B).sender k ≡ true) (sym is) late)
+    anyway c.from_residual-in_err-of_b.result (B, subst (λ (k : ℕ). has_to_give_up (end_of w B) k ≡ true) (sym is) late)

@@ -1,7 +1,7 @@
 use Rattle.std.proofs.Common.{◌≡◌, refl}
 use Rattle.sctp_model.specs.world.Events as meaning
 use Rattle.sctp_send.specs.SenderAnswers.{lane_for}
-use Rattle.sctp_association.specs.CallAnswers.{call_of}
+use Rattle.sctp_association.specs.CallAnswers.{call_of, limited_call_of}
 use Rattle.sctp_events.specs.Events.{side_meaning}
 use Rattle.sctp_pair.specs.Happens.{Means}
 use Rattle.sctp_pair.proofs.MemoryLemmas.{meant_takes, anyway}
@@ -62,6 +62,15 @@ returns-in-Send-clause-step c = λ w stands.
     let e : meaning.Event = meaning.Send (side_meaning c.in-Send.side) (call_of (lane_for c.in-Send.stream c.in-Send.ordered) c.in-Send.payload_id c.in-Send.bytes.items c.in-Send.until) in
     let means : Means c.args.event.now e = rw c.in-Send.is refl in
     let step = rw c.deref-in-Send.ensures.value at s.1 in
+    (e, s.0, means, step, promised_step c.a_run_passes_its_worlds.ensures.passes_on c.each_world_on_the_way_is_safe.ensures c.users_take_what_was_sent.ensures w s.0 e _ step, s.2)
+
+pub returns-in-SendWithMaxRetransmits-clause-step : goal.returns-in-SendWithMaxRetransmits-clause-step
+returns-in-SendWithMaxRetransmits-clause-step c = λ w stands.
+    let x = c.in-SendWithMaxRetransmits in
+    let s = c.send-in-SendWithMaxRetransmits.ensures w stands in
+    let e : meaning.Event = meaning.Send (side_meaning x.side) (limited_call_of (lane_for x.stream x.ordered) x.payload_id x.bytes.items x.until x.max_retransmits) in
+    let means : Means c.args.event.now e = rw x.is refl in
+    let step = rw c.deref-in-SendWithMaxRetransmits.ensures.value at s.1 in
     (e, s.0, means, step, promised_step c.a_run_passes_its_worlds.ensures.passes_on c.each_world_on_the_way_is_safe.ensures c.users_take_what_was_sent.ensures w s.0 e _ step, s.2)
 
 pub returns-in-Abandon-clause-step : goal.returns-in-Abandon-clause-step
@@ -140,6 +149,12 @@ pub returns-in-Send-clause-memory : goal.returns-in-Send-clause-memory
 returns-in-Send-clause-memory c = λ w e stands means.
     let is : e ≡ meaning.Send (side_meaning c.in-Send.side) (call_of (lane_for c.in-Send.stream c.in-Send.ordered) c.in-Send.payload_id c.in-Send.bytes.items c.in-Send.until) = rw c.in-Send.is at means in
     meant_takes w _ e _ is (anyway c.send.result tt)
+
+pub returns-in-SendWithMaxRetransmits-clause-memory : goal.returns-in-SendWithMaxRetransmits-clause-memory
+returns-in-SendWithMaxRetransmits-clause-memory c = λ w e stands means.
+    let x = c.in-SendWithMaxRetransmits in
+    let is : e ≡ meaning.Send (side_meaning x.side) (limited_call_of (lane_for x.stream x.ordered) x.payload_id x.bytes.items x.until x.max_retransmits) = rw x.is at means in
+    meant_takes w _ e _ is (anyway c.send-in-SendWithMaxRetransmits.result tt)
 
 pub returns-in-Abort-clause-memory : goal.returns-in-Abort-clause-memory
 returns-in-Abort-clause-memory c = λ w e stands means.

@@ -1,7 +1,6 @@
 use Rattle.std.proofs.Common.{IfOk, subst}
 use Rattle.sctp_model.specs.end.EndView.{Configuration}
 use Rattle.sctp_model.specs.world.World.{start}
-use Rattle.sctp_events.specs.Alike.{turned_round}
 use Rattle.sctp_events.specs.Setups.{setup_with}
 use Rattle.sctp_pair.specs.PairStands.{PairStands}
 use Rattle.sctp_pair.proofs.pair.Pair.with_key.Goals as goal

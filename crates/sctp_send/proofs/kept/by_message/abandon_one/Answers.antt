@@ -8,8 +8,8 @@ pub returns-then-deref-ticket-clause-items : goal.returns-then-deref-ticket-clau
 returns-then-deref-ticket-clause-items c =
     let x = c.index-entry.result.now in
     let ticket = ap (λ (m : MessageFields). m.ticket) c.deref.ensures in
-    let same = abandoned_mine c.args.ticket c.unmarked-standing.result x (sym ticket ∙ c.if-deref-ticket.true) c.unmarked-standing.ensures in
-    c.stand_one.ensures.items ∙ same_there (stood c.unmarked-standing.result x.covered true) (as_abandoned c.args.ticket) c.args.at c.args.entries.now.items x c.index-entry.ensures same
+    let same = abandoned_mine c.args.ticket c.unmarked.result x (sym ticket ∙ c.if-deref-ticket.true) c.unmarked.ensures in
+    c.stand_one.ensures.items ∙ same_there (stood (record { standing = c.unmarked.result; covered = x.covered; abandoned = true; repeats = x.repeats })) (as_abandoned c.args.ticket) c.args.at c.args.entries.now.items x c.index-entry.ensures same
 
 pub returns-else-deref-ticket-clause-items : goal.returns-else-deref-ticket-clause-items
 returns-else-deref-ticket-clause-items c =

@@ -13,14 +13,14 @@ front_after-counts-requires c =
     let es = c.args.entries.now.items in
     let counts = c.args.counts.now in
     let within : counts.front ≤ length es = front_within c.args.size es counts.front c.requires.counted.front in
-    rw (c.lower.ensures c.args.size, c.enter.ensures, c.leave.ensures, length-set es c.args.at (stood c.args.standing c.args.covered c.args.abandoned c.index_mut-entry.result.now)) within
+    rw (c.lower.ensures c.args.size, c.enter.ensures, c.leave.ensures, length-set es c.args.at (stood c.args.state c.index_mut-entry.result.now)) within
 
 pub returns-clause-counted : goal.returns-clause-counted
 returns-clause-counted c =
     let size = c.args.size in
     let es = c.args.entries.now.items in
     let counts = c.args.counts.now in
-    let new = stood c.args.standing c.args.covered c.args.abandoned c.index_mut-entry.result.now in
+    let new = stood c.args.state c.index_mut-entry.result.now in
     let items = map (item_meaning size) es in
     let before : c.lower.new.self.front ≡ abandoned_items items = rw (c.lower.ensures size, c.enter.ensures, c.leave.ensures) c.requires.counted.front in
     let within : c.args.at < length items = rw (length-map es (item_meaning size)) c.requires.within in
@@ -31,4 +31,4 @@ returns-clause-counted c =
 pub returns-clause-items : goal.returns-clause-items
 returns-clause-items c =
     let es = c.args.entries.now.items in
-    rw (changed_set (stood c.args.standing c.args.covered c.args.abandoned) c.args.at es c.index_mut-entry.result.now c.requires.within c.index_mut-entry.ensures.value) refl
+    rw (changed_set (stood c.args.state) c.args.at es c.index_mut-entry.result.now c.requires.within c.index_mut-entry.ensures.value) refl

@@ -15,7 +15,7 @@ returns-clause-step g c = λ v stands.
     let keeps = subst (λ (k : Kept). Keeps g.F.Framing.format k v) (sym c.self.view_is) stands in
     let n = c.in_ok-passed.passed in
     let p = c.in_ok-passed.ensures.answer v stands in
-    let taken = keeps_shut g.F.Framing.format _ v c.args.tsn n keeps p (shutdown_passes v c.args.tsn n p) in
+    let taken = keeps_shut g.F.Framing.format _ v c.args.tsn n c.last_sent_within-before.result keeps (c.last_sent_within-before.ensures v stands) p (shutdown_passes v c.args.tsn n p) in
     let items : map (item_meaning s.told.fragment) c.forget.new.outstanding.items ≡ drop n (map (item_meaning s.told.fragment) s.parts.outstanding.items) = rw (c.forget.ensures.items, drop-map) refl in
     let runs = when_behind s.told.is_known n s.told.covered.items c.move_on.new.runs.items c.move_on.ensures in
     rw (c.from.ensures, items, c.forget.ensures.kept.capacity, runs) taken

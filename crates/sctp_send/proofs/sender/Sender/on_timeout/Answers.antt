@@ -1,9 +1,10 @@
-use Rattle.std.proofs.Common.{subst, sym}
+use Rattle.std.proofs.Common.{◌≡◌, ℕ, suc, ◌+◌, subst, sym, refl, true, length, arith}
+use Rattle.std.proofs.lemmas.List.{length-map}
 use Rattle.sctp_send.specs.SenderKept.{Kept}
 use Rattle.sctp_send.specs.SenderStands.{StandsFor, Keeps}
-use Rattle.sctp_send.proofs.kept.ItemLemmas.{items-timed}
-use Rattle.sctp_send.proofs.LimitLemmas.{unlimited}
-use Rattle.sctp_send.proofs.TimerLemmas.{keeps_timed}
+use Rattle.sctp_send.specs.OutstandingFields.{item_meaning}
+use Rattle.sctp_send.proofs.sack.MarkLemmas.{items-timed}
+use Rattle.sctp_send.proofs.TimerLemmas.{kept_capped, keeps_marked, offsets_all}
 use Rattle.sctp_send.proofs.sender.Sender.on_timeout.Goals as goal
 
 pub returns : goal.returns
@@ -11,4 +12,10 @@ unfolding StandsFor
 returns g c = λ v stands.
     let s = c.self.inside in
     let keeps = subst (λ (k : Kept). Keeps g.F.Framing.format k v) (sym c.self.view_is) stands in
-    rw (c.mark_unsettled.ensures.items, items-timed, c.mark_unsettled.ensures.kept.capacity) (keeps_timed g.F.Framing.format _ v keeps (unlimited s.told.fragment s.parts.outstanding.items))
+    let size = s.told.fragment in
+    let es = s.parts.outstanding.items in
+    let rs : ℕ → ℕ = λ k. v.repeats (suc (v.cum + k)) in
+    let marks = c.mark_between.ensures.items rs (kept_capped g.F.Framing.format _ v size es keeps refl) in
+    let last : c.len-last.result ≡ length es = c.len-last.ensures in
+    rw (marks, items-timed size s.told.partial rs 0 c.len-last.result 0 es, c.mark_between.ensures.kept.capacity)
+    (keeps_marked g.F.Framing.format _ v (λ i. true) 0 c.len-last.result keeps (λ k lt. offsets_all c.len-last.result k (omega (arith, lt, last, length-map es (item_meaning size)))))

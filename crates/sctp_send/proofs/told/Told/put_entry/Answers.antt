@@ -1,6 +1,7 @@
 use Rattle.std.proofs.Common.{suc, ◌+◌, ◌∷◌, [], ◌++◌, List, Some, refl, sym, ap, ◌∙◌, arith}
 use Rattle.sctp_send.specs.PartsKept.{OutstandingKept}
 use Rattle.sctp_send.specs.OutstandingFields.{item_meaning, lane_meaning, message_meaning, entry_meaning}
+use Rattle.sctp_send.specs.declared.kept.entry.State.{State}
 use Rattle.sctp_send.specs.declared.stock.Change.{Change}
 use Rattle.sctp_send.specs.declared.stock.Change.TheVariants.{Out}
 use Rattle.sctp_send.proofs.fill.BehindLemmas.{out_behind}
@@ -53,7 +54,7 @@ pub returns-then-put-clause-behind : goal.returns-then-put-clause-behind
 returns-then-put-clause-behind g c =
     let old = c.args.stock.now in
     let x = c.get-entry.result.now in
-    let noted = c.note.ensures.items ∙ ap (λ (cs : List Change). cs ++ Out c.args.at x.standing ∷ []) c.reserve.ensures.items in
+    let noted = c.note.ensures.items ∙ ap (λ (cs : List Change). cs ++ Out c.args.at c.state-state.result ∷ []) c.reserve.ensures.items ∙ ap (λ (y : State). old.log.items ++ Out c.args.at y ∷ []) c.state-state.ensures in
     let room = ap (λ (w : OutstandingKept). w.capacity) c.send_out.ensures in
     record {
       origin = out_behind old c.note.new.log.items c.send_out.new.outstanding.items c.args.at x c.get-entry.ensures noted (ap (λ (w : OutstandingKept). w.items) c.send_out.ensures);

@@ -1,6 +1,6 @@
 use Rattle.std.proofs.Common.{true, refl}
 use Rattle.sctp_association.specs.declared.build.packing.Marks.{Marks}
-use Rattle.sctp_association.proofs.BuildLemmas.{due_same, drafted_same}
+use Rattle.sctp_association.proofs.SameLemmas.{due_same, drafted_same}
 use Rattle.sctp_association.proofs.build.packing.Marks.of.Goals as goal
 
 pub returns-clause-same : goal.returns-clause-same

@@ -1,0 +1,112 @@
+-- `hear_sack`, `hear_shutdown` at an endpoint with a pace: what the sender says of an acknowledgement, and the pace and the data timer after it.
+use Rattle.std.proofs.Common.{◌≡◌, ◌∙◌, ℕ, Bool, nat_lt, refl, sym, ap, subst}
+use Rattle.std.specs.Prelude.{Option, None, Some, IfSome, ◌||◌, unwrap_or, option_map, nat_le, ◌&&◌, not}
+use Rattle.sctp_model.specs.sender.SenderView.{SenderView}
+use Rattle.sctp_model.specs.sender.Entries.{in_flight}
+use Rattle.sctp_model.specs.sender.Abandoning.{marking}
+use Rattle.sctp_model.specs.end.Trips.{Timed, was_given_up}
+use Rattle.sctp_model.specs.end.Misses.{Misses, last_sent}
+use Rattle.sctp_model.specs.end.Pacing.{Pace, Heard, misses_heard, heard, wait_heard}
+use Rattle.sctp_model.specs.end.EndView.{EndView, Configuration, Alarm, InitAlarm, CookieAlarm, DataAlarm, ShutdownAlarm, AckAlarm, ResetAlarm, Timer, format_for}
+use Rattle.sctp_model.specs.end.Clock.{replaced, with_timer, timer_heard, sender_heard, paced}
+use Rattle.sctp_send.specs.PaceAnswers.{first_in_flight}
+use Rattle.sctp_congestion.specs.Numbers.{is_measured}
+use Rattle.sctp_congestion.specs.Weighs.{Weighs}
+use Rattle.sctp_congestion.specs.declared.pacing.Reply.{Reply}
+use Rattle.sctp_association.specs.TimersMean.{timers_meaning}
+use Rattle.sctp_association.specs.TrafficStands.{TrafficStands}
+use Rattle.sctp_association.specs.MachineStands.{KeepsMachine}
+use Rattle.sctp_association.specs.Weighing.{IsBefore, AreBefore, IsReply, followed}
+use Rattle.sctp_association.specs.declared.peer.pacing.Before.{Before}
+use Rattle.sctp_association.specs.declared.state.life.Association.{Association}
+use Rattle.sctp_association.specs.declared.state.life.Life.TheVariants as life
+use Rattle.sctp_association.specs.declared.traffic.Traffic.{Traffic}
+use Rattle.sctp_association.specs.declared.time.timers.Timers.{Timers}
+use Rattle.sctp_association.specs.declared.machine.Machine.{Machine}
+use Rattle.sctp_association.proofs.MachineLemmas.{at_view, with_timers, with_pace, with_traffic}
+use Rattle.sctp_association.proofs.MeasureLemmas.{asked}
+
+-- ---- what is known before
+
+-- the pace that an endpoint has is the one of which it is known
+pub before_at : (v : EndView) (u : SenderView) (p : Pace) (b : Before) → v.pace ≡ Some p → AreBefore v u (Some b) → IsBefore v.sender u p b
+before_at v u p b is (q, there, before, rto) =
+    let same : q ≡ p = ap (λ (o : Option Pace). unwrap_or o p) (sym there ∙ is) in
+    subst (λ (x : Pace). IsBefore v.sender u x b) same before
+
+-- of what is timed
+acked_at : (v u : SenderView) (o : Option Timed) (acked : Bool) → IfSome (option_map (λ t. t.index) o) (λ i. acked ≡ (nat_lt v.cum i && (u.covered i && not (was_given_up v i))))
+    → IfSome o (λ t. acked ≡ is_measured v u t.index)
+acked_at v u None acked is = tt
+acked_at v u (Some t) acked is = is
+
+-- the numbers of an acknowledgement, by those before it
+pub weighs : (v u : SenderView) (p : Pace) (b : Before) (m : Misses) (from below : ℕ) (lost : Option ℕ) (sent left : ℕ) (over : Bool) → IsBefore v u p b → m ≡ misses_heard v u p.misses
+    → from ≡ m.passed → below ≡ m.third → lost ≡ first_in_flight u from below → sent ≡ last_sent u → left ≡ in_flight (marking u (λ i. nat_le from i && nat_lt i below))
+    → IfSome p.trips.timed (λ t. over ≡ ((marking u (λ i. nat_le from i && nat_lt i below)).marked t.index || u.covered t.index))
+    → Weighs v u p (record { moved = b.weight.moved; cum = b.weight.cum; lost = lost; last_sent = sent; flight = b.flight; bytes = b.weight.bytes; left = left; acked = b.weight.acked; over = over })
+weighs v u p b m from below lost sent left over before heard passed third is_lost is_sent is_left is_over =
+    let low : from ≡ (misses_heard v u p.misses).passed = passed ∙ ap (λ (x : Misses). x.passed) heard in
+    let high : below ≡ (misses_heard v u p.misses).third = third ∙ ap (λ (x : Misses). x.third) heard in
+    record {
+      moved = before.weight.moved;
+      cum = before.weight.cum;
+      lost = is_lost ∙ (ap (λ (n : ℕ). first_in_flight u n below) low ∙ ap (first_in_flight u (misses_heard v u p.misses).passed) high);
+      last_sent = is_sent;
+      flight = before.flight;
+      bytes = before.weight.bytes;
+      left = is_left ∙ (ap (λ (n : ℕ). in_flight (marking u (λ i. nat_le n i && nat_lt i below))) low
+          ∙ ap (λ (n : ℕ). in_flight (marking u (λ i. nat_le (misses_heard v u p.misses).passed i && nat_lt i n))) high);
+      acked = acked_at v u p.trips.timed b.weight.acked before.weight.acked;
+      over = subst (λ (n : ℕ). IfSome p.trips.timed (λ t. over ≡ ((marking u (λ i. nat_le (misses_heard v u p.misses).passed i && nat_lt i n)).marked t.index || u.covered t.index))) high
+          (subst (λ (n : ℕ). IfSome p.trips.timed (λ t. over ≡ ((marking u (λ i. nat_le n i && nat_lt i below)).marked t.index || u.covered t.index))) low is_over);
+    }
+
+-- ---- the endpoint after it
+
+-- a timer that is put twice is put once
+twice_at : (a : Alarm) (s t : Timer) (f : Alarm → Timer) → replaced DataAlarm t (replaced DataAlarm s f) a ≡ replaced DataAlarm t f a
+twice_at InitAlarm s t f = refl
+twice_at CookieAlarm s t f = refl
+twice_at DataAlarm s t f = refl
+twice_at ShutdownAlarm s t f = refl
+twice_at AckAlarm s t f = refl
+twice_at ResetAlarm s t f = refl
+
+paced_some : (v : SenderView) (wait : ℕ) (t : Timer) (x : EndView) (p : Pace) → x.pace ≡ Some p
+    → paced v wait t x ≡ record (with_timer DataAlarm (timer_heard (Some p) x.moment x.configuration.least_wait wait v x.sender t) x) {
+      sender = (heard x.moment v x.sender p).sender;
+      pace = Some (heard x.moment v x.sender p).pace;
+    }
+paced_some v wait t x p is = λ i. record (with_timer DataAlarm (timer_heard (is i) x.moment x.configuration.least_wait wait v x.sender t) x) {
+  sender = sender_heard (is i) x.moment v x.sender;
+  pace = option_map (λ q. (heard x.moment v x.sender q).pace) (is i);
+}
+
+pub follows : (m : Machine) (a : Association) (v x : EndView) (t : Timer) (p q : Pace) (traffic : Traffic) (s : Timers) (r : Reply) (b : Before) (rto least : ℕ) (flies : Bool)
+    → m.life ≡ life.Joined a → KeepsMachine m (with_timer DataAlarm t x) → m.pace ≡ Some p → AreBefore v x.sender (Some b) → least ≡ m.config.least_wait
+    → q ≡ (heard m.moment v.sender x.sender p).pace → TrafficStands traffic (format_for x.terms.interleave) (heard m.moment v.sender x.sender p).sender x.receiver
+    → IsReply (heard m.moment v.sender x.sender p) r → ((h : Heard) → q ≡ h.pace → r.trip ≡ h.trip → r.moved ≡ h.moved → rto ≡ wait_heard least b.rto h)
+    → flies ≡ nat_lt 0 (in_flight (heard m.moment v.sender x.sender p).sender)
+    → timers_meaning s ≡ replaced DataAlarm (followed m.moment rto r.restarts flies (timers_meaning m.timers DataAlarm)) (timers_meaning m.timers)
+    → KeepsMachine (record m { life = life.Joined (record a { traffic = traffic }); pace = Some q; timers = s }) (paced v.sender (v.timers DataAlarm).wait t x)
+follows m a v x t p q traffic s r b rto least flies is k paces (o, own, known, waits) config paced_is stands reply says flown timers =
+    let there : x.pace ≡ Some p = sym k.pace ∙ paces in
+    let h : Heard = heard x.moment v.sender x.sender p in
+    let w : ℕ = wait_heard x.configuration.least_wait (v.timers DataAlarm).wait h in
+    let flies_then : Bool = nat_lt 0 (in_flight h.sender) in
+    let pace : q ≡ h.pace = paced_is ∙ ap (λ (n : ℕ). (heard n v.sender x.sender p).pace) k.clock in
+    let trip : r.trip ≡ h.trip = reply.trip ∙ ap (λ (n : ℕ). (heard n v.sender x.sender p).trip) k.clock in
+    let least_is : least ≡ x.configuration.least_wait = config ∙ ap (λ (c : Configuration). c.least_wait) k.configuration in
+    let rto_is : rto ≡ w = says h pace trip reply.moved ∙ (ap (λ (n : ℕ). wait_heard n b.rto h) least_is ∙ ap (λ (n : ℕ). wait_heard x.configuration.least_wait n h) waits) in
+    let f : Alarm → Timer = replaced DataAlarm (followed x.moment w h.anew flies_then t) x.timers in
+    let same : timers_meaning s ≡ f = timers
+    ∙ (ap (λ (g : Alarm → Timer). replaced DataAlarm (followed m.moment rto r.restarts flies (g DataAlarm)) g) k.timers
+    ∙ ((λ i a. twice_at a t (followed m.moment rto r.restarts flies t) x.timers i)
+    ∙ (ap (λ (n : ℕ). replaced DataAlarm (followed n rto r.restarts flies t) x.timers) k.clock
+    ∙ (ap (λ (n : ℕ). replaced DataAlarm (followed x.moment n r.restarts flies t) x.timers) rto_is
+    ∙ (ap (λ (c : Bool). replaced DataAlarm (followed x.moment w c flies t) x.timers) reply.restarts
+    ∙ ap (λ (c : Bool). replaced DataAlarm (followed x.moment w h.anew c t) x.timers) flown))))) in
+    let taken = with_traffic m a traffic (with_timer DataAlarm t x) h.sender x.receiver is k stands refl refl in
+    at_view _ _ _ (paced_some v.sender (v.timers DataAlarm).wait t x p there ∙ ap (λ (o : Pace). record x { timers = f; sender = h.sender; pace = Some o }) (sym pace))
+    (with_pace _ _ (Some q) (with_timers _ _ s f taken same) (asked m (with_timer DataAlarm t x) p q k there))

@@ -1,0 +1,91 @@
+//! User data of a packet as far as the pace of its endpoint allows: the congestion window, the limit of bursts, and the chunk that is timed (RFC 9260, 6.1,
+//! 6.3.1 and 7.2).
+
+ghost use Rattle.std.specs.Prelude.{◌≡◌, ◌≤◌, None, Some, IfOk, OnOk, OnErr};
+ghost use Rattle.sctp_model.specs.messages.Format.{Format};
+ghost use Rattle.sctp_model.specs.sender.SenderView.{SenderView};
+ghost use Rattle.sctp_model.specs.receiver.ReceiverView.{ReceiverView};
+ghost use Rattle.sctp_model.specs.end.EndView.{EndView, format_of};
+ghost use Rattle.sctp_model.specs.end.Pacing.{room_paced};
+ghost use Rattle.sctp_model.specs.end.Building.{sent};
+ghost use Rattle.sctp_packet.specs.Draft.{room_in};
+ghost use Rattle.sctp_association.specs.StartsMean.{starts_at, with_fragments};
+ghost use Rattle.sctp_association.specs.TrafficStands.{TrafficStands};
+ghost use Rattle.sctp_association.specs.Drafted.{drafted, IsOf};
+ghost use Rattle.sctp_association.specs.FillsBehind.{FillsBehind};
+ghost use Rattle.sctp_association.specs.declared.time.starts.Starts as starts;
+ghost use Rattle.sctp_association.specs.declared.build.packing.Marks as marks;
+
+use crate::build::filling::{Fragments, fill_rest};
+use crate::traffic::Traffic;
+use sctp_congestion::{Allowance, Pacing};
+use sctp_packet::PacketWriter;
+use sctp_values::NoMemory;
+
+/// Fills what is left of a packet with user data, at this time in milliseconds: all of it without a pace, else what the pace allows.
+///
+/// # Errors
+/// `NoMemory` if an allocation was refused; nothing of the traffic and of the pace changed then.
+pub(crate) fn fill_by(
+    traffic: &mut Traffic,
+    pace: &mut Option<Pacing>,
+    moment: u64,
+    writer: &mut PacketWriter,
+) -> Result<Fragments, NoMemory>
+    ensures filled { (e : EndView) (m : marks.Marks) (n : starts.Starts) → TrafficStands traffic.old (format_of e) e.sender e.receiver → pace.old ≡ e.pace
+        → moment ≡ e.moment → IsOf e (record { writer = writer.old; marks = m })
+        → IfOk result (λ fragments. starts_at n ≡ with_fragments fragments.some (starts_at m.starts)
+        → FillsBehind e (record { writer = writer.old; marks = m }) (record { writer = writer.new; marks = record m { starts = n } }) traffic.new fragments.tickets) }
+    ensures paced { (e : EndView) (m : marks.Marks) → TrafficStands traffic.old (format_of e) e.sender e.receiver → pace.old ≡ e.pace → moment ≡ e.moment
+        → IsOf e (record { writer = writer.old; marks = m }) → OnOk result (pace.new ≡ (sent (drafted m e) writer.old.chunks).pace) }
+    ensures memory { (f : Format) (s : SenderView) (r : ReceiverView) → TrafficStands traffic.old f s r → OnErr result (TrafficStands traffic.new f s r) }
+    ensures kept { OnErr result (pace.new ≡ pace.old) }
+    ensures unpaced { pace.old ≡ None → pace.new ≡ None }
+{
+    match pace {
+        None => fill_rest(traffic, writer),
+        Some(pace) => fill_paced(traffic, pace, moment, writer),
+    }
+}
+
+/// Fills what is left of a packet with user data as far as the pace allows, which notes that it was sent at this time, in milliseconds.
+///
+/// # Errors
+/// `NoMemory` if an allocation was refused; nothing of the traffic and of the pace changed then.
+fn fill_paced(
+    traffic: &mut Traffic,
+    pace: &mut Pacing,
+    moment: u64,
+    writer: &mut PacketWriter,
+) -> Result<Fragments, NoMemory>
+    ensures filled { (e : EndView) (m : marks.Marks) (n : starts.Starts) → TrafficStands traffic.old (format_of e) e.sender e.receiver → e.pace ≡ Some pace.old
+        → moment ≡ e.moment → IsOf e (record { writer = writer.old; marks = m })
+        → IfOk result (λ fragments. starts_at n ≡ with_fragments fragments.some (starts_at m.starts)
+        → FillsBehind e (record { writer = writer.old; marks = m }) (record { writer = writer.new; marks = record m { starts = n } }) traffic.new fragments.tickets) }
+    ensures paced { (e : EndView) (m : marks.Marks) → TrafficStands traffic.old (format_of e) e.sender e.receiver → e.pace ≡ Some pace.old → moment ≡ e.moment
+        → IsOf e (record { writer = writer.old; marks = m }) → OnOk result (Some pace.new ≡ (sent (drafted m e) writer.old.chunks).pace) }
+    ensures memory { (f : Format) (s : SenderView) (r : ReceiverView) → TrafficStands traffic.old f s r → OnErr result (TrafficStands traffic.new f s r) }
+    ensures kept { OnErr result (pace.new ≡ pace.old) }
+{
+    let before = traffic.last_sent();
+    narrow(traffic, pace, writer);
+    let fragments = fill_rest(traffic, writer)?;
+    pace.sent(moment, before, traffic.last_sent(), fragments.some);
+    Ok(fragments)
+}
+
+/// Lowers the limit of a packet to what congestion control allows of its space (RFC 9260, 6.1, rules B and D; 7.2.4, step 3).
+fn narrow(traffic: &Traffic, pace: &Pacing, writer: &mut PacketWriter)
+    ensures room { (f : Format) (s : SenderView) (r : ReceiverView) → TrafficStands traffic.now f s r → room_in writer.new ≡ room_paced pace.now.control f (room_in writer.old) s }
+    ensures within { writer.new.limit ≤ writer.old.limit }
+    ensures same { writer.new ≡ record writer.old { limit = writer.new.limit } }
+{
+    match pace.allowance(traffic.in_flight()) {
+        Allowance::All => {}
+        Allowance::Retransmissions => {
+            let room = writer.room() as u16;
+            writer.narrow(traffic.room_of_repeats(room));
+        }
+        Allowance::Nothing => writer.narrow(0),
+    }
+}

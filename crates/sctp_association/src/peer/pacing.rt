@@ -1,0 +1,164 @@
+//! What an acknowledgement does at an endpoint with a pace, after its sender has taken it: misses are counted, what was missed three times is marked for
+//! retransmission, the round trip is measured, the congestion window grows or shrinks, and the data timer follows (RFC 9260, 6.3.1, 6.3.2 and 7.2).
+
+ghost use Rattle.std.specs.Prelude.{◌≡◌, ◌||◌, None, Some, IfSome};
+ghost use Rattle.sctp_model.specs.messages.Format.{Format};
+ghost use Rattle.sctp_model.specs.sender.SenderView.{SenderView};
+ghost use Rattle.sctp_model.specs.receiver.ReceiverView.{ReceiverView};
+ghost use Rattle.sctp_model.specs.sender.SackTaken.{sack_fault, sack_after, shutdown_fault, shutdown_after};
+ghost use Rattle.sctp_model.specs.end.Pacing.{heard};
+ghost use Rattle.sctp_model.specs.end.EndView.{EndView};
+ghost use Rattle.sctp_model.specs.end.EndView as model;
+ghost use Rattle.sctp_model.specs.end.Clock.{with_timer, paced};
+ghost use Rattle.sctp_wire.specs.ChunkTree.{sack_meaning};
+ghost use Rattle.sctp_association.specs.TrafficStands.{TrafficStands};
+ghost use Rattle.sctp_association.specs.MachineStands.{MachineStands};
+ghost use Rattle.sctp_association.specs.Weighing.{timed_of, IsBefore, AreBefore, IsReply};
+
+use crate::machine::Machine;
+use crate::state::life::Life;
+use crate::time::timer::Alarm;
+use crate::traffic::Traffic;
+use sctp_congestion::{Highest, Pacing, Reply, Weighed};
+use sctp_send::Weight;
+use sctp_wire::Sack;
+
+/// What an endpoint with a pace knows of an acknowledgement before its sender takes it.
+#[derive(Clone, Copy)]
+pub(crate) struct Before {
+    /// What it does at the sender.
+    pub(crate) weight: Weight,
+    /// The bytes in flight before it.
+    pub(crate) flight: u64,
+    /// The RTO of the data timer before it, in milliseconds.
+    pub(crate) rto: u64,
+}
+
+#[tactic(auto, unfolding(crate::specs::MachineStands::MachineStands))]
+impl Machine {
+    /// What is known of a SACK before the sender takes it; None without a pace.
+    pub(crate) fn weigh(&self, sack: &Sack<'_>) -> Option<Before>
+        ensures { (v : EndView) (t : model.Tags) (g : model.Stage) → MachineStands self.now v → v.phase ≡ model.Open t g → sack_fault v.sender (sack_meaning sack.now) ≡ None
+            → AreBefore v (sack_after v.sender (sack_meaning sack.now)) result }
+    {
+        match &self.pace {
+            None => None,
+            Some(pace) => match &self.life {
+                Life::Unjoined(_) => None,
+                Life::Joined(association) => Some(Before {
+                    weight: association.traffic.weigh(sack, timed_by(pace)),
+                    flight: association.traffic.in_flight(),
+                    rto: self.timers.get(Alarm::Fragments).wait,
+                }),
+            },
+        }
+    }
+
+    /// What is known of the cumulative TSN of a SHUTDOWN before the sender takes it; None without a pace.
+    pub(crate) fn weigh_shutdown(&self, tsn: u32) -> Option<Before>
+        ensures { (v : EndView) (t : model.Tags) (g : model.Stage) → MachineStands self.now v → v.phase ≡ model.Open t g → shutdown_fault v.sender tsn ≡ None
+            → AreBefore v (shutdown_after v.sender tsn) result }
+    {
+        match &self.pace {
+            None => None,
+            Some(pace) => match &self.life {
+                Life::Unjoined(_) => None,
+                Life::Joined(association) => Some(Before {
+                    weight: association.traffic.weigh_shutdown(tsn, timed_by(pace)),
+                    flight: association.traffic.in_flight(),
+                    rto: self.timers.get(Alarm::Fragments).wait,
+                }),
+            },
+        }
+    }
+
+    /// What follows from an acknowledgement that the sender has taken, once the data timer is set as without a pace. Nothing without one.
+    #[inline(always)]
+    pub(crate) fn follow(&mut self, before: Option<Before>)
+        ensures { (v x : EndView) (t : model.Timer) (s : model.Tags) (g : model.Stage) → AreBefore v x.sender before → x.pace ≡ v.pace → x.phase ≡ model.Open s g
+            → MachineStands self.old (with_timer model.DataAlarm t x) → MachineStands self.new (paced v.sender (v.timers model.DataAlarm).wait t x) }
+    {
+        match before {
+            None => {}
+            Some(before) => self.follow_paced(before),
+        }
+    }
+
+    /// The same at an endpoint with a pace.
+    #[inline(never)]
+    fn follow_paced(&mut self, before: Before)
+        ensures { (v x : EndView) (t : model.Timer) (s : model.Tags) (g : model.Stage) → AreBefore v x.sender (Some before) → x.pace ≡ v.pace → x.phase ≡ model.Open s g
+            → MachineStands self.old (with_timer model.DataAlarm t x) → MachineStands self.new (paced v.sender (v.timers model.DataAlarm).wait t x) }
+    {
+        let now = self.moment;
+        let rto_min = self.config.rto_min();
+        match &mut self.pace {
+            None => {}
+            Some(pace) => match &mut self.life {
+                Life::Unjoined(_) => {}
+                Life::Joined(association) => {
+                    let reply = respond(pace, &mut association.traffic, now, before);
+                    let rto = pace.rto_after(&reply, rto_min, before.rto);
+                    let flies = 0 < association.traffic.in_flight();
+                    self.timers.follow(now, rto, reply.restarts, flies);
+                }
+            },
+        }
+    }
+}
+
+/// The index of the chunk that is timed, if there is one.
+fn timed_by(pace: &Pacing) -> Option<u64>
+    ensures { result ≡ timed_of pace.now }
+{
+    match pace.trips().timed() {
+        None => None,
+        Some(chunk) => Some(chunk.index()),
+    }
+}
+
+/// Counts the misses of an acknowledgement that the sender has taken, marks what was missed three times for retransmission, and has the pace act on it
+/// at this time, in milliseconds (RFC 9260, 6.3.1 and 7.2).
+fn respond(pace: &mut Pacing, traffic: &mut Traffic, now: u64, before: Before) -> Reply
+    ensures pace { (f : Format) (v u : SenderView) (r : ReceiverView) → TrafficStands traffic.old f u r → IsBefore v u pace.old before → pace.new ≡ (heard now v u pace.old).pace }
+    ensures traffic { (f : Format) (v u : SenderView) (r : ReceiverView) → TrafficStands traffic.old f u r → IsBefore v u pace.old before
+        → TrafficStands traffic.new f (heard now v u pace.old).sender r }
+    ensures reply { (f : Format) (v u : SenderView) (r : ReceiverView) → TrafficStands traffic.old f u r → IsBefore v u pace.old before → IsReply (heard now v u pace.old) result }
+{
+    let weight = before.weight;
+    pace.notice(Highest {
+        cum: weight.cum,
+        newest: weight.newest,
+        newest_in_recovery: weight.newest_in_recovery,
+    });
+    let misses = pace.misses();
+    let (from, below) = (misses.passed(), misses.third());
+    let lost = traffic.first_missed(from, below);
+    let last_sent = traffic.last_sent();
+    traffic.on_missed(from, below);
+    let over = is_over(pace, traffic);
+    pace.hear(
+        now,
+        Weighed {
+            moved: weight.moved,
+            cum: weight.cum,
+            lost,
+            last_sent,
+            flight: before.flight,
+            bytes: weight.bytes,
+            left: traffic.in_flight(),
+            acked: weight.acked,
+            over,
+        },
+    )
+}
+
+/// The chunk that is timed is acknowledged, or marked for retransmission; false without one (RFC 9260, 6.3.1, C5).
+fn is_over(pace: &Pacing, traffic: &Traffic) -> bool
+    ensures { (f : Format) (u : SenderView) (r : ReceiverView) → TrafficStands traffic.now f u r → IfSome pace.now.trips.timed (λ t. result ≡ (u.marked t.index || u.covered t.index)) }
+{
+    match pace.trips().timed() {
+        None => false,
+        Some(chunk) => traffic.is_marked_or_covered(chunk.index()),
+    }
+}

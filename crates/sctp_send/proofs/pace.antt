@@ -1,0 +1,9 @@
+pub mod HereLemmas
+pub mod TallyLemmas
+pub mod BlockLemmas
+pub mod RepeatLemmas
+pub mod PaceViews
+pub mod LastLemmas
+pub mod WeighLemmas
+pub mod AfterLemmas
+pub mod SentLemmas

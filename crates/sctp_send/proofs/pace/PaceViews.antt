@@ -1,0 +1,205 @@
+-- What a view says of an index above CUM, by the item that is kept of it; the first index in flight, and what isn't timed any more.
+use Rattle.std.proofs.Common.{◌≡◌, ℕ, zero, suc, ◌+◌, ◌-◌, ◌*◌, ◌%◌, ◌^◌, ◌<◌, ◌≤◌, ◌∙◌, List, [], ◌∷◌, length, drop, Bool, true, false, Option, Some, None, refl, sym, ap, subst, arith}
+use Rattle.std.specs.Prelude.{nat_le, nat_lt, not, ◌&&◌, ◌||◌, slice_get, option_map}
+use Rattle.std.proofs.lemmas.Bool.Decides.{nat_tests}
+use Rattle.std.proofs.lemmas.Option.{slice_get_past, slice_get_within}
+use Rattle.sctp_model.specs.messages.Format.{Format}
+use Rattle.sctp_model.specs.messages.Plan.{Entry, entry_at}
+use Rattle.sctp_model.specs.sender.SenderView.{SenderView}
+use Rattle.sctp_model.specs.sender.Words.{lowest, some_passes}
+use Rattle.sctp_model.specs.sender.Entries.{is_in_flight, in_flight, passes_at}
+use Rattle.sctp_model.proofs.sender.WordLaws.{lowest_found, lowest_none}
+use Rattle.sctp_model.proofs.sender.PointLaws.{get-drop}
+use Rattle.sctp_model.proofs.sender.Bounds.{IsBounded, is_bounded}
+use Rattle.sctp_model.proofs.sender.OwedLaws.{is_promised, is_windowed}
+use Rattle.sctp_send.specs.SenderKept.{Item, Kept}
+use Rattle.sctp_send.specs.SenderStands.{item_here, items_from, Keeps}
+use Rattle.sctp_send.specs.PaceAnswers.{first_in_flight}
+use Rattle.sctp_send.specs.inner.Wishing.{item_flight}
+use Rattle.sctp_send.specs.inner.Weighing.{is_item_flying, is_item_done, passes_here, FirstAnswer}
+use Rattle.sctp_send.proofs.KeepLemmas.{kept_length}
+use Rattle.sctp_send.proofs.fill.RoomLemmas.{flight_kept}
+
+-- ---- the item of an index above CUM
+
+items_get : (v : SenderView) (i : ℕ) (es : List Entry) (k : ℕ) → slice_get (items_from v i es) k ≡ option_map (item_here v (i + k)) (slice_get es k)
+items_get v i [] k = refl
+items_get v i (e ∷ es) zero = let same : i + 0 ≡ i = omega arith in rw same refl
+items_get v i (e ∷ es) (suc k) = let next : suc i + k ≡ i + suc k = omega arith in rw next at (items_get v (suc i) es k)
+
+pub kept_get : (f : Format) (s : Kept) (v : SenderView) (k : ℕ) → Keeps f s v → slice_get s.items k ≡ option_map (item_here v (suc (v.cum + k))) (entry_at v.plan (suc (v.cum + k)))
+kept_get f s v k h =
+    let index : suc v.cum + k ≡ suc (v.cum + k) = omega arith in
+    ap (λ (xs : List Item). slice_get xs k) h.holds.items ∙ rw index at (items_get v (suc v.cum) (drop v.cum v.plan.entries) k) ∙ ap (option_map (item_here v (suc (v.cum + k)))) (sym (get-drop v.cum v.plan.entries k))
+
+passes_mapped : (test : Item → Bool) (g : Entry → Item) (o : Option Entry) → some_passes test (option_map g o) ≡ some_passes (λ e. test (g e)) o
+passes_mapped test g None = refl
+passes_mapped test g (Some e) = refl
+
+pub kept_passes : (f : Format) (s : Kept) (v : SenderView) (test : Item → Bool) (k : ℕ) → Keeps f s v → passes_here test s.items k ≡ some_passes (λ e. test (item_here v (suc (v.cum + k)) e)) (entry_at v.plan (suc (v.cum + k)))
+kept_passes f s v test k h = ap (some_passes test) (kept_get f s v k h) ∙ passes_mapped test (item_here v (suc (v.cum + k))) (entry_at v.plan (suc (v.cum + k)))
+
+-- ---- the first in flight
+
+-- the test of an index for `first_in_flight`
+abbrev On : SenderView → (from below : ℕ) → ℕ → Bool
+On v from below = passes_at v.plan (λ i e. (nat_le from i && nat_lt i below) && is_in_flight v i e)
+
+on_above : (f : Format) (s : Kept) (v : SenderView) (from below k : ℕ) → Keeps f s v → On v from below (suc (v.cum + k)) ≡ ((nat_le from (suc (v.cum + k)) && nat_lt (suc (v.cum + k)) below) && passes_here is_item_flying s.items k)
+on_above f s v from below k h =
+    by_entry (nat_le from (suc (v.cum + k)) && nat_lt (suc (v.cum + k)) below) (entry_at v.plan (suc (v.cum + k)))
+    ∙ ap (λ (b : Bool). (nat_le from (suc (v.cum + k)) && nat_lt (suc (v.cum + k)) below) && b) (sym (kept_passes f s v is_item_flying k h))
+  where
+    nothing : (b : Bool) → false ≡ (b && false)
+    nothing true = refl
+    nothing false = refl
+
+    by_entry : (b : Bool) (o : Option Entry) → some_passes (λ e. b && is_in_flight v (suc (v.cum + k)) e) o ≡ (b && some_passes (λ e. is_item_flying (item_here v (suc (v.cum + k)) e)) o)
+    by_entry b None = nothing b
+    by_entry b (Some e) = refl
+
+on_below : (v : SenderView) (from below j : ℕ) → IsBounded v → 0 < j → j ≤ v.cum → On v from below j ≡ false
+on_below v from below j h some le = by_entry (entry_at v.plan j)
+  where
+    by_tests : (b m s : Bool) → (b && (not m && (s && false))) ≡ false
+    by_tests true true s = refl
+    by_tests true false true = refl
+    by_tests true false false = refl
+    by_tests false m s = refl
+
+    by_entry : (o : Option Entry) → some_passes (λ e. (nat_le from j && nat_lt j below) && is_in_flight v j e) o ≡ false
+    by_entry None = refl
+    by_entry (Some e) = rw (h.covered j some le) (by_tests (nat_le from j && nat_lt j below) (v.marked j) (v.sent j))
+
+on_off : (f : Format) (s : Kept) (v : SenderView) (from below k : ℕ) → Keeps f s v → (from - v.cum - 1 ≤ k → k < below - v.cum - 1 → passes_here is_item_flying s.items k ≡ false) → On v from below (suc (v.cum + k)) ≡ false
+on_off f s v from below k h off = on_above f s v from below k h ∙ by_tests (nat_le from (suc (v.cum + k))) (nat_lt (suc (v.cum + k)) below) refl refl
+  where
+    by_tests : (p q : Bool) → nat_le from (suc (v.cum + k)) ≡ p → nat_lt (suc (v.cum + k)) below ≡ q → ((p && q) && passes_here is_item_flying s.items k) ≡ false
+    by_tests false q one two = refl
+    by_tests true false one two = refl
+    by_tests true true one two =
+        let lo : from ≤ suc (v.cum + k) = grind (arith, nat_tests) in
+        let hi : suc (v.cum + k) < below = grind (arith, nat_tests) in
+        off (omega (arith, lo)) (omega (arith, hi))
+
+-- no index passes of which that is so
+all_off : (f : Format) (s : Kept) (v : SenderView) (from below j : ℕ) → Keeps f s v → 0 < j → ((k : ℕ) → suc (v.cum + k) ≡ j → from - v.cum - 1 ≤ k → k < below - v.cum - 1 → passes_here is_item_flying s.items k ≡ false) → On v from below j ≡ false
+all_off f s v from below j h some off = by_cum (nat_le j v.cum) refl
+  where
+    by_cum : (b : Bool) → nat_le j v.cum ≡ b → On v from below j ≡ false
+    by_cum true le = on_below v from below j (is_bounded f v h.reached) some (grind (arith, nat_tests))
+    by_cum false gt =
+        let past : v.cum < j = grind (arith, nat_tests) in
+        let is : suc (v.cum + (j - suc v.cum)) ≡ j = omega (arith, past) in
+        subst (λ (m : ℕ). On v from below m ≡ false) is (on_off f s v from below (j - suc v.cum) h (off (j - suc v.cum) is))
+
+pub first_is : (f : Format) (s : Kept) (v : SenderView) (from below : ℕ) (o : Option ℕ) → Keeps f s v → FirstAnswer (passes_here is_item_flying s.items) (from - v.cum - 1) (below - v.cum - 1) o
+    → option_map (λ at. suc (v.cum + at)) o ≡ first_in_flight v from below
+first_is f s v from below None h off = sym (lowest_none (On v from below) (length v.plan.entries) (λ j some le. all_off f s v from below j h some (λ k is lo hi. off k lo hi)))
+first_is f s v from below (Some at) h first =
+    let above = first.above in
+    let under = first.below in
+    let long = kept_length f s v h in
+    let low = within (slice_get s.items at) refl first.passes in
+    let lo : nat_le from (suc (v.cum + at)) ≡ true = grind (arith, nat_tests) in
+    let hi : nat_lt (suc (v.cum + at)) below ≡ true = grind (arith, nat_tests) in
+    sym (lowest_found (On v from below) (length v.plan.entries) (suc (v.cum + at)) (record {
+      some = omega arith;
+      within = omega (arith, long, low);
+      passes = on_above f s v from below at h ∙ rw (lo, hi) first.passes;
+      first = λ j some lt. all_off f s v from below j h some (λ k is lo hi. first.before k lo (omega (arith, is, lt)));
+    }))
+  where
+    within : (o : Option Item) → slice_get s.items at ≡ o → some_passes is_item_flying o ≡ true → at < length s.items
+    within None is on = absurd (cc)
+    within (Some x) is on = slice_get_within s.items at x is
+
+-- indexes fit their bits
+pub index_fits : (f : Format) (s : Kept) (v : SenderView) (at : ℕ) → Keeps f s v → at < length s.items → (s.cum + at + 1) % 2 ^ 64 ≡ suc (v.cum + at)
+index_fits f s v at h low =
+    let long = kept_length f s v h in
+    let most = is_promised f v h.reached in
+    let cum = h.holds.cum in
+    omega (arith, long, low, most, cum)
+
+-- the first in flight, as the code finds it
+pub first_told : (f : Format) (s : Kept) (v : SenderView) (from below lo hi : ℕ) (xs : List Item) (o : Option ℕ) → Keeps f s v → xs ≡ s.items → lo ≡ from - s.cum - 1 → hi ≡ below - s.cum - 1
+    → FirstAnswer (passes_here is_item_flying xs) lo hi o → option_map (λ at. (s.cum + at + 1) % 2 ^ 64) o ≡ first_in_flight v from below
+first_told f s v from below lo hi xs o h items low high first = by_option o here ∙ first_is f s v from below o h here
+  where
+    here : FirstAnswer (passes_here is_item_flying s.items) (from - v.cum - 1) (below - v.cum - 1) o
+    here =
+        subst (λ (ys : List Item). FirstAnswer (passes_here is_item_flying ys) (from - v.cum - 1) (below - v.cum - 1) o) items
+        (subst (λ (n : ℕ). FirstAnswer (passes_here is_item_flying xs) n (below - v.cum - 1) o) (low ∙ ap (λ (c : ℕ). from - c - 1) h.holds.cum)
+        (subst (λ (n : ℕ). FirstAnswer (passes_here is_item_flying xs) lo n o) (high ∙ ap (λ (c : ℕ). below - c - 1) h.holds.cum) first))
+
+    by_option : (p : Option ℕ) → FirstAnswer (passes_here is_item_flying s.items) (from - v.cum - 1) (below - v.cum - 1) p → option_map (λ at. (s.cum + at + 1) % 2 ^ 64) p ≡ option_map (λ at. suc (v.cum + at)) p
+    by_option None none = refl
+    by_option (Some at) some = ap Some (index_fits f s v at h (within (slice_get s.items at) refl some.passes))
+      where
+        within : (x : Option Item) → slice_get s.items at ≡ x → some_passes is_item_flying x ≡ true → at < length s.items
+        within None is on = absurd (cc)
+        within (Some x) is on = slice_get_within s.items at x is
+
+-- ---- what is said of an index, from 1 on above CUM
+
+pub index_is : (f : Format) (s : Kept) (v : SenderView) (test : Item → Bool) (on : ℕ → Bool) (j : ℕ) → Keeps f s v → 0 < j → ((i : ℕ) (e : Entry) → test (item_here v i e) ≡ on i) → ((i : ℕ) → length v.plan.entries < i → on i ≡ false)
+    → passes_here test s.items (j - 1) ≡ on (v.cum + j)
+index_is f s v test on j k some here beyond = kept_passes f s v test (j - 1) k ∙ ap (λ (m : ℕ). some_passes (λ e. test (item_here v m e)) (entry_at v.plan m)) at ∙ by_end (nat_lt (length s.items) j) refl
+  where
+    at : suc (v.cum + (j - 1)) ≡ v.cum + j
+    at = omega (arith, some)
+
+    by_entry : (o : Option Entry) → (o ≡ None → on (v.cum + j) ≡ false) → some_passes (λ e. test (item_here v (v.cum + j) e)) o ≡ on (v.cum + j)
+    by_entry None off = sym (off refl)
+    by_entry (Some e) off = here (v.cum + j) e
+
+    there : (es : List Entry) (n : ℕ) → n < length es → slice_get es n ≡ None → ⊥
+    there [] n lt none = omega (arith, lt)
+    there (e ∷ es) zero lt none = cc
+    there (e ∷ es) (suc n) lt none = there es n (omega arith) none
+
+    by_end : (b : Bool) → nat_lt (length s.items) j ≡ b → some_passes (λ e. test (item_here v (v.cum + j) e)) (entry_at v.plan (v.cum + j)) ≡ on (v.cum + j)
+    by_end true past =
+        let over : length s.items < j = grind (arith, nat_tests) in
+        let long = kept_length f s v k in
+        by_entry (entry_at v.plan (v.cum + j)) (λ none. beyond (v.cum + j) (omega (arith, long, over)))
+    by_end false within =
+        let le : j ≤ length s.items = grind (arith, nat_tests) in
+        let long = kept_length f s v k in
+        by_entry (entry_at v.plan (v.cum + j)) (λ none. absurd (there v.plan.entries (v.cum + (j - 1)) (omega (arith, long, le, some)) (ap (entry_at v.plan) at ∙ none)))
+
+done_is : (f : Format) (s : Kept) (v : SenderView) (i : ℕ) → Keeps f s v → v.cum < i → passes_here is_item_done s.items (i - v.cum - 1) ≡ (v.marked i || v.covered i)
+done_is f s v i h past =
+    let b = is_bounded f v h.reached in
+    let is : v.cum + (i - v.cum) ≡ i = omega (arith, past) in
+    index_is f s v is_item_done (λ j. v.marked j || v.covered j) (i - v.cum) h (omega (arith, past)) (λ j e. refl) (λ j lt. rw (b.unmarked j lt, b.uncovered j lt) refl) ∙ ap (λ (j : ℕ). v.marked j || v.covered j) is
+
+pub done_told : (f : Format) (s : Kept) (v : SenderView) (i at : ℕ) (xs : List Item) → Keeps f s v → xs ≡ s.items → at ≡ i - s.cum - 1 → s.cum < i → passes_here is_item_done xs at ≡ (v.marked i || v.covered i)
+done_told f s v i at xs h items is past =
+    let cum = h.holds.cum in
+    ap (λ (ys : List Item). passes_here is_item_done ys at) items ∙ ap (passes_here is_item_done s.items) (is ∙ ap (λ (c : ℕ). i - c - 1) cum) ∙ done_is f s v i h (omega (arith, cum, past))
+
+pub covered_is : (f : Format) (s : Kept) (v : SenderView) (i : ℕ) → Keeps f s v → 0 < i → i ≤ s.cum → true ≡ (v.marked i || v.covered i)
+covered_is f s v i h some le =
+    let cum = h.holds.cum in
+    let on = (is_bounded f v h.reached).covered i some (omega (arith, cum, le)) in
+    rw on (by_mark (v.marked i))
+  where
+    by_mark : (b : Bool) → true ≡ (b || true)
+    by_mark true = refl
+    by_mark false = refl
+
+-- ---- what is in flight
+
+flight_is : (f : Format) (s : Kept) (v : SenderView) → Keeps f s v → item_flight s.items ≤ length s.items * 65535 → item_flight s.items % 2 ^ 64 ≡ in_flight v
+flight_is f s v h few =
+    let long = kept_length f s v h in
+    let window = is_windowed f v h.reached in
+    let same = flight_kept f s v h in
+    omega (arith, long, window, same, few)
+
+pub flight_told : (f : Format) (s : Kept) (v : SenderView) (flying many : ℕ) (xs : List Item) → Keeps f s v → xs ≡ s.items → many ≡ length s.items → flying ≡ item_flight xs % 2 ^ 64 → item_flight xs ≤ many * 65535 → flying ≡ in_flight v
+flight_told f s v flying many xs h items count is few =
+    let same = ap item_flight items in
+    is ∙ ap (λ (n : ℕ). n % 2 ^ 64) same ∙ flight_is f s v h (rw (same, count) at few)

@@ -1,0 +1,159 @@
+-- The sums of what is newly acknowledged: one entry more, entries of which none is newly acknowledged, and all entries.
+use Rattle.std.proofs.Common.{◌≡◌, ℕ, zero, suc, ◌+◌, ◌-◌, ◌%◌, ◌^◌, ◌<◌, ◌≤◌, ◌∙◌, List, [], ◌∷◌, length, get_or, Bool, true, false, Option, Some, None, refl, sym, ap, subst, arith, max, min}
+use Rattle.std.specs.Prelude.{nat_lt, nat_le, not, ◌&&◌, ◌||◌, if◌then◌else◌, slice_get}
+use Rattle.std.specs.Option.{option_map_or}
+use Rattle.std.proofs.lemmas.Bool.Decides.{nat_tests}
+use Rattle.sctp_model.specs.sender.Words.{some_passes, sum_below, last_that}
+use Rattle.sctp_send.specs.SenderKept.{Item}
+use Rattle.sctp_send.specs.CoveredRuns.{in_run, in_runs}
+use Rattle.sctp_send.specs.declared.kept.entry.CoveredRun.{CoveredRun}
+use Rattle.sctp_send.specs.declared.pace.tally.Tally.{Tally}
+use Rattle.sctp_send.specs.inner.Walks.{is_item_unsettled}
+use Rattle.sctp_send.specs.inner.Wishing.{item_bytes}
+use Rattle.sctp_send.specs.inner.Weighing.{is_item_closed, is_item_open, is_item_news, unsettled_bytes, passes_here, is_news, news_weight, IsIdle, IsTally, LieCovered}
+
+-- ---- an offset at which nothing is newly acknowledged
+
+behind_one : (k : ℕ) → suc k - 1 ≡ k
+behind_one k = omega arith
+
+idle_parts : (xs : List Item) (on : ℕ → Bool) (k : ℕ) → IsIdle xs on (suc k) → (on (suc k) && passes_here is_item_open xs k) ≡ false
+idle_parts xs on k idle = ap (λ (n : ℕ). on (suc k) && passes_here is_item_open xs n) (sym (behind_one k)) ∙ idle
+
+closed_weight : (x : Item) → not x.covered ≡ false → unsettled_bytes x ≡ 0
+closed_weight x on = by_cover x.covered on
+  where
+    by_cover : (b : Bool) → not b ≡ false → (if x.sent && (not b && not x.abandoned) then length (item_bytes x) else 0) ≡ 0
+    by_cover false off = absurd (cc)
+    by_cover true off = by_sent x.sent
+      where
+        by_sent : (s : Bool) → (if s && false then length (item_bytes x) else 0) ≡ 0
+        by_sent true = refl
+        by_sent false = refl
+
+idle_weight : (xs : List Item) (on : ℕ → Bool) (k : ℕ) → IsIdle xs on (suc k) → news_weight xs on k ≡ 0
+idle_weight xs on k idle = by_on (on (suc k)) (slice_get xs k) (idle_parts xs on k idle)
+  where
+    by_on : (b : Bool) (o : Option Item) → (b && some_passes is_item_open o) ≡ false → (if b then option_map_or unsettled_bytes o 0 else 0) ≡ 0
+    by_on false o off = refl
+    by_on true None off = refl
+    by_on true (Some x) off = closed_weight x off
+
+idle_news : (xs : List Item) (on : ℕ → Bool) (k : ℕ) → IsIdle xs on (suc k) → is_news xs on (suc k) ≡ false
+idle_news xs on k idle = ap (λ (n : ℕ). on (suc k) && passes_here is_item_news xs n) (behind_one k) ∙ by_on (on (suc k)) (slice_get xs k) (idle_parts xs on k idle)
+  where
+    by_item : (s c : Bool) → not c ≡ false → (s && not c) ≡ false
+    by_item s false off = absurd (cc)
+    by_item true true off = refl
+    by_item false true off = refl
+
+    by_on : (b : Bool) (o : Option Item) → (b && some_passes is_item_open o) ≡ false → (b && some_passes is_item_news o) ≡ false
+    by_on false o off = refl
+    by_on true None off = refl
+    by_on true (Some x) off = by_item x.sent x.covered off
+
+-- so many of them after each other add nothing
+pub idle_sum : (xs : List Item) (on : ℕ → Bool) (a d : ℕ) → ((j : ℕ) → a < j → j ≤ a + d → IsIdle xs on j) → sum_below (news_weight xs on) (a + d) ≡ sum_below (news_weight xs on) a
+idle_sum xs on a zero idle = ap (sum_below (news_weight xs on)) (let same : a + 0 ≡ a = omega arith in same)
+idle_sum xs on a (suc d) idle =
+    let next : a + suc d ≡ suc (a + d) = omega arith in
+    let none = idle_weight xs on (a + d) (idle (suc (a + d)) (omega arith) (omega arith)) in
+    let rest = idle_sum xs on a d (λ j lo hi. idle j lo (omega arith)) in
+    ap (sum_below (news_weight xs on)) next ∙ (let is : sum_below (news_weight xs on) (a + d) + news_weight xs on (a + d) ≡ sum_below (news_weight xs on) a = omega (arith, none, rest) in is)
+
+pub idle_last : (xs : List Item) (on : ℕ → Bool) (a d : ℕ) → ((j : ℕ) → a < j → j ≤ a + d → IsIdle xs on j) → last_that (is_news xs on) (a + d) ≡ last_that (is_news xs on) a
+idle_last xs on a zero idle = ap (last_that (is_news xs on)) (let same : a + 0 ≡ a = omega arith in same)
+idle_last xs on a (suc d) idle =
+    let next : a + suc d ≡ suc (a + d) = omega arith in
+    let none = idle_news xs on (a + d) (idle (suc (a + d)) (omega arith) (omega arith)) in
+    let rest = idle_last xs on a d (λ j lo hi. idle j lo (omega arith)) in
+    ap (last_that (is_news xs on)) next ∙ ap (λ (b : Bool). if b then suc (a + d) else last_that (is_news xs on) (a + d)) none ∙ rest
+
+-- ---- steps
+
+pub tally_none : (xs : List Item) (on : ℕ → Bool) (t : Tally) → t.at ≡ 0 → t.bytes ≡ 0 → t.newest ≡ 0 → IsTally xs on t
+tally_none xs on t at bytes newest = record { bytes = rw (at, bytes) refl; last = rw (at, newest) refl }
+
+pub tally_with : (xs : List Item) (on : ℕ → Bool) (t u : Tally) (x : Item) → IsTally xs on t → on (suc t.at) ≡ true → slice_get xs t.at ≡ Some x → u.at ≡ suc t.at
+    → u.bytes ≡ (t.bytes + unsettled_bytes x) % 2 ^ 64 → u.newest ≡ (if is_item_news x then suc t.at else t.newest) → IsTally xs on u
+tally_with xs on t u x h here read at bytes newest =
+    let weight : news_weight xs on t.at ≡ unsettled_bytes x = rw (here, read) refl in
+    let sum : (t.bytes + unsettled_bytes x) % 2 ^ 64 ≡ (sum_below (news_weight xs on) t.at + news_weight xs on t.at) % 2 ^ 64 = rw (weight, h.bytes) (omega arith) in
+    let one = behind_one t.at in
+    let news : is_news xs on (suc t.at) ≡ is_item_news x = rw (here, one, read) refl in
+    record {
+      bytes = bytes ∙ sum ∙ ap (λ (n : ℕ). sum_below (news_weight xs on) n % 2 ^ 64) (sym at);
+      last = newest ∙ ap (λ (b : Bool). if b then suc t.at else t.newest) (sym news) ∙ ap (λ (n : ℕ). if is_news xs on (suc t.at) then suc t.at else n) h.last ∙ ap (last_that (is_news xs on)) (sym at);
+    }
+
+pub tally_skip : (xs : List Item) (on : ℕ → Bool) (t u : Tally) (n : ℕ) → IsTally xs on t → ((j : ℕ) → t.at < j → j ≤ n → IsIdle xs on j) → u.at ≡ max t.at n → u.bytes ≡ t.bytes → u.newest ≡ t.newest → IsTally xs on u
+tally_skip xs on t u n h idle at bytes newest =
+    let split : u.at ≡ t.at + (n - t.at) = omega arith in
+    record {
+      bytes = bytes ∙ h.bytes ∙ ap (λ (m : ℕ). m % 2 ^ 64) (sym (idle_sum xs on t.at (n - t.at) (λ j lo hi. idle j lo (omega arith)))) ∙ ap (λ (m : ℕ). sum_below (news_weight xs on) m % 2 ^ 64) (sym split);
+      last = newest ∙ h.last ∙ sym (idle_last xs on t.at (n - t.at) (λ j lo hi. idle j lo (omega arith))) ∙ ap (last_that (is_news xs on)) (sym split);
+    }
+
+-- what differs in nothing that counts
+pub tally_same : (xs : List Item) (on : ℕ → Bool) (t u : Tally) → IsTally xs on t → u.at ≡ t.at → u.bytes ≡ t.bytes → u.newest ≡ t.newest → IsTally xs on u
+tally_same xs on t u h at bytes newest = record {
+  bytes = bytes ∙ h.bytes ∙ ap (λ (m : ℕ). sum_below (news_weight xs on) m % 2 ^ 64) (sym at);
+  last = newest ∙ h.last ∙ ap (last_that (is_news xs on)) (sym at);
+}
+
+-- ---- which offsets are idle
+
+pub idle_off : (xs : List Item) (on : ℕ → Bool) (j : ℕ) → on j ≡ false → IsIdle xs on j
+idle_off xs on j off = rw off refl
+
+pub idle_closed : (xs : List Item) (on : ℕ → Bool) (j : ℕ) → passes_here is_item_open xs (j - 1) ≡ false → IsIdle xs on j
+idle_closed xs on j off = rw off (by_on (on j))
+  where
+    by_on : (b : Bool) → (b && false) ≡ false
+    by_on true = refl
+    by_on false = refl
+
+pub in_one : (rs : List CoveredRun) (k j : ℕ) (d : CoveredRun) → k < length rs → in_run (get_or rs k d) j ≡ true → in_runs rs j ≡ true
+in_one [] k j d lt on = absurd (omega arith)
+in_one (r ∷ rs) zero j d lt on = rw on refl
+in_one (r ∷ rs) (suc k) j d lt on = rw (in_one rs k j d (omega arith) on) (by_first (in_run r j))
+  where
+    by_first : (b : Bool) → (b || true) ≡ true
+    by_first true = refl
+    by_first false = refl
+
+-- ---- past one run: what is before it up to an offset was weighed, and what is in it up to there is acknowledged already
+pub run_skipped : (xs : List Item) (on : ℕ → Bool) (rs : List CoveredRun) (k to a b : ℕ) (d : CoveredRun) (t m u : Tally) → LieCovered rs xs → k < length rs → a ≡ min (get_or rs k d).from to → b ≡ min (get_or rs k d).to to
+    → IsTally xs on m → m.at ≡ max t.at a → u.at ≡ max m.at b → u.bytes ≡ m.bytes → u.newest ≡ m.newest → IsTally xs on u
+run_skipped xs on rs k to a b d t m u lie lt start end h weighed at bytes newest = tally_skip xs on m u b h (λ j lo hi. idle_closed xs on j (lie j (omega (arith, lo)) (in_one rs k j d lt (inside j lo hi)))) at bytes newest
+  where
+    within : (from upto j : ℕ) → from < j → j ≤ upto → (nat_lt from j && nat_le j upto) ≡ true
+    within from upto j lo hi =
+        let one : nat_lt from j ≡ true = grind (arith, nat_tests) in
+        let two : nat_le j upto ≡ true = grind (arith, nat_tests) in
+        rw (one, two) refl
+
+    inside : (j : ℕ) → m.at < j → j ≤ b → in_run (get_or rs k d) j ≡ true
+    inside j lo hi = within (get_or rs k d).from (get_or rs k d).to j (omega (arith, lo, hi, start, end, weighed)) (omega (arith, lo, hi, end))
+
+-- ---- the cumulative TSN of a SHUTDOWN: what it passes, and what gap blocks acknowledge
+
+abbrev pub Shut : List Item → (passed : ℕ) → ℕ → Bool
+Shut xs n j = nat_le j n || passes_here is_item_closed xs (j - 1)
+
+pub shut_passed : (xs : List Item) (n j : ℕ) → j ≤ n → Shut xs n j ≡ true
+shut_passed xs n j le = let on : nat_le j n ≡ true = grind (arith, nat_tests) in rw on refl
+
+pub shut_beyond : (xs : List Item) (n j : ℕ) → n < j → Shut xs n j ≡ passes_here is_item_closed xs (j - 1)
+shut_beyond xs n j lt = let off : nat_le j n ≡ false = grind (arith, nat_tests) in rw off refl
+
+pub shut_idle : (xs : List Item) (n j : ℕ) → n < j → IsIdle xs (Shut xs n) j
+shut_idle xs n j lt = ap (λ (b : Bool). b && passes_here is_item_open xs (j - 1)) (shut_beyond xs n j lt) ∙ by_item (slice_get xs (j - 1))
+  where
+    never : (b : Bool) → (b && not b) ≡ false
+    never true = refl
+    never false = refl
+
+    by_item : (o : Option Item) → (some_passes is_item_closed o && some_passes is_item_open o) ≡ false
+    by_item None = refl
+    by_item (Some x) = never x.covered

@@ -1,0 +1,25 @@
+use Rattle.std.proofs.Common.{◌≡◌, ◌∙◌, ◌-◌, ◌<◌, ℕ, List, Option, map, true, not, refl, sym, ap, subst, arith}
+use Rattle.std.specs.Prelude.{◌&&◌, nat_lt, IfSome}
+use Rattle.std.proofs.lemmas.Bool.Decides.{nat_tests}
+use Rattle.sctp_model.specs.end.Trips.{was_given_up}
+use Rattle.sctp_send.specs.OutstandingFields.{item_meaning}
+use Rattle.sctp_send.specs.SenderKept.{Item, Kept}
+use Rattle.sctp_send.specs.SenderStands.{StandsFor}
+use Rattle.sctp_send.proofs.pace.TallyLemmas.{Shut}
+use Rattle.sctp_send.proofs.pace.AfterLemmas.{given_up_told}
+use Rattle.sctp_send.proofs.sender.Sender.is_acked_by_shutdown.Goals as goal
+
+pub returns-then-is_shut : goal.returns-then-is_shut
+unfolding StandsFor
+returns-then-is_shut g c = λ v stands.
+    let i = c.in-Some.index in
+    let size = c.self.inside.told.fragment in
+    let items = ap (λ (k : Kept). k.items) c.self.view_is in
+    let cum = ap (λ (k : Kept). k.cum) c.self.view_is in
+    let view = cum ∙ stands.holds.cum in
+    let past : v.cum < i = omega (arith, view, c.if-index-self.false) in
+    let low : nat_lt v.cum i ≡ true = grind (arith, nat_tests) in
+    let on : Shut c.args.self.now.items c.args.passed (i - v.cum) ≡ true =
+    ap (λ (m : ℕ). Shut c.args.self.now.items c.args.passed (i - m)) (sym view) ∙ ap (λ (xs : List Item). Shut xs c.args.passed (i - c.self.inside.told.cum)) (sym items) ∙ sym (c.is_shut.ensures size) ∙ c.if-is_shut.true in
+    let given = c.is_given_up.ensures size ∙ given_up_told g.F.Framing.format c.args.self.now v i (i - c.self.inside.told.cum - 1) (map (item_meaning size) c.self.inside.parts.outstanding.items) stands items (ap (λ (m : ℕ). i - m - 1) cum) (omega (arith, cum, c.if-index-self.false)) in
+    subst (λ (o : Option ℕ). IfSome o (λ j. not c.is_given_up.result ≡ (nat_lt v.cum j && (Shut c.args.self.now.items c.args.passed (j - v.cum) && not (was_given_up v j))))) (sym c.in-Some.is) (rw (low, on, given) refl)

@@ -1,0 +1,120 @@
+-- What congestion control asks of the items above CUM (RFC 9260, 6.1, 6.3.1 and 7.2).
+use Rattle.std.specs.Prelude.{◌≡◌, ℕ, zero, suc, ◌+◌, ◌-◌, ◌<◌, ◌≤◌, ◌%◌, ◌^◌, nat_le, Bool, true, false, not, ◌&&◌, ◌||◌, if◌then◌else◌, List, [], ◌∷◌, length, slice_get, Option, None, Some}
+use Rattle.std.specs.Option.{option_map_or}
+use Rattle.sctp_model.specs.wire.Chunk.{padded}
+use Rattle.sctp_model.specs.messages.Format.{Format}
+use Rattle.sctp_model.specs.messages.Framing.{header_of}
+use Rattle.sctp_model.specs.sender.SenderView.{SenderView}
+use Rattle.sctp_model.specs.sender.Words.{some_passes, sum_below, last_that}
+use Rattle.sctp_send.specs.SenderKept.{Item}
+use Rattle.sctp_send.specs.CoveredRuns.{in_runs}
+use Rattle.sctp_send.specs.declared.kept.entry.CoveredRun.{CoveredRun}
+use Rattle.sctp_send.specs.declared.pace.tally.Tally.{Tally}
+use Rattle.sctp_send.specs.inner.Walks.{is_item_unsettled}
+use Rattle.sctp_send.specs.inner.Wishing.{item_bytes}
+
+-- ---- one item
+
+-- it is in flight
+abbrev pub is_item_flying : Item → Bool
+is_item_flying x = not x.marked && is_item_unsettled x
+
+-- it waits for retransmission, or is acknowledged
+abbrev pub is_item_done : Item → Bool
+is_item_done x = x.marked || x.covered
+
+-- it was sent
+abbrev pub is_item_sent : Item → Bool
+is_item_sent x = x.sent
+
+-- a gap block acknowledges it
+abbrev pub is_item_closed : Item → Bool
+is_item_closed x = x.covered
+
+-- its message was abandoned
+abbrev pub is_item_given_up : Item → Bool
+is_item_given_up x = x.abandoned
+
+-- no gap block acknowledges it
+abbrev pub is_item_open : Item → Bool
+is_item_open x = not x.covered
+
+-- it was sent, and no gap block acknowledges it
+abbrev pub is_item_news : Item → Bool
+is_item_news x = x.sent && not x.covered
+
+-- the bytes of one that is outstanding
+abbrev pub unsettled_bytes : Item → ℕ
+unsettled_bytes x = if is_item_unsettled x then length (item_bytes x) else 0
+
+-- the item at an offset passes
+abbrev pub passes_here : (Item → Bool) → List Item → ℕ → Bool
+passes_here test xs k = some_passes test (slice_get xs k)
+
+-- ---- the first that passes
+
+-- from one offset on, below another, this is the first that passes
+pub record IsFirst (on : ℕ → Bool) (lo hi at : ℕ) : Type 0 where
+  pub above : lo ≤ at
+  pub below : at < hi
+  pub passes : on at ≡ true
+  pub before : (k : ℕ) → lo ≤ k → k < at → on k ≡ false
+
+-- that one, or none passes
+abbrev pub FirstAnswer : (on : ℕ → Bool) → (lo hi : ℕ) → Option ℕ → Type 0
+FirstAnswer on lo hi None = (k : ℕ) → lo ≤ k → k < hi → on k ≡ false
+FirstAnswer on lo hi (Some at) = IsFirst on lo hi at
+
+-- ---- what is newly acknowledged, by offsets counted from 1
+
+-- the item at an offset that is acknowledged now was sent, and was not acknowledged
+abbrev pub is_news : List Item → (on : ℕ → Bool) → ℕ → Bool
+is_news xs on j = on j && passes_here is_item_news xs (j - 1)
+
+-- its bytes, by its offset counted from 0
+abbrev pub news_weight : List Item → (on : ℕ → Bool) → ℕ → ℕ
+news_weight xs on k = if on (suc k) then option_map_or unsettled_bytes (slice_get xs k) 0 else 0
+
+-- An offset at which nothing is newly acknowledged.
+abbrev pub IsIdle : List Item → (on : ℕ → Bool) → ℕ → Type 0
+IsIdle xs on j = (on j && passes_here is_item_open xs (j - 1)) ≡ false
+
+-- The sums over the first items; the bytes modulo 2^64.
+pub record IsTally (xs : List Item) (on : ℕ → Bool) (t : Tally) : Type 0 where
+  pub bytes : t.bytes ≡ sum_below (news_weight xs on) t.at % 2 ^ 64
+  pub last : t.newest ≡ last_that (is_news xs on) t.at
+
+-- the items in these runs are acknowledged by gap blocks
+abbrev pub LieCovered : List CoveredRun → List Item → Type 0
+LieCovered rs xs = (j : ℕ) → 0 < j → in_runs rs j ≡ true → passes_here is_item_open xs (j - 1) ≡ false
+
+-- All that is newly acknowledged is in the sums, and the last offset that is acknowledged then is this one.
+pub record IsTallied (xs : List Item) (on : ℕ → Bool) (t : Tally) : Type 0 where
+  pub tally : IsTally xs on t
+  pub here : on t.at ≡ true
+  pub beyond : (j : ℕ) → t.at < j → on j ≡ false
+
+-- `u` is `v` after an acknowledgement that passes so many entries; what it acknowledges above CUM is told by offsets counted from 1.
+pub record IsAfter (v u : SenderView) (on : ℕ → Bool) (passed : ℕ) : Type 0 where
+  pub cum : u.cum ≡ v.cum + passed
+  pub covered : (j : ℕ) → 0 < j → u.covered (v.cum + j) ≡ on j
+  pub passes : on passed ≡ true
+  pub within : (i : ℕ) → length v.plan.entries < i → u.covered i ≡ false
+
+-- the index at an offset above CUM, counted from 1; 0 for 0
+abbrev pub index_above : (cum offset : ℕ) → ℕ
+index_above cum zero = 0
+index_above cum (suc j) = cum + suc j
+
+-- ---- the space of retransmissions
+
+-- the space that an item's chunk takes
+abbrev pub item_room : Format → Item → ℕ
+item_room f x = padded (header_of f + length (item_bytes x))
+
+-- the space that the items marked for retransmission take, one after the other, as long as they fit
+abbrev pub repeats_room : Format → (room : ℕ) → List Item → ℕ
+repeats_room f room [] = 0
+repeats_room f room (x ∷ xs) =
+    if x.marked then (if nat_le (item_room f x) room then item_room f x + repeats_room f (room - item_room f x) xs else 0)
+    else repeats_room f room xs

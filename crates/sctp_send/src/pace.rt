@@ -1,0 +1,77 @@
+//! What congestion control, loss detection and the measurement of round trips ask of the sender (RFC 9260, 6.1, 6.3.1 and 7.2).
+
+pub mod flying;
+pub mod last;
+pub mod repeats;
+pub mod tally;
+pub mod weighing;
+pub mod weight;
+
+ghost use Rattle.std.specs.Prelude.{◌≡◌, ◌+◌, ◌<◌, ◌≤◌, ◌%◌, ◌^◌, ◌||◌};
+ghost use Rattle.sctp_model.specs.sender.SenderView.{SenderView};
+ghost use Rattle.sctp_model.specs.sender.Entries.{in_flight};
+ghost use Rattle.sctp_model.specs.sender.Filling.{fill};
+ghost use Rattle.sctp_model.specs.end.Misses.{last_sent};
+ghost use Rattle.sctp_model.specs.end.Control.{room_of_repeats};
+ghost use Rattle.sctp_send.specs.SenderStands.{StandsFor};
+ghost use Rattle.sctp_send.specs.PaceAnswers.{first_in_flight};
+
+use crate::pace::flying::{first_flying, is_done};
+use crate::sack::marking::offset_of;
+use crate::sender::Sender;
+use sctp_framing::Framing;
+
+#[tactic(auto, unfolding(crate::specs::SenderStands::StandsFor))]
+impl<F: Framing> Sender<F> {
+    /// The bytes of user data in flight: sent, neither acknowledged nor abandoned, and not marked for retransmission (RFC 9260, 6.1).
+    pub fn in_flight(&self) -> u64
+        ensures { (v : SenderView) → StandsFor F.format self.now v → result ≡ in_flight v }
+    {
+        self.parts.outstanding.flight()
+    }
+
+    /// The highest index that was sent; 0 before the first chunk (RFC 9260, 6.3.1, C4; 7.2.4, step 6).
+    pub fn last_sent(&self) -> u64
+        ensures { (v : SenderView) → StandsFor F.format self.now v → result ≡ last_sent v }
+    {
+        self.last_sent_within(self.parts.outstanding.len())
+    }
+
+    /// The lowest index in flight from `from` on, below `below` (RFC 9260, 7.2.4). It costs a walk over that range.
+    pub fn first_missed(&self, from: u64, below: u64) -> Option<u64>
+        ensures { (v : SenderView) → StandsFor F.format self.now v → result ≡ first_in_flight v from below }
+    {
+        let first = offset_of(self.told.cum, from);
+        let last = offset_of(self.told.cum, below);
+        match first_flying(&self.parts.outstanding, first, last) {
+            Some(at) => Some(self.index_at(at)),
+            None => None,
+        }
+    }
+
+    /// Whether the chunk at an index, from 1 on, is marked for retransmission or acknowledged: then it isn't timed any more (RFC 9260, 6.3.1, C5).
+    pub fn is_marked_or_covered(&self, index: u64) -> bool
+        ensures { (v : SenderView) → StandsFor F.format self.now v → 0 < index → result ≡ (v.marked index || v.covered index) }
+    {
+        if index <= self.told.cum {
+            return true;
+        }
+        is_done(&self.parts.outstanding, offset_of(self.told.cum, index))
+    }
+
+    /// The space in bytes that the retransmissions take, of the chunks that `fill` would put into a packet with this much space for chunks
+    /// (RFC 9260, 7.2.4, step 3). It costs a walk over the chunks marked for retransmission, from the first one on.
+    pub fn room_of_repeats(&self, room: u16) -> u16
+        ensures count { (v : SenderView) → StandsFor F.format self.now v → result ≡ room_of_repeats F.format (fill F.format room v).wishes }
+        ensures bound { result ≤ room }
+    {
+        self.parts.outstanding.room_of_repeats::<F>(room)
+    }
+
+    /// The index at an offset above CUM.
+    fn index_at(&self, at: usize) -> u64
+        ensures { result ≡ (self.now.cum + at + 1) % 2 ^ 64 }
+    {
+        self.told.cum.wrapping_add(at as u64).wrapping_add(1)
+    }
+}

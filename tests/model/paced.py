@@ -1,0 +1,75 @@
+#!/usr/bin/env python3
+"""Random scripts with fast retransmit, congestion control and RTO.Min: `paced.py FOLDER N [SEED]` writes N of them into the folder.
+
+They are made as those of limited.py are, limits of retransmissions too, and an end at least has one of these options in nearly all. The same
+seed gives the same scripts.
+"""
+
+import sys
+
+import limited
+import model
+import scripts
+from endpoint import LAST_MOMENT
+
+
+class Paced(limited.Limited):
+    """A script whose ends have a pace."""
+
+    names = tuple(model.OPTIONS)
+
+    # ---- Lines ----
+
+    def options(self):
+        super().options()
+        plain, self.random = self.random, self.apart
+        while not (self.faulty or any(config.fast_retransmit for config in self.pair.configs.values())) and self.chance(0.97):
+            self.differs = True
+            words = self.pick((('fast-retransmit',), ('congestion-control',), ('congestion-control',)))
+            self.line('options', self.pick(('A', 'both', 'both')), *words, *self.pick(((), ('rto-min', *self.rto_min_words()))))
+        self.random = plain
+        if not self.faulty and self.chance(0.04):
+            self.line('at', LAST_MOMENT - self.pick((0, 1, 500, 999, 1000, 1001, 3000, 60000, 70000, 10**6)))
+
+    def rto_min_words(self):
+        return (self.pick((0, 0, 1, 50, 100, 200, 999, 1000, 1001, 5000, 60000, 2**32 - 1)),)
+
+    def wrong_options(self, named):
+        return self.pick((
+            super().wrong_options(named), (named, 'rto-min'), (named, 'rto-min', ''), (named, 'rto-min', 'delay'), (named, 'rto-min', 2**32),
+            (named, 'rto-min', '01'), (named, 'rto-min', '-1'), (named, 'rto-min', 1, 2), (named, 'fast-retransmit', 1), (named, 'fast_retransmit'),
+            (named, 'congestion-control', ''), (named, 'Congestion-control'), (named, 'rto_min', 5), (named, 'rto-min', 1000, 'rto-min', 'x')))
+
+    # ---- One end that sends ----
+
+    @property
+    def more(self):
+        return (self.flows,)
+
+    def flows(self):
+        """Much is sent, and acknowledged packet by packet, so that the window is in use."""
+        trip, fragment, rounds = self.pick((0, 0, 1, 20)), self.pair.configs[self.x].fragment, self.pick((3, 10, 20, 30))
+        size = min(self.pick((5, 10, 20)) * fragment, 60000)
+        for _ in range(min(15, -(-rounds * 3 * fragment // size))):
+            self.line('send', self.x, 0, self.pick('oou'), 0, self.until(), '61' * size)
+        step = max(1, self.pair.configs[self.x].limit // (fragment + 20))
+        for _ in range(rounds):
+            for _ in range(4):
+                if (self.line('build', self.x) or 'quiet').startswith('quiet'):
+                    break
+            if self.sender is None or self.end(self.x).ended or self.sender.last_sent() == self.sender.cum:
+                break
+            if trip:
+                self.line('at', self.pair.clock + trip)
+            self.sack_packet(min(self.sender.last_sent(), self.sender.cum + step * self.pick((1, 1, 1, 2))))
+        if self.chance(0.5):
+            self.builds()
+            self.loses()
+
+
+def script(seed):
+    return Paced(seed).make().encode()
+
+
+if __name__ == '__main__':
+    sys.exit(scripts.main(script))
