@@ -6,7 +6,7 @@ in the model's run. After each line the state, the next moment, the held bytes, 
 the status are asked too. The ends of every third script close by the RFC's timers. In half of the scripts
 the two ends differ; with --unlike in all. With --limited they are those of limited.py: limits of
 retransmissions; with --paced those of paced.py: fast retransmit and congestion control too, and
-the line `path` is asked; with --counts the line `counts`.
+the line `path` is asked; with --counts the line `counts`, which sctp-end doesn't have.
 ends.py --write FILE N [SEED] writes the lines of each end and the answers wanted, and runs nothing.
 """
 
