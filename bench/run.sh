@@ -91,7 +91,7 @@ sender() {
 }
 
 # the crates that an endpoint stands on
-end='sctp_model sctp_values sctp_terms sctp_safety sctp_outcomes sctp_serial sctp_wire sctp_cookie sctp_framing sctp_packet sctp_opening sctp_chains sctp_sequence sctp_recv sctp_send sctp_association sctp_endpoint'
+end='sctp_model sctp_values sctp_terms sctp_safety sctp_outcomes sctp_serial sctp_wire sctp_cookie sctp_framing sctp_packet sctp_opening sctp_chains sctp_sequence sctp_recv sctp_send sctp_congestion sctp_association sctp_endpoint'
 
 # what an endpoint adds to a message: the same packets over two endpoints, and over a sender and a receiver side by side
 endpoint() {
