@@ -12,6 +12,7 @@ use Rattle.sctp_c.specs.declared.crossing.SctpDraw.{SctpDraw}
 abbrev pub has_control : ℕ → Bool
 has_control flags = (flags == 2) || (flags == 3)
 
+-- fast retransmission is asked for, by its own flag or by congestion control's
 abbrev pub has_fast : ℕ → Bool
 has_fast flags = has_control flags || (flags == 1)
 

@@ -36,6 +36,7 @@ pub record IsUnknown (s : SctpPath) : Type 0 where
   pub ssthresh : s.ssthresh ≡ 0
   pub flags : s.flags ≡ 0
 
+-- what the struct says of a path: all that is known of it, and zeros without one
 abbrev pub PathTold : Option Path → SctpPath → Type 0
 PathTold None s = IsUnknown s
 PathTold (Some x) s = IsKnown s x
