@@ -97,7 +97,7 @@ end='sctp_model sctp_values sctp_terms sctp_safety sctp_outcomes sctp_serial sct
 endpoint() {
     # shellcheck disable=SC2086
     build endpoint $end
-    for over in halves ends interleaved; do
+    for over in halves ends interleaved controlled; do
         each "$over: a message of 64 bytes, 9.5 to a packet" 100 300 19 "$built" "$over" 19 64 1
         each "$over: a message of 64 bytes, one to a packet" 1000 3000 1 "$built" "$over" 1 64 1
         each "$over: a message of 16,384 bytes in 12 fragments, with the making of its bytes" 50 150 1 "$built" "$over" 1 16384 1
@@ -245,6 +245,14 @@ sender_growth() {
         within=
         grows "$format: a SACK of 64 blocks over so many, 128 change" 8000 20 call "$built" "$format" blocks
         grows "$format: a SACK of 365 blocks over so many, 730 change" 8000 20 call "$built" "$format" more-blocks
+        for size in 64 1024 8191; do
+            grows "$format: a SACK that misses one of so many" "$size" 20 call "$built" "$format" missed
+        done
+        grows "$format: a SACK that misses all but the last of so many, by message" 8191 1 kept "$built" "$format" missed-all
+        # what is freed at the program's end jumps
+        within='sender_growth::fill::*'
+        grows "$format: fill, a packet of retransmissions of one byte, so many marked" 8000 8 call "$built" "$format" again
+        within=
         grows "$format: SACKs that cover nothing and all but the first of so many by turns, by entry" 4000 2 kept "$built" "$format" turns
         grows "$format: the same if each 64th message was abandoned, by entry" 4000 2 kept "$built" "$format" turns-some
         grows "$format: the same if each message was abandoned, by entry" 4000 2 kept "$built" "$format" turns-none

@@ -343,6 +343,29 @@ struct sctp_endpoint_path {
 /* Returns what the endpoint knows of the path to its peer. MISUSE. */
 uint32_t sctp_endpoint_path(struct sctp_endpoint *handle, struct sctp_endpoint_path *path);
 
+/* What an endpoint counted since it was made, each number modulo 2^64. A call that returns NO_MEMORY counts nothing. */
+struct sctp_endpoint_counts {
+    uint64_t packets_out;         /* packets returned to be sent: by poll_transmit, as an answer of handle_packet, by abort */
+    uint64_t bytes_out;           /* bytes of these, from the common header on */
+    uint64_t packets_in;          /* packets passed to handle_packet */
+    uint64_t bytes_in;            /* bytes of these, from the common header on */
+    uint64_t first_sent;          /* DATA and I-DATA chunks sent for the first time */
+    uint64_t timer_retransmitted; /* those retransmitted because the data timer expired (RFC 9260, 6.3.3) */
+    uint64_t fast_retransmitted;  /* those retransmitted since three acknowledgements missed them (RFC 9260, 7.2.4) */
+    uint64_t sacks_out;           /* packets sent that have a SACK */
+    uint64_t sacks_in;            /* SACKs in packets whose verdict was TAKEN, out of date or not */
+    uint64_t abandoned;           /* messages abandoned after a fragment got a TSN; none that was withdrawn from the queue */
+    uint64_t dropped_fault;       /* packets that were ignored, by their reason (enum sctp_endpoint_reason): FAULT, */
+    uint64_t dropped_ports;       /* PORTS, */
+    uint64_t dropped_tag;         /* TAG, */
+    uint64_t dropped_state;       /* STATE, */
+    uint64_t dropped_cookie;      /* COOKIE */
+    uint64_t reserved;            /* 0 */
+};
+
+/* Returns what the endpoint counted. MISUSE. */
+uint32_t sctp_endpoint_counts(struct sctp_endpoint *handle, struct sctp_endpoint_counts *counts);
+
 /* ---- what a packet says, without an endpoint */
 
 /* Reads ports and verification tag of a packet, for a program with several peers at one socket. The tag is that of the endpoint which the

@@ -129,7 +129,7 @@ def groups():
     """All that is run, the longest first."""
     rows = [Group('sctp_rows', half) for half in halves(subjects('sctp_rows', 120_000))]
     programs = [program(crate) for crate in sorted(os.listdir('crates')) if re.fullmatch(r'sctp_\w+_main|sctp_example', crate)]
-    return [*rows, Group('sctp_call_rows', subjects('sctp_call_rows', 120_000)), Group('sctp_tests', []), *programs]
+    return [*rows, Group('sctp_call_rows', subjects('sctp_call_rows', 120_000)), Group('sctp_tests', []), Group('sctp_reconfig', []), *programs]
 
 
 def main(words):

@@ -13,7 +13,7 @@ import enum
 import os
 import secrets
 from ctypes import POINTER, Structure, byref, c_bool, c_char_p, c_size_t, c_uint8, c_uint16, c_uint32, c_uint64, c_void_p
-from typing import List, NamedTuple, Optional
+from typing import Dict, List, NamedTuple, Optional
 
 LONGEST_PACKET = 1500
 LONGEST_MESSAGE = 65536
@@ -234,6 +234,27 @@ class _Path(Structure):
     ]
 
 
+class _Counts(Structure):
+    _fields_ = [
+        ("packets_out", c_uint64),
+        ("bytes_out", c_uint64),
+        ("packets_in", c_uint64),
+        ("bytes_in", c_uint64),
+        ("first_sent", c_uint64),
+        ("timer_retransmitted", c_uint64),
+        ("fast_retransmitted", c_uint64),
+        ("sacks_out", c_uint64),
+        ("sacks_in", c_uint64),
+        ("abandoned", c_uint64),
+        ("dropped_fault", c_uint64),
+        ("dropped_ports", c_uint64),
+        ("dropped_tag", c_uint64),
+        ("dropped_state", c_uint64),
+        ("dropped_cookie", c_uint64),
+        ("_reserved", c_uint64),
+    ]
+
+
 class Verdict(NamedTuple):
     """`answer` is to be sent at once, to the address the packet was received from. A packet with a `reason` was ignored.
     With neither the packet was processed: its tag was right, so the address it was received from is the peer's."""
@@ -284,6 +305,23 @@ class Path(NamedTuple):
     ssthresh: Optional[int]
 
 
+class Counts(NamedTuple):
+    """What an endpoint counted since it was made, each number modulo 2^64; sctp_endpoint.h says what each is. `dropped` has the packets that were
+    ignored by their reason. A call that raises NO_MEMORY counts nothing."""
+
+    packets_out: int
+    bytes_out: int
+    packets_in: int
+    bytes_in: int
+    first_sent: int
+    timer_retransmitted: int
+    fast_retransmitted: int
+    sacks_out: int
+    sacks_in: int
+    abandoned: int
+    dropped: Dict[Reason, int]
+
+
 class PacketHeader(NamedTuple):
     """The ports and the verification tag of a packet: the tag is that of the endpoint which the packet is for, 0 with an INIT."""
 
@@ -321,6 +359,7 @@ _calls = {
     "abort": (_end, c_char_p, c_size_t, _bytes, c_size_t, POINTER(c_size_t)),
     "status": (_end, POINTER(_Status)),
     "path": (_end, POINTER(_Path)),
+    "counts": (_end, POINTER(_Counts)),
     "abi": (),
     "version": (c_char_p, c_size_t),
     "name": (c_uint32, c_char_p, c_size_t),
@@ -533,4 +572,28 @@ class Endpoint:
             told.rttvar if trip else None,
             told.cwnd if window else None,
             told.ssthresh if window else None,
+        )
+
+    def counts(self) -> Counts:
+        """What it counted since it was made."""
+        told = _Counts()
+        self._do("counts", byref(told))
+        return Counts(
+            told.packets_out,
+            told.bytes_out,
+            told.packets_in,
+            told.bytes_in,
+            told.first_sent,
+            told.timer_retransmitted,
+            told.fast_retransmitted,
+            told.sacks_out,
+            told.sacks_in,
+            told.abandoned,
+            {
+                Reason.FAULT: told.dropped_fault,
+                Reason.PORTS: told.dropped_ports,
+                Reason.TAG: told.dropped_tag,
+                Reason.STATE: told.dropped_state,
+                Reason.COOKIE: told.dropped_cookie,
+            },
         )

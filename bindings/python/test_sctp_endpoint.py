@@ -140,6 +140,21 @@ class Talk(unittest.TestCase):
         exchange(a, b, 60)
         self.assertEqual(a.take(0).bytes, b"Ho")
 
+    def test_packets_and_what_they_carry_are_counted(self):
+        a = Endpoint.opened(Config(5000, 5001), Draw(7, 100), Draw(9, 500))
+        b = Endpoint.opened(Config(5001, 5000), Draw(9, 500), Draw(7, 100))
+        a.send(0, b"Hi")
+        lost = a.poll_transmit(0).packet
+        a.on_moment(1000)
+        first = a.poll_transmit(1000).packet
+        b.handle_packet(1000, first)
+        sack = b.poll_transmit(1000).packet
+        a.handle_packet(1000, sack)
+        a.handle_packet(1000, first[:11])
+        dropped = dict.fromkeys(Reason, 0)
+        self.assertEqual(a.counts(), (2, len(lost) + len(first), 2, len(sack) + 11, 1, 1, 0, 0, 1, 0, {**dropped, Reason.FAULT: 1}))
+        self.assertEqual(b.counts(), (1, len(sack), 1, len(first), 0, 0, 0, 1, 0, 0, dropped))
+
     def test_a_message_is_abandoned_at_its_limit_of_retransmissions(self):
         caller, listener = opened()
         self.assertEqual([caller.send(0, b"Hi", max_retransmits=0), caller.send(0, b"Ho", max_retransmits=1)], [1, 2])

@@ -23,6 +23,7 @@ int main(void) {
     uint64_t tickets[SCTP_EP_MOST_TICKETS], ticket = 0;
     IN_BYTES(sctp_endpoint_status) status;
     IN_BYTES(sctp_endpoint_path) path;
+    IN_BYTES(sctp_endpoint_counts) counts;
     IN_BYTES(sctp_endpoint_message) message;
     IN_BYTES(sctp_endpoint_sent) sent;
     IN_BYTES(sctp_endpoint_verdict) verdict;
@@ -127,6 +128,15 @@ int main(void) {
     HOLDS(sctp_endpoint_path(&a, &path.it) == SCTP_EP_OK && path.it.in_flight == 13 && path.it.flags == 0 && path.it.rto == 0 && path.it.srtt == 0);
     HOLDS(path.it.rttvar == 0 && path.it.cwnd == 0 && path.it.ssthresh == 0 && path.it.reserved == 0 && is_kept(path.bytes, sizeof path.it, sizeof path.bytes));
     HOLDS(sctp_endpoint_path(&b, &path.it) == SCTP_EP_OK && path.it.in_flight == 0);
+    memset(&counts, BEFORE, sizeof counts);
+    HOLDS(sctp_endpoint_counts(&other, &counts.it) == SCTP_EP_MISUSE && is_kept(counts.bytes, 0, sizeof counts.bytes));
+    HOLDS(sctp_endpoint_counts(&a, &counts.it) == SCTP_EP_OK && counts.it.packets_out == 1 && counts.it.bytes_out == sent.it.length);
+    HOLDS(counts.it.packets_in == 0 && counts.it.bytes_in == 0 && counts.it.first_sent == 2 && counts.it.timer_retransmitted == 0);
+    HOLDS(counts.it.fast_retransmitted == 0 && counts.it.sacks_out == 0 && counts.it.sacks_in == 0 && counts.it.abandoned == 0);
+    HOLDS(counts.it.dropped_fault == 0 && counts.it.reserved == 0 && is_kept(counts.bytes, sizeof counts.it, sizeof counts.bytes));
+    HOLDS(sctp_endpoint_counts(&b, &counts.it) == SCTP_EP_OK && counts.it.packets_in == 3 && counts.it.bytes_in == sent.it.length + 11);
+    HOLDS(counts.it.packets_out == 0 && counts.it.dropped_fault == 2 && counts.it.dropped_ports == 0 && counts.it.dropped_tag == 0);
+    HOLDS(counts.it.dropped_state == 0 && counts.it.dropped_cookie == 0);
     memset(&message, BEFORE, sizeof message);
     HOLDS(sctp_endpoint_readable(&b, 0, &stream) == SCTP_EP_OK && stream == 3 && sctp_endpoint_readable(&b, 4, &stream) == SCTP_EP_OK && stream == 4);
     HOLDS(sctp_endpoint_readable(&b, 5, &stream) == SCTP_EP_NOTHING && sctp_endpoint_readable(&other, 0, &stream) == SCTP_EP_MISUSE && stream == 4);

@@ -1,7 +1,9 @@
-"""What an end counts of its packets, fragments and SACKs."""
+"""What an endpoint counts of its packets, fragments, SACKs and messages."""
+
+import wire
 
 REASONS = 5                        # why a packet is dropped: fault, ports, tag, state, cookie (docs/FORMATS.md)
-FIRST, BY_TIMER, FAST = range(3)   # how a fragment is sent: for the first time, or marked by the data timer, or by three misses
+FIRST, BY_TIMER, FAST = range(3)   # how a fragment is sent: for the first time, or again, by the data timer or by three misses
 
 
 class Counts:
@@ -13,21 +15,30 @@ class Counts:
         self.dropped = [0] * REASONS
 
     def goes(self, packet):
-        """Each packet counts, an answer too."""
+        """Each packet counts, an answer and an ABORT too."""
         self.packets_out += 1
         self.bytes_out += len(packet)
         return packet
 
     def comes(self, packet, verdict):
-        """So does each that comes, whatever becomes of it."""
+        """Each packet that arrives counts, whatever its verdict; its SACKs do if it is taken, out of date or not."""
         self.packets_in += 1
         self.bytes_in += len(packet)
         if verdict[0] == 'dropped':
             self.dropped[verdict[1] - 1] += 1
+        elif verdict[0] == 'taken':
+            self.sacks_in += sum(chunk.kind == wire.SACK for chunk in wire.Packet(packet).chunks)
         return verdict
 
     def line(self, sender):
         """The numbers in the order of the line `counts`; a sender is there with the association."""
         sendings, abandoned = (sender.sendings, len(sender.abandon_order)) if sender is not None else ([0] * 3, 0)
         return (self.packets_out, self.bytes_out, self.packets_in, self.bytes_in, *sendings, self.sacks_out, self.sacks_in, abandoned,
-                *self.dropped, sum(self.dropped))
+                *self.dropped)
+
+
+def sending(entry, index, missed):
+    """How this fragment goes out. `missed`: below this index each had its third miss indication since the last expiry."""
+    if not entry.sent:
+        return FIRST
+    return FAST if index < missed else BY_TIMER

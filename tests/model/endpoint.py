@@ -267,7 +267,7 @@ class Endpoint:
             before, last = len(writer.chunks), self.sender.last_sent()
             if self.pace is not None:
                 writer.narrow(self.pace.room(writer.limit - writer.size, self.sender))
-            tickets = self.sender.fill(writer)
+            tickets = self.sender.fill(writer, self.passed())
             has_fragments = len(writer.chunks) > before
             if has_fragments:
                 self.timers['data'].start(self.now)
@@ -675,7 +675,6 @@ class Endpoint:
 
     def sack(self, found):
         """Sections 6.2.1 and 6.3.2."""
-        self.counts.sacks_in += 1
         cum, before = self.sender.cum, self.before()
         refusal = self.sender.on_sack(Sack(found))
         if refusal == STALE_SACK:

@@ -5,8 +5,9 @@ ends.py [--program P] N [SEED]: each script opens by packets; what comes to an e
 in the model's run. After each line the state, the next moment, the held bytes, those in reassembly and
 the status are asked too. The ends of every third script close by the RFC's timers. In half of the scripts
 the two ends differ; with --unlike in all. With --limited they are those of limited.py: limits of
-retransmissions; with --paced those of paced.py: fast retransmit and congestion control too, and
-the line `path` is asked; with --counts the line `counts`, which sctp-end doesn't have.
+retransmissions; with --paced those of paced.py: fast retransmit and congestion control too; with --options
+those of mixed.py: every option of each end is chosen at random; with the last two the line `path` is asked,
+with --counts the line `counts`, which sctp-end doesn't have.
 ends.py --write FILE N [SEED] writes the lines of each end and the answers wanted, and runs nothing.
 """
 
@@ -16,6 +17,7 @@ import subprocess
 import sys
 
 import limited
+import mixed
 import model
 import paced
 import scripts
@@ -168,6 +170,10 @@ class PacedByPackets(OneEnd, paced.Paced):
     """Such a script of paced.py."""
 
 
+class MixedByPackets(OneEnd, mixed.Mixed):
+    """Such a script of mixed.py."""
+
+
 def recorders(seed, share, maker=OpensByPackets):
     """The words of each end of this random script, the lines and the answers."""
     script, plain = maker(seed, share).make().encode(), model.Pair
@@ -205,17 +211,19 @@ def main():
     parser.add_argument('--unlike', action='store_true')
     parser.add_argument('--limited', dest='maker', action='store_const', const=LimitedByPackets)
     parser.add_argument('--paced', dest='maker', action='store_const', const=PacedByPackets)
+    parser.add_argument('--options', dest='maker', action='store_const', const=MixedByPackets)
     parser.add_argument('--counts', action='store_true')
     parser.add_argument('count', type=int)
     parser.add_argument('seed', type=int, nargs='?', default=1)
     asked = parser.parse_args()
     share, maker = 1 if asked.unlike or asked.maker else 0.5, asked.maker or OpensByPackets
-    RecordedPair.more = (('path', path_of),) * (asked.maker is PacedByPackets) + (('counts', counts_of),) * asked.counts
-    count = differing = 0
+    RecordedPair.more = (('path', path_of),) * (asked.maker in (PacedByPackets, MixedByPackets)) + (('counts', counts_of),) * asked.counts
+    count = lines = differing = 0
     file = open(asked.write, 'w', encoding='ascii') if asked.write else None
     for seed in range(asked.seed, asked.seed + asked.count):
         for x, words, recorder in recorders(seed, share, maker):
             count += 1
+            lines += len(recorder.lines)
             name = 'seed-%d %s' % (seed, x)
             if file is not None:
                 write(file, name, words, recorder)
@@ -226,7 +234,7 @@ def main():
                 print('%s: %.200s: program %.200s, model %.200s' % (name, *found), flush=True)
     if file is not None:
         file.close()
-    print('%d ends, %d differ' % (count, differing))
+    print('%d ends, %d lines, %d differ' % (count, lines, differing))
     return 1 if differing else 0
 
 

@@ -1,7 +1,5 @@
 """Round trips, misses and the congestion window of one end (RFC 9260 sections 6.1, 6.3.1 and 7.2)."""
 
-from counts import FAST
-
 FIRST_WAIT, LONGEST_WAIT, LEAST_WAIT = 1_000, 60_000, 1_000      # RTO.Initial, RTO.Max, RTO.Min
 TICK = 1                                                         # the clock's granularity G
 MAX_BURST = 4
@@ -151,7 +149,7 @@ class Pace:
         lost = min((i for i in sender.above_cum() if i in missed and sender.is_in_flight(i)), default=None)
         was_recovering, begins = misses.exit is not None, lost is not None and misses.exit is None
         count = before.bytes(sender)
-        sender.mark(missed, FAST)
+        sender.mark(missed)
         trip = self.trips.heard(now, before, sender)
         if self.window is not None:
             self.window.heard(before.flight, count, sender.in_flight(), moved and not was_recovering, begins)

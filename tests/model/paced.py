@@ -29,7 +29,11 @@ class Paced(limited.Limited):
             self.line('options', self.pick(('A', 'both', 'both')), *words, *self.pick(((), ('rto-min', *self.rto_min_words()))))
         self.random = plain
         if not self.faulty and self.chance(0.04):
-            self.line('at', LAST_MOMENT - self.pick((0, 1, 500, 999, 1000, 1001, 3000, 60000, 70000, 10**6)))
+            self.late()
+
+    def late(self):
+        """The time is beside the last one that there is."""
+        self.line('at', LAST_MOMENT - self.pick((0, 1, 500, 999, 1000, 1001, 3000, 60000, 70000, 10**6)))
 
     def rto_min_words(self):
         return (self.pick((0, 0, 1, 50, 100, 200, 999, 1000, 1001, 5000, 60000, 2**32 - 1)),)

@@ -217,9 +217,9 @@ def lines_of_an_end():
         made.foreign()
         return end.path_of(made.end), end.counts_of(made.end)
     for options, wanted in (
-            ('delay', ('path 1000 - - - - -', 'counts 8 6300 4 220 5 1 0 0 3 0 1 0 0 0 0 1')),
-            ('fast-retransmit rto-min 0', ('path 0 93 50 586 - -', 'counts 9 6324 4 220 5 0 1 0 3 1 1 0 0 0 0 1')),
-            ('congestion-control', ('path 0 93 50 2000 1488 5952', 'counts 9 6324 4 220 5 0 1 0 3 1 1 0 0 0 0 1'))):
+            ('delay', ('path 1000 - - - - -', 'counts 8 6300 4 220 5 1 0 0 3 0 1 0 0 0 0')),
+            ('fast-retransmit rto-min 0', ('path 0 93 50 586 - -', 'counts 9 6324 4 220 5 0 1 0 3 1 1 0 0 0 0')),
+            ('congestion-control', ('path 0 93 50 2000 1488 5952', 'counts 9 6324 4 220 5 0 1 0 3 1 1 0 0 0 0'))):
         row('path and counts, ' + options, told(options), wanted)
 
 

@@ -156,7 +156,7 @@ class Maker:
         """The words of such a line, by which these ends stay right."""
         while True:
             words = [named]
-            for name in self.random.sample(self.names, self.pick((1, 1, 2, 3, 5))) * self.pick((1, 1, 1, 1, 1, 2)):
+            for name in self.draw_options():
                 words += [name.decode(), *getattr(self, name.decode().replace('-', '_') + '_words', tuple)()]
             trial = copy.copy(self.pair)
             trial.configs = {x: copy.copy(config) for x, config in trial.configs.items()}
@@ -165,6 +165,10 @@ class Maker:
                 return words
             except model.LineFault:
                 pass
+
+    def draw_options(self):
+        """The names of the options of a line, in their order."""
+        return self.random.sample(self.names, self.pick((1, 1, 2, 3, 5))) * self.pick((1, 1, 1, 1, 1, 2))
 
     def limit_words(self):
         return (self.pick(self.limits),)

@@ -3,7 +3,7 @@
 Indexes count the assigned TSNs from 1; index 0 stands for nothing yet.
 """
 
-from counts import BY_TIMER, FIRST
+from counts import sending
 from wire import FLAG_B, FLAG_E, FLAG_U, WIDTHS, before, data_chunk, forward_chunk, padded
 
 MESSAGE_LIMIT = 65_536
@@ -37,7 +37,7 @@ class Entry:
     def __init__(self, message, fragment, last, data):
         self.message, self.fragment, self.last, self.data = message, fragment, last, data
         self.sent = self.marked = False
-        self.repeats, self.why = 0, None          # how often it went out again; why it is marked
+        self.repeats = 0                          # how often it went out again
 
     @property
     def is_end_mark(self):
@@ -60,6 +60,7 @@ class Sender:
         self.served = None            # the stream that was served last (RFC 8260 alone)
         self.abandon_order = []       # tickets in the order of abandoning
         self.sendings = [0, 0, 0]     # of fragments: counts.FIRST, BY_TIMER, FAST
+        self.missed = 0               # what a fill counts as missed three times: the indexes below it
 
     # ---- Readers ----
 
@@ -185,15 +186,15 @@ class Sender:
             if index in indexes and self.waits_for_cover(index) and self.is_worn(index):
                 self.abandon(self.plan[index].message.ticket)
 
-    def mark(self, indexes, why):
-        """Of these indexes all that was sent, isn't covered and may be is to be sent again. What is marked keeps its reason."""
+    def mark(self, indexes):
+        """Of these indexes all that was sent, isn't covered and may be is to be sent again."""
         for index in self.above_cum():
             if index in indexes and self.is_in_flight(index) and not self.is_worn(index):
-                self.plan[index].marked, self.plan[index].why = True, why
+                self.plan[index].marked = True
 
     def on_timeout(self):
         """RFC 9260 section 6.3.3."""
-        self.mark(self.above_cum(), BY_TIMER)
+        self.mark(self.above_cum())
 
     # ---- Acknowledgements (RFC 9260 section 6.2.1) ----
 
@@ -238,10 +239,10 @@ class Sender:
 
     # ---- Filling a packet (RFC 9260 sections 6.1 and 6.10) ----
 
-    def fill(self, writer):
-        """Appends fragments to the packet; the tickets newly numbered, by first TSN."""
+    def fill(self, writer, missed=0):
+        """Appends fragments to the packet; the tickets newly numbered, by first TSN. `missed` is for the counts alone."""
         tickets = []
-        self.flight = self.in_flight()
+        self.flight, self.missed = self.in_flight(), missed
         # Repeats go first, lowest TSN first; a full window of the peer doesn't hold them (6.1 C).
         for index in [i for i in self.above_cum() if self.plan[i].marked]:
             if not self.put(writer, index):
@@ -280,7 +281,7 @@ class Sender:
     def put(self, writer, index):
         if not writer.put(self.fragment_chunk(index)):
             return False
-        self.sendings[self.plan[index].why if self.plan[index].sent else FIRST] += 1
+        self.sendings[sending(self.plan[index], index, self.missed)] += 1
         self.plan[index].repeats += self.plan[index].sent
         self.plan[index].sent, self.plan[index].marked = True, False
         self.flight += len(self.plan[index].data)

@@ -15,13 +15,13 @@ pub use config::{Config, Draw};
 pub use error::Error;
 pub use packets::{abort_cause, peek_packet, version};
 pub use values::{
-    AbortCause, Ended, Fate, Head, Message, PacketHeader, Path, Reason, Sent, SentInto, State, Status,
+    AbortCause, Counts, Dropped, Ended, Fate, Head, Message, PacketHeader, Path, Reason, Sent, SentInto, State, Status,
     Verdict, VerdictInto,
 };
 
 use error::{checked, checked_at};
 use std::fmt;
-use values::{ended_of, reason_of, state_of};
+use values::{counts_of, ended_of, reason_of, state_of};
 
 /// The bytes of the longest packet that an endpoint builds.
 pub const LONGEST_PACKET: usize = 1_500;
@@ -220,5 +220,13 @@ impl Endpoint {
             cwnd: controlled.then_some(told.cwnd),
             ssthresh: controlled.then_some(told.ssthresh),
         }
+    }
+
+    /// What it counted since it was made.
+    pub fn counts(&mut self) -> Counts {
+        let mut told = raw::Counts::default();
+        let result = unsafe { raw::sctp_endpoint_counts(&mut self.0, &mut told) };
+        debug_assert_eq!(result, OK);
+        counts_of(&told)
     }
 }

@@ -103,6 +103,27 @@ pub struct Path {
     pub reserved: u32,
 }
 
+#[repr(C)]
+#[derive(Clone, Copy, Default)]
+pub struct Counts {
+    pub packets_out: u64,
+    pub bytes_out: u64,
+    pub packets_in: u64,
+    pub bytes_in: u64,
+    pub first_sent: u64,
+    pub timer_retransmitted: u64,
+    pub fast_retransmitted: u64,
+    pub sacks_out: u64,
+    pub sacks_in: u64,
+    pub abandoned: u64,
+    pub dropped_fault: u64,
+    pub dropped_ports: u64,
+    pub dropped_tag: u64,
+    pub dropped_state: u64,
+    pub dropped_cookie: u64,
+    pub reserved: u64,
+}
+
 extern "C" {
     pub fn sctp_endpoint_abi() -> u32;
     pub fn sctp_endpoint_version(text: *mut u8, text_length: usize) -> usize;
@@ -176,6 +197,7 @@ extern "C" {
     ) -> u32;
     pub fn sctp_endpoint_status(handle: *mut Handle, status: *mut Status) -> u32;
     pub fn sctp_endpoint_path(handle: *mut Handle, path: *mut Path) -> u32;
+    pub fn sctp_endpoint_counts(handle: *mut Handle, counts: *mut Counts) -> u32;
     pub fn sctp_endpoint_peek_packet(
         packet: *const u8,
         packet_length: usize,

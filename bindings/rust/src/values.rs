@@ -181,6 +181,62 @@ pub struct Path {
     pub ssthresh: Option<u32>,
 }
 
+/// Packets that were ignored, by their [`Reason`].
+#[derive(Clone, Copy, Debug, PartialEq, Eq)]
+pub struct Dropped {
+    pub fault: u64,
+    pub ports: u64,
+    pub tag: u64,
+    pub state: u64,
+    pub cookie: u64,
+}
+
+/// What an endpoint counted since it was made, each number modulo 2^64. A call that fails with [`Error::NoMemory`](crate::Error::NoMemory)
+/// counts nothing.
+#[derive(Clone, Copy, Debug, PartialEq, Eq)]
+pub struct Counts {
+    /// Packets returned to be sent, also as an answer and by `abort`; and their bytes, from the common header on.
+    pub packets_out: u64,
+    pub bytes_out: u64,
+    /// Packets passed to `handle_packet`, and their bytes.
+    pub packets_in: u64,
+    pub bytes_in: u64,
+    /// DATA and I-DATA chunks sent for the first time.
+    pub first_sent: u64,
+    /// Those retransmitted because the data timer expired, and since three acknowledgements missed them.
+    pub timer_retransmitted: u64,
+    pub fast_retransmitted: u64,
+    /// Packets sent that have a SACK.
+    pub sacks_out: u64,
+    /// SACKs in packets that were processed.
+    pub sacks_in: u64,
+    /// Messages abandoned after a fragment got a TSN.
+    pub abandoned: u64,
+    pub dropped: Dropped,
+}
+
+pub(crate) fn counts_of(told: &raw::Counts) -> Counts {
+    Counts {
+        packets_out: told.packets_out,
+        bytes_out: told.bytes_out,
+        packets_in: told.packets_in,
+        bytes_in: told.bytes_in,
+        first_sent: told.first_sent,
+        timer_retransmitted: told.timer_retransmitted,
+        fast_retransmitted: told.fast_retransmitted,
+        sacks_out: told.sacks_out,
+        sacks_in: told.sacks_in,
+        abandoned: told.abandoned,
+        dropped: Dropped {
+            fault: told.dropped_fault,
+            ports: told.dropped_ports,
+            tag: told.dropped_tag,
+            state: told.dropped_state,
+            cookie: told.dropped_cookie,
+        },
+    }
+}
+
 pub(crate) fn head_of(told: &raw::Message) -> Head {
     Head {
         length: told.length,

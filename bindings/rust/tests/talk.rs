@@ -1,4 +1,4 @@
-use sctp_endpoint::{abort_cause, peek_packet, version, AbortCause, Config, Draw, Ended, Endpoint, Error, Fate, Reason, State, Verdict, VerdictInto, LONGEST_PACKET, MOST_TICKETS};
+use sctp_endpoint::{abort_cause, peek_packet, version, AbortCause, Config, Draw, Dropped, Ended, Endpoint, Error, Fate, Reason, State, Verdict, VerdictInto, LONGEST_PACKET, MOST_TICKETS};
 use std::num::NonZeroU32;
 
 fn draw(tag: u32) -> Draw {
@@ -137,6 +137,28 @@ fn errors_say_why() {
     assert_eq!(version(), env!("CARGO_PKG_VERSION"));
     assert_eq!(Error::QueueFull.to_string(), "1,024 messages are queued: send again after the next SACK");
     assert_eq!(Error::NeedsRoom(5).to_string(), "the buffer is too small: 5 bytes are needed");
+}
+
+#[test]
+fn packets_and_what_they_carry_are_counted() {
+    let mut a = Endpoint::opened(&Config::new(5_000, 5_001), draw(7), draw(9)).unwrap();
+    let mut b = Endpoint::opened(&Config::new(5_001, 5_000), draw(9), draw(7)).unwrap();
+    a.send(0, true, 0, b"Hi", None).unwrap();
+    let lost = a.poll_transmit(0).unwrap().unwrap().packet.len() as u64;
+    a.on_moment(1_000);
+    let first = a.poll_transmit(1_000).unwrap().unwrap().packet;
+    b.handle_packet(1_000, &first, draw(9)).unwrap();
+    let sack = b.poll_transmit(1_000).unwrap().unwrap().packet;
+    a.handle_packet(1_000, &sack, draw(11)).unwrap();
+    a.handle_packet(1_000, &first[..11], draw(11)).unwrap();
+    let (told, heard) = (a.counts(), b.counts());
+    assert_eq!((told.packets_out, told.bytes_out), (2, lost + first.len() as u64));
+    assert_eq!((told.packets_in, told.bytes_in), (2, 11 + sack.len() as u64));
+    assert_eq!((told.first_sent, told.timer_retransmitted, told.fast_retransmitted), (1, 1, 0));
+    assert_eq!((told.sacks_out, told.sacks_in, told.abandoned), (0, 1, 0));
+    assert_eq!(told.dropped, Dropped { fault: 1, ports: 0, tag: 0, state: 0, cookie: 0 });
+    assert_eq!((heard.packets_in, heard.bytes_in, heard.first_sent), (1, first.len() as u64, 0));
+    assert_eq!((heard.packets_out, heard.bytes_out, heard.sacks_out, heard.sacks_in), (1, sack.len() as u64, 1, 0));
 }
 
 #[test]

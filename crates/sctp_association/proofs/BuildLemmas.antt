@@ -24,11 +24,13 @@ use Rattle.sctp_model.specs.end.Building.{packet_of as end_packet}
 use Rattle.sctp_packet.specs.Draft.{Draft, packet_of, after_try, with_chunks}
 use Rattle.sctp_packet.specs.PacketBytes.{WritesPacket}
 use Rattle.sctp_values.specs.declared.ticket.Ticket.{Ticket}
+use Rattle.sctp_send.specs.declared.fill.Filled.{Filled}
 use Rattle.sctp_association.specs.StartsMean.{starts_at, with_start}
 use Rattle.sctp_association.specs.PhaseMeans.{phase_unjoined, phase_of}
 use Rattle.sctp_association.specs.TrafficStands.{TrafficStands}
 use Rattle.sctp_association.specs.MachineStands.{KeepsMachine, MachineStands}
 use Rattle.sctp_association.specs.Drafted.{drafted, IsOf, IsOwn, IsEmpty, PutsAt, IsPacked, IsQuiet}
+use Rattle.sctp_association.specs.Sends.{Sends, FillsNone}
 use Rattle.sctp_association.specs.FillsBehind.{FillsBehind}
 use Rattle.sctp_association.specs.BuildAnswers.{BuildAnswer}
 use Rattle.sctp_association.specs.declared.state.life.Unjoined.{Unjoined}
@@ -43,6 +45,7 @@ use Rattle.sctp_association.specs.declared.build.Built.{Built}
 use Rattle.sctp_association.specs.declared.machine.Machine.{Machine}
 use Rattle.sctp_association.proofs.MachineLemmas.{with_traffic, with_pace}
 use Rattle.sctp_association.proofs.PutLemmas.{started_left}
+use Rattle.sctp_association.proofs.SendsLemmas.{one_control, puts_from_none, sends_none, sends_nothing, sends_behind}
 
 -- the tag of its packets is that of the peer, where one is known
 pub tag_by : (h : model.Phase) → unwrap_or (peer_tag h) 0 ≡ tag_to h
@@ -67,26 +70,27 @@ own_of e p of = record { limit = omega (arith, of.limit); source = of.source; de
 
 -- ---- nothing is sent
 
-pub quiet_packet : (e : EndView) (p : Packing) (tickets : Vec Ticket Global) → Builds e [] e → IsEmpty e p → tickets.items ≡ [] → IsPacked e e.sender e.pace p tickets
-quiet_packet e p tickets builds empty none = record {
+pub quiet_packet : (e : EndView) (p : Packing) (filled : Filled) → Builds e [] e → IsEmpty e p → FillsNone filled → IsPacked e e.sender e.pace p filled
+quiet_packet e p filled builds empty none = record {
   builds = subst (λ (zs : List ChunkMeaning). Builds e zs (drafted p.marks e)) (sym empty.chunks) (subst (λ (y : EndView). Builds e [] y) (sym empty.same) builds);
   packet = own_of e p empty.packet;
-  tickets_are = none_numbered tickets e.sender none;
+  tickets_are = none_numbered filled.tickets e.sender none.tickets;
+  sendings = sends_nothing e p.writer.chunks filled empty.chunks none;
 }
 
-pub sleeps : (e : EndView) (h : model.Phase) (p : Packing) (tickets : Vec Ticket Global) → e.phase ≡ h → has_association h ≡ false → IsEmpty e p → tickets.items ≡ [] → IsPacked e e.sender e.pace p tickets
-sleeps e h p tickets phase over empty none = quiet_packet e p tickets (Sleeps (ap has_association phase ∙ over)) empty none
+pub sleeps : (e : EndView) (h : model.Phase) (p : Packing) (filled : Filled) → e.phase ≡ h → has_association h ≡ false → IsEmpty e p → FillsNone filled → IsPacked e e.sender e.pace p filled
+sleeps e h p filled phase over empty none = quiet_packet e p filled (Sleeps (ap has_association phase ∙ over)) empty none
 
-pub waits : (e : EndView) (d : Draw) (p : Packing) (tickets : Vec Ticket Global) → e.phase ≡ model.Calling d → p.marks.init ≡ false → IsEmpty e p → tickets.items ≡ [] → IsPacked e e.sender e.pace p tickets
-waits e d p tickets phase marked empty none = quiet_packet e p tickets (Waits d phase (sym (ap (λ (x : EndView). x.due.init) empty.same) ∙ marked)) empty none
+pub waits : (e : EndView) (d : Draw) (p : Packing) (filled : Filled) → e.phase ≡ model.Calling d → p.marks.init ≡ false → IsEmpty e p → FillsNone filled → IsPacked e e.sender e.pace p filled
+waits e d p filled phase marked empty none = quiet_packet e p filled (Waits d phase (sym (ap (λ (x : EndView). x.due.init) empty.same) ∙ marked)) empty none
 
 -- ---- INIT
 
-pub calls_packet : (e : EndView) (c : Configuration) (d : Draw) (old : Packing) (new : Draft) (s : Starts) (put : Bool) (tickets : Vec Ticket Global) → e.configuration ≡ c
+pub calls_packet : (e : EndView) (c : Configuration) (d : Draw) (old : Packing) (new : Draft) (s : Starts) (put : Bool) (filled : Filled) → e.configuration ≡ c
     → e.phase ≡ model.Calling d → IsEmpty e old → old.marks.init ≡ true → put ≡ true → new ≡ after_try old.writer (own_init c d) put
-    → starts_at s ≡ with_start InitAlarm (starts_at old.marks.starts) → tickets.items ≡ []
-    → IsPacked e e.sender e.pace (record { writer = new; marks = record old.marks { init = false; starts = s } }) tickets
-calls_packet e c d old new s put tickets configured phase empty due is after starts none =
+    → starts_at s ≡ with_start InitAlarm (starts_at old.marks.starts) → FillsNone filled
+    → IsPacked e e.sender e.pace (record { writer = new; marks = record old.marks { init = false; starts = s } }) filled
+calls_packet e c d old new s put filled configured phase empty due is after starts none =
     let m = old.marks in
     let n : Marks = record m { init = false; starts = s } in
     let there : new ≡ with_chunks old.writer (own_init c d ∷ []) = after ∙ ap (after_try old.writer (own_init c d)) is in
@@ -95,12 +99,13 @@ calls_packet e c d old new s put tickets configured phase empty due is after sta
     ap (λ (k : Configuration). own_init k d ∷ []) configured ∙ sym (ap (λ (xs : List ChunkMeaning). xs ++ own_init c d ∷ []) empty.chunks) in
     let leaves : started InitAlarm (with_due (record e.due { init = false }) e) ≡ drafted n e =
     sym (ap (λ (x : EndView). started InitAlarm (with_due (record x.due { init = false }) x)) empty.same) ∙ started_left InitAlarm (record m { init = false }) e s starts in
-    let one : IsPacked e e.sender e.pace (record { writer = with_chunks old.writer (own_init c d ∷ []); marks = n }) tickets = record {
+    let one : IsPacked e e.sender e.pace (record { writer = with_chunks old.writer (own_init c d ∷ []); marks = n }) filled = record {
       builds = subst (λ (zs : List ChunkMeaning). Builds e zs (drafted n e)) chunks (subst (λ (y : EndView). Builds e (own_init e.configuration d ∷ []) y) leaves (Calls d phase calls));
       packet = own_of e _ (record { limit = empty.packet.limit; source = empty.packet.source; destination = empty.packet.destination; tag = empty.packet.tag; sack = empty.packet.sack });
-      tickets_are = none_numbered tickets e.sender none;
+      tickets_are = none_numbered filled.tickets e.sender none.tickets;
+      sendings = subst (λ (zs : List ChunkMeaning). Sends e zs filled.sendings) chunks (sends_none e (own_init e.configuration d ∷ []) filled (one_control _ refl) none);
     } in
-    subst (λ (w : Draft). IsPacked e e.sender e.pace (record { writer = w; marks = n }) tickets) (sym there) one
+    subst (λ (w : Draft). IsPacked e e.sender e.pace (record { writer = w; marks = n }) filled) (sym there) one
 
 -- ---- control chunks, and fragments
 
@@ -109,12 +114,13 @@ from_empty : (e : EndView) (old : Packing) (zs : List ChunkMeaning) (full : Bool
 from_empty e old zs full x ss empty puts =
     subst (λ (y : EndView). Puts ss y [] zs full x) empty.same (subst (λ (xs : List ChunkMeaning). Puts ss (drafted old.marks e) xs zs full x) empty.chunks puts)
 
-pub echoes_packet : (e : EndView) (t : model.Tags) (cookie : List ℕ) (old new : Packing) (room : Bool) (tickets : Vec Ticket Global) → e.phase ≡ model.Echoing t cookie → IsEmpty e old
-    → PutsAt echoing_slots e old new room → tickets.items ≡ [] → IsPacked e e.sender e.pace new tickets
-echoes_packet e t cookie old new room tickets phase empty puts none = record {
+pub echoes_packet : (e : EndView) (t : model.Tags) (cookie : List ℕ) (old new : Packing) (room : Bool) (filled : Filled) → e.phase ≡ model.Echoing t cookie → IsEmpty e old
+    → PutsAt echoing_slots e old new room → FillsNone filled → IsPacked e e.sender e.pace new filled
+echoes_packet e t cookie old new room filled phase empty puts none = record {
   builds = Echoes t cookie new.writer.chunks (not room) (drafted new.marks e) phase (from_empty e old new.writer.chunks (not room) (drafted new.marks e) echoing_slots empty puts.puts);
   packet = own_of e new puts.packet;
-  tickets_are = none_numbered tickets e.sender none;
+  tickets_are = none_numbered filled.tickets e.sender none.tickets;
+  sendings = sends_none e new.writer.chunks filled (puts_from_none _ _ _ _ _ (from_empty e old new.writer.chunks (not room) (drafted new.marks e) echoing_slots empty puts.puts)) none;
 }
 
 -- no request to reset streams is made
@@ -125,19 +131,20 @@ from_quiet : (e : EndView) (old : Packing) (zs : List ChunkMeaning) (full : Bool
     → Puts open_slots (asking e) [] zs full x
 from_quiet e old zs full x quiet empty puts = subst (λ (y : EndView). Puts open_slots y [] zs full x) (sym (unasked e quiet)) (from_empty e old zs full x open_slots empty puts)
 
-pub full_packet : (e : EndView) (t : model.Tags) (g : model.Stage) (old new : Packing) (room : Bool) (tickets : Vec Ticket Global) → e.phase ≡ model.Open t g → IsQuiet e → IsEmpty e old
-    → room ≡ false → PutsAt open_slots e old new room → tickets.items ≡ [] → IsPacked e e.sender e.pace new tickets
-full_packet e t g old new room tickets phase quiet empty is puts none =
+pub full_packet : (e : EndView) (t : model.Tags) (g : model.Stage) (old new : Packing) (room : Bool) (filled : Filled) → e.phase ≡ model.Open t g → IsQuiet e → IsEmpty e old
+    → room ≡ false → PutsAt open_slots e old new room → FillsNone filled → IsPacked e e.sender e.pace new filled
+full_packet e t g old new room filled phase quiet empty is puts none =
     let full = subst (PutsAt open_slots e old new) is puts in record {
       builds = EndsFull t g new.writer.chunks (drafted new.marks e) phase (from_quiet e old new.writer.chunks true (drafted new.marks e) quiet empty full.puts);
       packet = own_of e new full.packet;
-      tickets_are = none_numbered tickets e.sender none;
+      tickets_are = none_numbered filled.tickets e.sender none.tickets;
+      sendings = sends_none e new.writer.chunks filled (puts_from_none _ _ _ _ _ (from_quiet e old new.writer.chunks true (drafted new.marks e) quiet empty full.puts)) none;
     }
 
-filled_packet : (e : EndView) (t : model.Tags) (g : model.Stage) (old mid new : Packing) (traffic : Traffic) (o : Option Pace) (tickets : Vec Ticket Global) → e.phase ≡ model.Open t g → IsQuiet e → IsEmpty e old
-    → PutsAt open_slots e old mid true → FillsBehind e mid new traffic tickets → o ≡ (sent (drafted mid.marks e) mid.writer.chunks).pace
-    → IsPacked e (filled_behind (drafted mid.marks e) mid.writer.chunks).view o new tickets
-filled_packet e t g old mid new traffic o tickets phase quiet empty puts fills paced =
+filled_packet : (e : EndView) (t : model.Tags) (g : model.Stage) (old mid new : Packing) (traffic : Traffic) (o : Option Pace) (filled : Filled) → e.phase ≡ model.Open t g → IsQuiet e → IsEmpty e old
+    → PutsAt open_slots e old mid true → FillsBehind e mid new traffic filled → o ≡ (sent (drafted mid.marks e) mid.writer.chunks).pace
+    → IsPacked e (filled_behind (drafted mid.marks e) mid.writer.chunks).view o new filled
+filled_packet e t g old mid new traffic o filled phase quiet empty puts fills paced =
     let x = drafted mid.marks e in
     let zs = mid.writer.chunks in
     let v = (filled_behind x zs).view in
@@ -149,13 +156,14 @@ filled_packet e t g old mid new traffic o tickets phase quiet empty puts fills p
       builds = subst (λ (cs : List ChunkMeaning). Builds e cs (record (drafted new.marks e) { sender = v; pace = o })) (sym fills.chunks) (subst (λ (y : EndView). Builds e (zs ++ fragments x zs) y) leaves built);
       packet = fills.packet;
       tickets_are = fills.tickets_are;
+      sendings = sends_behind e zs new.writer.chunks filled.sendings (puts_from_none _ _ _ _ _ (from_quiet e old zs false x quiet empty puts.puts)) fills.chunks fills.sendings_are;
     }
 
-pub fills_packet : {E : Type 0} (r : Result (Vec Ticket Global) E) (e : EndView) (t : model.Tags) (g : model.Stage) (old mid new : Packing) (room : Bool) (traffic : Traffic) (o : Option Pace)
-    → e.phase ≡ model.Open t g → IsQuiet e → IsEmpty e old → room ≡ true → PutsAt open_slots e old mid room → IfOk r (λ tickets. FillsBehind e mid new traffic tickets)
-    → OnOk r (o ≡ (sent (drafted mid.marks e) mid.writer.chunks).pace) → IfOk r (λ tickets. (s : SenderView) × IsPacked e s o new tickets × TrafficStands traffic (format_of e) s e.receiver)
-fills_packet (Ok tickets) e t g old mid new room traffic o phase quiet empty is puts fills paced =
-    (_, filled_packet e t g old mid new traffic o tickets phase quiet empty (subst (PutsAt open_slots e old mid) is puts) fills paced, fills.traffic_stands)
+pub fills_packet : {E : Type 0} (r : Result Filled E) (e : EndView) (t : model.Tags) (g : model.Stage) (old mid new : Packing) (room : Bool) (traffic : Traffic) (o : Option Pace)
+    → e.phase ≡ model.Open t g → IsQuiet e → IsEmpty e old → room ≡ true → PutsAt open_slots e old mid room → IfOk r (λ filled. FillsBehind e mid new traffic filled)
+    → OnOk r (o ≡ (sent (drafted mid.marks e) mid.writer.chunks).pace) → IfOk r (λ filled. (s : SenderView) × IsPacked e s o new filled × TrafficStands traffic (format_of e) s e.receiver)
+fills_packet (Ok filled) e t g old mid new room traffic o phase quiet empty is puts fills paced =
+    (_, filled_packet e t g old mid new traffic o filled phase quiet empty (subst (PutsAt open_slots e old mid) is puts) fills paced, fills.traffic_stands)
 fills_packet (Err failed) e t g old mid new room traffic o phase quiet empty is puts fills paced = fills
 
 -- what is so anyway is so where there is a result
@@ -169,12 +177,12 @@ on_ok P (Err why) p = tt
 packet_same : (e : EndView) (p : Packing) → IsOwn e p → packet_of p.writer ≡ end_packet e p.writer.chunks
 packet_same e p ours = rw (ours.source, ours.destination, ours.tag) refl
 
-pub answered : (e : EndView) (s : SenderView) (o : Option Pace) (r : Option Built) (m : Machine) (p : Packing) (tickets : Vec Ticket Global) → IsPacked e s o p tickets
+pub answered : (e : EndView) (s : SenderView) (o : Option Pace) (r : Option Built) (m : Machine) (p : Packing) (filled : Filled) → IsPacked e s o p filled
     → MatchOption r (p.writer.chunks ≡ []) (λ b. WritesPacket b.packet.items (packet_of p.writer)) → IfSome r (λ b. length b.packet.items ≡ size_of_packet p.writer.chunks)
-    → IfSome r (λ b. length b.packet.items ≤ p.writer.limit) → IfSome r (λ b. b.tickets ≡ tickets) → MachineStands m (record (drafted p.marks e) { sender = s; pace = o }) → BuildAnswer e r m
-answered e s o None m p tickets packed none size within same stands =
+    → IfSome r (λ b. length b.packet.items ≤ p.writer.limit) → IfSome r (λ b. b.tickets ≡ filled.tickets) → IfSome r (λ b. b.sendings ≡ filled.sendings) → MachineStands m (record (drafted p.marks e) { sender = s; pace = o }) → BuildAnswer e r m
+answered e s o None m p filled packed none size within same counts stands =
     let x : EndView = record (drafted p.marks e) { sender = s; pace = o } in (x, subst (λ (zs : List ChunkMeaning). Builds e zs x) none packed.builds, stands)
-answered e s o (Some b) m p tickets packed writes size within same stands = record {
+answered e s o (Some b) m p filled packed writes size within same counts stands = record {
   chunks = p.writer.chunks;
   after = record (drafted p.marks e) { sender = s; pace = o };
   builds = packed.builds;
@@ -183,6 +191,7 @@ answered e s o (Some b) m p tickets packed writes size within same stands = reco
   size = size;
   within = omega (arith, within, packed.packet.limit);
   tickets = ap (λ (ts : Vec Ticket Global). map (λ t. t.0) ts.items) same ∙ packed.tickets_are;
+  sendings = subst (Sends e p.writer.chunks) (sym counts) packed.sendings;
   stands = stands;
 }
 
@@ -202,21 +211,21 @@ pub stays_unjoined : (m : Machine) (x : Unjoined) (v : EndView) → m.life ≡ l
 stays_unjoined m x v is k = subst (λ (h : Life). KeepsMachine (record m { life = h }) v) is k
 
 -- where a call may run out of memory: the end as it was
-pub with_end : {E : Type 0} (r : Result (Vec Ticket Global) E) (e v : EndView) (p : Packing) (m : Machine) → IfOk r (λ tickets. IsPacked e e.sender e.pace p tickets)
+pub with_end : {E : Type 0} (r : Result Filled E) (e v : EndView) (p : Packing) (m : Machine) → IfOk r (λ filled. IsPacked e e.sender e.pace p filled)
     → KeepsMachine m (record v { sender = e.sender; pace = e.pace }) → m.pace ≡ e.pace
-    → IfOk r (λ tickets. (s : SenderView) × IsPacked e s m.pace p tickets × KeepsMachine m (record v { sender = s; pace = m.pace }))
-with_end (Ok tickets) e v p m packed stands same = (
+    → IfOk r (λ filled. (s : SenderView) × IsPacked e s m.pace p filled × KeepsMachine m (record v { sender = s; pace = m.pace }))
+with_end (Ok filled) e v p m packed stands same = (
   e.sender,
-  subst (λ (o : Option Pace). IsPacked e e.sender o p tickets) (sym same) packed,
+  subst (λ (o : Option Pace). IsPacked e e.sender o p filled) (sym same) packed,
   subst (λ (o : Option Pace). KeepsMachine m (record v { sender = e.sender; pace = o })) (sym same) stands,
 )
 with_end (Err failed) e v p m packed stands same = packed
 
 -- the traffic as it was
-pub with_traffic_kept : {E : Type 0} (r : Result (Vec Ticket Global) E) (e : EndView) (p : Packing) (traffic : Traffic) → IfOk r (λ tickets. IsPacked e e.sender e.pace p tickets)
+pub with_traffic_kept : {E : Type 0} (r : Result Filled E) (e : EndView) (p : Packing) (traffic : Traffic) → IfOk r (λ filled. IsPacked e e.sender e.pace p filled)
     → TrafficStands traffic (format_of e) e.sender e.receiver → (o : Option Pace) → o ≡ e.pace
-    → IfOk r (λ tickets. (s : SenderView) × IsPacked e s o p tickets × TrafficStands traffic (format_of e) s e.receiver)
-with_traffic_kept (Ok tickets) e p traffic packed stands o same = (e.sender, subst (λ (q : Option Pace). IsPacked e e.sender q p tickets) (sym same) packed, stands)
+    → IfOk r (λ filled. (s : SenderView) × IsPacked e s o p filled × TrafficStands traffic (format_of e) s e.receiver)
+with_traffic_kept (Ok filled) e p traffic packed stands o same = (e.sender, subst (λ (q : Option Pace). IsPacked e e.sender q p filled) (sym same) packed, stands)
 with_traffic_kept (Err failed) e p traffic packed stands o same = packed
 
 -- the end with its sender gone on
@@ -229,11 +238,11 @@ on_traffic m a b v x is k kept stands =
 unpaced_still : (m : Machine) (v : EndView) (o : Option Pace) → KeepsMachine m v → (m.pace ≡ None → o ≡ None) → v.configuration.fast_retransmit ≡ false → o ≡ None
 unpaced_still m v o k none off = none (k.pace ∙ k.unpaced off)
 
-pub with_sender : {E : Type 0} (r : Result (Vec Ticket Global) E) (e v : EndView) (p : Packing) (m : Machine) (a b : Association) (o : Option Pace) → m.life ≡ life.Joined a → KeepsMachine m v
+pub with_sender : {E : Type 0} (r : Result Filled E) (e v : EndView) (p : Packing) (m : Machine) (a b : Association) (o : Option Pace) → m.life ≡ life.Joined a → KeepsMachine m v
     → b ≡ record a { traffic = b.traffic } → (m.pace ≡ None → o ≡ None)
-    → IfOk r (λ tickets. (x : SenderView) × IsPacked e x o p tickets × TrafficStands b.traffic (format_for v.terms.interleave) x v.receiver)
-    → IfOk r (λ tickets. (x : SenderView) × IsPacked e x o p tickets × KeepsMachine (record m { life = life.Joined b; pace = o }) (record v { sender = x; pace = o }))
-with_sender (Ok tickets) e v p m a b o is k kept none packed =
+    → IfOk r (λ filled. (x : SenderView) × IsPacked e x o p filled × TrafficStands b.traffic (format_for v.terms.interleave) x v.receiver)
+    → IfOk r (λ filled. (x : SenderView) × IsPacked e x o p filled × KeepsMachine (record m { life = life.Joined b; pace = o }) (record v { sender = x; pace = o }))
+with_sender (Ok filled) e v p m a b o is k kept none packed =
     (packed.0, packed.1, with_pace _ (record v { sender = packed.0 }) o (on_traffic m a b v packed.0 is k kept packed.2) (unpaced_still m v o k none))
 with_sender (Err failed) e v p m a b o is k kept none packed = packed
 

@@ -1,6 +1,6 @@
 -- `hear_piece`, `hear_forward`, `hear_sack`, `hear_shutdown`: what sender and receiver do with a chunk is the step of the open association's view.
 use Rattle.std.proofs.Common.{◌≡◌, ◌∙◌, ℕ, nat_le, nat_lt, Bool, true, false, List, length, refl, ap, subst}
-use Rattle.std.specs.Prelude.{Option, Some, None, is_some, if◌then◌else◌, ◌&&◌, Result, Ok, Err, IfOk, OnErr}
+use Rattle.std.specs.Prelude.{Option, Some, None, is_some, if◌then◌else◌, ◌&&◌, Result, Ok, Err, IfOk, OnOk, OnErr}
 use Rattle.sctp_model.specs.wire.Chunk.{PieceMeaning, ForwardMeaning, SackMeaning}
 use Rattle.sctp_model.specs.receiver.ReceiverView.{ReceiverView}
 use Rattle.sctp_model.specs.receiver.PieceTaken as taken
@@ -10,17 +10,23 @@ use Rattle.sctp_model.specs.sender.SenderView.{SenderView}
 use Rattle.sctp_model.specs.sender.SackTaken.{SackFault, sack_fault, sack_taken, sack_after, shutdown_fault, shutdown_taken, shutdown_after}
 use Rattle.sctp_model.specs.end.EndView.{EndView, Alarm, DataAlarm, Timer, format_of}
 use Rattle.sctp_model.specs.end.EndView as model
-use Rattle.sctp_model.specs.end.Clock.{replaced, renewed, with_timer}
+use Rattle.sctp_model.specs.end.Clock.{replaced, renewed, with_timer, settled, is_point_past}
 use Rattle.sctp_model.specs.end.Closing.{with_due}
 use Rattle.sctp_model.specs.end.Reports.{with_causes}
-use Rattle.sctp_model.specs.end.Acting.{piece_causes, heartbeat_heard, shut_timer}
+use Rattle.sctp_model.specs.end.Acting.{piece_causes, heartbeat_heard, shut_timer, sack_heard}
+use Rattle.sctp_model.specs.sender.Readers.{unsettled}
+use Rattle.sctp_model.proofs.sender.HeardLaws.{unpaced}
 use Rattle.sctp_values.specs.declared.no_memory.NoMemory.{NoMemory}
+use Rattle.sctp_send.specs.SenderAnswers.{reason_meaning}
+use Rattle.sctp_send.specs.declared.sack.SackFault as code
 use Rattle.sctp_recv.specs.AnswerOf.{answer_of, forward_answer_of}
 use Rattle.sctp_recv.specs.Laws.{ResetsStay}
 use Rattle.sctp_recv.specs.declared.answer.Answer.{Answer}
 use Rattle.sctp_recv.specs.declared.answer.Answer.TheVariants as answer
 use Rattle.sctp_recv.specs.declared.forward.ForwardAnswer.{ForwardAnswer}
 use Rattle.sctp_outcomes.proofs.Buffers.{piece_keeps_buffer, forward_keeps_buffer}
+use Rattle.sctp_association.specs.TimersMean.{kept_if}
+use Rattle.sctp_association.specs.SackLeaves.{left_with, sack_counted}
 use Rattle.sctp_association.specs.PhaseMeans.{phase_unjoined, phase_of}
 use Rattle.sctp_association.specs.TrafficStands.{TrafficStands}
 use Rattle.sctp_association.specs.MachineStands.{KeepsMachine}
@@ -30,7 +36,7 @@ use Rattle.sctp_association.specs.declared.state.life.Association.{Association}
 use Rattle.sctp_association.specs.declared.state.life.Life.TheVariants as life
 use Rattle.sctp_association.specs.declared.traffic.Traffic.{Traffic}
 use Rattle.sctp_association.specs.declared.machine.Machine.{Machine}
-use Rattle.sctp_association.proofs.MachineLemmas.{with_traffic}
+use Rattle.sctp_association.proofs.MachineLemmas.{at_view, with_traffic}
 use Rattle.sctp_association.proofs.ReportLemmas.{HasRoom}
 
 -- ---- an end that never had an association isn't open
@@ -117,6 +123,52 @@ own_at f DataAlarm = refl
 own_at f model.ShutdownAlarm = refl
 own_at f model.AckAlarm = refl
 own_at f model.ResetAlarm = refl
+
+-- the data timer put in its place twice
+twice_at : (t u : Timer) (f : Alarm → Timer) (a : Alarm) → replaced DataAlarm t (replaced DataAlarm u f) a ≡ replaced DataAlarm t f a
+twice_at t u f model.InitAlarm = refl
+twice_at t u f model.CookieAlarm = refl
+twice_at t u f DataAlarm = refl
+twice_at t u f model.ShutdownAlarm = refl
+twice_at t u f model.AckAlarm = refl
+twice_at t u f model.ResetAlarm = refl
+
+-- what a SACK leaves beside the pace, in the order of the definition: settled first, and then its data timer
+abbrev pub rests_after : EndView → SackMeaning → EndView
+rests_after v x = settled (record v { sender = sack_taken v.sender x; due = record v.due { forward = true } })
+
+abbrev pub timer_after : EndView → SackMeaning → Timer
+timer_after v x = renewed v.moment (nat_lt v.sender.cum (sack_taken v.sender x).cum) ((rests_after v x).timers DataAlarm)
+
+pub counts_as : (v : EndView) (x : SackMeaning) → None ≡ sack_fault v.sender x → with_timer DataAlarm (timer_after v x) (rests_after v x) ≡ sack_counted v x
+counts_as v x none =
+    let u = sack_taken v.sender x in
+    (λ i. record v {
+      sender = u;
+      due = record v.due { forward = is_point_past u };
+      timers = λ a. twice_at (timer_after v x) (kept_if (unsettled u) (v.timers DataAlarm)) v.timers a i;
+    }) ∙ ap (λ (y : EndView). left_with v y.sender) (sack_counts v x none)
+
+pub sack_unpaced : (v : EndView) (x : SackMeaning) → v.pace ≡ None → None ≡ sack_fault v.sender x → sack_heard v x ≡ sack_counted v x
+sack_unpaced v x free none = unpaced v.sender (v.timers DataAlarm).wait (timer_after v x) (rests_after v x) free ∙ counts_as v x none
+
+-- a SACK at an end without a pace
+pub heard_unpaced : (r : Result (Unit {0}) code.SackFault) (m : Machine) (v : EndView) (x : SackMeaning) → v.pace ≡ None → reason_meaning r ≡ sack_fault v.sender x
+    → OnOk r (KeepsMachine m (sack_counted v x)) → OnOk r (KeepsMachine m (sack_heard v x))
+heard_unpaced (Ok u) m v x free none keeps = at_view m (sack_heard v x) (sack_counted v x) (sack_unpaced v x free none) keeps
+heard_unpaced (Err fault) m v x free some keeps = tt
+
+pub less_as : (m n i j : ℕ) → m ≡ i → n ≡ j → nat_lt m n ≡ nat_lt i j
+less_as m n i j left right = ap (λ (k : ℕ). nat_lt k n) left ∙ ap (λ (k : ℕ). nat_lt i k) right
+
+-- the data timer of a SACK in its place, by what the code knows of it
+pub counted_in : (n f g : Alarm → Timer) (wanted want moved move : Bool) (m k : ℕ) → n ≡ replaced DataAlarm (renewed m moved (kept_if wanted (f DataAlarm))) f → wanted ≡ want → moved ≡ move → m ≡ k → f ≡ g
+    → n ≡ replaced DataAlarm (renewed k move (kept_if want (g DataAlarm))) g
+counted_in n f g wanted want moved move m k is one two clock same =
+    is ∙ (ap (λ (b : Bool). replaced DataAlarm (renewed m moved (kept_if b (f DataAlarm))) f) one
+    ∙ (ap (λ (b : Bool). replaced DataAlarm (renewed m b (kept_if want (f DataAlarm))) f) two
+    ∙ (ap (λ (j : ℕ). replaced DataAlarm (renewed j move (kept_if want (f DataAlarm))) f) clock
+    ∙ ap (λ (h : Alarm → Timer). replaced DataAlarm (renewed k move (kept_if want (h DataAlarm))) h) same)))
 
 -- a SHUTDOWN that renews the data timer
 pub shut_renews : (v : EndView) (moved : Bool) → (v.configuration.standard_closing && moved) ≡ true

@@ -16,6 +16,7 @@ pub mod RoomLemmas
 pub mod PutLemmas
 pub mod InitLemmas
 pub mod SameLemmas
+pub mod SendsLemmas
 pub mod BuildLemmas
 pub mod PaceLemmas
 pub mod PlainLemmas

@@ -1,8 +1,6 @@
 -- User data of an endpoint with a pace, or without one: how much space it has in a packet, and the pace once it went out.
 use Rattle.std.proofs.Common.{◌≡◌, ◌∙◌, ℕ, ◌-◌, ◌≤◌, List, refl, sym, ap, subst, arith}
 use Rattle.std.specs.Prelude.{Option, None, Some, false, is_some, option_map}
-use Rattle.std.specs.declared.vec.Vec.{Vec}
-use Rattle.std.specs.declared.alloc.Global.{Global}
 use Rattle.sctp_model.specs.wire.Chunk.{ChunkMeaning}
 use Rattle.sctp_model.specs.wire.Packet.{size_of_packet}
 use Rattle.sctp_model.specs.end.EndView.{EndView, format_of}
@@ -10,7 +8,7 @@ use Rattle.sctp_model.specs.end.Pacing.{Pace, room_by, room_paced, sent_pace}
 use Rattle.sctp_model.specs.end.Building.{room_behind, filled_behind, sent}
 use Rattle.sctp_model.proofs.sender.HeardLaws.{unpaced_room}
 use Rattle.sctp_packet.specs.Draft.{Draft, room_in}
-use Rattle.sctp_values.specs.declared.ticket.Ticket.{Ticket}
+use Rattle.sctp_send.specs.declared.fill.Filled.{Filled}
 use Rattle.sctp_association.specs.Drafted.{drafted, IsOf, IsOwn}
 use Rattle.sctp_association.specs.FillsBehind.{FillsBehind}
 use Rattle.sctp_association.specs.declared.traffic.Traffic.{Traffic}
@@ -45,21 +43,22 @@ own_narrowed e m w x within same of = record {
 }
 
 -- the limit alone changes nothing of what goes in
-widened : (e : EndView) (w : Draft) (limit : ℕ) (m : Marks) (new : Packing) (traffic : Traffic) (tickets : Vec Ticket Global)
-    → FillsBehind e (record { writer = record w { limit = limit }; marks = m }) new traffic tickets → FillsBehind e (record { writer = w; marks = m }) new traffic tickets
-widened e w limit m new traffic tickets fills = record {
+widened : (e : EndView) (w : Draft) (limit : ℕ) (m : Marks) (new : Packing) (traffic : Traffic) (filled : Filled)
+    → FillsBehind e (record { writer = record w { limit = limit }; marks = m }) new traffic filled → FillsBehind e (record { writer = w; marks = m }) new traffic filled
+widened e w limit m new traffic filled fills = record {
   chunks = fills.chunks;
   packet = fills.packet;
   marks = fills.marks;
   timers = fills.timers;
   traffic_stands = fills.traffic_stands;
+  sendings_are = fills.sendings_are;
   tickets_are = fills.tickets_are;
 }
 
-pub fills_narrowed : (e : EndView) (w x : Draft) (m : Marks) (new : Packing) (traffic : Traffic) (tickets : Vec Ticket Global) → x ≡ record w { limit = x.limit }
-    → FillsBehind e (record { writer = x; marks = m }) new traffic tickets → FillsBehind e (record { writer = w; marks = m }) new traffic tickets
-fills_narrowed e w x m new traffic tickets same fills =
-    widened e w x.limit m new traffic tickets (subst (λ (d : Draft). FillsBehind e (record { writer = d; marks = m }) new traffic tickets) same fills)
+pub fills_narrowed : (e : EndView) (w x : Draft) (m : Marks) (new : Packing) (traffic : Traffic) (filled : Filled) → x ≡ record w { limit = x.limit }
+    → FillsBehind e (record { writer = x; marks = m }) new traffic filled → FillsBehind e (record { writer = w; marks = m }) new traffic filled
+fills_narrowed e w x m new traffic filled same fills =
+    widened e w x.limit m new traffic filled (subst (λ (d : Draft). FillsBehind e (record { writer = d; marks = m }) new traffic filled) same fills)
 
 -- ---- the pace after it
 

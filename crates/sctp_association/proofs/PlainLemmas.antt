@@ -6,9 +6,7 @@ use Rattle.sctp_model.specs.end.EndView.{EndView, Alarm, InitAlarm, CookieAlarm,
 use Rattle.sctp_model.specs.end.Clock.{is_point_past}
 use Rattle.sctp_model.specs.end.Building.{CookieAckSlot, HeartbeatSlot, ErrorSlot, SackSlot, ForwardSlot, AnswerSlot, RequestSlot, ShutdownSlot, ShutdownAckSlot, open_slots}
 use Rattle.sctp_packet.specs.Draft.{Draft}
-use Rattle.std.specs.declared.vec.Vec.{Vec}
-use Rattle.std.specs.declared.alloc.Global.{Global}
-use Rattle.sctp_values.specs.declared.ticket.Ticket.{Ticket}
+use Rattle.sctp_send.specs.declared.fill.Filled.{Filled}
 use Rattle.sctp_values.specs.declared.no_memory.NoMemory.{NoMemory}
 use Rattle.sctp_association.specs.StartsMean.{starts_at, with_fragments}
 use Rattle.sctp_association.specs.DueStands.{DueStands}
@@ -69,12 +67,12 @@ module _ (e : EndView) (d : Due) (plain : IsPlain d e.due) (quiet : IsQuiet e) w
       (cut (SackSlot ∷ []) (ForwardSlot ∷ AnswerSlot ∷ RequestSlot ∷ ShutdownSlot ∷ ShutdownAckSlot ∷ []) e p q false refl puts)
 
 -- fragments behind the SACK
-pub plain_fills : (e : EndView) (t : model.Tags) (g : model.Stage) (d : Due) (old mid new : Draft) (s some : Bool) (traffic : Traffic) (tickets : Vec Ticket Global) → e.phase ≡ model.Open t g
+pub plain_fills : (e : EndView) (t : model.Tags) (g : model.Stage) (d : Due) (old mid new : Draft) (s some : Bool) (traffic : Traffic) (filled : Filled) → e.phase ≡ model.Open t g
     → e.pace ≡ None → IsQuiet e → IsEmpty e (plain_at d old s false) → PutsAt open_slots e (plain_at d old s false) (plain_at d mid false false) true
-    → FillsBehind e (plain_at d mid false false) (plain_at d new false some) traffic tickets
-    → (x : SenderView) × IsPacked e x e.pace (plain_at d new false some) tickets × TrafficStands traffic (format_of e) x e.receiver
-plain_fills e t g d old mid new s some traffic tickets phase none quiet empty puts fills =
-    fills_packet {E = NoMemory} (Ok tickets) e t g (plain_at d old s false) (plain_at d mid false false) (plain_at d new false some) true traffic e.pace phase quiet empty refl puts fills
+    → FillsBehind e (plain_at d mid false false) (plain_at d new false some) traffic filled
+    → (x : SenderView) × IsPacked e x e.pace (plain_at d new false some) filled × TrafficStands traffic (format_of e) x e.receiver
+plain_fills e t g d old mid new s some traffic filled phase none quiet empty puts fills =
+    fills_packet {E = NoMemory} (Ok filled) e t g (plain_at d old s false) (plain_at d mid false false) (plain_at d new false some) true traffic e.pace phase quiet empty refl puts fills
     (paced_none e (plain_marks d false false) mid.chunks e.pace refl none)
 
 -- no timer but that of fragments starts
@@ -112,8 +110,8 @@ never_open (Failed why) t g is = cc
 
 pub plain_sender : (r : Result Plain NoMemory) (e v : EndView) (d : Due) (w : Draft) (m : Machine) (a b : Association) → m.life ≡ life.Joined a → KeepsMachine m v
     → b ≡ record a { traffic = b.traffic }
-    → IfOk r (λ p. (x : SenderView) × IsPacked e x v.pace (plain_at d w p.sack p.fragments) p.tickets × TrafficStands b.traffic (format_for v.terms.interleave) x v.receiver)
-    → IfOk r (λ p. (x : SenderView) × IsPacked e x v.pace (plain_at d w p.sack p.fragments) p.tickets × KeepsMachine (record m { life = life.Joined b }) (record v { sender = x }))
+    → IfOk r (λ p. (x : SenderView) × IsPacked e x v.pace (plain_at d w p.sack p.fragments) p.filled × TrafficStands b.traffic (format_for v.terms.interleave) x v.receiver)
+    → IfOk r (λ p. (x : SenderView) × IsPacked e x v.pace (plain_at d w p.sack p.fragments) p.filled × KeepsMachine (record m { life = life.Joined b }) (record v { sender = x }))
 plain_sender (Ok p) e v d w m a b is k kept packed = (packed.0, packed.1, on_traffic m a b v packed.0 is k kept packed.2)
 plain_sender (Err failed) e v d w m a b is k kept packed = packed
 

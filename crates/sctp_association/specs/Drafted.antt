@@ -1,7 +1,5 @@
 -- A packet in the making: which chunks went in, and what that leaves at its end (RFC 9260, 6.10).
 use Rattle.std.specs.Prelude.{◌≡◌, ◌≤◌, ℕ, Bool, true, false, not, List, [], map, Option, None}
-use Rattle.std.specs.declared.vec.Vec.{Vec}
-use Rattle.std.specs.declared.alloc.Global.{Global}
 use Rattle.sctp_model.specs.wire.Typed.{Typed}
 use Rattle.sctp_model.specs.sender.SenderView.{SenderView}
 use Rattle.sctp_model.specs.sender.Filling.{newly_numbered}
@@ -12,10 +10,11 @@ use Rattle.sctp_model.specs.end.EndView as model
 use Rattle.sctp_model.specs.end.Pacing.{Pace}
 use Rattle.sctp_model.specs.end.Building.{Slot, Puts, Builds, tag_to}
 use Rattle.sctp_packet.specs.Draft.{Draft}
-use Rattle.sctp_values.specs.declared.ticket.Ticket.{Ticket}
+use Rattle.sctp_send.specs.declared.fill.Filled.{Filled}
 use Rattle.sctp_association.specs.StartsMean.{starts_at, started_from}
 use Rattle.sctp_association.specs.DueStands.{DueStands}
 use Rattle.sctp_association.specs.TrafficStands.{TrafficStands}
+use Rattle.sctp_association.specs.Sends.{Sends}
 use Rattle.sctp_association.specs.declared.state.due.Due.{Due}
 use Rattle.sctp_association.specs.declared.traffic.Traffic.{Traffic}
 use Rattle.sctp_association.specs.declared.build.packing.Marks.{Marks}
@@ -105,11 +104,13 @@ pub record PutsAt (ss : List Slot) (e : EndView) (old new : Packing) (room : Boo
   pub puts : Puts ss (drafted old.marks e) old.writer.chunks new.writer.chunks (not room) (drafted new.marks e)
   pub packet : IsOf e new
 
--- The packet is whole: it holds what the end's next packet does, which leaves this sender and this pace; the tickets are those newly numbered.
-pub record IsPacked (e : EndView) (s : SenderView) (o : Option Pace) (p : Packing) (tickets : Vec Ticket Global) : Type 0 where
+-- The packet is whole: it holds what the end's next packet does, which leaves this sender and this pace; the tickets are those newly
+-- numbered, and the sendings those of its user data.
+pub record IsPacked (e : EndView) (s : SenderView) (o : Option Pace) (p : Packing) (filled : Filled) : Type 0 where
   pub builds : Builds e p.writer.chunks (record (drafted p.marks e) { sender = s; pace = o })
   pub packet : IsOwn e p
-  pub tickets_are : map (λ t. t.0) tickets.items ≡ newly_numbered e.sender s
+  pub tickets_are : map (λ t. t.0) filled.tickets.items ≡ newly_numbered e.sender s
+  pub sendings : Sends e p.writer.chunks filled.sendings
 
 -- ---- what this crate leaves out
 

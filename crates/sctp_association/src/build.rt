@@ -25,7 +25,7 @@ ghost use Rattle.sctp_association.specs.MachineStands.{MachineStands};
 ghost use Rattle.sctp_association.specs.Drafted.{drafted, IsEmpty, IsPacked, IsPartOf};
 ghost use Rattle.sctp_association.specs.BuildAnswers.{BuildAnswer};
 
-use crate::build::filling::fill_behind;
+use crate::build::filling::{fill_behind, filled_none};
 use crate::build::packing::Packing;
 use crate::build::putting::{put_echoing, put_open};
 use crate::machine::Machine;
@@ -36,15 +36,18 @@ use crate::time::timer::Alarm;
 use crate::traffic::Traffic;
 use sctp_congestion::Pacing;
 use sctp_opening::put_init;
+use sctp_send::{Filled, Sendings};
 use sctp_terms::{Config, Draw};
 use sctp_values::{NoMemory, Ticket};
 use std::alloc::Global;
 
-/// A packet to send, and the tickets of the messages that were assigned their TSNs with it, by their first TSN.
+/// A packet to send; the tickets of the messages that were assigned their TSNs with it, by their first TSN; and how many of its DATA and I-DATA chunks
+/// were sent first, retransmitted after an expiry of the data timer, and fast retransmitted (RFC 9260, 6.1, 6.3.3 and 7.2.4).
 #[derive(Drop)]
 pub struct Built {
     pub packet: Vec<u8>,
     pub tickets: Vec<Ticket>,
+    pub sendings: Sendings,
 }
 
 #[tactic(auto, unfolding(crate::specs::MachineStands::MachineStands))]
@@ -76,23 +79,8 @@ impl Machine {
     {
         self.keep_forward();
         let mut packing = self.packing();
-        let tickets = self.pack(moment, &mut packing)?;
-        Ok(self.sent(moment, packing, tickets))
-    }
-
-    /// If a FORWARD-TSN is due, has it ready for this packet: one that was built for the same point is used again (`Sender::keep_forward`), so that
-    /// a SACK which changes nothing costs no walk over the TSNs that it skips. It may allocate, and does without where memory is refused.
-    fn keep_forward(&mut self)
-        ensures { (v : EndView) → MachineStands self.old v → MachineStands self.new v }
-    {
-        if !self.due.forward {
-            return;
-        }
-        let limit = self.config.limit();
-        match &mut self.life {
-            Life::Unjoined(_) => {}
-            Life::Joined(association) => association.traffic.keep_forward(limit),
-        }
+        let filled = self.pack(moment, &mut packing)?;
+        Ok(self.sent(moment, packing, filled))
     }
 
     /// Puts all chunks of the next packet in, by the state of the endpoint, at this time in milliseconds. Of the endpoint only the sender and the pace
@@ -100,9 +88,9 @@ impl Machine {
     ///
     /// # Errors
     /// `NoMemory` if an allocation was refused.
-    fn pack(&mut self, moment: u64, packing: &mut Packing) -> Result<Vec<Ticket>, NoMemory>
+    fn pack(&mut self, moment: u64, packing: &mut Packing) -> Result<Filled, NoMemory>
         ensures packed { (v : EndView) → MachineStands self.old v → IsEmpty (record v { moment = moment }) packing.old
-            → IfOk result (λ tickets. (s : SenderView) × IsPacked (record v { moment = moment }) s self.new.pace packing.new tickets
+            → IfOk result (λ filled. (s : SenderView) × IsPacked (record v { moment = moment }) s self.new.pace packing.new filled
             × MachineStands self.new (record v { sender = s; pace = self.new.pace })) }
         ensures memory { (v : EndView) → MachineStands self.old v → OnErr result (MachineStands self.new v) }
     {
@@ -125,18 +113,19 @@ impl Machine {
     }
 
     /// The packet goes out, if it has a chunk: its chunks are no longer due, and their timers start.
-    fn sent(&mut self, moment: u64, packing: Packing, tickets: Vec<Ticket>) -> Option<Built>
+    fn sent(&mut self, moment: u64, packing: Packing, filled: Filled) -> Option<Built>
         ensures stands { (v : EndView) → MachineStands self.old v → MachineStands self.new (drafted packing.marks (record v { moment = moment })) }
         ensures packet { MatchOption result (packing.writer.chunks ≡ []) (λ b. WritesPacket b.packet.items (packet_of packing.writer)) }
         ensures size { IfSome result (λ b. length b.packet.items ≡ size_of_packet packing.writer.chunks) }
         ensures within { IfSome result (λ b. length b.packet.items ≤ packing.writer.limit) }
-        ensures tickets { IfSome result (λ b. b.tickets ≡ tickets) }
+        ensures tickets { IfSome result (λ b. b.tickets ≡ filled.tickets) }
+        ensures sendings { IfSome result (λ b. b.sendings ≡ filled.sendings) }
     {
         self.moment = moment;
         self.when_sack_sent(self.due.sack, packing.marks.sack);
         self.timers.start_all(packing.marks.starts, moment);
         self.due.leave(self.alloc, packing.marks);
-        self.finished(packing.writer, tickets)
+        self.finished(packing.writer, filled)
     }
 }
 
@@ -146,15 +135,15 @@ fn pack_unjoined(
     config: &Config,
     unjoined: Unjoined,
     packing: &mut Packing,
-) -> Result<Vec<Ticket>, NoMemory>
+) -> Result<Filled, NoMemory>
     ensures { (e : EndView) → e.configuration ≡ config.now → e.phase ≡ phase_unjoined unjoined → IsEmpty e packing.old
-        → IfOk result (λ tickets. IsPacked e e.sender e.pace packing.new tickets) }
+        → IfOk result (λ filled. IsPacked e e.sender e.pace packing.new filled) }
 {
     match unjoined {
-        Unjoined::Idle => Ok(Vec::new(alloc)),
-        Unjoined::Listening => Ok(Vec::new(alloc)),
+        Unjoined::Idle => Ok(filled_none(alloc)),
+        Unjoined::Listening => Ok(filled_none(alloc)),
         Unjoined::Calling(draw) => pack_init(alloc, config, draw, packing),
-        Unjoined::Failed(_) => Ok(Vec::new(alloc)),
+        Unjoined::Failed(_) => Ok(filled_none(alloc)),
     }
 }
 
@@ -164,21 +153,21 @@ fn pack_init(
     config: &Config,
     draw: Draw,
     packing: &mut Packing,
-) -> Result<Vec<Ticket>, NoMemory>
+) -> Result<Filled, NoMemory>
     ensures { (e : EndView) → e.configuration ≡ config.now → e.phase ≡ model.Calling draw → IsEmpty e packing.old
-        → IfOk result (λ tickets. IsPacked e e.sender e.pace packing.new tickets) }
+        → IfOk result (λ filled. IsPacked e e.sender e.pace packing.new filled) }
 {
     // By the clause of `limit` its packet has space for it.
     let _limit = config.limit();
     if !packing.marks.init {
-        return Ok(Vec::new(alloc));
+        return Ok(filled_none(alloc));
     }
     if !put_init(alloc, config, draw, &mut packing.writer)? {
-        return Ok(Vec::new(alloc));
+        return Ok(filled_none(alloc));
     }
     packing.marks.init = false;
     packing.marks.starts.add(Alarm::Init);
-    Ok(Vec::new(alloc))
+    Ok(filled_none(alloc))
 }
 
 /// What an association sends, by its progress; once it is over, nothing.
@@ -190,10 +179,10 @@ fn pack_joined(
     pace: &mut Option<Pacing>,
     moment: u64,
     packing: &mut Packing,
-) -> Result<Vec<Ticket>, NoMemory>
+) -> Result<Filled, NoMemory>
     ensures packed { (e : EndView) → phase_in association.old.tags association.old.progress ≡ e.phase → IsPartOf config.now association.old.traffic due.now e
         → pace.old ≡ e.pace → moment ≡ e.moment → IsEmpty e packing.old
-        → IfOk result (λ tickets. (s : SenderView) × IsPacked e s pace.new packing.new tickets × TrafficStands association.new.traffic (format_of e) s e.receiver) }
+        → IfOk result (λ filled. (s : SenderView) × IsPacked e s pace.new packing.new filled × TrafficStands association.new.traffic (format_of e) s e.receiver) }
     ensures memory { (f : Format) (s : SenderView) (r : ReceiverView) → TrafficStands association.old.traffic f s r → OnErr result (TrafficStands association.new.traffic f s r) }
     ensures kept { association.new ≡ record association.old { traffic = association.new.traffic } }
     ensures unchanged { OnErr result (pace.new ≡ pace.old) }
@@ -205,7 +194,7 @@ fn pack_joined(
             let traffic = &mut association.traffic;
             pack_open(alloc, config, traffic, due, pace, moment, packing)
         }
-        Progress::Over(_) => Ok(Vec::new(alloc)),
+        Progress::Over(_) => Ok(filled_none(alloc)),
     }
 }
 
@@ -215,12 +204,12 @@ fn pack_echoing(
     cookie: &EchoedCookie,
     due: &Due,
     packing: &mut Packing,
-) -> Result<Vec<Ticket>, NoMemory>
+) -> Result<Filled, NoMemory>
     ensures { (e : EndView) (t : model.Tags) → e.phase ≡ model.Echoing t cookie.now.bytes.items → DueStands due.now e.due → IsEmpty e packing.old
-        → IfOk result (λ tickets. IsPacked e e.sender e.pace packing.new tickets) }
+        → IfOk result (λ filled. IsPacked e e.sender e.pace packing.new filled) }
 {
     let _room = put_echoing(cookie, due, packing)?;
-    Ok(Vec::new(alloc))
+    Ok(filled_none(alloc))
 }
 
 /// The chunks that are due while the association is open, and user data in what is left after them (RFC 9260, 6.1 and 6.10).
@@ -232,16 +221,16 @@ fn pack_open(
     pace: &mut Option<Pacing>,
     moment: u64,
     packing: &mut Packing,
-) -> Result<Vec<Ticket>, NoMemory>
+) -> Result<Filled, NoMemory>
     ensures packed { (e : EndView) (t : model.Tags) (g : model.Stage) → e.phase ≡ model.Open t g → IsPartOf config.now traffic.old due.now e
         → pace.old ≡ e.pace → moment ≡ e.moment → IsEmpty e packing.old
-        → IfOk result (λ tickets. (s : SenderView) × IsPacked e s pace.new packing.new tickets × TrafficStands traffic.new (format_of e) s e.receiver) }
+        → IfOk result (λ filled. (s : SenderView) × IsPacked e s pace.new packing.new filled × TrafficStands traffic.new (format_of e) s e.receiver) }
     ensures memory { (f : Format) (s : SenderView) (r : ReceiverView) → TrafficStands traffic.old f s r → OnErr result (TrafficStands traffic.new f s r) }
     ensures unchanged { OnErr result (pace.new ≡ pace.old) }
     ensures unpaced { pace.old ≡ None → pace.new ≡ None }
 {
     if !put_open(config, traffic, due, packing)? {
-        return Ok(Vec::new(alloc));
+        return Ok(filled_none(alloc));
     }
     fill_behind(traffic, pace, moment, packing)
 }

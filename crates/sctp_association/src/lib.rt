@@ -39,7 +39,8 @@
 //!   expires, doubles its timeout and counts as RFC 9260, 6.3 says (`Timers`, `Timer`, by equations).
 //! - **The next packet** (`build`: `BuildAnswer`). INIT alone; COOKIE ECHO and an ERROR; or all chunks that are due, in the specification's order, and user
 //!   data after them. There is a packet exactly if the specification's has a chunk; its bytes are that packet, within the packet limit, and its tickets
-//!   those of the messages that were assigned TSNs, by first TSN. Chunks that went in are no longer due, their timers run, and a SACK's duplicates are
+//!   those of the messages that were assigned TSNs, by first TSN; how many of its DATA and I-DATA chunks are sent for the first time, after an expiry of the
+//!   data timer, and by fast retransmission, it says too (`Sends`). Chunks that went in are no longer due, their timers run, and a SACK's duplicates are
 //!   forgotten. What doesn't fit stays due, and nothing goes out after it. User data goes out at one place: `fill_rest`.
 //! - **The parts.** What the sender and the receiver do in the format agreed on is the step of both views (`Traffic`: every call); what is due changes as
 //!   the view's does (`Due`: every call, `DueStands`).
@@ -47,7 +48,8 @@
 //! - **The user's calls** are refused exactly as specified: `connect`, `send`, `send_with_max_retransmits`, `abandon`, `shutdown`, `abort`, `take`.
 //! - **Readers** return what the view says, before, in and after an association: `state`, `ended`, `config`, `agreed` (None exactly if no stream is agreed
 //!   on), `tickets`, `waiting`, `readable`, `inbound`, `outbound`, `is_interleaved`, `is_partial`, `has_late`, `next_late`, `next_to_give_up`,
-//!   `next_at_limit`, `acknowledged`, `abandoned`, `queued`, `queued_bytes`, `peer_window`, `held_bytes`, `outstanding`.
+//!   `next_at_limit`, `acknowledged`, `abandoned`, `abandoned_messages`, `owes_sack`, `queued`, `queued_bytes`, `peer_window`, `held_bytes`,
+//!   `outstanding`.
 //! - **Bounds.** Received bytes that aren't taken never exceed the receive buffer (`held_bytes`, `bound`); at most 32,767 TSNs and partly sent messages are
 //!   outstanding (`outstanding`, `bound`).
 //! - **Laws of every view** that an endpoint stands for (their functions do nothing): it is sound (`sound`), its sender's view is one that a

@@ -1,7 +1,9 @@
 -- What was said of an end is said of it too once something was handed back to it.
+use Rattle.std.proofs.Common.{◌≡◌, ◌∙◌}
 use Rattle.std.specs.Prelude.{Option, Some, None, Result, Ok, Err, IfOk, OnErr}
 use Rattle.sctp_model.specs.end.EndView.{EndView}
 use Rattle.sctp_values.specs.declared.no_memory.NoMemory.{NoMemory}
+use Rattle.sctp_endpoint.specs.Counted.{Counted, counted, CountsAfter}
 use Rattle.sctp_endpoint.specs.EndpointStands.{EndpointStands}
 use Rattle.sctp_endpoint.specs.Transmitted.{Transmits}
 use Rattle.sctp_endpoint.specs.Logs.{SendsLogs}
@@ -29,3 +31,11 @@ pub sends_on : (v : EndView) (r : Result (Option Sent) NoMemory) (e f : Endpoint
 sends_on v (Err why) e f on l = tt
 sends_on v (Ok None) e f on l = (l.0, l.1, on l.0 l.2)
 sends_on v (Ok (Some s)) e f on l = (l.0, l.1, l.2, on l.0 l.3)
+
+-- what is counted of the packet
+pub counts_on : (v : EndView) (r : Result (Option Sent) NoMemory) (e f : Endpoint) (before : Counted) → StandsOn e f → counted f ≡ counted e → CountsAfter v r e before
+    → CountsAfter v r f before
+counts_on v (Err why) e f before on same c = same ∙ c
+counts_on v (Ok None) e f before on same c = same ∙ c
+counts_on v (Ok (Some s)) e f before on same c =
+    record { chunks = c.chunks; after = c.after; builds = c.builds; packet = c.packet; stands = on c.after c.stands; sendings = c.sendings; sends = c.sends; counts = same ∙ c.counts }

@@ -1,5 +1,6 @@
 pub mod Asked
 pub mod Codes
+pub mod Counts
 pub mod Holds
 pub mod Lending
 pub mod Names

@@ -18,12 +18,14 @@ use Rattle.sctp_terms.specs.declared.calls.AbortFault.TheVariants as abort
 use Rattle.sctp_association.specs.AbortAnswers.{AbortAnswers, aborted_view}
 use Rattle.sctp_association.specs.CallAnswers.{SendAnswers, sent_view}
 use Rattle.sctp_association.specs.declared.user.calls.Refused.{Refused}
+use Rattle.sctp_endpoint.specs.Counted.{Counted, heard_counts, sacks_read, aborted_counts}
 use Rattle.sctp_endpoint.specs.Logs.{TellsAnew}
 use Rattle.sctp_endpoint.specs.declared.after.Verdict.{Verdict}
 use Rattle.sctp_endpoint.specs.declared.after.Verdict.TheVariants.{Taken, Dropped, Answer}
 use Rattle.sctp_endpoint.specs.declared.transmit.Sent.{Sent}
 use Rattle.sctp_endpoint.specs.declared.endpoint.Endpoint.{Endpoint}
 use Rattle.sctp_c.specs.Codes.{refused_code}
+use Rattle.sctp_c.specs.Counts.{counted_in, CountsIn}
 use Rattle.sctp_c.specs.Holds.{Holds, TransmitsIn, HandledIn, SendsNotes, GivesNotes, TakesNote}
 use Rattle.sctp_c.specs.declared.codes.TheConstants.{OK, TOO_LONG, NO_MEMORY, BAD_STATE, NOTHING, NEEDS_ROOM}
 use Rattle.sctp_c.specs.declared.crossing.SctpMessage.{SctpMessage}
@@ -49,13 +51,14 @@ PollTold (Err e) n s r buffer t tickets = (n ≡ NO_MEMORY) × (s.length ≡ 0) 
 PollTold (Ok None) n s r buffer t tickets = (n ≡ OK) × (s.length ≡ 0) × (s.tickets ≡ 0) × (buffer ≡ r) × (tickets ≡ t)
 PollTold (Ok (Some p)) n s r buffer t tickets = (n ≡ OK) × IsPut p.packet.items s.length r buffer × AreTold p.tickets.items s.tickets t tickets
 
--- The endpoint returned this as its next packet, C gets it, and the endpoint is left so.
-pub record Polled (v : EndView) (now : ℕ) (e : Option Endpoint) (code : ℕ) (s : SctpSent) (buffer_old buffer tickets_old tickets : List ℕ) : Type 0 where
+-- The endpoint, which had counted this before, returned this as its next packet, C gets it, and the endpoint is left so.
+pub record Polled (v : EndView) (now : ℕ) (before : Counted) (e : Option Endpoint) (code : ℕ) (s : SctpSent) (buffer_old buffer tickets_old tickets : List ℕ) : Type 0 where
   pub answer : Result (Option Sent) NoMemory
   pub step : IfOk answer (λ sent. TransmitsIn (at_moment v now) sent e)
   pub refused : OnErr answer (Holds e v)
   pub notes : IfOk answer (λ sent. SendsNotes v sent e)
   pub anew : IfOk answer (λ sent. TellsAnew v sent)
+  pub counts : CountsIn (at_moment v now) answer e before
   pub told : PollTold answer code s buffer_old buffer tickets_old tickets
 
 -- ---- a received packet
@@ -67,10 +70,11 @@ HeardTold (Ok Taken) n w old new = (n ≡ OK) × (w.verdict ≡ 0) × (w.reason 
 HeardTold (Ok (Answer bytes)) n w old new = (n ≡ OK) × (w.verdict ≡ 1) × (w.reason ≡ 0) × IsPut bytes.items w.length old new
 HeardTold (Ok (Dropped reason)) n w old new = (n ≡ OK) × (w.verdict ≡ 2) × (w.reason ≡ reason_code reason) × (w.length ≡ 0) × (new ≡ old)
 
--- The endpoint returned this for the packet, C gets it, and the endpoint is left so.
-pub record Heard (v : EndView) (now : ℕ) (d : Draw) (o : Option Packet) (e : Option Endpoint) (code : ℕ) (w : SctpVerdict) (old new : List ℕ) : Type 0 where
+-- The endpoint, which had counted this before, returned this for the packet of so many bytes, C gets it, and the endpoint is left so.
+pub record Heard (v : EndView) (now : ℕ) (d : Draw) (bytes : ℕ) (o : Option Packet) (before : Counted) (e : Option Endpoint) (code : ℕ) (w : SctpVerdict) (old new : List ℕ) : Type 0 where
   pub answer : Result Verdict NoMemory
   pub step : HandledIn v now d o answer e
+  pub counts : counted_in e ≡ heard_counts bytes (sacks_read o) answer before
   pub told : HeardTold answer code w old new
 
 -- ---- an ABORT
@@ -86,11 +90,12 @@ abbrev pub AbortTold : Result (Vec ℕ Global) AbortFault → (code count : ℕ)
 AbortTold (Ok bytes) n k old new = (n ≡ OK) × IsPut bytes.items k old new
 AbortTold (Err why) n k old new = (n ≡ abort_code why) × (k ≡ 0) × (new ≡ old)
 
--- The endpoint returned this to abort, C gets it, and the endpoint is left so.
-pub record Aborted (v : EndView) (reason : List ℕ) (e : Option Endpoint) (code count : ℕ) (old new : List ℕ) : Type 0 where
+-- The endpoint, which had counted this before, returned this to abort, C gets it, and the endpoint is left so.
+pub record Aborted (v : EndView) (reason : List ℕ) (before : Counted) (e : Option Endpoint) (code count : ℕ) (old new : List ℕ) : Type 0 where
   pub answer : Result (Vec ℕ Global) AbortFault
   pub answers : AbortAnswers v reason answer
   pub step : Holds e (aborted_view v reason answer)
+  pub counts : counted_in e ≡ aborted_counts answer before
   pub told : AbortTold answer code count old new
 
 -- ---- the cause of an ABORT in a packet

@@ -8,6 +8,7 @@ ghost use Rattle.sctp_model.specs.end.UserCalls.{connect_answer, called, abandon
 ghost use Rattle.sctp_c.specs.Asked.{drawn, IsDraw};
 ghost use Rattle.sctp_c.specs.Slot.{is_full};
 ghost use Rattle.sctp_c.specs.Holds.{Holds, KeepsNotes};
+ghost use Rattle.sctp_c.specs.Counts.{counted_in};
 ghost use Rattle.sctp_c.specs.Codes.{connect_code, shutdown_code, fate_number};
 
 use crate::codes::{BAD_DRAW, BAD_RESERVED, BAD_STATE, MISUSE, NOT_OPEN, OK};
@@ -26,6 +27,7 @@ pub extern "C" fn sctp_endpoint_connect(handle: &mut SctpEndpoint, now: u64, dra
     ensures step { (v : EndView) → Holds handle.old.slot.endpoint v → (result ≡ OK) → Holds handle.new.slot.endpoint (called (at_moment v now) (drawn draw.now)) }
     ensures kept { (v : EndView) → Holds handle.old.slot.endpoint v → ((result ≡ OK) → ⊥) → Holds handle.new.slot.endpoint v }
     ensures notes { (v : EndView) → Holds handle.old.slot.endpoint v → IsDraw draw.now → KeepsNotes v handle.new.slot.endpoint }
+    ensures counts { counted_in handle.new.slot.endpoint ≡ counted_in handle.old.slot.endpoint }
 {
     let SctpDraw { tag, tsn, reserved } = *draw;
     let Some(draw) = Draw::new(tag, tsn) else {
@@ -52,6 +54,7 @@ pub extern "C" fn sctp_endpoint_shutdown(handle: &mut SctpEndpoint) -> u32
     ensures answer { (v : EndView) → Holds handle.old.slot.endpoint v → result ≡ shutdown_code (shutdown_answer v.phase) }
     ensures step { (v : EndView) → Holds handle.old.slot.endpoint v → Holds handle.new.slot.endpoint (shut v) }
     ensures notes { (v : EndView) → Holds handle.old.slot.endpoint v → KeepsNotes v handle.new.slot.endpoint }
+    ensures counts { counted_in handle.new.slot.endpoint ≡ counted_in handle.old.slot.endpoint }
 {
     if !handle.is_full() {
         return MISUSE;
@@ -70,6 +73,7 @@ pub extern "C" fn sctp_endpoint_on_moment(handle: &mut SctpEndpoint, now: u64) -
     ensures misuse { handle.old.slot.endpoint ≡ None → (result ≡ MISUSE) × (handle.new.slot.endpoint ≡ None) }
     ensures step { (v : EndView) → Holds handle.old.slot.endpoint v → (result ≡ OK) × Holds handle.new.slot.endpoint (ticked v now) }
     ensures notes { (v : EndView) → Holds handle.old.slot.endpoint v → KeepsNotes v handle.new.slot.endpoint }
+    ensures counts { counted_in handle.new.slot.endpoint ≡ counted_in handle.old.slot.endpoint }
 {
     if !handle.is_full() {
         return MISUSE;
@@ -91,6 +95,7 @@ pub extern "C" fn sctp_endpoint_abandon(
     ensures answer { (v : EndView) → Holds handle.old.slot.endpoint v → (result ≡ OK) × (fate.new ≡ fate_number (abandons v ticket)) }
     ensures step { (v : EndView) → Holds handle.old.slot.endpoint v → Holds handle.new.slot.endpoint (abandoned_at v ticket) }
     ensures notes { (v : EndView) → Holds handle.old.slot.endpoint v → KeepsNotes v handle.new.slot.endpoint }
+    ensures counts { counted_in handle.new.slot.endpoint ≡ counted_in handle.old.slot.endpoint }
 {
     if !handle.is_full() {
         return MISUSE;

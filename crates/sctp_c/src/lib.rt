@@ -17,6 +17,7 @@ mod buffers;
 mod calls;
 mod codes;
 mod config;
+mod counts;
 mod crossing;
 mod handle;
 mod making;

@@ -6,6 +6,8 @@ ghost use Rattle.sctp_model.specs.end.EndView as model;
 ghost use Rattle.sctp_model.specs.end.EndView.{fresh_end};
 ghost use Rattle.sctp_model.specs.end.Opening.{opened};
 ghost use Rattle.sctp_cookie.specs.Seals.{IsUnder};
+ghost use Rattle.sctp_endpoint.specs.Counted.{none_counted};
+ghost use Rattle.sctp_c.specs.Counts.{counted_in};
 ghost use Rattle.sctp_c.specs.Slot.{is_full};
 ghost use Rattle.sctp_c.specs.Holds.{Holds};
 ghost use Rattle.sctp_c.specs.Asked.{asked_by, drawn, is_zeroed, is_free, IsMade};
@@ -65,6 +67,7 @@ pub extern "C" fn sctp_endpoint_caller(
     ensures made { (result ≡ OK) → Holds handle.new.slot.endpoint (fresh_end (asked_by config.now) model.Caller model.Idle) }
     ensures answer { IsMade (is_full handle.old.slot.endpoint) (is_free config.now) config.now result }
     ensures kept { ((result ≡ OK) → ⊥) → handle.new ≡ handle.old }
+    ensures counts { (result ≡ OK) → counted_in handle.new.slot.endpoint ≡ none_counted }
 {
     if handle.is_full() {
         return MISUSE;
@@ -90,6 +93,7 @@ pub extern "C" fn sctp_endpoint_listener(
         → Holds handle.new.slot.endpoint (fresh_end (asked_by config.now) (model.Listener s) model.Listening) }
     ensures answer { IsMade (is_full handle.old.slot.endpoint) (is_free config.now && is_zeroed key.now.reserved) config.now result }
     ensures kept { ((result ≡ OK) → ⊥) → handle.new ≡ handle.old }
+    ensures counts { (result ≡ OK) → counted_in handle.new.slot.endpoint ≡ none_counted }
 {
     if handle.is_full() {
         return MISUSE;
@@ -121,6 +125,7 @@ pub extern "C" fn sctp_endpoint_opened(
     ensures answer { 0 < own.now.tag → 0 < peer.now.tag
         → IsMade (is_full handle.old.slot.endpoint) ((own.now.reserved == 0) && ((peer.now.reserved == 0) && is_free config.now)) config.now result }
     ensures kept { ((result ≡ OK) → ⊥) → handle.new ≡ handle.old }
+    ensures counts { (result ≡ OK) → counted_in handle.new.slot.endpoint ≡ none_counted }
 {
     let are_zeroed = are_opened_zeroed(own, peer, config);
     let (Some(own), Some(peer)) = (Draw::new(own.tag, own.tsn), Draw::new(peer.tag, peer.tsn))

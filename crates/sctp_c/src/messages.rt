@@ -8,6 +8,8 @@ ghost use Rattle.sctp_outcomes.specs.Kept.{AddsTaken};
 ghost use Rattle.sctp_recv.specs.HandedOf.{handed_of, message_bytes};
 ghost use Rattle.sctp_recv.specs.Readable.{ReadableAnswer};
 ghost use Rattle.sctp_endpoint.specs.EndpointStands.{EndpointStands};
+ghost use Rattle.sctp_endpoint.specs.Counted.{counted};
+ghost use Rattle.sctp_c.specs.Counts.{counted_in};
 ghost use Rattle.sctp_c.specs.Holds.{Holds};
 ghost use Rattle.sctp_c.specs.Told.{IsHead, IsTold, Takes};
 
@@ -123,6 +125,7 @@ fn drop_next(end: &mut Endpoint, stream: u16)
         → (t : EndView) × UserTakes v stream (Some h) t × EndpointStands end.new t }
     ensures notes { (v : EndView) (h : Handed) → EndpointStands end.old v → slice_get (v.receiver.waiting stream) 0 ≡ Some h
         → (t : EndView) × AddsTaken v stream h t × EndpointStands end.new t }
+    ensures counts { counted end.new ≡ counted end.old }
 {
     if let Some(message) = end.take(stream) {
         end.give_back(message);
@@ -198,6 +201,7 @@ pub extern "C" fn sctp_endpoint_take(
         → length buffer.old < length h.bytes → (result ≡ NEEDS_ROOM) × IsHead message.new h × Holds handle.new.slot.endpoint v }
     ensures taken { (v : EndView) (h : Handed) → Holds handle.old.slot.endpoint v → slice_get (v.receiver.waiting stream) 0 ≡ Some h
         → length h.bytes ≤ length buffer.old → (result ≡ OK) × Takes v stream h handle.new.slot.endpoint message.new buffer.old buffer.new }
+    ensures counts { counted_in handle.new.slot.endpoint ≡ counted_in handle.old.slot.endpoint }
 {
     if !handle.is_full() {
         return MISUSE;

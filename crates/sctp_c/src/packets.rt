@@ -8,6 +8,8 @@ ghost use Rattle.sctp_endpoint.specs.Transmitted.{TellsFew, MOST_TICKETS};
 ghost use Rattle.sctp_endpoint.specs.Handled.{IsRead, IsAnsweredWithin};
 ghost use Rattle.sctp_c.specs.Asked.{drawn, IsDraw};
 ghost use Rattle.sctp_c.specs.Slot.{is_full};
+ghost use Rattle.sctp_endpoint.specs.Counted.{counted};
+ghost use Rattle.sctp_c.specs.Counts.{counted_in};
 ghost use Rattle.sctp_c.specs.Holds.{Holds, KeepsNotes};
 ghost use Rattle.sctp_c.specs.Told.{IsPut, AreTold, PollTold, Polled, HeardTold, Heard, AbortTold, Aborted};
 
@@ -51,6 +53,7 @@ fn tell_poll(
     ensures few { IfOk answer (λ sent. TellsFew sent) → sent.new.tickets ≤ MOST_TICKETS }
     ensures reserved { sent.new.reserved ≡ 0 }
     ensures keeps { (v : EndView) → EndpointStands end.old v → EndpointStands end.new v }
+    ensures counts { counted end.new ≡ counted end.old }
 {
     let Ok(next) = answer else {
         *sent = no_packet(0);
@@ -93,7 +96,7 @@ pub extern "C" fn sctp_endpoint_poll_transmit(
     ensures few { (v : EndView) → Holds handle.old.slot.endpoint v → sent.new.tickets ≤ MOST_TICKETS }
     ensures reserved { (v : EndView) → Holds handle.old.slot.endpoint v → sent.new.reserved ≡ 0 }
     ensures did { (v : EndView) → Holds handle.old.slot.endpoint v → v.configuration.limit ≤ length buffer.old
-        → Polled v now handle.new.slot.endpoint result sent.new buffer.old buffer.new tickets.old tickets.new }
+        → Polled v now (counted_in handle.old.slot.endpoint) handle.new.slot.endpoint result sent.new buffer.old buffer.new tickets.old tickets.new }
 {
     if !handle.is_full() {
         return MISUSE;
@@ -171,7 +174,8 @@ pub extern "C" fn sctp_endpoint_handle_packet(
         × (handle.new.slot.endpoint ≡ handle.old.slot.endpoint) }
     ensures reserved { (v : EndView) → Holds handle.old.slot.endpoint v → IsDraw draw.now → verdict.new.reserved ≡ 0 }
     ensures did { (v : EndView) (o : Option meaning.Packet) → Holds handle.old.slot.endpoint v → IsDraw draw.now → v.configuration.limit ≤ length buffer.old
-        → IsRead packet.now o → Heard v now (drawn draw.now) o handle.new.slot.endpoint result verdict.new buffer.old buffer.new }
+        → IsRead packet.now o
+        → Heard v now (drawn draw.now) (length packet.now) o (counted_in handle.old.slot.endpoint) handle.new.slot.endpoint result verdict.new buffer.old buffer.new }
     ensures notes { (v : EndView) → Holds handle.old.slot.endpoint v → IsDraw draw.now → v.configuration.limit ≤ length buffer.old
         → KeepsNotes v handle.new.slot.endpoint }
 {
@@ -226,7 +230,7 @@ pub extern "C" fn sctp_endpoint_abort(
     ensures narrow { (v : EndView) → Holds handle.old.slot.endpoint v → length buffer.old < v.configuration.limit
         → (result ≡ NEEDS_ROOM) × (count.new ≡ v.configuration.limit) × (handle.new.slot.endpoint ≡ handle.old.slot.endpoint) }
     ensures did { (v : EndView) → Holds handle.old.slot.endpoint v → v.configuration.limit ≤ length buffer.old
-        → Aborted v reason.now handle.new.slot.endpoint result count.new buffer.old buffer.new }
+        → Aborted v reason.now (counted_in handle.old.slot.endpoint) handle.new.slot.endpoint result count.new buffer.old buffer.new }
     ensures notes { (v : EndView) → Holds handle.old.slot.endpoint v → v.configuration.limit ≤ length buffer.old → KeepsNotes v handle.new.slot.endpoint }
 {
     if !handle.is_full() {

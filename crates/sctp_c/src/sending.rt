@@ -5,6 +5,7 @@ ghost use Rattle.sctp_model.specs.end.EndView.{EndView};
 ghost use Rattle.sctp_send.specs.SenderAnswers.{lane_for};
 ghost use Rattle.sctp_association.specs.CallAnswers.{call_of, limited_call_of};
 ghost use Rattle.sctp_c.specs.Holds.{Holds};
+ghost use Rattle.sctp_c.specs.Counts.{counted_in};
 ghost use Rattle.sctp_c.specs.Codes.{moment_of, refused_code};
 ghost use Rattle.sctp_c.specs.Told.{SendTold, Sends};
 
@@ -76,6 +77,7 @@ pub extern "C" fn sctp_endpoint_send(
     ensures did { (v : EndView) → Holds handle.old.slot.endpoint v
         → Sends v (call_of (lane_for stream ordered) payload_id (take 65537 bytes.now) (moment_of until)) handle.new.slot.endpoint result ticket.new
         ⊎ (result ≡ NO_MEMORY) × (handle.new.slot.endpoint ≡ handle.old.slot.endpoint) }
+    ensures counts { counted_in handle.new.slot.endpoint ≡ counted_in handle.old.slot.endpoint }
 {
     if !handle.is_full() {
         return MISUSE;
@@ -109,6 +111,7 @@ pub extern "C" fn sctp_endpoint_send_with_max_retransmits(
         → Sends v (limited_call_of (lane_for stream ordered) payload_id (take 65537 bytes.now) (moment_of until) max_retransmits) handle.new.slot.endpoint result
         ticket.new
         ⊎ (result ≡ NO_MEMORY) × (handle.new.slot.endpoint ≡ handle.old.slot.endpoint) }
+    ensures counts { counted_in handle.new.slot.endpoint ≡ counted_in handle.old.slot.endpoint }
 {
     if !handle.is_full() {
         return MISUSE;

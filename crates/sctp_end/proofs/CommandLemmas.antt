@@ -2,7 +2,7 @@
 use Rattle.std.proofs.Common.{◌≡◌, List, [], ◌∷◌, ℕ, length, Some, refl, sym, ap, ◌∙◌, arith}
 use Rattle.sctp_end.specs.Commands.{name_of, command_named}
 use Rattle.sctp_end.specs.declared.command.Command.{Command}
-use Rattle.sctp_end.specs.declared.command.Command.TheVariants.{Connect, Draw, At, Packet, Build, Send, Abandon, Acknowledged, Abandoned, Take, Shutdown, Abort, Next, State, Held, Reassembly, Status, Path}
+use Rattle.sctp_end.specs.declared.command.Command.TheVariants.{Connect, Draw, At, Packet, Build, Send, Abandon, Acknowledged, Abandoned, Take, Shutdown, Abort, Next, State, Held, Reassembly, Status, Path, Counts}
 
 -- a row for each command: by its name it is found again
 named_again : (c : Command) → command_named (name_of c) ≡ Some c
@@ -24,6 +24,7 @@ named_again Held = refl
 named_again Reassembly = refl
 named_again Status = refl
 named_again Path = refl
+named_again Counts = refl
 
 -- one name, one command
 pub same_command : (c d : Command) → name_of c ≡ name_of d → c ≡ d

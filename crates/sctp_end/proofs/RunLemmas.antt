@@ -2,6 +2,7 @@
 use Rattle.std.proofs.Common.{◌≡◌, ℕ, ◌+◌, ◌<◌, ◌==◌, if◌then◌else◌, Bool, List, [], ◌∷◌, ◌++◌, length, Result, Ok, Err, inl, inr, arith, refl, sym, ap, ◌∙◌, subst, append_assoc, append-nil}
 use Rattle.std.proofs.lemmas.Bool.{cond-false, ne_eqb}
 use Rattle.sctp_model.specs.end.EndView.{Draw, EndView}
+use Rattle.sctp_endpoint.specs.Counted.{Counted, none_counted}
 use Rattle.sctp_endpoint.specs.EndpointStands.{EndpointStands}
 use Rattle.sctp_text.specs.declared.line_reader.NextLine.{NextLine}
 use Rattle.sctp_text.specs.declared.line_reader.ReadFault.{ReadFault}
@@ -162,12 +163,16 @@ skips_on law text lines now bytes x y after same has long skips =
 -- ---- the whole run
 
 -- how the lines were answered from the first standing on
-pub ran_whole : (end : Type 0) (v : EndView) (draw : Draw) (read written : List ℕ) → draw ≡ record { tag = 1; tsn = 1 }
-    → end × IsAnswered (record { view = v; draw = draw; now = 0 }) read written → Runs end (first_standing v) DONE read written
-ran_whole end v draw read written is (over, answered) =
-    inl (refl, over, subst (λ (d : Draw). IsAnswered (record { view = v; draw = d; now = 0 }) read written) is answered)
+same_first : (v : EndView) (counts : Counted) (draw : Draw) → counts ≡ none_counted → draw ≡ record { tag = 1; tsn = 1 }
+    → record { view = v; counts = counts; draw = draw; now = 0 } ≡ first_standing v
+same_first v counts draw none is = λ i. record { view = v; counts = none i; draw = is i; now = 0 }
 
-pub ran_partly : (end : Type 0) (v : EndView) (draw : Draw) (read written : List ℕ) → draw ≡ record { tag = 1; tsn = 1 }
-    → IsBegun (record { view = v; draw = draw; now = 0 }) read written → Runs end (first_standing v) FAILED read written
-ran_partly end v draw read written is begun =
-    inr (refl, subst (λ (d : Draw). IsBegun (record { view = v; draw = d; now = 0 }) read written) is begun)
+pub ran_whole : (end : Type 0) (v : EndView) (counts : Counted) (draw : Draw) (read written : List ℕ) → counts ≡ none_counted → draw ≡ record { tag = 1; tsn = 1 }
+    → end × IsAnswered (record { view = v; counts = counts; draw = draw; now = 0 }) read written → Runs end (first_standing v) DONE read written
+ran_whole end v counts draw read written none is (over, answered) =
+    inl (refl, over, subst (λ (s : Standing). IsAnswered s read written) (same_first v counts draw none is) answered)
+
+pub ran_partly : (end : Type 0) (v : EndView) (counts : Counted) (draw : Draw) (read written : List ℕ) → counts ≡ none_counted → draw ≡ record { tag = 1; tsn = 1 }
+    → IsBegun (record { view = v; counts = counts; draw = draw; now = 0 }) read written → Runs end (first_standing v) FAILED read written
+ran_partly end v counts draw read written none is begun =
+    inr (refl, subst (λ (s : Standing). IsBegun s read written) (same_first v counts draw none is) begun)

@@ -2,7 +2,7 @@
 use Rattle.std.specs.Prelude.{ℕ, if◌then◌else◌, List, [], ◌∷◌, length, Option, None, Some, codes, bytes_eq}
 use Rattle.sctp_end.specs.Fields.{Field, ANumber, ATag, AKind, AnUntil, SomeBytes, Value}
 use Rattle.sctp_end.specs.declared.command.Command.{Command}
-use Rattle.sctp_end.specs.declared.command.Command.TheVariants.{Connect, Draw, At, Packet, Build, Send, Abandon, Acknowledged, Abandoned, Take, Shutdown, Abort, Next, State, Held, Reassembly, Status, Path}
+use Rattle.sctp_end.specs.declared.command.Command.TheVariants.{Connect, Draw, At, Packet, Build, Send, Abandon, Acknowledged, Abandoned, Take, Shutdown, Abort, Next, State, Held, Reassembly, Status, Path, Counts}
 use Rattle.sctp_end.specs.declared.call.Call.{Call}
 use Rattle.sctp_end.specs.declared.call.Call.TheVariants as call
 use Rattle.sctp_values.specs.declared.kind.Kind.{Kind}
@@ -12,7 +12,7 @@ use Rattle.sctp_words.specs.Fields.{Values}
 abbrev pub commands : List Command
 commands =
     Connect ∷ Draw ∷ At ∷ Packet ∷ Build ∷ Send ∷ Abandon ∷ Acknowledged ∷ Abandoned ∷ Take ∷ Shutdown ∷ Abort ∷ Next ∷ State ∷ Held ∷ Reassembly ∷ Status
-    ∷ Path ∷ []
+    ∷ Path ∷ Counts ∷ []
 
 -- the word that a command is
 abbrev pub name_of : Command → List ℕ
@@ -34,6 +34,7 @@ name_of Held = codes "held"
 name_of Reassembly = codes "reassembly"
 name_of Status = codes "status"
 name_of Path = codes "path"
+name_of Counts = codes "counts"
 
 -- TAG TSN
 abbrev pub draw_fields : List Field
@@ -44,7 +45,7 @@ abbrev pub ticket_fields : List Field
 ticket_fields = ANumber 64 ∷ []
 
 -- connect TAG TSN; draw TAG TSN; at T; packet HEX; build; send STREAM KIND ID UNTIL HEX; abandon K; acknowledged K; abandoned K; take STREAM;
--- shutdown; abort HEX; next; state; held; reassembly; status; path
+-- shutdown; abort HEX; next; state; held; reassembly; status; path; counts
 abbrev pub fields_of : Command → List Field
 fields_of Connect = draw_fields
 fields_of Draw = draw_fields
@@ -64,6 +65,7 @@ fields_of Held = []
 fields_of Reassembly = []
 fields_of Status = []
 fields_of Path = []
+fields_of Counts = []
 
 -- the number of words after a command's name
 abbrev pub arguments_of : Command → ℕ
@@ -94,6 +96,7 @@ meaning_of Held rest = call.Held
 meaning_of Reassembly rest = call.Reassembly
 meaning_of Status rest = call.Status
 meaning_of Path rest = call.Path
+meaning_of Counts rest = call.Counts
 
 -- the first of these commands with this name
 abbrev pub first_named : List ℕ → List Command → Option Command

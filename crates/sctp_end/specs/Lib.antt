@@ -3,8 +3,10 @@ pub mod Commands
 pub mod Grammar
 pub mod StatusText
 pub mod PathText
+pub mod CountsText
 pub mod ReplyText
 pub mod Telling
+pub mod Counting
 pub mod Performing
 pub mod SessionStands
 pub mod Answering

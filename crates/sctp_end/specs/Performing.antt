@@ -1,5 +1,5 @@
 -- What an endpoint answers to a call, and what the call leaves: over the definitions of its state machine.
-use Rattle.std.specs.Prelude.{◌≡◌, ℕ, max, Bool, true, false, List, [], ◌∷◌, Option, Some, None, option_map}
+use Rattle.std.specs.Prelude.{◌≡◌, ℕ, max, Bool, true, false, List, [], ◌∷◌, length, Option, Some, None, option_map}
 use Rattle.sctp_model.specs.wire.Chunk.{ChunkMeaning}
 use Rattle.sctp_model.specs.wire.Packet.{Packet}
 use Rattle.sctp_model.specs.world.Calls.{Call as Message}
@@ -23,10 +23,15 @@ use Rattle.sctp_terms.specs.declared.reason.Reason.{Reason}
 use Rattle.sctp_terms.specs.Meanings.{end_meaning, state_meaning, reason_code}
 use Rattle.sctp_packet.specs.PacketBytes.{WritesPacket}
 use Rattle.sctp_send.specs.declared.abandon.Abandoned.{Abandoned as Fates}
-use Rattle.sctp_send.specs.SenderAnswers.{answer_meaning}
+use Rattle.sctp_send.specs.SenderAnswers.{answer_meaning, abandoned_messages}
+use Rattle.sctp_send.specs.declared.fill.sendings.Sendings.{Sendings}
 use Rattle.sctp_association.specs.declared.user.path.Path.{Path}
 use Rattle.sctp_association.specs.PathAnswers.{PathAnswer}
+use Rattle.sctp_association.specs.Sends as sendings
+use Rattle.sctp_endpoint.specs.Counted.{Counted, counts_meaning, sacks_read}
 use Rattle.sctp_endpoint.specs.Handled.{IsRead}
+use Rattle.sctp_endpoint.specs.declared.counts.Counts.{Counts}
+use Rattle.sctp_end.specs.Counting.{packet_counts, build_counts, abort_counts}
 use Rattle.sctp_end.specs.Telling.{IsStatus}
 use Rattle.sctp_end.specs.declared.status.Status.{Status}
 use Rattle.sctp_end.specs.declared.call.Call.{Call}
@@ -35,9 +40,11 @@ use Rattle.sctp_end.specs.declared.reply.Refusal.TheVariants.{NotIdle, NoSuchStr
 use Rattle.sctp_end.specs.declared.reply.Reply.{Reply}
 use Rattle.sctp_end.specs.declared.reply.Reply.TheVariants as reply
 
--- The state between two lines: the endpoint, the random values (tag and initial TSN) for packets that arrive, and the time, in milliseconds.
+-- The state between two lines: the endpoint, what it counted from its start on, the random values (tag and initial TSN) for packets that arrive, and the
+-- time, in milliseconds.
 pub record Standing : Type 0 where
   pub view : EndView
+  pub counts : Counted
   pub draw : Draw
   pub now : ℕ
 
@@ -101,7 +108,7 @@ may_want _ = false
 
 -- ---- calls
 
--- A call is answered so, and leaves this.
+-- A call is answered so, and leaves this. Each row says what is counted where it is more than before.
 pub data Performs (s : Standing) : Call → Reply → Standing → Type 0 where
   Connects : (d : Draw) (a : model.ConnectAnswer) → connect_answer s.view.phase ≡ a →
       Performs s (call.Connect d) (connect_reply a) (record s { view = connect_leaves a s d })
@@ -109,11 +116,12 @@ pub data Performs (s : Standing) : Call → Reply → Standing → Type 0 where
   TimePasses : (m now : ℕ) → now ≡ max s.now m →
       Performs s (call.At m) reply.Done (record s { view = ticked s.view now; now = now })
   PacketComes : (bytes : List ℕ) (p : Option Packet) (t : EndView) (x : strays.Verdict) (r : Reply) → IsRead bytes p → Receives s.view s.now s.draw p t x → TellsPacket x r →
-      Performs s (call.Packet bytes) r (record s { view = t })
+      Performs s (call.Packet bytes) r (record s { view = t; counts = packet_counts (length bytes) (sacks_read p) r s.counts })
   PacketCut : (bytes : List ℕ) (p : Option Packet) (t : EndView) → IsRead bytes p → IsCutShort s.view s.now s.draw p t → (WantsNoMemory s.view s.now s.draw p → ⊥) →
       Performs s (call.Packet bytes) reply.NoMemory (record s { view = t })
-  BuildsOne : (bytes : List ℕ) (x : ChunkMeaning) (xs : List ChunkMeaning) (t : EndView) → Builds (at_moment s.view s.now) (x ∷ xs) t →
-      WritesPacket bytes (packet_of (at_moment s.view s.now) (x ∷ xs)) → Performs s call.Build (reply.Sent bytes) (record s { view = t })
+  BuildsOne : (bytes : List ℕ) (x : ChunkMeaning) (xs : List ChunkMeaning) (t : EndView) (n : Sendings) → Builds (at_moment s.view s.now) (x ∷ xs) t →
+      WritesPacket bytes (packet_of (at_moment s.view s.now) (x ∷ xs)) → sendings.Sends (at_moment s.view s.now) (x ∷ xs) n →
+      Performs s call.Build (reply.Sent bytes) (record s { view = t; counts = build_counts (length bytes) (at_moment s.view s.now) t n s.counts })
   BuildsNone : (t : EndView) → Builds (at_moment s.view s.now) [] t → Performs s call.Build reply.Quiet (record s { view = t })
   Sends : (stream : ℕ) (kind : Kind) (payload : ℕ) (until : Option ℕ) (bytes : List ℕ) (a : model.SendAnswer) →
       send_answer s.view (message_of stream kind payload until None bytes) ≡ a →
@@ -133,12 +141,13 @@ pub data Performs (s : Standing) : Call → Reply → Standing → Type 0 where
   ShutsDown : (a : model.ShutdownAnswer) → shutdown_answer s.view.phase ≡ a →
       Performs s call.Shutdown (shutdown_reply a) (record s { view = shut s.view })
   AbortsIt : (reason : List ℕ) (a : model.AbortAnswer) (r : Reply) → abort_answer s.view reason ≡ a → TellsAbort a r →
-      Performs s (call.Abort reason) r (record s { view = abort_leaves a s.view })
+      Performs s (call.Abort reason) r (record s { view = abort_leaves a s.view; counts = abort_counts r s.counts })
   TellsNext : (m : Option ℕ) → m ≡ next_moment s.view → Performs s call.Next (reply.Next m) s
   TellsState : (x : State) (y : Option End) → state_meaning x ≡ state_of s.view.phase → option_map end_meaning y ≡ ended_of s.view.phase →
       Performs s call.State (reply.Stands x y) s
   TellsStatus : (x : Status) → IsStatus s.view x → Performs s call.Status (reply.Status x) s
   TellsPath : (n : ℕ) (x : Option Path) → n ≡ in_flight s.view.sender → PathAnswer s.view x → Performs s call.Path (reply.Path n x) s
+  TellsCounts : (x : Counts) → counts_meaning x ≡ s.counts → x.abandoned ≡ abandoned_messages s.view.sender → Performs s call.Counts (reply.Counts x) s
   TellsHeld : (n : ℕ) → n ≡ held_bytes s.view.receiver → Performs s call.Held (reply.Held n) s
   TellsReassembly : (n : ℕ) → n ≡ size_of_pieces s.view.receiver.kept → Performs s call.Reassembly (reply.Reassembly n) s
   WantsMemory : (c : Call) → may_want c ≡ true → Performs s c reply.NoMemory s

@@ -5,6 +5,7 @@ use Rattle.sctp_terms.specs.Meanings.{reason_code, state_meaning, end_meaning}
 use Rattle.sctp_values.specs.Meanings.{kind_meaning}
 use Rattle.sctp_end.specs.declared.reply.Refusal.{Refusal}
 use Rattle.sctp_end.specs.declared.reply.Refusal.TheVariants.{NotIdle, NoSuchStream, Empty, TooLong, QueueFull, Spent, Resetting, NotEstablished, NotOpen, NoPeer, ReasonTooLong}
+use Rattle.sctp_end.specs.CountsText.{counts_words}
 use Rattle.sctp_end.specs.PathText.{path_words}
 use Rattle.sctp_end.specs.StatusText.{status_words}
 use Rattle.sctp_end.specs.declared.reply.Reply.{Reply}
@@ -54,6 +55,7 @@ reply_words (reply.Held n) = codes "held" ∷ decimal n ∷ []
 reply_words (reply.Reassembly n) = codes "reassembly" ∷ decimal n ∷ []
 reply_words (reply.Status x) = status_words x
 reply_words (reply.Path flight x) = path_words flight x
+reply_words (reply.Counts x) = counts_words x
 reply_words (reply.Fault fault) = codes "fault" ∷ decimal (kind_of fault) ∷ []
 reply_words reply.NoMemory = codes "memory" ∷ []
 

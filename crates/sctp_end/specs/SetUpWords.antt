@@ -7,6 +7,7 @@ use Rattle.sctp_model.specs.numbers.Limits.{LEAST_WAIT}
 use Rattle.sctp_terms.specs.declared.mode.Mode.{Mode}
 use Rattle.sctp_terms.specs.Modes.{asked}
 use Rattle.sctp_cookie.specs.Seals.{IsUnder}
+use Rattle.sctp_endpoint.specs.Counted.{none_counted}
 use Rattle.sctp_end.specs.Fields.{Field, ANumber, AMode, Value, IsValue}
 use Rattle.sctp_end.specs.Performing.{Standing}
 use Rattle.sctp_text.specs.Numerals.{IsHex}
@@ -86,6 +87,6 @@ SetsUpListener words v =
 abbrev pub SetsUp : List (List ℕ) → EndView → Type 0
 SetsUp words v = SetsUpCaller words v ⊎ SetsUpListener words v
 
--- before the first line: the random values are tag 1 and TSN 1, and the time 0
+-- before the first line: nothing was counted, the random values are tag 1 and TSN 1, and the time 0
 abbrev pub first_standing : EndView → Standing
-first_standing v = record { view = v; draw = record { tag = 1; tsn = 1 }; now = 0 }
+first_standing v = record { view = v; counts = none_counted; draw = record { tag = 1; tsn = 1 }; now = 0 }

@@ -68,4 +68,6 @@ pub enum Call {
     Status,
     /// `path`: the bytes in flight, and what is known of the path to its peer.
     Path,
+    /// `counts`: what it counted from its start on.
+    Counts,
 }

@@ -24,6 +24,7 @@ pub enum Command {
     Reassembly,
     Status,
     Path,
+    Counts,
 }
 
 impl Command {
@@ -50,6 +51,7 @@ impl Command {
             b"reassembly" => Some(Command::Reassembly),
             b"status" => Some(Command::Status),
             b"path" => Some(Command::Path),
+            b"counts" => Some(Command::Counts),
             _ => None,
         }
     }
@@ -75,7 +77,8 @@ impl Command {
             | Command::Held
             | Command::Reassembly
             | Command::Status
-            | Command::Path => 0,
+            | Command::Path
+            | Command::Counts => 0,
         }
     }
 }

@@ -2,6 +2,7 @@
 
 ghost use Rattle.std.specs.Prelude.{◌≡◌, ℕ, ◌+◌, ◌-◌, ◌^◌, ◌<◌, ◌≤◌, List, map, string_bytes};
 ghost use Rattle.sctp_model.specs.end.EndView.{EndView};
+ghost use Rattle.sctp_endpoint.specs.Counted.{counted, none_counted};
 ghost use Rattle.sctp_endpoint.specs.EndpointStands.{EndpointStands};
 ghost use Rattle.sctp_end.specs.ExitStatus.{Runs, TellsForms, Ends};
 ghost use Rattle.sctp_end.specs.SetUpWords.{SetsUp, first_standing};
@@ -70,7 +71,7 @@ pub fn run_words<R: Source, W: Sink, F: Sink>(
 fn run<R: Source, W: Sink>(alloc: Global, endpoint: Endpoint, input: &mut R, output: &mut W) -> u8
     requires reads { R.failures input.old < 2 ^ 64 - 1 }
     requires writes { W.failures output.old < 2 ^ 64 - 1 }
-    ensures runs { (v : EndView) → EndpointStands endpoint v
+    ensures runs { (v : EndView) → EndpointStands endpoint v → counted endpoint ≡ none_counted
         → (read written : List ℕ) × R.Reads input.old read input.new × W.Writes output.old written output.new
         × Runs (R.IsAtEnd input.new) (first_standing v) result read written }
     ensures well { result < FAILED → (R.failures input.new ≡ R.failures input.old) × (W.failures output.new ≡ W.failures output.old) }

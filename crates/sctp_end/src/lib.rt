@@ -15,6 +15,8 @@
 //!   none does (`IsStatus` of `specs/Telling`).
 //! - `path` reports the bytes in flight, and of the path to the peer SRTT, RTTVAR, RTO, congestion window and threshold, with `-` for what
 //!   isn't there (`TellsPath` of `specs/Performing`).
+//! - `counts` reports what the endpoint counted from its start on: before the first line all numbers are 0 (`first_standing` of
+//!   `specs/SetUpWords`), and a line leaves those before it with what it adds (`specs/Counting`, by the rows of `specs/Performing`).
 //! - `put_reply` writes a reply as its line.
 //! - **`run_words` is the program.** Either its words set up an endpoint (`specs/SetUpWords`; the options `delay`, `standard-closing`,
 //!   `fast-retransmit`, `congestion-control` and `rto-min` with its number of milliseconds may be after MODE, in this order) or they are wrong, and the status says which. From the endpoint that they set up, the answers to all lines of
@@ -53,6 +55,7 @@ mod call;
 mod call_words;
 mod command;
 mod command_line;
+mod counts_line;
 mod line;
 mod options;
 mod path_line;

@@ -67,5 +67,6 @@ fn read_call(alloc: Global, command: Command, words: Words<'_>) -> Result<Option
         Command::Reassembly => Ok(Some(Call::Reassembly)),
         Command::Status => Ok(Some(Call::Status)),
         Command::Path => Ok(Some(Call::Path)),
+        Command::Counts => Ok(Some(Call::Counts)),
     }
 }

@@ -1,7 +1,7 @@
 //! What is answered to a line: one case for each line of an answer.
 
 use crate::status::Status;
-use sctp_endpoint::Path;
+use sctp_endpoint::{Counts, Path};
 use sctp_send::Abandoned;
 use sctp_terms::{End, Reason, State};
 use sctp_text::Bytes;
@@ -88,6 +88,9 @@ pub enum Reply {
         flight: u64,
         path: Option<Path>,
     },
+    /// `counts PACKETS_OUT BYTES_OUT PACKETS_IN BYTES_IN FIRST TIMER FAST SACKS_OUT SACKS_IN ABANDONED FAULT PORTS TAG STATE COOKIE`: what it
+    /// counted from its start on.
+    Counts(Counts),
     /// `fault K`: the line has a fault and has changed nothing.
     Fault(LineFault),
     /// `memory`: an allocation failed.

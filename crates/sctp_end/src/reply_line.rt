@@ -9,6 +9,7 @@ ghost use Rattle.sctp_text.specs.Numerals.{hex_word};
 ghost use Rattle.sctp_text.specs.SpacedWords.{line_of};
 ghost use Rattle.sctp_text.specs.WrittenWords.{text_of};
 
+use crate::counts_line::put_counts;
 use crate::path_line::put_path;
 use crate::reply::Reply;
 use crate::status_line::put_status;
@@ -49,6 +50,7 @@ pub fn put_reply(reply: &Reply, out: &mut Vec<u8>) -> Result<(), NoMemory>
         }
         Reply::Status(status) => put_status(status, out),
         Reply::Path { flight, path } => put_path(*flight, *path, out),
+        Reply::Counts(counts) => put_counts(counts, out),
         Reply::Held(bytes) => put_number(b"held", u64::from(*bytes), out),
         Reply::Reassembly(bytes) => put_number(b"reassembly", u64::from(*bytes), out),
         Reply::Fault(fault) => put_number(b"fault", u64::from(fault.kind()), out),

@@ -78,6 +78,7 @@ impl Session {
             Call::Reassembly => Reply::Reassembly(self.endpoint.reassembly_bytes()),
             Call::Status => self.status(),
             Call::Path => self.path(),
+            Call::Counts => Reply::Counts(self.endpoint.counts()),
         }
     }
 
@@ -245,6 +246,5 @@ impl Session {
 fn reads_or_faults(bytes: &[u8])
     ensures { (o : Option Packet) × IsRead bytes.now o }
 {
-    // law: so for all bytes
     one_packet();
 }

@@ -5,6 +5,7 @@ ghost use Rattle.sctp_model.specs.end.EndView.{Configuration, EndView, Caller, L
 ghost use Rattle.sctp_model.specs.end.Sealing.{Sealing};
 ghost use Rattle.sctp_cookie.specs.Seals.{IsUnder};
 ghost use Rattle.sctp_endpoint.specs.EndpointStands.{EndpointStands};
+ghost use Rattle.sctp_endpoint.specs.Counted.{counted, none_counted};
 ghost use Rattle.sctp_end.specs.SetUpWords.{Settles, Configures, IsKey, SetsUp};
 ghost use Rattle.sctp_end.specs.inner.SettingUp.{role_word, HasNoOptions, SetsListener};
 
@@ -34,9 +35,10 @@ enum Role {
 /// The endpoint that these words set up. The first word is the program's own name; then `caller` or `listener`, the configuration, and a
 /// listener's key. None if the words are wrong. Nothing is allocated.
 pub(crate) fn end_of(alloc: Global, words: &[String]) -> Option<Endpoint>
-    ensures { MatchOption result
+    ensures exact { MatchOption result
         ((v : EndView) → SetsUp (map string_bytes words.now) v → ⊥)
         (λ end. (v : EndView) × SetsUp (map string_bytes words.now) v × EndpointStands end v) }
+    ensures counts { IfSome result (λ end. counted end ≡ none_counted) }
 {
     let [_, role, rest @ ..] = words else {
         return None;
@@ -61,9 +63,10 @@ fn role_named(word: &[u8]) -> Option<Role>
 
 /// A caller with this configuration.
 fn caller_of(alloc: Global, words: &[String]) -> Option<Endpoint>
-    ensures { MatchOption result
+    ensures exact { MatchOption result
         ((c : Configuration) → Configures (map string_bytes words.now) c → ⊥)
         (λ end. (c : Configuration) × Configures (map string_bytes words.now) c × EndpointStands end (fresh_end c Caller Idle)) }
+    ensures counts { IfSome result (λ end. counted end ≡ none_counted) }
 {
     let config = read_config(words)?;
     Some(Endpoint::caller(alloc, config))
@@ -71,10 +74,11 @@ fn caller_of(alloc: Global, words: &[String]) -> Option<Endpoint>
 
 /// A listener with this configuration and, as the last word, its key.
 fn listener_of(alloc: Global, words: &[String]) -> Option<Endpoint>
-    ensures { MatchOption result
+    ensures exact { MatchOption result
         ((c : Configuration) (key : List ℕ) → SetsListener (map string_bytes words.now) c key → ⊥)
         (λ end. (c : Configuration) × (key : List ℕ) × (seal : Sealing) × SetsListener (map string_bytes words.now) c key × IsUnder key seal
         × EndpointStands end (fresh_end c (Listener seal) Listening)) }
+    ensures counts { IfSome result (λ end. counted end ≡ none_counted) }
 {
     // law: the key has a seal
     keys_have_seals();

@@ -10,3 +10,4 @@ pub mod ArrivingLemmas
 pub mod HandlingLemmas
 pub mod LogLemmas
 pub mod PacketLemmas
+pub mod CountLemmas

@@ -1,3 +1,4 @@
+pub mod Counted
 pub mod EndpointStands
 pub mod Handled
 pub mod KeptBuffer

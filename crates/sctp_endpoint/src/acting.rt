@@ -1,6 +1,6 @@
 //! What a chunk does, by its type, and the chunks of a packet in order (RFC 9260, 3.2 and 6.10).
 
-ghost use Rattle.std.specs.Prelude.{◌≡◌, ℕ, ◌∷◌, List, Ok, IfOk, OnErr};
+ghost use Rattle.std.specs.Prelude.{◌≡◌, ℕ, ◌∷◌, List, Ok, OnOk, IfOk, OnErr};
 ghost use Rattle.sctp_model.specs.wire.Chunk.{ChunkMeaning};
 ghost use Rattle.sctp_model.specs.end.EndView.{EndView};
 ghost use Rattle.sctp_model.specs.end.Acting.{Acts};
@@ -8,6 +8,7 @@ ghost use Rattle.sctp_wire.specs.ChunkTree.{chunk_meaning};
 ghost use Rattle.sctp_association.specs.MachineStands.{MachineStands};
 ghost use Rattle.sctp_endpoint.specs.Left.{Left};
 ghost use Rattle.sctp_endpoint.specs.inner.Acted.{HasTag, told_by, ActsOne, ActsAll};
+ghost use Rattle.sctp_endpoint.specs.inner.SacksHeard.{after_chunk, after_chunks};
 
 use crate::after::{After, Notes, Verdict};
 use crate::closing::{on_abort, on_complete, on_error, on_shutdown_ack};
@@ -87,18 +88,45 @@ fn note(machine: &mut Machine, notes: &mut Notes, told: &mut Verdict, after: Aft
     }
 }
 
-/// The first chunk is taken off and acts. Most are DATA or I-DATA, which are read from the bytes directly, without a
+/// Counts a chunk if it is a SACK, modulo 2^64.
+#[inline(always)]
+fn count_sack(chunk: &Chunk<'_>, sacks: &mut u64)
+    ensures { sacks.new ≡ after_chunk (chunk_meaning chunk.now) sacks.old }
+{
+    match chunk {
+        Chunk::Sack(_) => *sacks = sacks.wrapping_add(1),
+        _ => {}
+    }
+}
+
+/// Counts the SACKs among chunks, modulo 2^64.
+#[inline(never)]
+fn count_sacks(chunks: Chunks<'_>, sacks: &mut u64)
+    ensures { sacks.new ≡ after_chunks chunks.entry sacks.old }
+{
+    for chunk in chunks {
+        count_sack(&chunk, sacks);
+    }
+}
+
+/// The first chunk is taken off and acts; a SACK is counted. Most are DATA or I-DATA, which are read from the bytes directly, without a
 /// `Chunk` between.
 ///
 /// # Errors
-/// `NoMemory` if an allocation failed; nothing changed but that the chunk is taken off.
+/// `NoMemory` if an allocation failed; nothing changed but that the chunk is taken off, and counted.
 #[inline(always)]
-fn act_first(machine: &mut Machine, tag: u32, chunks: &mut Chunks<'_>) -> Result<After, NoMemory>
+fn act_first(
+    machine: &mut Machine,
+    tag: u32,
+    chunks: &mut Chunks<'_>,
+    sacks: &mut u64,
+) -> Result<After, NoMemory>
     ensures taken { (m : ChunkMeaning) (ms : List ChunkMeaning) → chunks.old ≡ m ∷ ms → chunks.new ≡ ms }
     ensures step { (v : EndView) (m : ChunkMeaning) (ms : List ChunkMeaning) → chunks.old ≡ m ∷ ms
         → MachineStands machine.old v → IfOk result (λ a. Left a v (Acts v tag m) machine.new) }
     ensures refused { (v : EndView) → MachineStands machine.old v → OnErr result (MachineStands machine.new v) }
     ensures tagged { (m : ChunkMeaning) (ms : List ChunkMeaning) → chunks.old ≡ m ∷ ms → OnErr result (HasTag m) }
+    ensures sacks { (m : ChunkMeaning) (ms : List ChunkMeaning) → chunks.old ≡ m ∷ ms → sacks.new ≡ after_chunk m sacks.old }
 {
     if let Some(piece) = chunks.next_data() {
         return on_piece(machine, false, &piece);
@@ -107,15 +135,18 @@ fn act_first(machine: &mut Machine, tag: u32, chunks: &mut Chunks<'_>) -> Result
         return on_piece(machine, true, &piece);
     }
     match chunks.next() {
-        Some(chunk) => act(machine, tag, &chunk),
+        Some(chunk) => {
+            count_sack(&chunk, sacks);
+            act(machine, tag, &chunk)
+        }
         None => Ok(After::PassedOver),
     }
 }
 
-/// The first chunk is taken off and acts, and what it left is noted. True if the packet ends with it.
+/// The first chunk is taken off and acts, and what it left is noted; a SACK is counted. True if the packet ends with it.
 ///
 /// # Errors
-/// `NoMemory` if an allocation failed; nothing changed but that the chunk is taken off.
+/// `NoMemory` if an allocation failed; nothing changed but that the chunk is taken off, and counted.
 #[inline(always)]
 fn act_next(
     machine: &mut Machine,
@@ -123,16 +154,19 @@ fn act_next(
     notes: &mut Notes,
     told: &mut Verdict,
     chunks: &mut Chunks<'_>,
+    sacks: &mut u64,
 ) -> Result<bool, NoMemory>
     ensures taken { (m : ChunkMeaning) (ms : List ChunkMeaning) → chunks.old ≡ m ∷ ms → chunks.new ≡ ms }
     ensures step { (v : EndView) (m : ChunkMeaning) (ms : List ChunkMeaning) → chunks.old ≡ m ∷ ms
         → MachineStands machine.old v → ActsOne tag v notes.old m (told_by result told.new) machine.new notes.new }
+    ensures sacks { (m : ChunkMeaning) (ms : List ChunkMeaning) → chunks.old ≡ m ∷ ms → sacks.new ≡ after_chunk m sacks.old }
 {
-    let after = act_first(machine, tag, chunks)?;
+    let after = act_first(machine, tag, chunks, sacks)?;
     Ok(note(machine, notes, told, after))
 }
 
-/// The chunks of a packet act in order, each on what the one before it left, and are noted.
+/// The chunks of a packet act in order, each on what the one before it left, and are noted. Its SACKs are counted modulo 2^64, also those after a
+/// chunk that ends the packet.
 ///
 /// # Errors
 /// `NoMemory` if an allocation failed: the chunks before the failing one have acted.
@@ -141,13 +175,16 @@ pub(crate) fn act_all(
     tag: u32,
     notes: &mut Notes,
     chunks: Chunks<'_>,
+    sacks: &mut u64,
 ) -> Result<Verdict, NoMemory>
-    ensures { (v : EndView) → MachineStands machine.old v → ActsAll tag v notes.old chunks.entry result machine.new notes.new }
+    ensures step { (v : EndView) → MachineStands machine.old v → ActsAll tag v notes.old chunks.entry result machine.new notes.new }
+    ensures sacks { OnOk result (sacks.new ≡ after_chunks chunks.entry sacks.old) }
 {
     let mut rest = chunks;
     let mut told = Verdict::Taken;
     while !rest.is_empty() {
-        if act_next(machine, tag, notes, &mut told, &mut rest)? {
+        if act_next(machine, tag, notes, &mut told, &mut rest, sacks)? {
+            count_sacks(rest, sacks);
             return Ok(told);
         }
     }

@@ -1,6 +1,6 @@
 //! A packet is received: whether it is for this endpoint, what its chunks do, and what is due after its last one (RFC 9260, 5.1, 6.2, 8.4 and 8.5).
 
-ghost use Rattle.std.specs.Prelude.{◌≡◌, ℕ, Bool, false, drop, Option, IfOk};
+ghost use Rattle.std.specs.Prelude.{◌≡◌, ℕ, Bool, false, drop, length, Option, OnOk, IfOk};
 ghost use Rattle.sctp_model.specs.wire.Packet as meaning;
 ghost use Rattle.sctp_model.specs.end.EndView.{EndView, has_association};
 ghost use Rattle.sctp_model.specs.end.Clock.{at_moment};
@@ -8,10 +8,12 @@ ghost use Rattle.sctp_model.specs.end.Arriving.{LeavesGap, urged, packet_ended};
 ghost use Rattle.sctp_packet.specs.PacketTree.{packet_meaning};
 ghost use Rattle.sctp_association.specs.MachineStands.{MachineStands};
 ghost use Rattle.sctp_endpoint.specs.EndpointStands.{EndpointStands};
+ghost use Rattle.sctp_endpoint.specs.Counted.{counted, sacks_read, heard_counts};
 ghost use Rattle.sctp_endpoint.specs.Logs.{LeavesLogs};
 ghost use Rattle.sctp_endpoint.specs.Handled.{IsRead, Handled, IsAnsweredWithin};
 ghost use Rattle.sctp_endpoint.specs.inner.Acted.{notes_meaning};
 ghost use Rattle.sctp_endpoint.specs.inner.Arrived.{Arrived, HearsAll, IsFor, worn_from};
+ghost use Rattle.sctp_endpoint.specs.inner.SacksHeard.{after_chunks, IfTaken};
 
 use crate::acting::act_all;
 use crate::after::{Notes, Strayed, Verdict};
@@ -24,7 +26,7 @@ use sctp_terms::{Draw, Reason};
 use sctp_values::NoMemory;
 use sctp_wire::Chunks;
 
-#[tactic(auto, unfolding(crate::specs::EndpointStands::EndpointStands))]
+#[tactic(auto, unfolding(crate::specs::EndpointStands::EndpointStands, crate::specs::Counted::counted))]
 impl Endpoint {
     /// Handles a received packet: its bytes from the common header on, without those of the protocol that carried it. `now` is the current time in
     /// milliseconds; a time before the latest one counts as that one.
@@ -44,18 +46,30 @@ impl Endpoint {
         ensures step { (v : EndView) (o : Option meaning.Packet) → EndpointStands self.old v → IsRead bytes.now o → Handled v now draw o result self.new }
         ensures within { (v : EndView) → EndpointStands self.old v → IfOk result (λ verdict. IsAnsweredWithin v.configuration.limit verdict) }
         ensures logs { (v : EndView) → EndpointStands self.old v → LeavesLogs v self.new }
+        ensures counts { (v : EndView) (o : Option meaning.Packet) → EndpointStands self.old v → IsRead bytes.now o
+            → counted self.new ≡ heard_counts (length bytes.now) (sacks_read o) result (counted self.old) }
     {
         // law: it is sound
         self.machine.sound();
         self.machine.advance_clock(now);
+        let mut sacks = 0u64;
         match read_packet(bytes) {
-            Err(_) => Ok(Verdict::Dropped(Reason::Fault)),
-            Ok(packet) => arrive(&mut self.machine, packet, draw),
+            Err(_) => {
+                let answer = Ok(Verdict::Dropped(Reason::Fault));
+                self.tally.hear(bytes.len(), sacks, &answer);
+                answer
+            }
+            Ok(packet) => {
+                let answer = arrive(&mut self.machine, packet, draw, &mut sacks);
+                self.tally.hear(bytes.len(), sacks, &answer);
+                answer
+            }
         }
     }
 }
 
-/// A well-formed packet is received, at a time already noted. The random values are for an INIT.
+/// A well-formed packet is received, at a time already noted. The random values are for an INIT. If the packet is `Taken`, its SACKs are counted
+/// modulo 2^64.
 ///
 /// # Errors
 /// `NoMemory` if an allocation failed: the chunks before the failing one took effect.
@@ -63,8 +77,10 @@ pub(crate) fn arrive(
     machine: &mut Machine,
     packet: Packet<'_>,
     draw: Draw,
+    sacks: &mut u64,
 ) -> Result<Verdict, NoMemory>
-    ensures { (e : EndView) (now : ℕ) → MachineStands machine.old (at_moment e now) → Arrived e now draw (packet_meaning packet.entry) result machine.new }
+    ensures step { (e : EndView) (now : ℕ) → MachineStands machine.old (at_moment e now) → Arrived e now draw (packet_meaning packet.entry) result machine.new }
+    ensures sacks { (v : EndView) → MachineStands machine.old v → IfTaken result (sacks.new ≡ after_chunks (packet_meaning packet.entry).chunks sacks.old) }
 {
     if !has_ports(machine, packet.destination, packet.source) {
         return Ok(Verdict::Dropped(Reason::Ports));
@@ -80,9 +96,10 @@ pub(crate) fn arrive(
             Notes::none(),
             Some(from),
             packet.chunks,
+            sacks,
         );
     }
-    arrive_outside(machine, packet, draw)
+    arrive_outside(machine, packet, draw, sacks)
 }
 
 /// A packet is received by an endpoint without an association: it may begin one.
@@ -94,9 +111,11 @@ fn arrive_outside(
     machine: &mut Machine,
     packet: Packet<'_>,
     draw: Draw,
+    sacks: &mut u64,
 ) -> Result<Verdict, NoMemory>
-    ensures { (e : EndView) (now : ℕ) → MachineStands machine.old (at_moment e now) → IsFor (at_moment e now) (packet_meaning packet.entry)
+    ensures step { (e : EndView) (now : ℕ) → MachineStands machine.old (at_moment e now) → IsFor (at_moment e now) (packet_meaning packet.entry)
         → has_association (at_moment e now).phase ≡ false → Arrived e now draw (packet_meaning packet.entry) result machine.new }
+    ensures sacks { (v : EndView) → MachineStands machine.old v → IfTaken result (sacks.new ≡ after_chunks (packet_meaning packet.entry).chunks sacks.old) }
 {
     match on_stray(machine, draw, packet.tag, &packet.chunks)? {
         Strayed::Told(told) => Ok(told),
@@ -106,6 +125,7 @@ fn arrive_outside(
             Notes::of_cookie(),
             None,
             behind_first(packet.chunks),
+            sacks,
         ),
     }
 }
@@ -121,7 +141,7 @@ fn behind_first(chunks: Chunks<'_>) -> Chunks<'_>
     }
 }
 
-/// Handles all chunks; then what they missed from an index on is given up, and what they ask for together, as a SACK, is due once (RFC 9260, 6.2).
+/// Handles all chunks, and counts the SACKs among them modulo 2^64; then what they missed from an index on is given up, and what they ask for together, as a SACK, is due once (RFC 9260, 6.2).
 ///
 /// # Errors
 /// `NoMemory` if an allocation failed: the chunks before the failing one took effect.
@@ -132,17 +152,20 @@ fn hear(
     notes: Notes,
     from: Option<u64>,
     chunks: Chunks<'_>,
+    sacks: &mut u64,
 ) -> Result<Verdict, NoMemory>
-    ensures { (v : EndView) → MachineStands machine.old v → HearsAll from tag v (notes_meaning notes) chunks.entry result machine.new }
+    ensures step { (v : EndView) → MachineStands machine.old v → HearsAll from tag v (notes_meaning notes) chunks.entry result machine.new }
+    ensures sacks { OnOk result (sacks.new ≡ after_chunks chunks.entry sacks.old) }
 {
     let mut notes = notes;
-    let told = act_all(machine, tag, &mut notes, chunks);
+    let told = act_all(machine, tag, &mut notes, chunks, sacks);
     end_packet(machine, notes, from);
     told
 }
 
 /// After the last chunk of a packet that is handled: what was missed from an index on is given up; its SACK is due, at once if the packet left a gap
 /// (RFC 9260, 6.2; RFC 7496, 3.1).
+#[inline(always)]
 fn end_packet(machine: &mut Machine, notes: Notes, from: Option<u64>)
     ensures { (v : EndView) → MachineStands machine.old v
         → (gap : Bool) × LeavesGap v gap × MachineStands machine.new (packet_ended (urged gap (notes_meaning notes)) (worn_from from v)) }

@@ -8,6 +8,7 @@ ghost use Rattle.sctp_send.specs.SenderAnswers.{answer_meaning, lane_for};
 ghost use Rattle.sctp_recv.specs.HandedOf.{handed_of};
 ghost use Rattle.sctp_association.specs.CallAnswers.{connect_meaning, connected, shutdown_meaning, call_of, limited_call_of, SendAnswers, sent_view};
 ghost use Rattle.sctp_endpoint.specs.EndpointStands.{EndpointStands};
+ghost use Rattle.sctp_endpoint.specs.Counted.{counted};
 ghost use Rattle.sctp_endpoint.specs.Logs.{LeavesLogs, GivesLogs, TakesLogs};
 
 use crate::endpoint::Endpoint;
@@ -17,7 +18,7 @@ use sctp_send::Abandoned;
 use sctp_terms::{ConnectFault, Draw, ShutdownFault};
 use sctp_values::Ticket;
 
-#[tactic(auto, unfolding(crate::specs::EndpointStands::EndpointStands))]
+#[tactic(auto, unfolding(crate::specs::EndpointStands::EndpointStands, crate::specs::Counted::counted))]
 impl Endpoint {
     /// Begins an association: an INIT is due (RFC 9260, 5.1, A, and 11.1.2). `now` is the current time in milliseconds; `draw` is this endpoint's
     /// verification tag and initial TSN, fresh random values. It allocates no memory.
@@ -28,6 +29,7 @@ impl Endpoint {
         ensures answer { (v : EndView) → EndpointStands self.old v → connect_meaning result ≡ connect_answer v.phase }
         ensures step { (v : EndView) → EndpointStands self.old v → EndpointStands self.new (connected v now draw result) }
         ensures logs { (v : EndView) → EndpointStands self.old v → LeavesLogs v self.new }
+        ensures counts { counted self.new ≡ counted self.old }
     {
         // law: it is sound
         self.machine.sound();
@@ -54,6 +56,7 @@ impl Endpoint {
         ensures answer { (v : EndView) → EndpointStands self.old v → SendAnswers v (call_of (lane_for stream ordered) payload_id bytes.items until) result }
         ensures step { (v : EndView) → EndpointStands self.old v → EndpointStands self.new (sent_view v (call_of (lane_for stream ordered) payload_id bytes.items until) result) }
         ensures logs { (v : EndView) → EndpointStands self.old v → GivesLogs v result self.new }
+        ensures counts { counted self.new ≡ counted self.old }
     {
         // law: it is sound
         self.machine.sound();
@@ -81,6 +84,7 @@ impl Endpoint {
         ensures step { (v : EndView) → EndpointStands self.old v
             → EndpointStands self.new (sent_view v (limited_call_of (lane_for stream ordered) payload_id bytes.items until max_retransmits) result) }
         ensures logs { (v : EndView) → EndpointStands self.old v → GivesLogs v result self.new }
+        ensures counts { counted self.new ≡ counted self.old }
     {
         // law: it is sound
         self.machine.sound();
@@ -93,6 +97,7 @@ impl Endpoint {
     pub fn take(&mut self, stream: u16) -> Option<Message>
         ensures step { (v : EndView) → EndpointStands self.old v → (t : EndView) × UserTakes v stream (option_map handed_of result) t × EndpointStands self.new t }
         ensures logs { (v : EndView) → EndpointStands self.old v → TakesLogs v stream result self.new }
+        ensures counts { counted self.new ≡ counted self.old }
     {
         // law: it is sound
         self.machine.sound();
@@ -105,6 +110,7 @@ impl Endpoint {
         ensures answer { (v : EndView) → EndpointStands self.old v → answer_meaning result ≡ abandons v ticket.0 }
         ensures step { (v : EndView) → EndpointStands self.old v → EndpointStands self.new (abandoned_at v ticket.0) }
         ensures logs { (v : EndView) → EndpointStands self.old v → LeavesLogs v self.new }
+        ensures counts { counted self.new ≡ counted self.old }
     {
         // law: it is sound
         self.machine.sound();
@@ -120,6 +126,7 @@ impl Endpoint {
         ensures answer { (v : EndView) → EndpointStands self.old v → shutdown_meaning result ≡ shutdown_answer v.phase }
         ensures step { (v : EndView) → EndpointStands self.old v → EndpointStands self.new (shut v) }
         ensures logs { (v : EndView) → EndpointStands self.old v → LeavesLogs v self.new }
+        ensures counts { counted self.new ≡ counted self.old }
     {
         // law: it is sound
         self.machine.sound();
@@ -133,6 +140,7 @@ impl Endpoint {
     pub fn on_moment(&mut self, now: u64)
         ensures step { (v : EndView) → EndpointStands self.old v → EndpointStands self.new (ticked v now) }
         ensures logs { (v : EndView) → EndpointStands self.old v → LeavesLogs v self.new }
+        ensures counts { counted self.new ≡ counted self.old }
     {
         // law: it is sound
         self.machine.sound();

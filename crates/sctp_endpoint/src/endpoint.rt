@@ -1,13 +1,15 @@
 //! An endpoint, and how it is made.
 
-ghost use Rattle.std.specs.Prelude.{IfOk};
+ghost use Rattle.std.specs.Prelude.{◌≡◌, IfOk};
 ghost use Rattle.sctp_model.specs.end.Sealing.{Sealing};
 ghost use Rattle.sctp_model.specs.end.EndView as model;
 ghost use Rattle.sctp_model.specs.end.EndView.{fresh_end};
 ghost use Rattle.sctp_model.specs.end.Opening.{opened};
 ghost use Rattle.sctp_cookie.specs.Seals.{IsUnder};
 ghost use Rattle.sctp_endpoint.specs.EndpointStands.{EndpointStands};
+ghost use Rattle.sctp_endpoint.specs.Counted.{counted, none_counted};
 
+use crate::counts::Tally;
 use sctp_association::Machine;
 use sctp_cookie::Key;
 use sctp_terms::{Config, Draw};
@@ -33,26 +35,32 @@ use std::alloc::Global;
 #[derive(Drop)]
 pub struct Endpoint {
     pub(crate) machine: Machine,
+    /// What it counts. No other result depends on it.
+    pub(crate) tally: Tally,
 }
 
-#[tactic(auto, unfolding(crate::specs::EndpointStands::EndpointStands))]
+#[tactic(auto, unfolding(crate::specs::EndpointStands::EndpointStands, crate::specs::Counted::counted))]
 impl Endpoint {
     /// A listener: it waits for a peer, and keeps no state until a valid cookie returns. Cookies are authenticated with this key, which nobody else may
     /// know (RFC 9260, 5.1.3). Memory is allocated from `alloc` later; this call allocates none.
     pub fn listener(alloc: Global, config: Config, key: Key) -> Endpoint
-        ensures { (s : Sealing) → IsUnder key s → EndpointStands result (fresh_end config (model.Listener s) model.Listening) }
+        ensures stands { (s : Sealing) → IsUnder key s → EndpointStands result (fresh_end config (model.Listener s) model.Listening) }
+        ensures counts { counted result ≡ none_counted }
     {
         Endpoint {
             machine: Machine::listener(alloc, config, key),
+            tally: Tally::none(),
         }
     }
 
     /// A caller: it begins the association with `connect`. Memory is allocated from `alloc` later; this call allocates none.
     pub fn caller(alloc: Global, config: Config) -> Endpoint
-        ensures { EndpointStands result (fresh_end config model.Caller model.Idle) }
+        ensures stands { EndpointStands result (fresh_end config model.Caller model.Idle) }
+        ensures counts { counted result ≡ none_counted }
     {
         Endpoint {
             machine: Machine::caller(alloc, config),
+            tally: Tally::none(),
         }
     }
 
@@ -67,10 +75,12 @@ impl Endpoint {
         own: Draw,
         peer: Draw,
     ) -> Result<Endpoint, NoMemory>
-        ensures { IfOk result (λ e. EndpointStands e (opened config own peer)) }
+        ensures stands { IfOk result (λ e. EndpointStands e (opened config own peer)) }
+        ensures counts { IfOk result (λ e. counted e ≡ none_counted) }
     {
         Ok(Endpoint {
             machine: Machine::paired(alloc, config, own, peer)?,
+            tally: Tally::none(),
         })
     }
 }

@@ -22,6 +22,7 @@
 //! - Readers return what the state says. At most `Config::buffer` bytes are held, at most 32,767 TSNs are outstanding (`bound`).
 //! - Each call also says what it leaves of the tickets returned, the messages numbered and the messages taken (clause `logs`), of which the theorem on
 //!   two endpoints is made.
+//! - Each call also says what it counts of packets, bytes, chunks and reasons (clause `counts`); [`Endpoint::counts`] returns these numbers, modulo 2^64.
 //! - [`peek_packet`] and [`abort_cause`] read a packet's bytes alone: its ports and tag, without any check, and the first cause of its ABORT.
 //! - Laws: [`one_packet`], [`written_packet_reads`], [`chunk_types`]; [`Endpoint::sound`], [`Endpoint::gives_up_alone`],
 //!   [`Endpoint::reached`]. A law is the contract of a function that does nothing.
@@ -34,6 +35,7 @@ mod after;
 mod arriving;
 mod calls;
 mod closing;
+mod counts;
 mod endpoint;
 mod forwards;
 mod giving_up;
@@ -51,6 +53,7 @@ mod strays;
 mod transmit;
 
 pub use after::Verdict;
+pub use counts::{Counts, Dropped};
 pub use endpoint::Endpoint;
 pub use laws::{chunk_types, one_packet, written_packet_reads};
 pub use packets::{AbortCause, PacketHeader, abort_cause, peek_packet};

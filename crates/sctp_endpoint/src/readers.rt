@@ -9,7 +9,7 @@ ghost use Rattle.sctp_model.specs.receiver.ReceiverView.{held_bytes, size_of_pie
 ghost use Rattle.sctp_model.specs.end.EndView.{EndView, state_of, ended_of};
 ghost use Rattle.sctp_model.specs.end.Moments.{next_moment};
 ghost use Rattle.sctp_terms.specs.Meanings.{end_meaning, state_meaning};
-ghost use Rattle.sctp_send.specs.SenderAnswers.{next_late};
+ghost use Rattle.sctp_send.specs.SenderAnswers.{next_late, abandoned_messages};
 ghost use Rattle.sctp_send.specs.Waiting.{queued_bytes};
 ghost use Rattle.sctp_recv.specs.HandedOf.{handed_of};
 ghost use Rattle.sctp_recv.specs.Readable.{ReadableAnswer};
@@ -17,14 +17,16 @@ ghost use Rattle.sctp_association.specs.Agreeing.{AgreedAnswer};
 ghost use Rattle.sctp_association.specs.PathAnswers.{PathAnswer};
 ghost use Rattle.sctp_outcomes.specs.Kept.{IsSound};
 ghost use Rattle.sctp_endpoint.specs.EndpointStands.{EndpointStands};
+ghost use Rattle.sctp_endpoint.specs.Counted.{counted, counts_meaning};
 
+use crate::counts::Counts;
 use crate::endpoint::Endpoint;
 use sctp_association::{Agreed, Path};
 use sctp_recv::Message;
 use sctp_terms::{Config, End, State};
 use sctp_values::Ticket;
 
-#[tactic(auto, unfolding(crate::specs::EndpointStands::EndpointStands))]
+#[tactic(auto, unfolding(crate::specs::EndpointStands::EndpointStands, crate::specs::Counted::counted))]
 impl Endpoint {
     /// The state (RFC 9260, 4): `Closed` before `connect`, and again once the association is over.
     pub fn state(&self) -> State
@@ -219,5 +221,13 @@ impl Endpoint {
         ensures { (v : EndView) → EndpointStands self.now v → PathAnswer v result }
     {
         self.machine.path()
+    }
+    /// What it counted from its start on: packets, bytes, chunks of user data, SACKs, abandoned messages, and what was dropped, each modulo 2^64. The clause `counts` of each call says what
+    /// that call adds.
+    pub fn counts(&self) -> Counts
+        ensures counts { counts_meaning result ≡ counted self.now }
+        ensures abandoned { (v : EndView) → EndpointStands self.now v → result.abandoned ≡ abandoned_messages v.sender }
+    {
+        self.tally.counts(self.machine.abandoned_messages())
     }
 }

@@ -4,12 +4,13 @@ ghost use Rattle.std.specs.Prelude.{◌≡◌, ◌≤◌, vec_capacity};
 ghost use Rattle.sctp_model.specs.end.EndView.{EndView};
 ghost use Rattle.sctp_association.specs.KeptRoom.{kept_of};
 ghost use Rattle.sctp_endpoint.specs.EndpointStands.{EndpointStands};
+ghost use Rattle.sctp_endpoint.specs.Counted.{counted};
 ghost use Rattle.sctp_endpoint.specs.KeptBuffer.{kept_capacity};
 
 use crate::endpoint::Endpoint;
 use sctp_recv::Message;
 
-#[tactic(auto, unfolding(crate::specs::EndpointStands::EndpointStands))]
+#[tactic(auto, unfolding(crate::specs::EndpointStands::EndpointStands, crate::specs::Counted::counted))]
 impl Endpoint {
     /// Returns the buffer of a packet that was sent: its bytes are dropped, and the next packet is made in it in place of a new allocation. One buffer
     /// is kept, the larger one of two, and none larger than the packet limit. Calling it is optional, and no other result depends on it. It allocates no
@@ -19,6 +20,7 @@ impl Endpoint {
         ensures kept { (v : EndView) → EndpointStands self.old v
             → kept_capacity self.new ≡ kept_of v.configuration.limit (vec_capacity packet) (kept_capacity self.old) }
         ensures within { (v : EndView) → EndpointStands self.old v → kept_capacity self.new ≤ v.configuration.limit }
+        ensures counts { counted self.new ≡ counted self.old }
     {
         self.machine.recycle(packet);
     }
@@ -27,7 +29,8 @@ impl Endpoint {
     /// allocations. `sctp_recv::Receiver::give_back` says how many blocks are kept. Calling it is optional, and no other result depends on it. It
     /// allocates no memory.
     pub fn give_back(&mut self, message: Message)
-        ensures { (v : EndView) → EndpointStands self.old v → EndpointStands self.new v }
+        ensures stands { (v : EndView) → EndpointStands self.old v → EndpointStands self.new v }
+        ensures counts { counted self.new ≡ counted self.old }
     {
         self.machine.give_back(message);
     }

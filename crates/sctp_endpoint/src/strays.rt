@@ -3,7 +3,7 @@
 ghost use Rattle.std.specs.Prelude.{IfOk, OnErr};
 ghost use Rattle.sctp_model.specs.end.EndView.{EndView};
 ghost use Rattle.sctp_association.specs.MachineStands.{MachineStands};
-ghost use Rattle.sctp_endpoint.specs.Straying.{StrayLeft, StrayWants};
+ghost use Rattle.sctp_endpoint.specs.Straying.{StrayLeft, StrayWants, IsUntaken};
 
 use crate::after::{Strayed, Verdict};
 use sctp_association::Machine;
@@ -25,6 +25,7 @@ pub(crate) fn on_stray(
     ensures step { (v : EndView) → MachineStands machine.old v → IfOk result (λ s. StrayLeft s v draw tag chunks.now machine.new) }
     ensures refused { (v : EndView) → MachineStands machine.old v → OnErr result (MachineStands machine.new v) }
     ensures memory { (v : EndView) → MachineStands machine.old v → OnErr result (StrayWants v draw tag chunks.now) }
+    ensures untaken { IfOk result IsUntaken }
 {
     match machine.hear_outside(draw, tag, chunks)? {
         Stray::Begins(body) => {

@@ -1,10 +1,11 @@
 //! What an endpoint sends (RFC 9260, 6.10 and 11.1.4).
 
-ghost use Rattle.std.specs.Prelude.{◌≤◌, length, IfOk, OnErr};
+ghost use Rattle.std.specs.Prelude.{◌≡◌, ◌≤◌, length, IfOk, OnErr};
 ghost use Rattle.sctp_model.specs.end.EndView.{EndView};
 ghost use Rattle.sctp_model.specs.end.Clock.{at_moment};
 ghost use Rattle.sctp_association.specs.AbortAnswers.{AbortAnswers, aborted_view};
 ghost use Rattle.sctp_endpoint.specs.EndpointStands.{EndpointStands};
+ghost use Rattle.sctp_endpoint.specs.Counted.{counted, CountsAfter, aborted_counts};
 ghost use Rattle.sctp_endpoint.specs.Logs.{LeavesLogs, SendsLogs, TellsAnew};
 ghost use Rattle.sctp_endpoint.specs.Transmitted.{Transmits, TellsFew};
 
@@ -21,7 +22,7 @@ pub struct Sent {
     pub tickets: Vec<Ticket>,
 }
 
-#[tactic(auto, unfolding(crate::specs::EndpointStands::EndpointStands))]
+#[tactic(auto, unfolding(crate::specs::EndpointStands::EndpointStands, crate::specs::Counted::counted))]
 impl Endpoint {
     /// The next packet to send at the time `now`, in milliseconds: control chunks that are due, in the order of RFC 9260, 6.10, and then user data as far
     /// as the peer's window and the packet limit allow. None if there is nothing to send. A packet that is returned counts as sent: its timers are
@@ -38,15 +39,20 @@ impl Endpoint {
         ensures logs { (v : EndView) → EndpointStands self.old v → IfOk result (λ sent. SendsLogs v sent self.new) }
         ensures anew { (v : EndView) → EndpointStands self.old v → IfOk result (λ sent. TellsAnew v sent) }
         ensures few { (v : EndView) → EndpointStands self.old v → IfOk result (λ sent. TellsFew sent) }
+        ensures counts { (v : EndView) → EndpointStands self.old v → CountsAfter (at_moment v now) result self.new (counted self.old) }
     {
         // laws: it is sound; a packet begins few messages; how long a packet may be
         self.machine.sound();
         self.machine.packets_begin_few();
         let _ = self.machine.config().limit();
+        let was_due = self.machine.owes_sack();
         match self.machine.build(now)? {
             Some(built) => {
                 // law: no ticket is returned twice
                 self.machine.tickets_are_apart();
+                self.tally.send(&built.packet);
+                self.tally.acknowledge(was_due, self.machine.owes_sack());
+                self.tally.send_chunks(built.sendings);
                 Ok(Some(Sent {
                     packet: built.packet,
                     tickets: built.tickets,
@@ -67,9 +73,12 @@ impl Endpoint {
         ensures within { (v : EndView) → EndpointStands self.old v → IfOk result (λ packet. length packet.items ≤ v.configuration.limit) }
         ensures step { (v : EndView) → EndpointStands self.old v → EndpointStands self.new (aborted_view v reason.now result) }
         ensures logs { (v : EndView) → EndpointStands self.old v → LeavesLogs v self.new }
+        ensures counts { counted self.new ≡ aborted_counts result (counted self.old) }
     {
         // law: it is sound
         self.machine.sound();
-        self.machine.abort(reason)
+        let answer = self.machine.abort(reason);
+        self.tally.abort(&answer);
+        answer
     }
 }

@@ -63,6 +63,7 @@ keeps_told f s v t r ms k told long here others = record {
   forward = k.forward;
   unreset = k.unreset;
   before = k.before;
+  counted = k.counted;
   reached = k.reached;
 }
   where
@@ -105,6 +106,7 @@ keeps_awake f s v size es ms b k are long each woken = record {
   forward = k.forward;
   unreset = k.unreset;
   before = k.before;
+  counted = k.counted;
   reached = k.reached;
 }
   where
@@ -154,6 +156,7 @@ keeps_passed f s v n last k end most queue rests items = record {
   forward = k.forward;
   unreset = k.unreset;
   before = k.before;
+  counted = k.counted;
   reached = k.reached;
 }
 

@@ -154,6 +154,7 @@ keeps_sacked f s v x n b rs k before stays p none runs =
       forward = k.forward;
       unreset = k.unreset;
       before = before ∙ ap (last_that v.sent) (sym p.index);
+      counted = k.counted;
       reached = Covers v x k.reached none;
     })
 
@@ -202,5 +203,6 @@ keeps_shut f s v wire n b k before p none =
       forward = k.forward;
       unreset = k.unreset;
       before = before ∙ ap (last_that v.sent) (sym p.index);
+      counted = k.counted;
       reached = Closes v wire k.reached none;
     })

@@ -7,6 +7,7 @@ pub mod UnresetLemmas
 pub mod TimerLemmas
 pub mod QueueLemmas
 pub mod ReaderLemmas
+pub mod CountedLemmas
 pub mod WalkLemmas
 pub mod TicketLemmas
 pub mod DueKept

@@ -54,6 +54,7 @@ keeps_over f s v n last d k given low moved rests items = record {
   forward = k.forward;
   unreset = k.unreset;
   before = k.before;
+  counted = k.counted;
   reached = k.reached;
 }
   where

@@ -33,6 +33,7 @@ use Rattle.sctp_send.proofs.TableLemmas.{table-push, table-same, length-table}
 use Rattle.sctp_send.proofs.OverLemmas.{not_waiting_more}
 use Rattle.sctp_send.proofs.DueLemmas.{late_queue_more, late_before}
 use Rattle.sctp_send.proofs.kept.MomentLemmas.{due_push}
+use Rattle.sctp_send.proofs.kept.GivenUpLemmas.{push_open}
 use Rattle.sctp_send.proofs.KeepLemmas.{kept_length}
 use Rattle.sctp_send.proofs.UnresetLemmas.{takes_messages}
 
@@ -147,6 +148,7 @@ keeps_queued f s v lane payload ticket bytes until limit k free given small =
       forward = k.forward;
       unreset = k.unreset;
       before = k.before;
+      counted = k.counted ∙ sym (push_open s.fates StillQueued refl);
       reached = Queues v lane payload bytes until limit k.reached free;
     }
   where

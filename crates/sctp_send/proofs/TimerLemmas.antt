@@ -115,6 +115,7 @@ keeps_marked f s v test from to k tells =
       forward = k.forward;
       unreset = k.unreset;
       before = k.before;
+      counted = k.counted;
       reached = Repeats v test k.reached;
     }
   where
@@ -147,7 +148,7 @@ offsets_all last k lt = let one : nat_le 0 k ≡ true = grind (arith, nat_tests)
 
 -- a sender that was given nothing
 pub keeps_fresh : (f : Format) (initial streams fragment rwnd capacity : ℕ) (partial : Bool) → 0 < fragment
-    → Keeps f (record { initial = initial; streams = streams; fragment = fragment; partial = partial; cum = 0; rwnd = rwnd; turn = 0; items = []; queue = []; tracks = replicate streams (record { ordered = 0; unordered = 0; rest = None }); fates = []; ended = 0; runs = Some []; capacity = capacity; passed = 0; moments = []; asleep = false; before = 0; forward = None })
+    → Keeps f (record { initial = initial; streams = streams; fragment = fragment; partial = partial; cum = 0; rwnd = rwnd; turn = 0; items = []; queue = []; tracks = replicate streams (record { ordered = 0; unordered = 0; rest = None }); fates = []; ended = 0; abandoned = 0; runs = Some []; capacity = capacity; passed = 0; moments = []; asleep = false; before = 0; forward = None })
     (fresh_sender initial streams fragment rwnd partial)
 keeps_fresh f initial streams fragment rwnd capacity partial large = record {
   holds = record {
@@ -170,5 +171,6 @@ keeps_fresh f initial streams fragment rwnd capacity partial large = record {
   forward = tt;
   unreset = record { base = refl; sending = refl; pending = refl };
   before = refl;
+  counted = refl;
   reached = Begins initial streams fragment rwnd partial large;
 }

@@ -16,6 +16,7 @@ pub mod PutLemmas
 pub mod NewMayLemmas
 pub mod BegunPut
 pub mod ContinuedPut
+pub mod SendingLemmas
 pub mod FilledLemmas
 pub mod UndoLemmas
 pub mod BehindLemmas

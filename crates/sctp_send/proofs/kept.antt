@@ -23,6 +23,7 @@ pub mod PartSeatLemmas
 pub mod PartLookLemmas
 pub mod PartStreams
 pub mod FateLemmas
+pub mod GivenUpLemmas
 pub mod PastLemmas
 pub mod StretchLemmas
 pub mod TurnedLemmas

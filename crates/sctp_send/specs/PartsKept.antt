@@ -24,10 +24,12 @@ pub record StreamsKept : Type 0 where
   pub size : ℕ
   pub items : List Track
 
--- what became of each ticket, from 1 on; of how many of the first of them this stands for good; and of how many there is room for
+-- what became of each ticket, from 1 on; of how many of the first of them this stands for good; how often one was abandoned; and of how many there is
+-- room for
 pub record FatesKept : Type 0 where
   pub items : List Fate
   pub ended : ℕ
+  pub abandoned : ℕ
   pub capacity : ℕ
 
 -- from which moment on each ticket's message may be late: so many of the first tickets are passed; of how many behind them there is room for; and whether

@@ -1,11 +1,12 @@
 -- What the calls of a sender answer, in terms of a view that it stands for, and the view that they leave.
-use Rattle.std.specs.Prelude.{◌≡◌, ℕ, suc, nat_lt, ◌==◌, Bool, not, ◌&&◌, List, length, Option, None, Some, Result, Ok, Err}
+use Rattle.std.specs.Prelude.{◌≡◌, ℕ, suc, nat_lt, ◌==◌, Bool, not, ◌&&◌, List, length, count_by, Option, None, Some, Result, Ok, Err}
 use Rattle.std.specs.List.{list_any}
 use Rattle.sctp_model.specs.messages.Format.{Lane}
 use Rattle.sctp_model.specs.messages.Framing.{lane_kind}
 use Rattle.sctp_model.specs.sender.SenderView.{SenderView}
 use Rattle.sctp_model.specs.sender.Words.{lowest, count_up}
 use Rattle.sctp_model.specs.sender.Entries.{is_of_abandoned, passes_at}
+use Rattle.sctp_model.specs.sender.Readers.{abandoned}
 use Rattle.sctp_model.specs.sender.Queueing as model
 use Rattle.sctp_model.specs.sender.Queueing.{refusal, queued}
 use Rattle.sctp_model.specs.sender.SackTaken as taken
@@ -74,6 +75,10 @@ answer_code Abandoned = 2
 answer_code Acknowledged = 3
 answer_code Unknown = 4
 answer_code Reliable = 5
+
+-- how many messages were abandoned after they got a TSN (RFC 3758, 3.5): those with the tickets from 1 on that were given
+abbrev pub abandoned_messages : SenderView → ℕ
+abandoned_messages v = count_by (abandoned v) (count_up 1 v.tickets)
 
 -- ---- the messages that are late
 

@@ -44,6 +44,8 @@ pub record Kept : Type 0 where
   pub fates : List Fate
   -- so many of the first tickets are over: nothing else is kept of them
   pub ended : ℕ
+  -- so many messages were abandoned after they took their numbers
+  pub abandoned : ℕ
   -- what is covered above CUM, where that is known
   pub runs : Option (List CoveredRun)
   -- how many entries above CUM there is room for

@@ -12,7 +12,7 @@ use Rattle.sctp_send.specs.SenderKept.{Item, Rest, Track, Kept}
 use Rattle.sctp_send.specs.OutstandingFields.{no_base}
 use Rattle.sctp_send.specs.CoveredRuns.{AreCovered}
 use Rattle.sctp_send.specs.ForwardKept.{IsForwardKept}
-use Rattle.sctp_send.specs.inner.Walks.{any_item, any_rest}
+use Rattle.sctp_send.specs.inner.Walks.{any_item, any_rest, how_many_abandoned}
 use Rattle.sctp_send.specs.inner.Dues.{AreDue}
 use Rattle.sctp_send.specs.declared.kept.message.Fate.{Fate}
 use Rattle.sctp_send.specs.declared.kept.message.Fate.TheVariants.{Queued as StillQueued, Numbered, Withdrawn, Abandoned as WasAbandoned}
@@ -95,8 +95,8 @@ pub record IsUnreset (x : Outgoing) : Type 0 where
   pub sending : x.sending ≡ (λ s. Sends)
   pub pending : x.pending ≡ None
 
--- It is a view that calls reach, without a reset; tickets that count as ended are over, no ticket is late before its moment, and the FORWARD that was built
--- last is still true of the entries that it was built from.
+-- It is a view that calls reach, without a reset; tickets that count as ended are over, no ticket is late before its moment, the FORWARD that was built
+-- last is still true of the entries that it was built from, and the messages that were abandoned are counted.
 pub record Keeps (f : Format) (s : Kept) (v : SenderView) : Type 0 where
   pub holds : Holds s v
   pub over : AreOver s v.tickets
@@ -104,6 +104,7 @@ pub record Keeps (f : Format) (s : Kept) (v : SenderView) : Type 0 where
   pub forward : IsForwardKept f v.streams v.plan.entries s.forward
   pub unreset : IsUnreset v.resets
   pub before : s.before ≡ last_that v.sent v.cum
+  pub counted : s.abandoned ≡ how_many_abandoned s.fates
   pub reached : IsReached f v
 
 -- Stands for: hidden from the crates above, which know it by the clauses alone.

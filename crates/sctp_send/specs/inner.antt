@@ -6,6 +6,7 @@ pub mod Expiring
 pub mod Wishing
 pub mod Weighing
 pub mod Newcomers
+pub mod Sending
 pub mod Stocking
 pub mod Ordering
 pub mod Counting

@@ -134,7 +134,7 @@ impl<F: Framing> Sender<F> {
         requires given { ticket ≤ length self.old.fates }
         ensures { (v : SenderView) → StandsFor F.format self.old v → is_numbered_fate (fate_here v ticket) ≡ true → may_abandon v ticket ≡ true → StandsFor F.format self.new (abandon_after v ticket) }
     {
-        self.told.fates.set(ticket as usize - 1, Fate::Abandoned);
+        self.told.fates.give_up(ticket as usize - 1);
         self.parts.outstanding.abandon(ticket);
         if let Some(ending) = end(&mut self.parts.streams, ticket) {
             push_end(&mut self.parts.outstanding, ending);

@@ -11,15 +11,18 @@ pub mod entering;
 pub mod indexed;
 pub mod pushing;
 pub mod putting;
+pub mod sendings;
 
-ghost use Rattle.std.specs.Prelude.{◌≡◌, [], true, None, IfOk, OnErr, OnOk};
-ghost use Rattle.sctp_model.specs.sender.Filling.{next_wish};
+ghost use Rattle.std.specs.Prelude.{◌≡◌, [], true, None, IfOk, OnErr};
+ghost use Rattle.sctp_model.specs.sender.Filling.{next_wish, fill};
 ghost use Rattle.sctp_model.specs.sender.SenderView.{SenderView};
 ghost use Rattle.sctp_send.specs.SenderStands.{StandsFor, Keeps};
-ghost use Rattle.sctp_send.specs.FillAnswers.{FillAnswer, PutSomeOf};
+ghost use Rattle.sctp_send.specs.FillAnswers.{FillAnswer, PutSomeOf, sendings_of};
+ghost use Rattle.sctp_packet.specs.Draft.{room_in};
 ghost use Rattle.sctp_send.specs.inner.Stocking.{bare, numbers_of, all_numbered, stocked, AreOpen, AllPut};
 ghost use Rattle.sctp_send.specs.inner.Undoing.{IsSized, IsBehind};
 
+use crate::fill::sendings::{Resent, Sendings};
 use crate::kept::fates::Fates;
 use crate::kept::message::Fate;
 use crate::sender::Sender;
@@ -30,10 +33,13 @@ use sctp_packet::PacketWriter;
 use sctp_values::{NoMemory, Ticket};
 use std::mem;
 
-/// The tickets of messages whose first fragment got its TSN, in the order of these TSNs.
+/// What went into a packet.
 #[derive(Debug, Drop)]
 pub struct Filled {
+    /// The tickets of the messages whose first fragment got its TSN, in the order of these TSNs.
     pub tickets: Vec<Ticket>,
+    /// How many chunks were sent for the first time, and how many again.
+    pub sendings: Sendings,
 }
 
 #[tactic(auto, unfolding(crate::specs::SenderStands::StandsFor))]
@@ -50,11 +56,31 @@ impl<F: Framing> Sender<F> {
         ensures memory { (v : SenderView) → StandsFor F.format self.old v → OnErr result (StandsFor F.format self.new v) }
         ensures some { (v : SenderView) → StandsFor F.format self.old v → OnErr result (PutSomeOf F.format v packet.old packet.new) }
     {
+        self.fill_counting(0, packet)
+    }
+
+    /// `fill`, with its retransmissions counted by their cause: those with an index (TSNs counted from 1, the first one) below `missed` were reported
+    /// missing three times (RFC 9260, 7.2.4), the others' data timer expired (6.3.3). Without fast retransmission `missed` is 0.
+    ///
+    /// # Errors
+    /// As `fill`.
+    #[inline(always)]
+    pub fn fill_counting(
+        &mut self,
+        missed: u64,
+        packet: &mut PacketWriter,
+    ) -> Result<Filled, NoMemory>
+        ensures step { (v : SenderView) → StandsFor F.format self.old v → IfOk result (λ filled. FillAnswer F.format v packet.old packet.new self.new filled) }
+        ensures sendings { (v : SenderView) → StandsFor F.format self.old v → IfOk result (λ filled. filled.sendings ≡ sendings_of missed (fill F.format (room_in packet.old) v).wishes) }
+        ensures memory { (v : SenderView) → StandsFor F.format self.old v → OnErr result (StandsFor F.format self.new v) }
+        ensures some { (v : SenderView) → StandsFor F.format self.old v → OnErr result (PutSomeOf F.format v packet.old packet.new) }
+    {
         if self.is_at_rest() {
             let tickets = Vec::new(self.told.alloc);
-            return Ok(Filled { tickets });
+            let sendings = Sendings::none();
+            return Ok(Filled { tickets, sendings });
         }
-        self.fill_on(packet)
+        self.fill_on(missed, packet)
     }
 
     /// Nothing is to be sent: no chunk is marked or unsent, the queue is empty, and no message is in part.
@@ -75,20 +101,21 @@ impl<F: Framing> Sender<F> {
         true
     }
 
-    /// `fill`, when something may be to be sent. A function of its own, so that a call with nothing to send stays cheap.
+    /// `fill_counting`, when something may be to be sent. A function of its own, so that a call with nothing to send stays cheap.
     #[inline(never)]
-    fn fill_on(&mut self, packet: &mut PacketWriter) -> Result<Filled, NoMemory>
+    fn fill_on(&mut self, missed: u64, packet: &mut PacketWriter) -> Result<Filled, NoMemory>
         ensures step { (v : SenderView) → StandsFor F.format self.old v → IfOk result (λ filled. FillAnswer F.format v packet.old packet.new self.new filled) }
+        ensures sendings { (v : SenderView) → StandsFor F.format self.old v → IfOk result (λ filled. filled.sendings ≡ sendings_of missed (fill F.format (room_in packet.old) v).wishes) }
         ensures memory { (v : SenderView) → StandsFor F.format self.old v → OnErr result (StandsFor F.format self.new v) }
         ensures some { (v : SenderView) → StandsFor F.format self.old v → OnErr result (PutSomeOf F.format v packet.old packet.new) }
     {
         begin_anew(&mut self.parts);
-        match self.told.put_all::<F>(&mut self.parts, packet) {
-            Ok(()) => {
+        match self.told.put_all::<F>(&mut self.parts, missed, packet) {
+            Ok(sendings) => {
                 forget_changes(&mut self.parts.log);
                 let tickets = mem::replace(&mut self.parts.tickets, Vec::new(self.told.alloc));
                 number_all(&mut self.told.fates, &tickets);
-                Ok(Filled { tickets })
+                Ok(Filled { tickets, sendings })
             }
             Err(failed) => {
                 undo_all(&mut self.parts);
@@ -99,25 +126,29 @@ impl<F: Framing> Sender<F> {
 }
 
 impl Told {
-    /// Puts the next chunk to be sent, until none may go.
+    /// Puts the next chunk to be sent, until none may go, and counts them; all indexes below `missed` were missed.
     fn put_all<F: Framing>(
         &self,
         stock: &mut Stock,
+        missed: u64,
         packet: &mut PacketWriter,
-    ) -> Result<(), NoMemory>
+    ) -> Result<Sendings, NoMemory>
         requires fresh { stock.old.tickets.items ≡ [] }
         requires sized { IsSized self.now.fragment stock.old }
         ensures behind { IsBehind stock.old stock.new }
-        ensures all { (v : SenderView) → Keeps F.format (stocked (bare self.now) stock.old) v → OnOk result (AllPut F.format (bare self.now) v packet.old packet.new stock.new) }
+        ensures all { (v : SenderView) → Keeps F.format (stocked (bare self.now) stock.old) v
+            → IfOk result (λ sendings. AllPut F.format (bare self.now) v packet.old packet.new stock.new missed sendings) }
         ensures some { (v : SenderView) → Keeps F.format (stocked (bare self.now) stock.old) v → OnErr result (PutSomeOf F.format v packet.old packet.new) }
     {
+        let mut resent = Resent::none(missed);
         // Each chunk takes room.
-        for _ in 0..packet.room() {
-            if !self.put_next::<F>(stock, packet)? {
-                return Ok(());
+        let room = packet.room();
+        for turn in 0..room {
+            if !self.put_next::<F>(stock, &mut resent, packet)? {
+                return Ok(resent.of_all(turn));
             }
         }
-        Ok(())
+        Ok(resent.of_all(room))
     }
 }
 
@@ -125,6 +156,7 @@ impl Told {
 fn number_all(fates: &mut Fates, tickets: &[Ticket])
     ensures items { AreOpen fates.old.ended (numbers_of tickets.now) → fates.new.items ≡ all_numbered fates.old.items (numbers_of tickets.now) }
     ensures ended { fates.new.ended ≡ fates.old.ended }
+    ensures abandoned { fates.new.abandoned ≡ fates.old.abandoned }
 {
     for ticket in tickets {
         let at = (ticket.0 as usize).saturating_sub(1);

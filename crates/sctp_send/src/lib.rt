@@ -10,6 +10,7 @@
 //! | [`Sender::queue`] | `answer`: the first of NoSuchStream, Empty, TooLong, QueueFull, Spent that applies, each if and only if it is the first; NoMemory only if none applies; an accepted message has the next ticket. `step`: the view with the message at the end of its queue, cut into fragments, or the same view |
 //! | [`Sender::queue_limited`] | as `queue`, of a message each of whose fragments is retransmitted at most so often, if there is a limit |
 //! | [`Sender::fill`] | `step`: the packet gets the longest list of chunks of which each is the next to be sent and may go (it fits, the flow rule and the window allow it), after its own chunks; the sender stands for the view after them; the tickets returned are those of the messages that began, in the order of their first TSNs. `memory`: after NoMemory it stands for the same view. `some`: the packet then has a beginning of that list, each chunk whole, and one more would go |
+//! | [`Sender::fill_counting`], [`Sendings`] | as `fill`; `sendings`: how many of the chunks were sent for the first time, and how many were retransmitted with an index below a given one, and not below it |
 //! | [`Sender::on_sack`] | `answer`: the first of Stale, Beyond, BadBlock that applies, in this order, each if and only if it is the first. `step`: the view with the SACK's CUM, gap blocks (in place of those of the last SACK) and window, or the same view |
 //! | [`Sender::on_shutdown`] | as `on_sack` for the cumulative TSN of a SHUTDOWN; what gap blocks acknowledged beyond it stays acknowledged |
 //! | [`Sender::on_timeout`] | every chunk that was sent and is neither acknowledged nor abandoned is marked for retransmission, unless it was retransmitted as often as its message's limit allows |
@@ -22,7 +23,7 @@
 //! | [`Sender::put_forward`] | `answer`: true if and only if the FORWARD goes past CUM and fits what is left of the packet. `after`: the packet has it after its other chunks, or is as before. `reaches`: with the least packet limit or more it goes past CUM whenever the point does. `memory`, `unchanged`: NoMemory only if the chunk would have gone in, and the packet is then as before |
 //! | [`Sender::keep_forward`] | the sender stands for the same views: it builds the FORWARD ahead, for `put_forward` to take |
 //! | [`Sender::has_late`], [`Sender::next_late`] | whether a message that may be abandoned is late, and the lowest such ticket above one; if none is, `expire` changes nothing (`idle`) |
-//! | [`Sender::cum`], [`Sender::point`], [`Sender::unsettled`], [`Sender::outstanding`], [`Sender::drained`], [`Sender::acknowledged`], [`Sender::abandoned`], [`Sender::tickets`], [`Sender::peer_window`] | exactly the functions of `sender/Readers` of the model; at most 32,767 are outstanding (`bound`) |
+//! | [`Sender::cum`], [`Sender::point`], [`Sender::unsettled`], [`Sender::outstanding`], [`Sender::drained`], [`Sender::acknowledged`], [`Sender::abandoned`], [`Sender::abandoned_messages`], [`Sender::tickets`], [`Sender::peer_window`] | exactly the functions of `sender/Readers` of the model, and how many tickets are of abandoned messages; at most 32,767 are outstanding (`bound`) |
 //! | [`Sender::in_flight`], [`Sender::last_sent`], [`Sender::room_of_repeats`] | the bytes in flight, the highest index that was sent, the space of the retransmissions among what `fill` would put into a packet: exactly `in_flight`, `last_sent`, `room_of_repeats` of the model |
 //! | [`Sender::first_missed`], [`Sender::is_marked_or_covered`] | the lowest index in flight from one on, below another; whether an index is marked or acknowledged |
 //! | [`Sender::weigh`], [`Sender::weigh_shutdown`], [`Weight`] | of a SACK or a SHUTDOWN without a fault, before it is taken: whether it moves CUM, CUM after it, the highest indexes and the bytes that it newly acknowledges, and whether the chunk that is timed is among them (`IsWeight`) |
@@ -55,7 +56,7 @@
 //! entries after it, which were never sent; other readers are constant, `abandon` and `acknowledged` a binary search and the message's own entries. What is kept for that is in `kept`, and each part's counts are its invariant: an entry
 //! takes 32 bytes with the count of its retransmissions, which ends at 65,535, as limits do.
 //!
-//! The files of `src` form a path on which each imports only what is before it: `due_pages`, `last_forward`, `message`, `ordered`; `blocks`, `by_ticket`,
+//! The files of `src` form a path on which each imports only what is before it: `due_pages`, `last_forward`, `message`, `ordered`, `sendings`; `blocks`, `by_ticket`,
 //! `due_table`, `entry`, `seats`, `track`; `dues`, `fates`, `part_lists`, `pieces`; `looking`, `queue`, `told`, `wishes`; `counts`, `streams`; `stretches`;
 //! `outstanding`; `by_message`, `entries`, `flying`, `lanes`, `marking`, `pushing`, `repeats`, `run_room`, `searching`, `stock`, `tally`, `telling`,
 //! `weight`; `assigning`, `covered`, `indexed`, `sender`, `waking`; `at_limit`, `entering`, `fill`, `last`, `laws`, `pace`, `passing`, `queueing`,
@@ -80,6 +81,7 @@ mod told;
 
 pub use abandon::Abandoned;
 pub use fill::Filled;
+pub use fill::sendings::Sendings;
 pub use pace::weight::Weight;
 pub use queueing::SendFault;
 pub use sack::SackFault;

@@ -186,6 +186,7 @@ impl<F: Framing> Sender<F> {
 fn reserve_ticket(fates: &mut Fates, dues: &mut Dues) -> Result<(), NoMemory>
     ensures items { fates.new.items ≡ fates.old.items }
     ensures ended { fates.new.ended ≡ fates.old.ended }
+    ensures abandoned { fates.new.abandoned ≡ fates.old.abandoned }
     ensures passed { dues.new.passed ≡ dues.old.passed }
     ensures moments { dues.new.moments ≡ dues.old.moments }
     ensures asleep { dues.new.asleep ≡ dues.old.asleep }

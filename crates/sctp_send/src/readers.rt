@@ -7,6 +7,7 @@ ghost use Rattle.sctp_model.specs.sender.Readers.{point, unsettled, drained, out
 ghost use Rattle.sctp_send.specs.OutstandingFields.{item_meaning};
 ghost use Rattle.sctp_send.specs.SenderFields.{track_meaning};
 ghost use Rattle.sctp_send.specs.SenderStands.{StandsFor};
+ghost use Rattle.sctp_send.specs.SenderAnswers.{abandoned_messages};
 ghost use Rattle.sctp_send.specs.Waiting.{queued_bytes};
 ghost use Rattle.sctp_send.specs.inner.Walks.{total, one_if_rest, abandoned_items, any_unsettled, is_item_unsettled, is_abandoned_fate, is_numbered_fate, any_uncovered, any_rest};
 
@@ -97,6 +98,14 @@ impl<F: Framing> Sender<F> {
         ensures { (v : SenderView) → StandsFor F.format self.now v → result ≡ v.tickets }
     {
         self.told.fates.len() as u64
+    }
+
+    /// The number of messages that were abandoned after they got a TSN (RFC 3758, 3.5), since the start. A message withdrawn from the queue isn't
+    /// counted.
+    pub fn abandoned_messages(&self) -> u64
+        ensures { (v : SenderView) → StandsFor F.format self.now v → result ≡ abandoned_messages v }
+    {
+        self.told.fates.abandoned()
     }
 
     /// Whether the peer has acknowledged all of the message with this ticket: all its fragments have TSNs, each is acknowledged by a SACK, and it

@@ -51,6 +51,7 @@ impl<F: Framing> Model for Sender<F> {
       tracks = map (track_meaning s.told.fragment) s.parts.streams.items;
       fates = s.told.fates.items;
       ended = s.told.fates.ended;
+      abandoned = s.told.fates.abandoned;
       runs = when s.told.is_known s.told.covered.items;
       capacity = s.parts.outstanding.capacity;
       passed = s.told.dues.passed;

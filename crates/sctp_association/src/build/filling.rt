@@ -12,7 +12,10 @@ ghost use Rattle.sctp_model.specs.end.EndView.{EndView, format_of};
 ghost use Rattle.sctp_model.specs.end.Clock.{is_point_past};
 ghost use Rattle.sctp_model.specs.end.Building.{room_behind, filled_behind, sent};
 ghost use Rattle.sctp_packet.specs.Draft.{room_in, with_chunks, has_room, after_try};
+ghost use Rattle.sctp_model.specs.end.Wearing.{missed_below};
 ghost use Rattle.sctp_send.specs.SenderStands.{StandsFor};
+ghost use Rattle.sctp_send.specs.FillAnswers.{sendings_of};
+ghost use Rattle.sctp_association.specs.Sends.{FillsNone};
 ghost use Rattle.sctp_association.specs.StartsMean.{starts_at, with_fragments};
 ghost use Rattle.sctp_association.specs.TrafficStands.{TrafficStands};
 ghost use Rattle.sctp_association.specs.Drafted.{drafted, IsOf, IsOwn};
@@ -28,8 +31,9 @@ use crate::traffic::Traffic;
 use sctp_congestion::Pacing;
 use sctp_framing::Framing;
 use sctp_packet::PacketWriter;
-use sctp_send::{Filled, Sender};
-use sctp_values::{NoMemory, Ticket};
+use sctp_send::{Filled, Sender, Sendings};
+use sctp_values::NoMemory;
+use std::alloc::Global;
 
 impl Traffic {
     /// Builds the FORWARD-TSN or I-FORWARD-TSN for a packet of this limit, in bytes, and keeps it for `put_forward` (`Sender::keep_forward`).
@@ -67,30 +71,37 @@ impl Traffic {
     }
 
     /// Fills the packet with DATA or I-DATA chunks, as many as may be sent and fit (RFC 9260, 6.1). It returns the tickets of the messages that were
-    /// assigned their TSNs.
+    /// assigned their TSNs, and how many chunks were sent first and again: what has an index below `missed` was missed (RFC 9260, 7.2.4).
     ///
     /// # Errors
     /// `NoMemory` if an allocation was refused; nothing of the traffic changed then.
     #[inline(always)]
-    pub(crate) fn fill(&mut self, packet: &mut PacketWriter) -> Result<Filled, NoMemory>
+    pub(crate) fn fill(
+        &mut self,
+        missed: u64,
+        packet: &mut PacketWriter,
+    ) -> Result<Filled, NoMemory>
         ensures chunks { (f : Format) (s : SenderView) (r : ReceiverView) → TrafficStands self.old f s r
             → OnOk result (packet.new ≡ with_chunks packet.old (map (chunk_of f) (fill f (room_in packet.old) s).wishes)) }
         ensures step { (f : Format) (s : SenderView) (r : ReceiverView) → TrafficStands self.old f s r
             → OnOk result (TrafficStands self.new f (fill f (room_in packet.old) s).view r) }
         ensures tickets { (f : Format) (s : SenderView) (r : ReceiverView) → TrafficStands self.old f s r
             → IfOk result (λ filled. map (λ t. t.0) filled.tickets.items ≡ newly_numbered s (fill f (room_in packet.old) s).view) }
+        ensures sendings { (f : Format) (s : SenderView) (r : ReceiverView) → TrafficStands self.old f s r
+            → IfOk result (λ filled. filled.sendings ≡ sendings_of missed (fill f (room_in packet.old) s).wishes) }
         ensures memory { (f : Format) (s : SenderView) (r : ReceiverView) → TrafficStands self.old f s r → OnErr result (TrafficStands self.new f s r) }
     {
         match self {
-            Traffic::Plain(directions) => fill_from(&mut directions.sender, packet),
-            Traffic::Interleaved(directions) => fill_from(&mut directions.sender, packet),
+            Traffic::Plain(directions) => fill_from(&mut directions.sender, missed, packet),
+            Traffic::Interleaved(directions) => fill_from(&mut directions.sender, missed, packet),
         }
     }
 }
 
-/// `Sender::fill`, with its contract in terms of the function that computes what is filled in.
+/// `Sender::fill_counting`, with its contract in terms of the function that computes what is filled in.
 fn fill_from<F: Framing>(
     sender: &mut Sender<F>,
+    missed: u64,
     packet: &mut PacketWriter,
 ) -> Result<Filled, NoMemory>
     ensures chunks { (s : SenderView) → StandsFor F.format sender.old s
@@ -98,9 +109,11 @@ fn fill_from<F: Framing>(
     ensures step { (s : SenderView) → StandsFor F.format sender.old s → OnOk result (StandsFor F.format sender.new (fill F.format (room_in packet.old) s).view) }
     ensures tickets { (s : SenderView) → StandsFor F.format sender.old s
         → IfOk result (λ filled. map (λ t. t.0) filled.tickets.items ≡ newly_numbered s (fill F.format (room_in packet.old) s).view) }
+    ensures sendings { (s : SenderView) → StandsFor F.format sender.old s
+        → IfOk result (λ filled. filled.sendings ≡ sendings_of missed (fill F.format (room_in packet.old) s).wishes) }
     ensures memory { (s : SenderView) → StandsFor F.format sender.old s → OnErr result (StandsFor F.format sender.new s) }
 {
-    sender.fill(packet)
+    sender.fill_counting(missed, packet)
 }
 
 /// The DATA or I-DATA chunks that went into a packet.
@@ -108,23 +121,40 @@ fn fill_from<F: Framing>(
 pub(crate) struct Fragments {
     /// There are some.
     pub(crate) some: bool,
-    /// The tickets of the messages that were assigned their TSNs with them, by their first TSN.
-    pub(crate) tickets: Vec<Ticket>,
+    /// The tickets of the messages that were assigned their TSNs with them, by their first TSN, and how many chunks were sent first and again.
+    pub(crate) filled: Filled,
 }
 
-/// Fills what is left of a packet with user data. It is the one place where user data goes out (RFC 9260, 6.1).
+/// No user data.
+#[inline(always)]
+pub(crate) fn filled_none(alloc: Global) -> Filled
+    ensures { FillsNone result }
+{
+    Filled {
+        tickets: Vec::new(alloc),
+        sendings: Sendings {
+            first: 0,
+            timed: 0,
+            missed: 0,
+        },
+    }
+}
+
+/// Fills what is left of a packet with user data; what has an index below `missed` was missed. It is the one place where user data goes out (RFC 9260,
+/// 6.1 and 7.2.4).
 ///
 /// # Errors
 /// `NoMemory` if an allocation was refused; nothing of the traffic changed then.
 #[inline(always)]
 pub(crate) fn fill_rest(
     traffic: &mut Traffic,
+    missed: u64,
     writer: &mut PacketWriter,
 ) -> Result<Fragments, NoMemory>
     ensures filled { (e : EndView) (m : marks.Marks) (n : starts.Starts) → TrafficStands traffic.old (format_of e) e.sender e.receiver
-        → room_in writer.old ≡ room_behind (drafted m e) writer.old.chunks → IsOwn e (record { writer = writer.old; marks = m })
+        → missed ≡ missed_below e.pace → room_in writer.old ≡ room_behind (drafted m e) writer.old.chunks → IsOwn e (record { writer = writer.old; marks = m })
         → IfOk result (λ fragments. starts_at n ≡ with_fragments fragments.some (starts_at m.starts)
-        → FillsBehind e (record { writer = writer.old; marks = m }) (record { writer = writer.new; marks = record m { starts = n } }) traffic.new fragments.tickets) }
+        → FillsBehind e (record { writer = writer.old; marks = m }) (record { writer = writer.new; marks = record m { starts = n } }) traffic.new fragments.filled) }
     ensures step { (e : EndView) (m : marks.Marks) → TrafficStands traffic.old (format_of e) e.sender e.receiver
         → room_in writer.old ≡ room_behind (drafted m e) writer.old.chunks
         → OnOk result (TrafficStands traffic.new (format_of e) (filled_behind (drafted m e) writer.old.chunks).view e.receiver) }
@@ -134,12 +164,9 @@ pub(crate) fn fill_rest(
     ensures memory { (f : Format) (s : SenderView) (r : ReceiverView) → TrafficStands traffic.old f s r → OnErr result (TrafficStands traffic.new f s r) }
 {
     let before = writer.room();
-    let filled = traffic.fill(writer)?;
+    let filled = traffic.fill(missed, writer)?;
     let some = writer.room() < before;
-    Ok(Fragments {
-        some,
-        tickets: filled.tickets,
-    })
+    Ok(Fragments { some, filled })
 }
 
 /// Fills what is left after the control chunks with user data, as far as the pace allows, which starts the data timer. The time is that of the packet,
@@ -152,9 +179,9 @@ pub(crate) fn fill_behind(
     pace: &mut Option<Pacing>,
     moment: u64,
     packing: &mut Packing,
-) -> Result<Vec<Ticket>, NoMemory>
+) -> Result<Filled, NoMemory>
     ensures filled { (e : EndView) → TrafficStands traffic.old (format_of e) e.sender e.receiver → pace.old ≡ e.pace → moment ≡ e.moment → IsOf e packing.old
-        → IfOk result (λ tickets. FillsBehind e packing.old packing.new traffic.new tickets) }
+        → IfOk result (λ filled. FillsBehind e packing.old packing.new traffic.new filled) }
     ensures paced { (e : EndView) → TrafficStands traffic.old (format_of e) e.sender e.receiver → pace.old ≡ e.pace → moment ≡ e.moment → IsOf e packing.old
         → OnOk result (pace.new ≡ (sent (drafted packing.old.marks e) packing.old.writer.chunks).pace) }
     ensures memory { (f : Format) (s : SenderView) (r : ReceiverView) → TrafficStands traffic.old f s r → OnErr result (TrafficStands traffic.new f s r) }
@@ -163,7 +190,7 @@ pub(crate) fn fill_behind(
 {
     let fragments = fill_by(traffic, pace, moment, &mut packing.writer)?;
     start_fragments(&mut packing.marks.starts, fragments.some);
-    Ok(fragments.tickets)
+    Ok(fragments.filled)
 }
 
 /// The data timer is to start, if user data went out.

@@ -35,7 +35,7 @@ pub(crate) fn fill_by(
     ensures filled { (e : EndView) (m : marks.Marks) (n : starts.Starts) → TrafficStands traffic.old (format_of e) e.sender e.receiver → pace.old ≡ e.pace
         → moment ≡ e.moment → IsOf e (record { writer = writer.old; marks = m })
         → IfOk result (λ fragments. starts_at n ≡ with_fragments fragments.some (starts_at m.starts)
-        → FillsBehind e (record { writer = writer.old; marks = m }) (record { writer = writer.new; marks = record m { starts = n } }) traffic.new fragments.tickets) }
+        → FillsBehind e (record { writer = writer.old; marks = m }) (record { writer = writer.new; marks = record m { starts = n } }) traffic.new fragments.filled) }
     ensures paced { (e : EndView) (m : marks.Marks) → TrafficStands traffic.old (format_of e) e.sender e.receiver → pace.old ≡ e.pace → moment ≡ e.moment
         → IsOf e (record { writer = writer.old; marks = m }) → OnOk result (pace.new ≡ (sent (drafted m e) writer.old.chunks).pace) }
     ensures memory { (f : Format) (s : SenderView) (r : ReceiverView) → TrafficStands traffic.old f s r → OnErr result (TrafficStands traffic.new f s r) }
@@ -43,7 +43,7 @@ pub(crate) fn fill_by(
     ensures unpaced { pace.old ≡ None → pace.new ≡ None }
 {
     match pace {
-        None => fill_rest(traffic, writer),
+        None => fill_rest(traffic, 0, writer),
         Some(pace) => fill_paced(traffic, pace, moment, writer),
     }
 }
@@ -61,7 +61,7 @@ fn fill_paced(
     ensures filled { (e : EndView) (m : marks.Marks) (n : starts.Starts) → TrafficStands traffic.old (format_of e) e.sender e.receiver → e.pace ≡ Some pace.old
         → moment ≡ e.moment → IsOf e (record { writer = writer.old; marks = m })
         → IfOk result (λ fragments. starts_at n ≡ with_fragments fragments.some (starts_at m.starts)
-        → FillsBehind e (record { writer = writer.old; marks = m }) (record { writer = writer.new; marks = record m { starts = n } }) traffic.new fragments.tickets) }
+        → FillsBehind e (record { writer = writer.old; marks = m }) (record { writer = writer.new; marks = record m { starts = n } }) traffic.new fragments.filled) }
     ensures paced { (e : EndView) (m : marks.Marks) → TrafficStands traffic.old (format_of e) e.sender e.receiver → e.pace ≡ Some pace.old → moment ≡ e.moment
         → IsOf e (record { writer = writer.old; marks = m }) → OnOk result (Some pace.new ≡ (sent (drafted m e) writer.old.chunks).pace) }
     ensures memory { (f : Format) (s : SenderView) (r : ReceiverView) → TrafficStands traffic.old f s r → OnErr result (TrafficStands traffic.new f s r) }
@@ -69,7 +69,8 @@ fn fill_paced(
 {
     let before = traffic.last_sent();
     narrow(traffic, pace, writer);
-    let fragments = fill_rest(traffic, writer)?;
+    let missed = pace.misses().passed();
+    let fragments = fill_rest(traffic, missed, writer)?;
     pace.sent(moment, before, traffic.last_sent(), fragments.some);
     Ok(fragments)
 }

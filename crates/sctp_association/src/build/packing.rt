@@ -20,7 +20,7 @@ use crate::state::due::Due;
 use crate::state::life::Life;
 use crate::time::starts::Starts;
 use sctp_packet::PacketWriter;
-use sctp_values::Ticket;
+use sctp_send::Filled;
 use std::alloc::Global;
 
 /// What a packet changes at its endpoint, besides sender and receiver: the chunks that are still due, and the timers that start.
@@ -80,17 +80,37 @@ impl Machine {
         )
     }
 
+    /// If a FORWARD-TSN is due, has it ready for this packet: one that was built for the same point is used again (`Sender::keep_forward`), so that
+    /// a SACK which changes nothing costs no walk over the TSNs that it skips. It may allocate, and does without where memory is refused.
+    pub(crate) fn keep_forward(&mut self)
+        ensures { (v : EndView) → MachineStands self.old v → MachineStands self.new v }
+    {
+        if !self.due.forward {
+            return;
+        }
+        let limit = self.config.limit();
+        match &mut self.life {
+            Life::Unjoined(_) => {}
+            Life::Joined(association) => association.traffic.keep_forward(limit),
+        }
+    }
+
     /// The packet is ready if it has a chunk; else its buffer is kept.
     #[inline(always)]
-    pub(crate) fn finished(&mut self, writer: PacketWriter, tickets: Vec<Ticket>) -> Option<Built>
+    pub(crate) fn finished(&mut self, writer: PacketWriter, filled: Filled) -> Option<Built>
         ensures stands { (v : EndView) → MachineStands self.old v → MachineStands self.new v }
         ensures packet { MatchOption result (writer.chunks ≡ []) (λ b. WritesPacket b.packet.items (packet_of writer)) }
         ensures size { IfSome result (λ b. length b.packet.items ≡ size_of_packet writer.chunks) }
         ensures within { IfSome result (λ b. length b.packet.items ≤ writer.limit) }
-        ensures tickets { IfSome result (λ b. b.tickets ≡ tickets) }
+        ensures tickets { IfSome result (λ b. b.tickets ≡ filled.tickets) }
+        ensures sendings { IfSome result (λ b. b.sendings ≡ filled.sendings) }
     {
         match writer.finish_or_room() {
-            Ok(packet) => Some(Built { packet, tickets }),
+            Ok(packet) => Some(Built {
+                packet,
+                tickets: filled.tickets,
+                sendings: filled.sendings,
+            }),
             Err(room) => {
                 self.recycle(room);
                 None

@@ -19,14 +19,15 @@ ghost use Rattle.sctp_association.specs.PlainPacket.{IsPlain, plain_marks};
 ghost use Rattle.sctp_association.specs.declared.state.due.Due as kept;
 
 use crate::build::Built;
-use crate::build::filling::fill_rest;
+use crate::build::filling::{fill_rest, filled_none};
 use crate::build::putting::put_due_sack;
 use crate::machine::Machine;
 use crate::state::due::Due;
 use crate::state::life::Life;
 use crate::traffic::Traffic;
 use sctp_packet::PacketWriter;
-use sctp_values::{NoMemory, Ticket};
+use sctp_send::Filled;
+use sctp_values::NoMemory;
 use std::alloc::Global;
 
 /// What a packet of the fast path changes.
@@ -36,8 +37,8 @@ pub(crate) struct Plain {
     pub(crate) sack: bool,
     /// User data went out.
     pub(crate) fragments: bool,
-    /// The tickets of the messages that were assigned their TSNs with it, by their first TSN.
-    pub(crate) tickets: Vec<Ticket>,
+    /// The tickets of the messages that were assigned their TSNs with it, by their first TSN, and how many chunks were sent first and again.
+    pub(crate) filled: Filled,
 }
 
 impl Due {
@@ -104,7 +105,7 @@ impl Machine {
     fn pack_plain(&mut self, writer: &mut PacketWriter) -> Result<Plain, NoMemory>
         ensures packed { (v : EndView) (t : model.Tags) (g : model.Stage) (moment : ℕ) → MachineStands self.old v → v.phase ≡ model.Open t g → v.pace ≡ None → IsPlain self.old.due v.due
             → IsEmpty (record v { moment = moment }) (record { writer = writer.old; marks = plain_marks self.old.due self.old.due.sack false })
-            → IfOk result (λ p. (s : SenderView) × IsPacked (record v { moment = moment }) s v.pace (record { writer = writer.new; marks = plain_marks self.old.due p.sack p.fragments }) p.tickets
+            → IfOk result (λ p. (s : SenderView) × IsPacked (record v { moment = moment }) s v.pace (record { writer = writer.new; marks = plain_marks self.old.due p.sack p.fragments }) p.filled
             × MachineStands self.new (record v { sender = s })) }
         ensures memory { (v : EndView) → MachineStands self.old v → OnErr result (MachineStands self.new v) }
         ensures kept { self.new ≡ record self.old { life = self.new.life } }
@@ -115,7 +116,7 @@ impl Machine {
             Life::Unjoined(_) => Ok(Plain {
                 sack,
                 fragments: false,
-                tickets: Vec::new(alloc),
+                filled: filled_none(alloc),
             }),
             Life::Joined(association) => put_plain(alloc, &mut association.traffic, sack, writer),
         }
@@ -129,13 +130,14 @@ impl Machine {
         ensures packet { MatchOption result (writer.chunks ≡ []) (λ b. WritesPacket b.packet.items (packet_of writer)) }
         ensures size { IfSome result (λ b. length b.packet.items ≡ size_of_packet writer.chunks) }
         ensures within { IfSome result (λ b. length b.packet.items ≤ writer.limit) }
-        ensures tickets { IfSome result (λ b. b.tickets ≡ plain.tickets) }
+        ensures tickets { IfSome result (λ b. b.tickets ≡ plain.filled.tickets) }
+        ensures sendings { IfSome result (λ b. b.sendings ≡ plain.filled.sendings) }
     {
         self.moment = moment;
         self.when_sack_sent(self.due.sack, plain.sack);
         self.timers.start_fragments(plain.fragments, moment);
         self.due.owe_sack(plain.sack);
-        self.finished(writer, plain.tickets)
+        self.finished(writer, plain.filled)
     }
 }
 
@@ -152,7 +154,7 @@ fn put_plain(
 ) -> Result<Plain, NoMemory>
     ensures packed { (e : EndView) (t : model.Tags) (g : model.Stage) (d : kept.Due) → e.phase ≡ model.Open t g → e.pace ≡ None → IsPlain d e.due → IsQuiet e
         → TrafficStands traffic.old (format_of e) e.sender e.receiver → IsEmpty e (record { writer = writer.old; marks = plain_marks d sack false })
-        → IfOk result (λ p. (s : SenderView) × IsPacked e s e.pace (record { writer = writer.new; marks = plain_marks d p.sack p.fragments }) p.tickets
+        → IfOk result (λ p. (s : SenderView) × IsPacked e s e.pace (record { writer = writer.new; marks = plain_marks d p.sack p.fragments }) p.filled
         × TrafficStands traffic.new (format_of e) s e.receiver) }
     ensures memory { (f : Format) (s : SenderView) (r : ReceiverView) → TrafficStands traffic.old f s r → OnErr result (TrafficStands traffic.new f s r) }
 {
@@ -160,13 +162,13 @@ fn put_plain(
         return Ok(Plain {
             sack,
             fragments: false,
-            tickets: Vec::new(alloc),
+            filled: filled_none(alloc),
         });
     }
-    let fragments = fill_rest(traffic, writer)?;
+    let fragments = fill_rest(traffic, 0, writer)?;
     Ok(Plain {
         sack: false,
         fragments: fragments.some,
-        tickets: fragments.tickets,
+        filled: fragments.filled,
     })
 }

@@ -17,10 +17,12 @@ ghost use Rattle.sctp_recv.specs.AnswerOf.{answer_of, forward_answer_of};
 ghost use Rattle.sctp_send.specs.SenderAnswers.{reason_meaning};
 ghost use Rattle.sctp_association.specs.TimersMean.{alarm_meaning};
 ghost use Rattle.sctp_association.specs.MachineStands.{MachineStands};
+ghost use Rattle.sctp_association.specs.SackLeaves.{fault_of, IsLeft, sack_counted};
 
 use crate::machine::Machine;
 use crate::state::life::Life;
 use crate::time::timer::Alarm;
+use crate::traffic::acknowledging::Acknowledged;
 use sctp_recv::{Answer, ForwardAnswer, resets_stay};
 use sctp_send::SackFault;
 use sctp_values::NoMemory;
@@ -107,15 +109,29 @@ impl Machine {
         ensures refused { (v : EndView) (t : model.Tags) (g : model.Stage) → MachineStands self.old v → v.phase ≡ model.Open t g
             → OnErr result (MachineStands self.new v) }
     {
-        let before = self.cum();
-        let weighed = self.weigh(sack);
+        if self.pace.is_some() {
+            return self.hear_sack_paced(sack);
+        }
+        self.count_sack(sack)
+    }
+
+    /// What a SACK does beside the pace.
+    ///
+    /// # Errors
+    /// Its first fault; nothing changed then.
+    #[inline(always)]
+    pub(crate) fn count_sack(&mut self, sack: &Sack<'_>) -> Result<(), SackFault>
+        ensures answer { (v : EndView) (t : model.Tags) (g : model.Stage) → MachineStands self.old v → v.phase ≡ model.Open t g
+            → reason_meaning result ≡ sack_fault v.sender (sack_meaning sack.now) }
+        ensures step { (v : EndView) (t : model.Tags) (g : model.Stage) → MachineStands self.old v → v.phase ≡ model.Open t g
+            → OnOk result (MachineStands self.new (sack_counted v (sack_meaning sack.now))) }
+        ensures refused { (v : EndView) (t : model.Tags) (g : model.Stage) → MachineStands self.old v → v.phase ≡ model.Open t g
+            → OnErr result (MachineStands self.new v) }
+    {
         match self.take_sack(sack) {
-            Ok(()) => {
-                let moved = before < self.cum();
-                self.due.owe_forward(true);
-                self.settle();
-                self.renew(Alarm::Fragments, moved);
-                self.follow(weighed);
+            Ok(left) => {
+                self.due.owe_forward(left.past);
+                self.timers.count(left.wanted, left.moved, self.moment);
                 Ok(())
             }
             Err(fault) => Err(fault),
@@ -127,14 +143,20 @@ impl Machine {
     /// # Errors
     /// Its first fault; nothing changed then.
     #[inline(always)]
-    fn take_sack(&mut self, sack: &Sack<'_>) -> Result<(), SackFault>
+    fn take_sack(&mut self, sack: &Sack<'_>) -> Result<Acknowledged, SackFault>
         ensures answer { (v : EndView) (t : model.Tags) (g : model.Stage) → MachineStands self.old v → v.phase ≡ model.Open t g
-            → reason_meaning result ≡ sack_fault v.sender (sack_meaning sack.now) }
+            → fault_of result ≡ sack_fault v.sender (sack_meaning sack.now) }
         ensures step { (v : EndView) (t : model.Tags) (g : model.Stage) → MachineStands self.old v → v.phase ≡ model.Open t g
             → MachineStands self.new (record v { sender = sack_after v.sender (sack_meaning sack.now) }) }
+        ensures left { (v : EndView) (t : model.Tags) (g : model.Stage) → MachineStands self.old v → v.phase ≡ model.Open t g
+            → IfOk result (IsLeft v.sender (sack_after v.sender (sack_meaning sack.now))) }
     {
         match &mut self.life {
-            Life::Unjoined(_) => Ok(()),
+            Life::Unjoined(_) => Ok(Acknowledged {
+                moved: false,
+                wanted: false,
+                past: false,
+            }),
             Life::Joined(association) => association.traffic.on_sack(sack),
         }
     }

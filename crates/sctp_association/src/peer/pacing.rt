@@ -1,7 +1,7 @@
 //! What an acknowledgement does at an endpoint with a pace, after its sender has taken it: misses are counted, what was missed three times is marked for
 //! retransmission, the round trip is measured, the congestion window grows or shrinks, and the data timer follows (RFC 9260, 6.3.1, 6.3.2 and 7.2).
 
-ghost use Rattle.std.specs.Prelude.{◌≡◌, ◌||◌, None, Some, IfSome};
+ghost use Rattle.std.specs.Prelude.{◌≡◌, ◌||◌, None, Some, IfSome, OnOk, OnErr};
 ghost use Rattle.sctp_model.specs.messages.Format.{Format};
 ghost use Rattle.sctp_model.specs.sender.SenderView.{SenderView};
 ghost use Rattle.sctp_model.specs.receiver.ReceiverView.{ReceiverView};
@@ -10,7 +10,9 @@ ghost use Rattle.sctp_model.specs.end.Pacing.{heard};
 ghost use Rattle.sctp_model.specs.end.EndView.{EndView};
 ghost use Rattle.sctp_model.specs.end.EndView as model;
 ghost use Rattle.sctp_model.specs.end.Clock.{with_timer, paced};
+ghost use Rattle.sctp_model.specs.end.Acting.{sack_heard};
 ghost use Rattle.sctp_wire.specs.ChunkTree.{sack_meaning};
+ghost use Rattle.sctp_send.specs.SenderAnswers.{reason_meaning};
 ghost use Rattle.sctp_association.specs.TrafficStands.{TrafficStands};
 ghost use Rattle.sctp_association.specs.MachineStands.{MachineStands};
 ghost use Rattle.sctp_association.specs.Weighing.{timed_of, IsBefore, AreBefore, IsReply};
@@ -20,7 +22,7 @@ use crate::state::life::Life;
 use crate::time::timer::Alarm;
 use crate::traffic::Traffic;
 use sctp_congestion::{Highest, Pacing, Reply, Weighed};
-use sctp_send::Weight;
+use sctp_send::{SackFault, Weight};
 use sctp_wire::Sack;
 
 /// What an endpoint with a pace knows of an acknowledgement before its sender takes it.
@@ -36,8 +38,31 @@ pub(crate) struct Before {
 
 #[tactic(auto, unfolding(crate::specs::MachineStands::MachineStands))]
 impl Machine {
+    /// `hear_sack` at an endpoint with a pace.
+    ///
+    /// # Errors
+    /// Its first fault; nothing changed then.
+    #[inline(never)]
+    pub(crate) fn hear_sack_paced(&mut self, sack: &Sack<'_>) -> Result<(), SackFault>
+        ensures answer { (v : EndView) (t : model.Tags) (g : model.Stage) → MachineStands self.old v → v.phase ≡ model.Open t g
+            → reason_meaning result ≡ sack_fault v.sender (sack_meaning sack.now) }
+        ensures step { (v : EndView) (t : model.Tags) (g : model.Stage) → MachineStands self.old v → v.phase ≡ model.Open t g
+            → OnOk result (MachineStands self.new (sack_heard v (sack_meaning sack.now))) }
+        ensures refused { (v : EndView) (t : model.Tags) (g : model.Stage) → MachineStands self.old v → v.phase ≡ model.Open t g
+            → OnErr result (MachineStands self.new v) }
+    {
+        let weighed = self.weigh(sack);
+        match self.count_sack(sack) {
+            Ok(()) => {
+                self.follow(weighed);
+                Ok(())
+            }
+            Err(fault) => Err(fault),
+        }
+    }
+
     /// What is known of a SACK before the sender takes it; None without a pace.
-    pub(crate) fn weigh(&self, sack: &Sack<'_>) -> Option<Before>
+    fn weigh(&self, sack: &Sack<'_>) -> Option<Before>
         ensures { (v : EndView) (t : model.Tags) (g : model.Stage) → MachineStands self.now v → v.phase ≡ model.Open t g → sack_fault v.sender (sack_meaning sack.now) ≡ None
             → AreBefore v (sack_after v.sender (sack_meaning sack.now)) result }
     {

@@ -37,6 +37,14 @@ impl Machine {
         }
     }
 
+    /// A SACK is due: it goes out with the next packet that has space for it (RFC 9260, 6.2).
+    #[inline(always)]
+    pub fn owes_sack(&self) -> bool
+        ensures { (v : EndView) → MachineStands self.now v → result ≡ v.due.sack }
+    {
+        self.due.sack
+    }
+
     /// Call it at the end of a packet that had something to acknowledge: `at_once` if it may not be delayed, `brings_data` if it held user data. A
     /// SACK is due, and in SHUTDOWN-SENT the SHUTDOWN again; or a SACK is delayed by 200 ms, if the endpoint delays SACKs and none is owed yet. With
     /// standard closing, data in SHUTDOWN-SENT restarts the SHUTDOWN's timer and its count. Nothing if the association isn't open (RFC 9260, 6.2
@@ -69,14 +77,14 @@ impl Machine {
     fn is_at_once(&self, at_once: bool, stage: Stage) -> bool
         ensures { (v : EndView) (n : Notes) → n.at_once ≡ at_once → MachineStands self.now v → result ≡ is_at_once n (stage_meaning stage) v }
     {
-        !self.config.delay() || (at_once || (self.owes_sack() || stage.is_shutdown_sent()))
+        !self.config.delay() || (at_once || (self.awaits_sack() || stage.is_shutdown_sent()))
     }
 
     /// A packet was received since the last SACK was sent: a SACK is due or delayed.
-    fn owes_sack(&self) -> bool
+    fn awaits_sack(&self) -> bool
         ensures { (v : EndView) → MachineStands self.now v → result ≡ owes_sack v }
     {
-        self.due.sack || self.delayed.is_some()
+        self.owes_sack() || self.delayed.is_some()
     }
 
     /// With standard closing, user data in SHUTDOWN-SENT clears the count of the SHUTDOWN's timer and restarts it if it runs (RFC 9260, 9.2).

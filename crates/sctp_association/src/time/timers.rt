@@ -3,7 +3,7 @@
 ghost use Rattle.std.specs.Prelude.{◌≡◌, Bool};
 ghost use Rattle.sctp_model.specs.end.EndView as model;
 ghost use Rattle.sctp_model.specs.end.EndView.{unused_timer};
-ghost use Rattle.sctp_model.specs.end.Clock.{stopped, replaced};
+ghost use Rattle.sctp_model.specs.end.Clock.{stopped, renewed, replaced};
 ghost use Rattle.sctp_model.specs.end.Moments.{earlier, earliest, all_alarms};
 ghost use Rattle.sctp_association.specs.TimersMean.{alarm_meaning, timer_meaning, timers_meaning, kept_if, open_timers, resting};
 ghost use Rattle.sctp_association.specs.StartsMean.{starts_at, started_from};
@@ -112,6 +112,16 @@ impl Timers {
         ensures { timers_meaning self.new ≡ replaced model.DataAlarm (followed now rto restarts flies (timers_meaning self.old model.DataAlarm)) (timers_meaning self.old) }
     {
         let timer = self.fragments.followed(now, rto, restarts, flies);
+        self.put(Alarm::Fragments, timer);
+    }
+
+    /// The data timer after a SACK: it stops unless it is wanted, and counts its retransmissions anew; if something new was acknowledged, its timeout
+    /// begins anew at this time, too (RFC 9260, 6.3.2).
+    #[inline(always)]
+    pub(crate) fn count(&mut self, wanted: bool, moved: bool, now: u64)
+        ensures { timers_meaning self.new ≡ replaced model.DataAlarm (renewed now moved (kept_if wanted (timers_meaning self.old model.DataAlarm))) (timers_meaning self.old) }
+    {
+        let timer = self.fragments.kept_if(wanted).renewed(now, moved);
         self.put(Alarm::Fragments, timer);
     }
 

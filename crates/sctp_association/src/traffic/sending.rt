@@ -7,17 +7,15 @@ ghost use Rattle.sctp_model.specs.sender.SenderView.{SenderView};
 ghost use Rattle.sctp_model.specs.receiver.ReceiverView.{ReceiverView};
 ghost use Rattle.sctp_model.specs.sender.Reached.{IsReached};
 ghost use Rattle.sctp_model.specs.sender.Readers.{drained, unsettled, point, outstanding, acknowledged, abandoned};
-ghost use Rattle.sctp_model.specs.sender.SackTaken.{sack_fault, sack_after, shutdown_fault, shutdown_after};
+ghost use Rattle.sctp_model.specs.sender.SackTaken.{shutdown_fault, shutdown_after};
 ghost use Rattle.sctp_model.specs.sender.Abandoning.{has_late, expired, worn, timed_out, abandon_answer, abandon_after};
 ghost use Rattle.sctp_model.specs.end.Clock.{is_point_past};
-ghost use Rattle.sctp_wire.specs.ChunkTree.{sack_meaning};
-ghost use Rattle.sctp_send.specs.SenderAnswers.{reason_meaning, answer_meaning, QueueAnswer, queue_after, lane_for, next_late, next_at_limit};
+ghost use Rattle.sctp_send.specs.SenderAnswers.{reason_meaning, answer_meaning, QueueAnswer, queue_after, lane_for, next_late, next_at_limit, abandoned_messages};
 ghost use Rattle.sctp_association.specs.TrafficStands.{TrafficStands};
 
 use crate::traffic::Traffic;
 use sctp_send::{Abandoned, SackFault, SendFault};
 use sctp_values::Ticket;
-use sctp_wire::Sack;
 
 impl Traffic {
     /// The index of the cumulative TSN Ack Point, counted from the initial TSN.
@@ -99,6 +97,16 @@ impl Traffic {
         }
     }
 
+    /// The number of messages that have TSNs and were abandoned.
+    pub(crate) fn abandoned_messages(&self) -> u64
+        ensures { (f : Format) (s : SenderView) (r : ReceiverView) → TrafficStands self.now f s r → result ≡ abandoned_messages s }
+    {
+        match self {
+            Traffic::Plain(directions) => directions.sender.abandoned_messages(),
+            Traffic::Interleaved(directions) => directions.sender.abandoned_messages(),
+        }
+    }
+
     /// A message's lifetime is over at this time; if there is none, `expire` changes nothing.
     pub(crate) fn has_late(&self, now: u64) -> bool
         ensures exact { (f : Format) (s : SenderView) (r : ReceiverView) → TrafficStands self.now f s r → result ≡ has_late s now }
@@ -137,20 +145,6 @@ impl Traffic {
         match self {
             Traffic::Plain(directions) => directions.sender.abandoned(ticket),
             Traffic::Interleaved(directions) => directions.sender.abandoned(ticket),
-        }
-    }
-
-    /// Processes a SACK (RFC 9260, 6.2.1).
-    ///
-    /// # Errors
-    /// Its first fault; nothing changed.
-    pub(crate) fn on_sack(&mut self, sack: &Sack<'_>) -> Result<(), SackFault>
-        ensures answer { (f : Format) (s : SenderView) (r : ReceiverView) → TrafficStands self.old f s r → reason_meaning result ≡ sack_fault s (sack_meaning sack.now) }
-        ensures step { (f : Format) (s : SenderView) (r : ReceiverView) → TrafficStands self.old f s r → TrafficStands self.new f (sack_after s (sack_meaning sack.now)) r }
-    {
-        match self {
-            Traffic::Plain(directions) => directions.sender.on_sack(sack),
-            Traffic::Interleaved(directions) => directions.sender.on_sack(sack),
         }
     }
 

@@ -5,7 +5,7 @@ ghost use Rattle.std.specs.Prelude.{◌≡◌, false, Some, None, MatchOption, o
 ghost use Rattle.sctp_model.specs.sender.Abandoning.{has_late};
 ghost use Rattle.sctp_model.specs.end.EndView.{EndView, InStage, state_of, ended_of};
 ghost use Rattle.sctp_terms.specs.Meanings.{end_meaning, state_meaning};
-ghost use Rattle.sctp_send.specs.SenderAnswers.{next_late};
+ghost use Rattle.sctp_send.specs.SenderAnswers.{next_late, abandoned_messages};
 ghost use Rattle.sctp_recv.specs.HandedOf.{handed_of};
 ghost use Rattle.sctp_outcomes.specs.Few.{BeginsFew};
 ghost use Rattle.sctp_outcomes.specs.Kept.{IsSound, numbered};
@@ -121,6 +121,16 @@ impl Machine {
         match &self.life {
             Life::Unjoined(_) => {}
             Life::Joined(association) => association.traffic.reached(),
+        }
+    }
+
+    /// The number of messages that were assigned TSNs and abandoned, since the start; 0 before an association (RFC 3758, 3.5).
+    pub fn abandoned_messages(&self) -> u64
+        ensures { (v : EndView) → MachineStands self.now v → result ≡ abandoned_messages v.sender }
+    {
+        match &self.life {
+            Life::Unjoined(_) => 0,
+            Life::Joined(association) => association.traffic.abandoned_messages(),
         }
     }
 

@@ -1,5 +1,5 @@
 -- A message with a number that is abandoned: what is kept after it, where it was in part and where it wasn't.
-use Rattle.std.proofs.Common.{◌≡◌, ℕ, zero, suc, ◌+◌, ◌-◌, ◌<◌, List, [], ◌∷◌, ◌++◌, length, map, drop, set, Bool, true, false, Option, Some, None, refl, sym, ap, ◌∙◌, arith, append-nil, length-append, length-drop}
+use Rattle.std.proofs.Common.{◌≡◌, ℕ, zero, suc, ◌+◌, ◌-◌, ◌%◌, ◌^◌, ◌<◌, List, [], ◌∷◌, ◌++◌, length, map, drop, set, Bool, true, false, Option, Some, None, refl, sym, ap, ◌∙◌, arith, append-nil, length-append, length-drop}
 use Rattle.std.specs.Prelude.{not, ◌&&◌, ◌||◌, min, if◌then◌else◌, slice_get}
 use Rattle.std.proofs.lemmas.List.{length-map, drop-append-le}
 use Rattle.sctp_model.specs.messages.Format.{Format, Lane, ordered_lane, unordered_lane}
@@ -27,6 +27,7 @@ use Rattle.sctp_send.specs.declared.kept.message.Fate.TheVariants.{Abandoned as 
 use Rattle.sctp_send.proofs.forward.StillForward.{still_forward}
 use Rattle.sctp_send.proofs.TableLemmas.{table-set, table-same}
 use Rattle.sctp_send.proofs.TicketLemmas.{kept_goes_on}
+use Rattle.sctp_send.proofs.CountedLemmas.{counted_gone}
 use Rattle.sctp_send.proofs.OverLemmas.{same_items, no_item_one, no_rest_set, no_rest_there}
 use Rattle.sctp_send.proofs.DueLemmas.{late_abandoned, late_items_more, late_end, late_rest_set}
 use Rattle.sctp_send.proofs.abandon.AbandonedLemmas.{abandoned_item, all_own_drop, same_messages, same_entry_message, abandoned-items_from, abandoned_fates, IsKept, abandoned_after}
@@ -95,9 +96,9 @@ any_there t (y ∷ xs) (suc at) x is on = rw (any_there t xs at x is on) (or_tru
     or_true false = refl
 
 -- the view with it abandoned, where its stream doesn't go on with it
-pub keeps_abandoned : (f : Format) (s : Kept) (v : SenderView) (t : ℕ) (n : Name) → Keeps f s v → IsKept v t n → is_covered v n ≡ false → v.partial ≡ true → any_rest t s.tracks ≡ false
-    → Keeps f (record s { items = map (abandoned_item t) s.items; fates = set s.fates (t - 1) WasAbandoned }) (abandon_after v t)
-keeps_abandoned f s v t n k m off partial none =
+pub keeps_abandoned : (f : Format) (s : Kept) (v : SenderView) (t : ℕ) (n : Name) → Keeps f s v → IsKept v t n → is_covered v n ≡ false → v.partial ≡ true → length s.fates < 2 ^ 64 → any_rest t s.tracks ≡ false
+    → Keeps f (record s { items = map (abandoned_item t) s.items; fates = set s.fates (t - 1) WasAbandoned; abandoned = (s.abandoned + 1) % 2 ^ 64 }) (abandon_after v t)
+keeps_abandoned f s v t n k m off partial few none =
     let u = with_abandoned v n in
     let part : is_in_part v n.lane n.number ≡ false = sym (kept_goes_on f s v t n k m.named) ∙ none in
     let plan : u.plan ≡ v.plan = ap (λ (b : Bool). if b then with_entry v.plan (End n.lane n.number) else v.plan) part in
@@ -129,6 +130,7 @@ keeps_abandoned f s v t n k m off partial none =
       forward = still_forward f v.streams v.plan.entries [] u.plan.entries s.forward (entries ∙ sym (append-nil v.plan.entries)) k.forward;
       unreset = k.unreset;
       before = k.before;
+      counted = counted_gone f s v t n k m.waits m.named m.kept m.low m.high few;
       reached = rw after at reached;
     })
 
@@ -148,9 +150,9 @@ end_here f v t n i h past =
         ap (λ (o : Option Message). item o a c x g) p ∙ ap (λ (o : Bool). item k o c x g) q ∙ ap (λ (o : Bool). item k b o x g) r ∙ ap (λ (o : Bool). item k b d o g) z ∙ ap (item k b d y) w
 
 -- the view with it abandoned, where its stream goes on with it
-pub keeps_ended : (f : Format) (s : Kept) (v : SenderView) (t : ℕ) (n : Name) (r : Rest) (tracks : List Track) → Keeps f s v → IsKept v t n → is_covered v n ≡ false → v.partial ≡ true → EndsAt t r s.tracks tracks
-    → (length s.items < s.capacity) × Keeps f (record s { items = map (abandoned_item t) s.items ++ end_item r ∷ []; fates = set s.fates (t - 1) WasAbandoned; tracks = tracks }) (abandon_after v t)
-keeps_ended f s v t n r tracks k m off partial ends =
+pub keeps_ended : (f : Format) (s : Kept) (v : SenderView) (t : ℕ) (n : Name) (r : Rest) (tracks : List Track) → Keeps f s v → IsKept v t n → is_covered v n ≡ false → v.partial ≡ true → length s.fates < 2 ^ 64 → EndsAt t r s.tracks tracks
+    → (length s.items < s.capacity) × Keeps f (record s { items = map (abandoned_item t) s.items ++ end_item r ∷ []; fates = set s.fates (t - 1) WasAbandoned; abandoned = (s.abandoned + 1) % 2 ^ 64; tracks = tracks }) (abandon_after v t)
+keeps_ended f s v t n r tracks k m off partial few ends =
     let u = with_abandoned v n in
     let read : slice_get (table (track_here v) 0 v.streams) ends.at ≡ Some ends.track = rw k.holds.tracks at ends.there in
     let at_is = get-table (track_here v) 0 v.streams ends.at ends.track read in
@@ -227,6 +229,7 @@ keeps_ended f s v t n r tracks k m off partial ends =
         forward = still_forward f v.streams v.plan.entries (End n.lane n.number ∷ []) u.plan.entries s.forward (ap (λ (p : Plan). p.entries) plan) k.forward;
         unreset = k.unreset;
         before = k.before;
+        counted = counted_gone f s v t n k m.waits m.named m.kept m.low m.high few;
         reached = rw after at reached;
       }),
     )

@@ -19,6 +19,7 @@ use Rattle.sctp_send.specs.SenderStands.{table, fate_here, fate_named, Keeps}
 use Rattle.sctp_send.specs.declared.kept.message.Message.{Message as MessageFields}
 use Rattle.sctp_send.specs.declared.kept.message.Fate.TheVariants.{Queued as StillQueued, Withdrawn}
 use Rattle.sctp_send.proofs.TableLemmas.{table-set}
+use Rattle.sctp_send.proofs.CountedLemmas.{counted_waiting}
 use Rattle.sctp_send.proofs.OverLemmas.{not_waiting_without}
 use Rattle.sctp_send.proofs.DueLemmas.{late_without}
 use Rattle.sctp_send.proofs.WalkLemmas.{none_behind, queue_read}
@@ -128,5 +129,6 @@ keeps_withdrawn f s v t k on =
       forward = k.forward;
       unreset = k.unreset;
       before = k.before;
+      counted = counted_waiting f s v t Withdrawn k on refl;
       reached = rw after at reached;
     })

@@ -28,6 +28,7 @@ use Rattle.sctp_send.proofs.KeepLemmas.{kept_length}
 use Rattle.sctp_send.proofs.forward.StillForward.{still_forward}
 use Rattle.sctp_send.proofs.QueueLemmas.{kept_in_part}
 use Rattle.sctp_send.proofs.TableLemmas.{length-table}
+use Rattle.sctp_send.proofs.CountedLemmas.{counted_waiting}
 use Rattle.sctp_send.proofs.OverLemmas.{no_item_more, no_item_one, no_begun, no_rest_set, no_rest_at, no_rest_begun, no_rest_after, not_waiting_taken, another_taken}
 use Rattle.sctp_send.proofs.DueLemmas.{late_items_more, late_item_one, late_begun, late_rest_set, late_rest_at, late_rest_begun, late_rest_after, IsLeftIdle}
 use Rattle.sctp_send.proofs.fill.GoneLemmas.{gone_item, holds_sent, sent_above}
@@ -200,6 +201,7 @@ begun_kept f s v q rest d turn capacity room x k taken idle low first space =
       forward = still_forward f v.streams v.plan.entries (parts_from q.lane (length (v.plan.messages q.lane)) 0 (suc d)) u.plan.entries s.forward refl k.forward;
       unreset = k.unreset;
       before = k.before ∙ sym (sent_above v.sent (suc (length v.plan.entries)) v.cum (omega (arith, count)));
+      counted = counted_waiting f s v q.message.ticket Numbered k taken.was refl;
       reached = Goes v room (newcomer v u) k.reached parts.0 parts.1;
     }
 
@@ -266,6 +268,7 @@ continued_kept f s v j turn capacity room e x k low on first space =
       forward = still_forward f v.streams v.plan.entries (e ∷ []) u.plan.entries s.forward refl k.forward;
       unreset = k.unreset;
       before = k.before ∙ sym (sent_above v.sent (suc (length v.plan.entries)) v.cum (omega (arith, count)));
+      counted = k.counted;
       reached = Goes v room (newcomer v u) k.reached parts.0 parts.1;
     }
 

@@ -1,10 +1,10 @@
 -- One wish after the other: the packet and the stock after some steps, and when none may go any more.
-use Rattle.std.proofs.Common.{◌≡◌, ℕ, ◌+◌, ◌-◌, ◌≤◌, List, [], ◌∷◌, ◌++◌, length, map, Some, None, refl, sym, ap, ◌∙◌, subst, arith, append-nil, append_assoc, length-append}
+use Rattle.std.proofs.Common.{◌≡◌, ℕ, ◌+◌, ◌-◌, ◌<◌, ◌≤◌, List, [], ◌∷◌, ◌++◌, length, map, true, false, Option, Some, None, refl, sym, ap, ◌∙◌, subst, arith, append-nil, append_assoc, length-append}
 use Rattle.std.proofs.lemmas.List.{map-append}
 use Rattle.sctp_model.specs.messages.Format.{Format}
 use Rattle.sctp_model.specs.wire.Chunk.{ChunkMeaning}
 use Rattle.sctp_model.specs.sender.SenderView.{SenderView}
-use Rattle.sctp_model.specs.sender.Filling.{Wish, chunk_of, room_of, goes, gone, Follows, newly_numbered}
+use Rattle.sctp_model.specs.sender.Filling.{Wish, next_wish, chunk_of, room_of, goes, gone, Follows, newly_numbered}
 use Rattle.sctp_model.specs.sender.Reached.{IsReached}
 use Rattle.sctp_model.proofs.sender.FillLaws.{goes_parts, room_some, room_fits, room_after, follows_more, stopped_is_fill}
 use Rattle.sctp_packet.specs.Draft.{Draft as PacketDraft, room_in, with_chunks}
@@ -12,10 +12,14 @@ use Rattle.sctp_send.specs.SenderKept.{Kept}
 use Rattle.sctp_send.specs.SenderStands.{Keeps}
 use Rattle.sctp_send.specs.FillAnswers.{PutSomeOf}
 use Rattle.sctp_send.specs.inner.Stocking.{numbers_of, stocked, IsPut, IsStopped, IsRefused, AllPut}
+use Rattle.sctp_send.specs.inner.Sending.{resent_by, IsResent}
 use Rattle.sctp_send.specs.inner.Undoing.{IsSized, IsBehind}
+use Rattle.sctp_send.specs.declared.fill.sendings.Resent.{Resent}
+use Rattle.sctp_send.specs.declared.fill.sendings.Sendings.{Sendings}
 use Rattle.sctp_send.specs.declared.stock.Stock.{Stock}
 use Rattle.sctp_send.proofs.fill.RoomLemmas.{room_more, goes_nowhere}
 use Rattle.sctp_send.proofs.fill.NewlyLemmas.{newly_self, newly_more}
+use Rattle.sctp_send.proofs.fill.SendingLemmas.{none_resent, one_resent, all_sent}
 
 -- ---- chunks behind chunks
 
@@ -42,8 +46,8 @@ room_used f v u room (w ∷ ws) is =
 
 -- ---- step by step
 
--- So many wishes went: their chunks are in the packet, and the stock keeps what they leave.
-pub record IsSoFar (f : Format) (s : Kept) (v : SenderView) (p now : PacketDraft) (d : Stock) (steps : ℕ) : Type 0 where
+-- So many wishes went: their chunks are in the packet, the stock keeps what they leave, and those sent again are counted.
+pub record IsSoFar (f : Format) (s : Kept) (v : SenderView) (p now : PacketDraft) (d : Stock) (steps n : ℕ) (r : Resent) : Type 0 where
   pub wishes : List Wish
   pub view : SenderView
   pub from : IsReached f v
@@ -52,9 +56,10 @@ pub record IsSoFar (f : Format) (s : Kept) (v : SenderView) (p now : PacketDraft
   pub keeps : Keeps f (stocked s d) view
   pub told : numbers_of d.tickets.items ≡ newly_numbered v view
   pub many : length wishes ≡ steps
+  pub resent : IsResent n wishes r
 
-abbrev pub loop_init : (f : Format) (s : Kept) (v : SenderView) (p : PacketDraft) (d : Stock) → Keeps f (stocked s d) v → d.tickets.items ≡ [] → IsSoFar f s v p p d 0
-loop_init f s v p d k none = record {
+abbrev pub loop_init : (f : Format) (s : Kept) (v : SenderView) (p : PacketDraft) (d : Stock) (n : ℕ) (r : Resent) → Keeps f (stocked s d) v → d.tickets.items ≡ [] → r ≡ record { below = n; timed = 0; missed = 0 } → IsSoFar f s v p p d 0 n r
+loop_init f s v p d n r k none fresh = record {
   wishes = [];
   view = v;
   from = k.reached;
@@ -63,20 +68,22 @@ loop_init f s v p d k none = record {
   keeps = k;
   told = ap numbers_of none ∙ sym (newly_self v);
   many = refl;
+  resent = none_resent n r fresh;
 }
 
 -- the room at a step
-pub room_now : (f : Format) (s : Kept) (v : SenderView) (p now : PacketDraft) (d : Stock) (steps : ℕ) → (x : IsSoFar f s v p now d steps) → room_in now ≡ room_after f (room_in p) x.wishes
-room_now f s v p now d steps x = ap room_in x.chunks ∙ room_left f p x.wishes
+pub room_now : (f : Format) (s : Kept) (v : SenderView) (p now : PacketDraft) (d : Stock) (steps n : ℕ) (r : Resent) → (x : IsSoFar f s v p now d steps n r) → room_in now ≡ room_after f (room_in p) x.wishes
+room_now f s v p now d steps n r x = ap room_in x.chunks ∙ room_left f p x.wishes
 
 -- chunks behind those that are there
 pub chunks_more : (f : Format) (p now later : PacketDraft) (ws xs : List Wish) → now ≡ with_chunks p (map (chunk_of f) ws) → later ≡ with_chunks now (map (chunk_of f) xs) → later ≡ with_chunks p (map (chunk_of f) (ws ++ xs))
 chunks_more f p now later ws xs here then =
     then ∙ ap (λ (y : PacketDraft). with_chunks y (map (chunk_of f) xs)) here ∙ chunks_joined p (map (chunk_of f) ws) (map (chunk_of f) xs) ∙ ap (with_chunks p) (sym (map-append (chunk_of f) ws xs))
 
-abbrev pub loop_more : (f : Format) (s : Kept) (v : SenderView) (p now later : PacketDraft) (old new : Stock) (steps : ℕ) → (x : IsSoFar f s v p now old steps) → IsPut f s x.view now later old new → IsSoFar f s v p later new (steps + 1)
-loop_more f s v p now later old new steps x put =
-    let next : goes f (room_after f (room_in p) x.wishes) x.view ≡ Some put.wish = ap (λ (n : ℕ). goes f n x.view) (sym (room_now f s v p now old steps x)) ∙ put.next in
+abbrev pub loop_more : (f : Format) (s : Kept) (v : SenderView) (p now later : PacketDraft) (old new : Stock) (steps n : ℕ) (r q : Resent) → (x : IsSoFar f s v p now old steps n r) → steps < 65536 → IsPut f s x.view now later old new
+    → q ≡ resent_by true (next_wish f x.view) r → IsSoFar f s v p later new (steps + 1) n q
+loop_more f s v p now later old new steps n r q x few put counted =
+    let next : goes f (room_after f (room_in p) x.wishes) x.view ≡ Some put.wish = ap (λ (n : ℕ). goes f n x.view) (sym (room_now f s v p now old steps n r x)) ∙ put.next in
     record {
       wishes = x.wishes ++ put.wish ∷ [];
       view = gone put.wish;
@@ -86,20 +93,25 @@ loop_more f s v p now later old new steps x put =
       keeps = put.keeps;
       told = put.told ∙ ap (λ (ts : List ℕ). ts ++ newly_numbered x.view (gone put.wish)) x.told ∙ sym (newly_more f v x.view (room_in p) x.wishes put.wish x.from x.follows next);
       many = let long = length-append x.wishes (put.wish ∷ []) in let before = x.many in omega (arith, long, before);
+      resent =
+          let many = x.many in
+          let wish = ap (λ (o : Option Wish). resent_by true o r) (goes_parts f (room_in now) x.view put.wish put.next).0 in
+          subst (λ (y : Resent). IsResent n (x.wishes ++ put.wish ∷ []) y) (sym (counted ∙ wish)) (one_resent n x.wishes put.wish r x.resent (omega (arith, few, many)));
     }
 
 -- What holds at each step: the stock leads back to what it was, with parts of one size, and so many wishes went.
-pub record IsFilledSoFar (f : Format) (s : Kept) (p now : PacketDraft) (old new : Stock) (steps : ℕ) : Type 0 where
+pub record IsFilledSoFar (f : Format) (s : Kept) (p now : PacketDraft) (old new : Stock) (steps n : ℕ) (r : Resent) : Type 0 where
   pub sized : IsSized s.fragment new
   pub behind : IsBehind old new
-  pub so_far : (v : SenderView) → Keeps f (stocked s old) v → IsSoFar f s v p now new steps
+  pub so_far : (v : SenderView) → Keeps f (stocked s old) v → IsSoFar f s v p now new steps n r
 
 -- ---- the end
 
 -- the next wish may not go
-pub loop_stopped : (f : Format) (s : Kept) (v : SenderView) (p now later : PacketDraft) (old new : Stock) (steps : ℕ) → (x : IsSoFar f s v p now old steps) → IsStopped f s x.view now later old new → AllPut f s v p later new
-loop_stopped f s v p now later old new steps x stop =
-    let none : goes f (room_after f (room_in p) x.wishes) x.view ≡ None = ap (λ (n : ℕ). goes f n x.view) (sym (room_now f s v p now old steps x)) ∙ stop.none in
+pub loop_stopped : (f : Format) (s : Kept) (v : SenderView) (p now later : PacketDraft) (old new : Stock) (steps n : ℕ) (r q : Resent) (y : Sendings) → (x : IsSoFar f s v p now old steps n r) → IsStopped f s x.view now later old new
+    → q ≡ resent_by false (next_wish f x.view) r → (q.timed + q.missed ≤ steps → y ≡ record { first = steps - (q.timed + q.missed); timed = q.timed; missed = q.missed }) → AllPut f s v p later new n y
+loop_stopped f s v p now later old new steps n r q y x stop counted here =
+    let none : goes f (room_after f (room_in p) x.wishes) x.view ≡ None = ap (λ (n : ℕ). goes f n x.view) (sym (room_now f s v p now old steps n r x)) ∙ stop.none in
     record {
       wishes = x.wishes;
       view = x.view;
@@ -107,19 +119,33 @@ loop_stopped f s v p now later old new steps x stop =
       chunks = stop.packet ∙ x.chunks;
       keeps = subst (λ (y : Kept). Keeps f y x.view) (sym stop.kept) x.keeps;
       told = ap (λ (ts : _). numbers_of ts.items) stop.tickets ∙ x.told;
+      counts = all_sent n x.wishes q steps y (subst (IsResent n x.wishes) (sym (counted ∙ stays (next_wish f x.view))) x.resent) x.many here;
     }
+  where
+    stays : (o : Option Wish) → resent_by false o r ≡ r
+    stays None = refl
+    stays (Some w) = refl
 
 -- as many went as there was room, so none is left
-pub loop_full : (f : Format) (s : Kept) (v : SenderView) (p now : PacketDraft) (d : Stock) (steps : ℕ) → IsSoFar f s v p now d steps → room_in p ≤ steps → AllPut f s v p now d
-loop_full f s v p now d steps x all =
+pub loop_full : (f : Format) (s : Kept) (v : SenderView) (p now : PacketDraft) (d : Stock) (steps room n : ℕ) (r : Resent) (y : Sendings) → IsSoFar f s v p now d steps n r → room ≡ room_in p → room ≤ steps
+    → (r.timed + r.missed ≤ room → y ≡ record { first = room - (r.timed + r.missed); timed = r.timed; missed = r.missed }) → AllPut f s v p now d n y
+loop_full f s v p now d steps room n r y x is all here =
     let used = room_used f v x.view (room_in p) x.wishes x.follows in
     let count = x.many in
-    let none = goes_nowhere f (room_after f (room_in p) x.wishes) x.view (omega (arith, used, count, all)) in
-    record { wishes = x.wishes; view = x.view; fill = stopped_is_fill f v x.view (room_in p) x.wishes x.follows none; chunks = x.chunks; keeps = x.keeps; told = x.told }
+    let none = goes_nowhere f (room_after f (room_in p) x.wishes) x.view (omega (arith, used, count, all, is)) in
+    record {
+      wishes = x.wishes;
+      view = x.view;
+      fill = stopped_is_fill f v x.view (room_in p) x.wishes x.follows none;
+      chunks = x.chunks;
+      keeps = x.keeps;
+      told = x.told;
+      counts = all_sent n x.wishes r room y x.resent (omega (arith, used, count, all, is)) here;
+    }
 
 -- memory ran out in a step
-pub loop_some : (f : Format) (s : Kept) (v : SenderView) (p now later : PacketDraft) (d : Stock) (steps : ℕ) → (x : IsSoFar f s v p now d steps) → IsRefused f x.view now later → PutSomeOf f v p later
-loop_some f s v p now later d steps x refused = record {
+pub loop_some : (f : Format) (s : Kept) (v : SenderView) (p now later : PacketDraft) (d : Stock) (steps n : ℕ) (r : Resent) → (x : IsSoFar f s v p now d steps n r) → IsRefused f x.view now later → PutSomeOf f v p later
+loop_some f s v p now later d steps n r x refused = record {
   wishes = x.wishes;
   view = x.view;
   follows = x.follows;

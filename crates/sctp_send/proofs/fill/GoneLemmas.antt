@@ -89,5 +89,6 @@ keeps_gone f s v room at d k first low =
       forward = k.forward;
       unreset = k.unreset;
       before = k.before ∙ sym (sent_above v.sent (suc (v.cum + at)) v.cum (omega arith));
+      counted = k.counted;
       reached = Goes v room (standing v (suc (v.cum + at))) k.reached parts.0 parts.1;
     }

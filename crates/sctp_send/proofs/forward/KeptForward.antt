@@ -39,6 +39,7 @@ keeps_forward f s v o k built = record {
   forward = built;
   unreset = k.unreset;
   before = k.before;
+  counted = k.counted;
   reached = k.reached;
 }
 

@@ -1,10 +1,10 @@
 -- Which offsets a SACK's blocks acknowledge, block by block.
-use Rattle.std.proofs.Common.{◌≡◌, ℕ, suc, ◌+◌, ◌-◌, ◌<◌, ◌≤◌, ◌∙◌, List, [], ◌∷◌, Bool, true, false, refl, sym, ap, arith}
+use Rattle.std.proofs.Common.{◌≡◌, ℕ, ◌+◌, ◌<◌, ◌≤◌, List, [], ◌∷◌, Bool, true, false, refl, arith}
 use Rattle.std.specs.Prelude.{nat_le, nat_lt, ◌&&◌, ◌||◌}
 use Rattle.std.proofs.lemmas.Bool.Decides.{nat_tests}
 use Rattle.sctp_model.specs.wire.Chunk.{BlockMeaning}
 use Rattle.sctp_model.specs.messages.Acknowledgement.{in_blocks}
-use Rattle.sctp_model.specs.sender.SackTaken.{is_bad_behind, some_is_bad, sack_covers}
+use Rattle.sctp_model.specs.sender.SackTaken.{some_is_bad, sack_covers}
 
 -- those that the cumulative TSN passes
 pub covers_passed : (c j : ℕ) (bs : List BlockMeaning) → j ≤ c → sack_covers c bs j ≡ true

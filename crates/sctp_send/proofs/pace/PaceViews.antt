@@ -2,11 +2,11 @@
 use Rattle.std.proofs.Common.{◌≡◌, ℕ, zero, suc, ◌+◌, ◌-◌, ◌*◌, ◌%◌, ◌^◌, ◌<◌, ◌≤◌, ◌∙◌, List, [], ◌∷◌, length, drop, Bool, true, false, Option, Some, None, refl, sym, ap, subst, arith}
 use Rattle.std.specs.Prelude.{nat_le, nat_lt, not, ◌&&◌, ◌||◌, slice_get, option_map}
 use Rattle.std.proofs.lemmas.Bool.Decides.{nat_tests}
-use Rattle.std.proofs.lemmas.Option.{slice_get_past, slice_get_within}
+use Rattle.std.proofs.lemmas.Option.{slice_get_within}
 use Rattle.sctp_model.specs.messages.Format.{Format}
 use Rattle.sctp_model.specs.messages.Plan.{Entry, entry_at}
 use Rattle.sctp_model.specs.sender.SenderView.{SenderView}
-use Rattle.sctp_model.specs.sender.Words.{lowest, some_passes}
+use Rattle.sctp_model.specs.sender.Words.{some_passes}
 use Rattle.sctp_model.specs.sender.Entries.{is_in_flight, in_flight, passes_at}
 use Rattle.sctp_model.proofs.sender.WordLaws.{lowest_found, lowest_none}
 use Rattle.sctp_model.proofs.sender.PointLaws.{get-drop}

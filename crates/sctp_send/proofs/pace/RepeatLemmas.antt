@@ -1,19 +1,16 @@
 -- The space that retransmissions take: of what is kept, entry by entry, and of FILL, wish by wish.
 use Rattle.std.proofs.Common.{◌≡◌, ℕ, zero, suc, ◌+◌, ◌-◌, ◌<◌, ◌≤◌, ◌∙◌, List, [], ◌∷◌, length, take, drop, get_or, set, Bool, true, false, Option, Some, None, refl, sym, ap, subst, arith}
-use Rattle.std.specs.Prelude.{nat_le, ◌&&◌, ◌||◌, if◌then◌else◌, slice_get, option_map, option_and_then}
+use Rattle.std.specs.Prelude.{nat_le, if◌then◌else◌, slice_get, option_map}
 use Rattle.std.specs.Option.{option_map_or}
 use Rattle.std.proofs.lemmas.Bool.Decides.{nat_tests}
 use Rattle.sctp_model.specs.messages.Format.{Format, Plain, Interleaved, ordered_lane}
 use Rattle.sctp_model.specs.messages.Plan.{End}
-use Rattle.sctp_model.specs.wire.Chunk.{ChunkMeaning, size_of_chunk}
+use Rattle.sctp_model.specs.wire.Chunk.{size_of_chunk}
 use Rattle.sctp_model.specs.sender.SenderView.{SenderView}
-use Rattle.sctp_model.specs.sender.Words.{when}
-use Rattle.sctp_model.specs.sender.Filling.{Wish, standing, newcomer, next_wish, room_of, is_let_flow, may_go, goes, gone, before_these, no_more, fill_at_most, fill}
+use Rattle.sctp_model.specs.sender.Filling.{Wish, standing, newcomer, next_wish, room_of, may_go, goes, gone, before_these, no_more, fill_at_most}
 use Rattle.sctp_model.specs.sender.Assigning.{assigned}
 use Rattle.sctp_model.specs.end.Control.{room_of_repeats}
-use Rattle.sctp_model.proofs.sender.FillLaws.{goes_is, goes_not, goes_none, goes_parts}
-use Rattle.sctp_model.proofs.sender.MarkLaws.{is_marked_well}
-use Rattle.sctp_model.proofs.sender.Bounds.{is_bounded}
+use Rattle.sctp_model.proofs.sender.FillLaws.{goes_is, goes_not, goes_parts}
 use Rattle.sctp_send.specs.SenderKept.{Item, Kept}
 use Rattle.sctp_send.specs.SenderStands.{Keeps}
 use Rattle.sctp_send.specs.inner.Newcomers.{gone_item}

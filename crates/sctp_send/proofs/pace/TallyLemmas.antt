@@ -1,5 +1,5 @@
 -- The sums of what is newly acknowledged: one entry more, entries of which none is newly acknowledged, and all entries.
-use Rattle.std.proofs.Common.{◌≡◌, ℕ, zero, suc, ◌+◌, ◌-◌, ◌%◌, ◌^◌, ◌<◌, ◌≤◌, ◌∙◌, List, [], ◌∷◌, length, get_or, Bool, true, false, Option, Some, None, refl, sym, ap, subst, arith, max, min}
+use Rattle.std.proofs.Common.{◌≡◌, ℕ, zero, suc, ◌+◌, ◌-◌, ◌%◌, ◌^◌, ◌<◌, ◌≤◌, ◌∙◌, List, [], ◌∷◌, length, get_or, Bool, true, false, Option, Some, None, refl, sym, ap, arith, max, min}
 use Rattle.std.specs.Prelude.{nat_lt, nat_le, not, ◌&&◌, ◌||◌, if◌then◌else◌, slice_get}
 use Rattle.std.specs.Option.{option_map_or}
 use Rattle.std.proofs.lemmas.Bool.Decides.{nat_tests}
@@ -8,7 +8,6 @@ use Rattle.sctp_send.specs.SenderKept.{Item}
 use Rattle.sctp_send.specs.CoveredRuns.{in_run, in_runs}
 use Rattle.sctp_send.specs.declared.kept.entry.CoveredRun.{CoveredRun}
 use Rattle.sctp_send.specs.declared.pace.tally.Tally.{Tally}
-use Rattle.sctp_send.specs.inner.Walks.{is_item_unsettled}
 use Rattle.sctp_send.specs.inner.Wishing.{item_bytes}
 use Rattle.sctp_send.specs.inner.Weighing.{is_item_closed, is_item_open, is_item_news, unsettled_bytes, passes_here, is_news, news_weight, IsIdle, IsTally, LieCovered}
 

@@ -1,6 +1,6 @@
 -- What an acknowledgement does to a view, by what is tallied of the items above CUM.
-use Rattle.std.proofs.Common.{◌≡◌, ℕ, zero, suc, ◌+◌, ◌-◌, ◌*◌, ◌%◌, ◌^◌, ◌<◌, ◌≤◌, ◌⊎◌, ◌∙◌, inl, inr, List, [], ◌∷◌, length, map, drop, Bool, true, false, Option, Some, None, refl, sym, ap, subst, arith, length-drop}
-use Rattle.std.specs.Prelude.{nat_le, nat_lt, not, ◌&&◌, ◌||◌, if◌then◌else◌, slice_get, option_map, IfSome}
+use Rattle.std.proofs.Common.{◌≡◌, ℕ, zero, suc, ◌+◌, ◌-◌, ◌*◌, ◌%◌, ◌^◌, ◌<◌, ◌≤◌, ◌⊎◌, ◌∙◌, inl, inr, List, [], ◌∷◌, length, map, drop, Bool, true, false, Option, Some, None, refl, sym, ap, arith, length-drop}
+use Rattle.std.specs.Prelude.{nat_lt, not, ◌&&◌, ◌||◌, if◌then◌else◌, slice_get, option_map, IfSome}
 use Rattle.std.specs.Option.{option_map_or}
 use Rattle.std.proofs.lemmas.Bool.{cases_lt}
 use Rattle.std.proofs.lemmas.Bool.Decides.{nat_tests}
@@ -19,14 +19,14 @@ use Rattle.sctp_model.proofs.sender.Bounds.{is_bounded}
 use Rattle.sctp_model.proofs.sender.PointLaws.{get-drop}
 use Rattle.sctp_model.proofs.sender.OwedLaws.{IsPromised, is_promised, is_windowed}
 use Rattle.sctp_send.specs.SenderKept.{Item, Kept}
-use Rattle.sctp_send.specs.SenderStands.{item_here, items_from, Keeps}
+use Rattle.sctp_send.specs.SenderStands.{item_here, Keeps}
 use Rattle.sctp_send.specs.PaceAnswers.{IsWeight}
 use Rattle.sctp_send.specs.OutstandingFields.{item_meaning}
 use Rattle.sctp_send.specs.declared.kept.entry.Entry.{Entry as EntryFields}
 use Rattle.sctp_send.specs.declared.pace.tally.Tally.{Tally}
 use Rattle.sctp_send.specs.declared.pace.weight.Weight.{Weight}
 use Rattle.sctp_send.specs.inner.Wishing.{item_bytes}
-use Rattle.sctp_send.specs.inner.Weighing.{is_item_open, is_item_news, unsettled_bytes, passes_here, is_news, news_weight, IsIdle, IsTally, IsTallied, IsAfter, index_above}
+use Rattle.sctp_send.specs.inner.Weighing.{is_item_open, is_item_news, unsettled_bytes, passes_here, is_news, news_weight, IsIdle, IsTallied, IsAfter, index_above}
 use Rattle.sctp_send.proofs.KeepLemmas.{kept_length}
 use Rattle.sctp_send.proofs.kept.WeightLemmas.{bytes_short}
 use Rattle.sctp_send.proofs.pace.PaceViews.{kept_get, kept_passes}

@@ -17,11 +17,13 @@ use Rattle.sctp_packet.specs.Draft.{Draft as PacketDraft, room_in, with_chunks, 
 use Rattle.sctp_send.specs.SenderKept.{Item, Rest, Track, Kept}
 use Rattle.sctp_send.specs.SenderStands.{Keeps}
 use Rattle.sctp_send.specs.PartsKept.{StreamsKept}
+use Rattle.sctp_send.specs.FillAnswers.{sendings_of}
 use Rattle.sctp_send.specs.inner.Walks.{total, one_if_rest}
 use Rattle.sctp_send.specs.OutstandingFields.{was_sent, is_marked, item_meaning, lane_meaning, message_meaning, entry_meaning, no_base}
 use Rattle.sctp_send.specs.SenderFields.{queued_by, track_meaning}
 use Rattle.sctp_send.specs.inner.Newcomers.{repeats_after, counted_in, IsBegun, IsContinued, IsTurnBegun, IsTurnContinued}
 use Rattle.sctp_send.specs.declared.fill.assigning.Next.{Next}
+use Rattle.sctp_send.specs.declared.fill.sendings.Sendings.{Sendings}
 use Rattle.sctp_send.specs.declared.fill.assigning.Next.TheVariants.{Begins, Continues}
 use Rattle.sctp_send.specs.declared.stock.Stock.{Stock}
 use Rattle.sctp_send.specs.declared.told.Told.{Told}
@@ -65,6 +67,7 @@ bare h = record {
   tracks = [];
   fates = h.fates.items;
   ended = h.fates.ended;
+  abandoned = h.fates.abandoned;
   runs = when h.is_known h.covered.items;
   capacity = 0;
   passed = h.dues.passed;
@@ -186,14 +189,15 @@ pub record IsTried (before after : PacketDraft) (chunk : ChunkMeaning) (put : Bo
 abbrev pub IsFlying : Kept → Stock → ℕ → Type 0
 IsFlying s d flying = flying ≡ item_flight (map (item_meaning s.fragment) d.outstanding.items)
 
--- All of FILL is in the packet, and the stock keeps what it leaves.
-pub record AllPut (f : Format) (s : Kept) (v : SenderView) (before after : PacketDraft) (d : Stock) : Type 0 where
+-- All of FILL is in the packet, and the stock keeps what it leaves; its chunks are counted, where all indexes below one were missed.
+pub record AllPut (f : Format) (s : Kept) (v : SenderView) (before after : PacketDraft) (d : Stock) (missed : ℕ) (sendings : Sendings) : Type 0 where
   pub wishes : List Wish
   pub view : SenderView
   pub fill : IsFill f v (room_in before) wishes view
   pub chunks : after ≡ with_chunks before (map (chunk_of f) wishes)
   pub keeps : Keeps f (stocked s d) view
   pub told : numbers_of d.tickets.items ≡ newly_numbered v view
+  pub counts : sendings ≡ sendings_of missed wishes
 
 -- what takes an index next
 abbrev pub NewAnswer : Format → SenderView → Option Next → Type 0

@@ -48,6 +48,11 @@ is_abandoned_fate Numbered = false
 is_abandoned_fate Withdrawn = false
 is_abandoned_fate WasAbandoned = true
 
+-- how many messages were abandoned
+abbrev pub how_many_abandoned : List Fate → ℕ
+how_many_abandoned [] = 0
+how_many_abandoned (x ∷ xs) = if is_abandoned_fate x then suc (how_many_abandoned xs) else how_many_abandoned xs
+
 -- the message has a number, and was not abandoned
 abbrev pub is_numbered_fate : Fate → Bool
 is_numbered_fate StillQueued = false

@@ -1,16 +1,19 @@
 //! One wish after the other goes into a packet, out of the stock (RFC 9260, 6.1 and 6.3.3; RFC 8260, 2.2). Whether one may go is asked first,
 //! without memory; then the stock changes, for which memory may be wanted, and last its chunk is put.
 
-ghost use Rattle.std.specs.Prelude.{◌≡◌, ℕ, ◌<◌, Some, length, IfOk, OnErr};
+ghost use Rattle.std.specs.Prelude.{◌≡◌, ℕ, ◌+◌, ◌%◌, ◌^◌, ◌<◌, Some, length, IfOk, OnErr};
 ghost use Rattle.sctp_model.specs.messages.Plan.{Part};
 ghost use Rattle.sctp_model.specs.sender.SenderView.{SenderView};
+ghost use Rattle.sctp_model.specs.sender.Filling.{next_wish};
 ghost use Rattle.sctp_send.specs.SenderStands.{Keeps};
 ghost use Rattle.sctp_send.specs.OutstandingFields.{lane_meaning, message_meaning};
 ghost use Rattle.sctp_send.specs.inner.Undoing.{IsSized, IsBehind};
-ghost use Rattle.sctp_send.specs.inner.Stocking.{bare, stocked, let_in, PutAnswer, IsRefused, IsFlying, NothingStands};
+ghost use Rattle.sctp_send.specs.inner.Stocking.{bare, stocked, let_in, PutAnswer, IsRefused, IsFlying, IsNextEntry, NothingStands};
+ghost use Rattle.sctp_send.specs.inner.Sending.{resent_if, resent_by};
 ghost use Rattle.sctp_send.specs.inner.Newcomers.{IsBegun, IsContinued};
 
 use crate::fill::assigning::{Beginning, Next, copied, has_window, next_new, rest_of};
+use crate::fill::sendings::Resent;
 use crate::kept::entry::Content;
 use crate::kept::message::{Message, fragments_of};
 use crate::kept::pieces::{bytes_of, fits};
@@ -24,10 +27,11 @@ use sctp_values::NoMemory;
 use std::sync::Arc;
 
 impl Told {
-    /// Puts the next wish into the packet; false where there is none that may go.
+    /// Puts the next wish into the packet, and counts it if it is sent again; false where there is none that may go.
     pub(crate) fn put_next<F: Framing>(
         &self,
         stock: &mut Stock,
+        resent: &mut Resent,
         packet: &mut PacketWriter,
     ) -> Result<bool, NoMemory>
         requires { IsSized self.now.fragment stock.old }
@@ -36,15 +40,41 @@ impl Told {
         ensures refused { (v : SenderView) → Keeps F.format (stocked (bare self.now) stock.old) v
             → OnErr result (IsRefused F.format v packet.old packet.new) }
         ensures behind { IsBehind stock.old stock.new }
+        ensures counted { (v : SenderView) → Keeps F.format (stocked (bare self.now) stock.old) v
+            → IfOk result (λ put. resent.new ≡ resent_by put (next_wish F.format v) resent.old) }
     {
         if let Some(at) = stock.outstanding.first_marked() {
-            return self.put_entry::<F>(stock, at, packet);
+            return self.put_again::<F>(stock, at, resent, packet);
         }
         let flying = stock.outstanding.flight();
         if let Some(at) = stock.outstanding.first_unsent() {
             return self.put_unsent::<F>(stock, at, flying, packet);
         }
         self.put_new::<F>(stock, flying, packet)
+    }
+
+    /// Puts the entry at this offset, which is sent again, where it fits, and counts it then.
+    fn put_again<F: Framing>(
+        &self,
+        stock: &mut Stock,
+        at: usize,
+        resent: &mut Resent,
+        packet: &mut PacketWriter,
+    ) -> Result<bool, NoMemory>
+        requires sized { IsSized self.now.fragment stock.old }
+        requires within { at < length stock.old.outstanding.items }
+        ensures put { (v : SenderView) → Keeps F.format (stocked (bare self.now) stock.old) v → IsNextEntry F.format v at
+            → IfOk result (λ put. PutAnswer F.format (bare self.now) v packet.old packet.new stock.old stock.new put) }
+        ensures refused { (v : SenderView) → Keeps F.format (stocked (bare self.now) stock.old) v → IsNextEntry F.format v at
+            → OnErr result (IsRefused F.format v packet.old packet.new) }
+        ensures behind { IsBehind stock.old stock.new }
+        ensures counted { IfOk result (λ put. resent.new ≡ resent_if put ((self.now.cum + at + 1) % 2 ^ 64) resent.old) }
+    {
+        let put = self.put_entry::<F>(stock, at, packet)?;
+        if put {
+            resent.count(self.cum.wrapping_add(at as u64).wrapping_add(1));
+        }
+        Ok(put)
     }
 
     /// What is to take the next index does, where its fragment may go.

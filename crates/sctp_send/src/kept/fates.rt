@@ -1,7 +1,8 @@
-//! What became of each ticket: one by one, and of a block of tickets that ended alike for good once for all of them.
+//! What became of each ticket: one by one, and of a block of tickets that ended alike for good once for all of them; and how many were abandoned.
 
-ghost use Rattle.std.specs.Prelude.{◌≡◌, ℕ, ◌+◌, ◌^◌, ◌<◌, ◌≤◌, ◌++◌, ◌∷◌, [], false, length, set, slice_index_or, OnOk, IfSome};
+ghost use Rattle.std.specs.Prelude.{◌≡◌, ℕ, ◌+◌, ◌%◌, ◌^◌, ◌<◌, ◌≤◌, ◌++◌, ◌∷◌, [], false, length, set, slice_index_or, OnOk, IfSome};
 ghost use Rattle.sctp_send.specs.inner.Walks.{is_queued_fate};
+ghost use Rattle.sctp_send.specs.declared.kept.message.Fate.TheVariants.{Abandoned};
 
 use crate::kept::blocks::{BLOCK, Block, end_first, fate_in};
 use crate::kept::message::Fate;
@@ -23,6 +24,8 @@ pub(crate) struct Fates {
     mixed: Vec<Fate>,
     // one by one, those of the tickets behind
     recent: Vec<Fate>,
+    // how often a ticket's message was abandoned, modulo 2^64
+    abandoned: u64,
 }
 
 impl Model for Fates {
@@ -34,7 +37,7 @@ impl Model for Fates {
 
     ghost use Rattle.sctp_send.specs.inner.FateBlocks.{fates_of, AreFates};
 
-    ghost view = { λ w. record { items = fates_of w.mixed.items w.blocks.items ++ w.recent.items; ended = w.ended; capacity = w.ended + vec_capacity w.recent } };
+    ghost view = { λ w. record { items = fates_of w.mixed.items w.blocks.items ++ w.recent.items; ended = w.ended; abandoned = w.abandoned; capacity = w.ended + vec_capacity w.recent } };
 
     ghost invariant = { λ w. AreFates w.ended w.blocks.items w.mixed.items w.recent.items };
 }
@@ -44,12 +47,14 @@ impl Fates {
     pub(crate) fn new(alloc: Global) -> Fates
         ensures items { result.items ≡ [] }
         ensures ended { result.ended ≡ 0 }
+        ensures abandoned { result.abandoned ≡ 0 }
     {
         Fates {
             blocks: Vec::new(alloc),
             ended: 0,
             mixed: Vec::new(alloc),
             recent: Vec::new(alloc),
+            abandoned: 0,
         }
     }
 
@@ -73,6 +78,13 @@ impl Fates {
         }
     }
 
+    /// How often a ticket's message was abandoned, modulo 2^64.
+    pub(crate) fn abandoned(&self) -> u64
+        ensures { result ≡ self.now.abandoned }
+    {
+        self.abandoned
+    }
+
     /// Takes room for a ticket more.
     ///
     /// # Errors
@@ -80,6 +92,7 @@ impl Fates {
     pub(crate) fn reserve(&mut self) -> Result<(), NoMemory>
         ensures items { self.new.items ≡ self.old.items }
         ensures ended { self.new.ended ≡ self.old.ended }
+        ensures abandoned { self.new.abandoned ≡ self.old.abandoned }
         ensures room { OnOk result (length self.new.items < self.new.capacity) }
     {
         if self.recent.len() < self.recent.capacity() {
@@ -97,18 +110,31 @@ impl Fates {
         requires few { length self.old.items + 1 < 2 ^ 64 }
         ensures items { self.new.items ≡ self.old.items ++ fate ∷ [] }
         ensures ended { self.new.ended ≡ self.old.ended }
+        ensures abandoned { self.new.abandoned ≡ self.old.abandoned }
     {
         self.recent.push_reserved(fate);
     }
 
-    /// The fate of a ticket, counted from 0, is this from now on: that of one that is over stands.
+    /// The fate of a ticket, counted from 0, is this from now on: that of one that is over stands. Abandoned messages aren't counted here (`give_up`).
     pub(crate) fn set(&mut self, at: usize, fate: Fate)
         ensures items { self.old.ended ≤ at → self.new.items ≡ set self.old.items at fate }
         ensures ended { self.new.ended ≡ self.old.ended }
+        ensures abandoned { self.new.abandoned ≡ self.old.abandoned }
     {
         if at >= self.ended {
             set_at(&mut self.recent, at - self.ended, fate);
         }
+    }
+
+    /// The message with a ticket, counted from 0, is abandoned from now on, and counts for one more.
+    pub(crate) fn give_up(&mut self, at: usize)
+        ensures items { self.old.ended ≤ at → self.new.items ≡ set self.old.items at Abandoned }
+        ensures ended { self.new.ended ≡ self.old.ended }
+        ensures abandoned { self.new.abandoned ≡ (self.old.abandoned + 1) % 2 ^ 64 }
+        ensures few { length self.new.items < 2 ^ 64 }
+    {
+        self.set(at, Fate::Abandoned);
+        self.abandoned = self.abandoned.wrapping_add(1);
     }
 
     /// The last ticket of the next block that may be over, where it is time to look.
@@ -125,6 +151,7 @@ impl Fates {
     /// The next block of tickets is over, if there is one of which none waits, and memory for it.
     pub(crate) fn end_block(&mut self)
         ensures items { self.new.items ≡ self.old.items }
+        ensures abandoned { self.new.abandoned ≡ self.old.abandoned }
         ensures within { self.new.ended ≤ self.old.ended + 4096 }
         ensures given { self.new.ended ≤ length self.new.items }
         ensures none_queued { (at : ℕ) (fate : Fate) → self.old.ended ≤ at → at < self.new.ended → is_queued_fate (slice_index_or self.new.items at fate) ≡ false }

@@ -15,8 +15,25 @@ use sctp_framing::Framing;
 
 #[tactic(auto, unfolding(crate::specs::SenderStands::StandsFor))]
 impl<F: Framing> Sender<F> {
-    /// The highest index that was sent, of those up to so many beyond CUM; 0 if there is none. It costs the entries after it, which were never sent.
+    /// The highest index that was sent, of those up to so many beyond CUM; 0 if there is none. It looks at one entry, where the last of these was sent.
+    #[inline(always)]
     pub(crate) fn last_sent_within(&self, beyond: usize) -> u64
+        requires { beyond ≤ length self.now.items }
+        ensures { (v : SenderView) → StandsFor F.format self.now v → result ≡ last_that v.sent (v.cum + beyond) }
+    {
+        if beyond == 0 {
+            return self.told.before;
+        }
+        if is_out(self.parts.outstanding.get(beyond - 1)) {
+            return self.told.cum.wrapping_add(beyond as u64);
+        }
+        self.last_sent_before(beyond)
+    }
+
+    /// `last_sent_within` by a walk. It costs the entries after the one that it finds, which were never sent. It is not inlined, so that the tests before
+    /// it are small.
+    #[inline(never)]
+    fn last_sent_before(&self, beyond: usize) -> u64
         requires { beyond ≤ length self.now.items }
         ensures { (v : SenderView) → StandsFor F.format self.now v → result ≡ last_that v.sent (v.cum + beyond) }
     {

@@ -6,7 +6,7 @@ use Rattle.sctp_association.proofs.BuildLemmas.{waits, calls_packet}
 use Rattle.sctp_association.proofs.build.pack_init.Goals as goal
 
 pub returns-then-not-packing : goal.returns-then-not-packing
-returns-then-not-packing c = λ e configured phase empty. waits e c.args.draw c.args.packing.now c.new.result phase c.if-not-packing.true empty c.new.ensures.items
+returns-then-not-packing c = λ e configured phase empty. waits e c.args.draw c.args.packing.now c.filled_none.result phase c.if-not-packing.true empty c.filled_none.ensures
 
 -- it does fit
 pub returns-then-not-branch : goal.returns-then-not-branch
@@ -16,5 +16,5 @@ returns-then-not-branch c = λ e configured phase empty.
 
 pub returns : goal.returns
 returns c = λ e configured phase empty.
-    calls_packet e c.args.config.now c.args.draw c.args.packing.now _ c.add.new.self _ c.new-2.result configured phase empty c.if-not-packing.false c.if-not-branch.false
-    c.in_ok-put_init.ensures.after c.add.ensures c.new-2.ensures.items
+    calls_packet e c.args.config.now c.args.draw c.args.packing.now _ c.add.new.self _ c.filled_none-2.result configured phase empty c.if-not-packing.false c.if-not-branch.false
+    c.in_ok-put_init.ensures.after c.add.ensures c.filled_none-2.ensures

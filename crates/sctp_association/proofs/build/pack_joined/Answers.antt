@@ -18,4 +18,4 @@ returns-in-Open-clause-packed c = λ e phase part pace clock empty.
 pub returns-in-Over-clause-packed : goal.returns-in-Over-clause-packed
 returns-in-Over-clause-packed c = λ e phase part pace clock empty.
     let over = sym phase ∙ ap (phase_in c.args.association.now.tags) c.in-Over.is in
-    (e.sender, subst (λ (o : Option Pace). IsPacked e e.sender o c.args.packing.now c.new.result) (sym pace) (sleeps e _ c.args.packing.now c.new.result over refl empty c.new.ensures.items), part.traffic_stands)
+    (e.sender, subst (λ (o : Option Pace). IsPacked e e.sender o c.args.packing.now c.filled_none.result) (sym pace) (sleeps e _ c.args.packing.now c.filled_none.result over refl empty c.filled_none.ensures), part.traffic_stands)

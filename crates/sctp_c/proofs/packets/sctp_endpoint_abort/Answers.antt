@@ -10,5 +10,6 @@ returns-clause-did c = λ v holds large.
       answer = c.abort-answer.result;
       answers = said.answer v stands;
       step = said.step v stands;
+      counts = rw c.lend-end.ensures.value said.counts;
       told = c.tell_abort.ensures.told (abort_fits v.configuration.limit c.abort-answer.result _ (said.within v stands) large);
     }

@@ -9,5 +9,6 @@ returns-clause-did c = λ v o holds some large read.
     record {
       answer = c.handle_packet-answer.result;
       step = rw c.in-Some.ensures.0 at (said.step v o stands read);
+      counts = rw c.lend-end.ensures.value (said.counts v o stands read);
       told = c.tell_heard.ensures.told (answer_fits v.configuration.limit c.handle_packet-answer.result _ (said.within v stands) large);
     }

@@ -1,6 +1,6 @@
 use Rattle.sctp_endpoint.specs.EndpointStands.{EndpointStands}
 use Rattle.sctp_c.proofs.BufferLemmas.{next_fits}
-use Rattle.sctp_c.proofs.HandingBack.{StandsOn, transmits_on, refused_on, sends_on}
+use Rattle.sctp_c.proofs.HandingBack.{StandsOn, transmits_on, refused_on, sends_on, counts_on}
 use Rattle.sctp_c.proofs.packets.sctp_endpoint_poll_transmit.Goals as goal
 
 pub returns-clause-did : goal.returns-clause-did
@@ -15,5 +15,6 @@ returns-clause-did c = λ v holds large.
       refused = refused_on _ _ _ _ on (said.refused v stands);
       notes = sends_on _ _ _ _ on (said.logs v stands);
       anew = said.anew v stands;
+      counts = rw c.lend-end.ensures.value (counts_on _ _ _ _ _ on told.counts (said.counts v stands));
       told = told.told (next_fits v c.args.now c.poll_transmit-answer.result _ _ (said.step v stands) large);
     }

@@ -1,4 +1,4 @@
-use Rattle.std.proofs.Common.{◌∙◌, subst}
+use Rattle.std.proofs.Common.{◌∙◌, refl, subst}
 use Rattle.std.specs.Prelude.{IfOk, OnErr}
 use Rattle.sctp_model.specs.wire.Chunk.{ChunkMeaning}
 use Rattle.sctp_model.specs.end.Acting.{Acts}
@@ -6,6 +6,7 @@ use Rattle.sctp_endpoint.specs.Left.{Left}
 use Rattle.sctp_endpoint.specs.inner.Acted.{HasTag}
 use Rattle.sctp_endpoint.proofs.RowLemmas.{on_err}
 use Rattle.sctp_endpoint.proofs.ChunksInTurn.{same_first, same_others}
+use Rattle.sctp_endpoint.proofs.CountLemmas.{same_count}
 use Rattle.sctp_endpoint.proofs.acting.act_first.Goals as goal
 
 -- ---- a DATA
@@ -49,3 +50,16 @@ pub returns-in-Some-next-clause-tagged : goal.returns-in-Some-next-clause-tagged
 returns-in-Some-next-clause-tagged c = λ m ms e.
     subst (λ (x : ChunkMeaning). OnErr c.act.result (HasTag x)) (same_first _ _ _ _ _ c.in-Some-next.ensures.steps (c.in_default-next_i_data.ensures.0 ∙ c.in_default.ensures.0 ∙ e))
     c.act.ensures.tagged
+
+-- ---- the SACK that is counted
+
+pub returns-in-Some-clause-sacks : goal.returns-in-Some-clause-sacks
+returns-in-Some-clause-sacks c = λ m ms e. same_count _ _ _ _ (same_first _ _ _ _ _ c.in-Some.ensures e) refl
+
+pub returns-in-Some-next_i_data-clause-sacks : goal.returns-in-Some-next_i_data-clause-sacks
+returns-in-Some-next_i_data-clause-sacks c = λ m ms e.
+    same_count _ _ _ _ (same_first _ _ _ _ _ c.in-Some-next_i_data.ensures (c.in_default.ensures.0 ∙ e)) refl
+
+pub returns-in-Some-next-clause-sacks : goal.returns-in-Some-next-clause-sacks
+returns-in-Some-next-clause-sacks c = λ m ms e.
+    same_count _ _ _ _ (same_first _ _ _ _ _ c.in-Some-next.ensures.steps (c.in_default-next_i_data.ensures.0 ∙ c.in_default.ensures.0 ∙ e)) (c.count_sack.ensures)

@@ -1,5 +1,5 @@
 use Rattle.sctp_endpoint.proofs.ArrivingLemmas.{hears}
 use Rattle.sctp_endpoint.proofs.arriving.hear.Goals as goal
 
-pub returns : goal.returns
-returns c = λ v stands. hears _ _ _ v _ _ _ _ _ (c.act_all-told.ensures v stands) c.end_packet.ensures
+pub returns-clause-step : goal.returns-clause-step
+returns-clause-step c = λ v stands. hears _ _ _ v _ _ _ _ _ (c.act_all-told.ensures.step v stands) c.end_packet.ensures

@@ -11,6 +11,7 @@ open_place ended ts i at d are lt is = let behind = open_at ended ts i d are lt 
 pub loop-ticket-preserved : goal.loop-ticket-preserved
 loop-ticket-preserved c = record {
   ended = c.set.ensures.ended ∙ c.loop-ticket.invariant.ended;
+  abandoned = c.set.ensures.abandoned ∙ c.loop-ticket.invariant.abandoned;
   done = λ are.
       let behind = open_place c.args.fates.now.ended c.args.tickets.now c.loop-ticket.ticket-index c.saturating_sub-at.result _ are (omega arith) c.saturating_sub-at.ensures in
       let now = c.set.ensures.items (omega (arith, behind, c.loop-ticket.invariant.ended)) in

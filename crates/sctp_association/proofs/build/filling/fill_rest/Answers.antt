@@ -3,7 +3,9 @@ use Rattle.sctp_model.specs.sender.Filling.{Fill, fill, chunk_of, newly_numbered
 use Rattle.sctp_model.specs.end.EndView.{EndView, Alarm, format_of}
 use Rattle.sctp_model.specs.end.Building.{filled_behind, room_behind}
 use Rattle.sctp_model.proofs.sender.FillLaws.{fill_is_fill}
+use Rattle.sctp_model.specs.end.Wearing.{missed_below}
 use Rattle.sctp_packet.specs.Draft.{Draft, room_in, with_chunks}
+use Rattle.sctp_send.specs.FillAnswers.{sendings_of}
 use Rattle.sctp_association.specs.StartsMean.{starts_at, with_fragments, started_from}
 use Rattle.sctp_association.specs.TrafficStands.{TrafficStands}
 use Rattle.sctp_association.specs.Drafted.{drafted}
@@ -36,7 +38,7 @@ pub returns-clause-some : goal.returns-clause-some
 returns-clause-some c = λ e m stands fits. went_out c e m stands fits ∙ some_count (filled_behind (drafted m e) c.args.writer.now.chunks).wishes
 
 pub returns-clause-filled : goal.returns-clause-filled
-returns-clause-filled c = λ e m n stands fits packet starting.
+returns-clause-filled c = λ e m n stands missed fits packet starting.
     let w = c.args.writer.now in
     let f = format_of e in
     let v = e.sender in
@@ -57,5 +59,6 @@ returns-clause-filled c = λ e m n stands fits packet starting.
       timers = ap (λ (q : Alarm → Bool). started_from q e.moment e.timers) (starting ∙ ap (λ (b : Bool). with_fragments b (starts_at m.starts)) (went_out c e m stands fits))
           ∙ fragments_after e m (filled_behind x zs).wishes;
       traffic_stands = subst (λ (y : Fill). TrafficStands c.fill.new.self f y.view e.receiver) same (c.in_ok-filled.ensures.step f v e.receiver stands);
+      sendings_are = c.in_ok-filled.ensures.sendings f v e.receiver stands ∙ (ap (λ (k : ℕ). sendings_of k (fill f (room_in w) v).wishes) missed ∙ ap (λ (y : Fill). sendings_of (missed_below e.pace) y.wishes) same);
       tickets_are = c.in_ok-filled.ensures.tickets f v e.receiver stands ∙ ap (λ (y : Fill). newly_numbered v y.view) same;
     }

@@ -1,3 +1,6 @@
+use Rattle.std.proofs.Common.{◌∙◌, sym, ap}
+use Rattle.sctp_model.specs.end.Misses.{Misses}
+use Rattle.sctp_model.specs.end.Wearing.{missed_below}
 use Rattle.sctp_model.specs.end.Building.{filled_behind}
 use Rattle.sctp_association.specs.Drafted.{drafted}
 use Rattle.sctp_association.proofs.PaceLemmas.{room_narrowed, own_narrowed, fills_narrowed, paced_sent}
@@ -8,8 +11,9 @@ returns-clause-filled c = λ e m n stands pace clock of starting.
     let w = c.args.writer.now in
     let x = c.narrow.new.writer in
     let fits = room_narrowed e m w x c.args.pace.now pace of.limit (c.narrow.ensures.room _ e.sender e.receiver stands) c.narrow.ensures.same in
+    let missed = c.passed-missed.ensures ∙ (ap (λ (y : Misses). y.passed) c.misses.ensures ∙ sym (ap missed_below pace)) in
     fills_narrowed e w x m _ _ _ c.narrow.ensures.same
-    (c.in_ok-fragments.ensures.filled e m n stands fits (own_narrowed e m w x c.narrow.ensures.within c.narrow.ensures.same of) starting)
+    (c.in_ok-fragments.ensures.filled e m n stands missed fits (own_narrowed e m w x c.narrow.ensures.within c.narrow.ensures.same of) starting)
 
 pub returns-clause-paced : goal.returns-clause-paced
 returns-clause-paced c = λ e m stands pace clock of.

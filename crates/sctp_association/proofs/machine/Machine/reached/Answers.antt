@@ -1,7 +1,7 @@
-use Rattle.std.proofs.Common.{◌≡◌, ℕ, ◌<◌, refl, sym, subst, arith}
+use Rattle.std.proofs.Common.{◌<◌, sym, subst, arith}
 use Rattle.sctp_model.specs.sender.SenderView.{SenderView}
 use Rattle.sctp_model.specs.sender.Reached.{IsReached, Begins}
-use Rattle.sctp_model.specs.end.EndView.{EndView, Configuration, format_of}
+use Rattle.sctp_model.specs.end.EndView.{Configuration, format_of}
 use Rattle.sctp_association.specs.MachineStands.{MachineStands}
 use Rattle.sctp_association.proofs.MachineLemmas.{joined, unjoined}
 use Rattle.sctp_association.proofs.machine.Machine.reached.Goals as goal

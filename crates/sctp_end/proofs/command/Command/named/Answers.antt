@@ -54,5 +54,8 @@ returns-in-reassembly c = grind (arith, elements)
 pub returns-in-path : goal.returns-in-path
 returns-in-path c = grind (arith, common_steps)
 
+pub returns-in-counts : goal.returns-in-counts
+returns-in-counts c = grind (arith, elements)
+
 pub returns-in-status : goal.returns-in-status
 returns-in-status c = grind (arith, elements)

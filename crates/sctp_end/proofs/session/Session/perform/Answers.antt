@@ -1,4 +1,4 @@
-use Rattle.sctp_end.specs.Performing.{TellsNext, TellsState, TellsHeld, TellsReassembly}
+use Rattle.sctp_end.specs.Performing.{TellsNext, TellsState, TellsCounts, TellsHeld, TellsReassembly}
 use Rattle.sctp_end.proofs.session.Session.perform.Goals as goal
 
 pub returns-in-Connect : goal.returns-in-Connect
@@ -54,6 +54,9 @@ returns-in-Reassembly c = rw c.in-Reassembly.is (λ v stands. (v, TellsReassembl
 
 pub returns-in-Status : goal.returns-in-Status
 returns-in-Status c = rw c.in-Status.is c.status.ensures
+
+pub returns-in-Counts : goal.returns-in-Counts
+returns-in-Counts c = rw c.in-Counts.is (λ v stands. (v, TellsCounts _ c.counts.ensures.counts (c.counts.ensures.abandoned v stands), stands))
 
 pub returns-in-Path : goal.returns-in-Path
 returns-in-Path c = rw c.in-Path.is c.path.ensures

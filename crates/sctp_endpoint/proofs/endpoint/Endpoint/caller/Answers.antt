@@ -1,6 +1,6 @@
 use Rattle.sctp_endpoint.specs.EndpointStands.{EndpointStands}
 use Rattle.sctp_endpoint.proofs.endpoint.Endpoint.caller.Goals as goal
 
-pub returns : goal.returns
+pub returns-clause-stands : goal.returns-clause-stands
 unfolding EndpointStands
-returns c = c.caller.ensures
+returns-clause-stands c = c.caller.ensures

@@ -1,6 +1,6 @@
 use Rattle.sctp_endpoint.specs.EndpointStands.{EndpointStands}
 use Rattle.sctp_endpoint.proofs.endpoint.Endpoint.give_back.Goals as goal
 
-pub returns : goal.returns
+pub returns-clause-stands : goal.returns-clause-stands
 unfolding EndpointStands
-returns c = c.give_back.ensures
+returns-clause-stands c = c.give_back.ensures

@@ -1,12 +1,17 @@
-use Rattle.std.proofs.Common.{refl}
+use Rattle.std.proofs.Common.{refl, ◌∙◌}
 use Rattle.sctp_model.specs.end.Clock.{at_moment}
 use Rattle.sctp_model.specs.end.PeerFaults.{FAULT}
 use Rattle.sctp_model.specs.end.Strays as model
 use Rattle.sctp_model.specs.end.Arriving.{DroppedUnread}
 use Rattle.sctp_endpoint.specs.EndpointStands.{EndpointStands}
+use Rattle.sctp_endpoint.specs.Counted.{counted}
+use Rattle.sctp_endpoint.specs.declared.endpoint.Endpoint.{Endpoint}
 use Rattle.sctp_endpoint.proofs.HandlingLemmas.{reads_none, reads_one, handled, answered_within}
+use Rattle.sctp_endpoint.proofs.CountLemmas.{heard_sacks}
 use Rattle.sctp_endpoint.proofs.LogLemmas.{moment_logs, handled_logs}
 use Rattle.sctp_endpoint.proofs.endpoint.Endpoint.handle_packet.Goals as goal
+
+-- ---- bytes that are no packet
 
 pub returns-in-Err-clause-step : goal.returns-in-Err-clause-step
 unfolding EndpointStands
@@ -15,20 +20,34 @@ returns-in-Err-clause-step c = λ v o stands read.
 
 pub returns-in-Err-clause-logs : goal.returns-in-Err-clause-logs
 unfolding EndpointStands
-returns-in-Err-clause-logs c = λ v stands. moment_logs v c.args.now _ (c.sound.ensures v stands) (c.advance_clock.ensures v stands)
+returns-in-Err-clause-logs c = λ v stands.
+    let e : Endpoint = record { machine = c.advance_clock.new.self; tally = c.hear.new.self } in
+    moment_logs v c.args.now e (c.sound.ensures v stands) (c.advance_clock.ensures v stands)
+
+-- ---- a packet
 
 pub returns-in-Ok-clause-step : goal.returns-in-Ok-clause-step
 unfolding EndpointStands
 returns-in-Ok-clause-step c = λ v o stands read.
-    handled c.arrive.result v c.args.now c.args.draw c.args.bytes.now o _ _ c.in-Ok.ensures.exact
-    (reads_one _ o _ read c.in-Ok.ensures.packet c.in-Ok.ensures.fault) (c.arrive.ensures v c.args.now (c.advance_clock.ensures v stands))
+    let e : Endpoint = record { machine = c.arrive-answer.new.machine; tally = c.hear-in-Ok.new.self } in
+    handled c.arrive-answer.result v c.args.now c.args.draw c.args.bytes.now o _ e c.in-Ok.ensures.exact
+    (reads_one _ o _ read c.in-Ok.ensures.packet c.in-Ok.ensures.fault) (c.arrive-answer.ensures.step v c.args.now (c.advance_clock.ensures v stands))
 
 pub returns-in-Ok-clause-within : goal.returns-in-Ok-clause-within
 unfolding EndpointStands
-returns-in-Ok-clause-within c = λ v stands. answered_within c.arrive.result v c.args.now c.args.draw _ _ (c.arrive.ensures v c.args.now (c.advance_clock.ensures v stands))
+returns-in-Ok-clause-within c = λ v stands.
+    answered_within c.arrive-answer.result v c.args.now c.args.draw _ _ (c.arrive-answer.ensures.step v c.args.now (c.advance_clock.ensures v stands))
 
 pub returns-in-Ok-clause-logs : goal.returns-in-Ok-clause-logs
 unfolding EndpointStands
 returns-in-Ok-clause-logs c = λ v stands.
-    handled_logs c.arrive.result v c.args.now c.args.draw _ _ (c.sound.ensures v stands)
-    (handled c.arrive.result v c.args.now c.args.draw c.args.bytes.now _ _ _ c.in-Ok.ensures.exact refl (c.arrive.ensures v c.args.now (c.advance_clock.ensures v stands)))
+    let e : Endpoint = record { machine = c.arrive-answer.new.machine; tally = c.hear-in-Ok.new.self } in
+    handled_logs c.arrive-answer.result v c.args.now c.args.draw _ e (c.sound.ensures v stands)
+    (handled c.arrive-answer.result v c.args.now c.args.draw c.args.bytes.now _ _ e c.in-Ok.ensures.exact refl (c.arrive-answer.ensures.step v c.args.now (c.advance_clock.ensures v stands)))
+
+pub returns-in-Ok-clause-counts : goal.returns-in-Ok-clause-counts
+unfolding EndpointStands counted
+returns-in-Ok-clause-counts c = λ v o stands read.
+    rw (reads_one _ o _ read c.in-Ok.ensures.packet c.in-Ok.ensures.fault)
+    (c.hear-in-Ok.ensures
+    ∙ heard_sacks c.arrive-answer.result _ c.arrive-answer.new.sacks c.in-Ok.packet.chunks _ (c.arrive-answer.ensures.sacks (at_moment v c.args.now) (c.advance_clock.ensures v stands)))

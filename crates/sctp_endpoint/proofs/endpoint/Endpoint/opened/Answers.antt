@@ -1,6 +1,6 @@
 use Rattle.sctp_endpoint.specs.EndpointStands.{EndpointStands}
 use Rattle.sctp_endpoint.proofs.endpoint.Endpoint.opened.Goals as goal
 
-pub returns : goal.returns
+pub returns-clause-stands : goal.returns-clause-stands
 unfolding EndpointStands
-returns c = c.in_ok-paired.ensures
+returns-clause-stands c = c.in_ok-paired.ensures

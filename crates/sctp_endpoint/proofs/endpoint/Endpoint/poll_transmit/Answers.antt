@@ -1,8 +1,12 @@
 use Rattle.std.proofs.Common.{ℕ, List, ◌++◌, sym, subst, ap, ◌∙◌}
+use Rattle.sctp_model.specs.end.Clock.{at_moment}
 use Rattle.sctp_outcomes.specs.Kept.{numbered}
 use Rattle.sctp_outcomes.specs.ToldOnce.{NoTicketTwice}
 use Rattle.sctp_outcomes.proofs.logs.Built.{builds_add_numbers}
 use Rattle.sctp_endpoint.specs.EndpointStands.{EndpointStands}
+use Rattle.sctp_endpoint.specs.declared.endpoint.Endpoint.{Endpoint}
+use Rattle.sctp_endpoint.specs.Counted.{counted}
+use Rattle.sctp_endpoint.proofs.CountLemmas.{counts_sent}
 use Rattle.sctp_endpoint.proofs.LogLemmas.{no_packet_logs, few_told}
 use Rattle.sctp_endpoint.proofs.endpoint.Endpoint.poll_transmit.Goals as goal
 
@@ -35,7 +39,9 @@ returns-in-None-clause-anew c = λ v stands. tt
 
 pub returns-in-None-clause-logs : goal.returns-in-None-clause-logs
 unfolding EndpointStands
-returns-in-None-clause-logs c = λ v stands. no_packet_logs v c.args.now _ (c.sound.ensures v stands) (rw c.in-None.is at c.in_ok-built.ensures.built v stands)
+returns-in-None-clause-logs c = λ v stands.
+    let e : Endpoint = record { machine = c.build.new.self; tally = c.args.self.now.tally } in
+    no_packet_logs v c.args.now e (c.sound.ensures v stands) (rw c.in-None.is at c.in_ok-built.ensures.built v stands)
 
 pub returns-in-Some-clause-few : goal.returns-in-Some-clause-few
 unfolding EndpointStands
@@ -45,3 +51,10 @@ returns-in-Some-clause-few c = λ v stands.
 
 pub returns-in-None-clause-few : goal.returns-in-None-clause-few
 returns-in-None-clause-few c = λ v stands. tt
+
+pub returns-in-Some-clause-counts : goal.returns-in-Some-clause-counts
+unfolding EndpointStands counted
+returns-in-Some-clause-counts c = λ v stands.
+    counts_sent (at_moment v c.args.now) c.in-Some.built c.build.new.self c.owes_sack-was_due.result c.owes_sack.result c.args.self.now.tally c.send.new.self
+    c.acknowledge.new.self c.send_chunks.new.self (rw c.in-Some.is at c.in_ok-built.ensures.built v stands) (c.owes_sack-was_due.ensures v stands) c.owes_sack.ensures
+    c.send.ensures c.acknowledge.ensures c.send_chunks.ensures

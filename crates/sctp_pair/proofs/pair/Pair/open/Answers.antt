@@ -37,8 +37,8 @@ returns-clause-step c = λ w stands.
     let y = c.args.b in
     let on : c.may_open.result ≡ true = grind (arith, common_steps) in
     let both = and_parts w.openable (are_alike w.a.configuration w.b.configuration) (sym (c.may_open.ensures w stands) ∙ on) in
-    let a = subst (λ (k : Configuration). EndpointStands c.in_ok-at_a.at_a (opened k x y)) (c.config.ensures w.a stands.a.end) c.in_ok-at_a.ensures in
-    let b = subst (λ (k : Configuration). EndpointStands c.in-Ok.at_b (opened k y x)) (c.config-2.ensures w.b stands.b.end) (let made = c.opened-2.ensures in rw c.in-Ok.is at made) in
+    let a = subst (λ (k : Configuration). EndpointStands c.in_ok-at_a.at_a (opened k x y)) (c.config.ensures w.a stands.a.end) c.in_ok-at_a.ensures.stands in
+    let b = subst (λ (k : Configuration). EndpointStands c.in-Ok.at_b (opened k y x)) (c.config-2.ensures w.b stands.b.end) (let made = c.opened-2.ensures.stands in rw c.in-Ok.is at made) in
     let new = c.new_ends_have_no_logs.ensures.opened in
     let step = steps.OpensBoth x y both.1 both.0 c.tag.ensures.drawn c.tag-2.ensures.drawn in (
       record w { a = opened w.a.configuration x y; b = opened w.b.configuration y x; openable = false },

@@ -1,7 +1,4 @@
-use Rattle.std.proofs.Common.{◌≡◌, ◌∙◌, ◌<◌, length, true, false, refl, sym, arith}
-use Rattle.std.proofs.lemmas.Bool.Decides.{nat_tests}
-use Rattle.std.specs.Prelude.{◌||◌}
-use Rattle.sctp_send.specs.OutstandingFields.{item_meaning}
+use Rattle.std.proofs.Common.{◌∙◌, ◌<◌, length, refl, sym, arith}
 use Rattle.sctp_send.specs.inner.Weighing.{is_item_done}
 use Rattle.sctp_send.proofs.pace.HereLemmas.{here_read, here_past}
 use Rattle.sctp_send.proofs.pace.flying.is_done.Goals as goal

@@ -1,4 +1,4 @@
-use Rattle.std.proofs.Common.{◌≡◌, ◌∙◌, ◌+◌, ◌-◌, ◌<◌, ◌≤◌, ℕ, length, map, inl, inr, ap, arith}
+use Rattle.std.proofs.Common.{◌∙◌, ◌-◌, ◌<◌, ℕ, length, map, inl, inr, ap, arith}
 use Rattle.std.proofs.lemmas.Bool.{cases_eq}
 use Rattle.sctp_send.specs.OutstandingFields.{item_meaning}
 use Rattle.sctp_send.specs.inner.Weighing.{is_item_closed, passes_here}

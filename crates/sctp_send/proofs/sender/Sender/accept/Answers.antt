@@ -36,8 +36,9 @@ returns-clause-step g c = λ v stands.
     let given = fates_given g.F.Framing.format _ v keeps in
     let fates : c.push.new.self.items ≡ s.told.fates.items ++ StillQueued ∷ [] = rw (c.push.ensures.items, c.in-Ok.ensures.items) refl in
     let ended : c.push.new.self.ended ≡ s.told.fates.ended = rw (c.push.ensures.ended, c.in-Ok.ensures.ended) refl in
+    let abandoned : c.push.new.self.abandoned ≡ s.told.fates.abandoned = rw (c.push.ensures.abandoned, c.in-Ok.ensures.abandoned) refl in
     let moments : c.push-2.new.self.moments ≡ s.told.dues.moments ++ unwrap_or c.args.until LAST_MOMENT ∷ [] = rw (c.push-2.ensures.moments, c.in-Ok.ensures.moments) refl in
     let passed : c.push-2.new.self.passed ≡ s.told.dues.passed = rw (c.push-2.ensures.passed, c.in-Ok.ensures.passed) refl in
     let asleep : c.push-2.new.self.asleep ≡ s.told.dues.asleep = rw (c.push-2.ensures.asleep, c.in-Ok.ensures.asleep) refl in
     let taken = keeps_queued g.F.Framing.format _ v (lane_for c.args.stream c.args.ordered) c.args.payload_id (c.len-given.result + 1) c.args.bytes.items c.args.until c.args.limit keeps none (omega (arith, given)) c.push-2.ensures.small in
-    rw (c.in_ok-enqueue.ensures.waits s.told.fragment, fates, ended, moments, passed, asleep, c.of_flag.ensures) taken
+    rw (c.in_ok-enqueue.ensures.waits s.told.fragment, fates, ended, abandoned, moments, passed, asleep, c.of_flag.ensures) taken

@@ -11,7 +11,7 @@ returns g c = λ v stands.
     let s = c.self.inside in
     let keeps = subst (λ (k : Kept). Keeps g.F.Framing.format k v) (sym c.self.view_is) stands in
     let given = rw c.end_block.ensures.items at c.end_block.ensures.given in
-    rw c.end_block.ensures.items
+    rw (c.end_block.ensures.items, c.end_block.ensures.abandoned)
     (keeps_over g.F.Framing.format _ v c.end_block.new.self.ended c.in-Some.last StillQueued keeps given (omega (arith, c.end_block.ensures.within, c.in-Some.ensures))
     (λ at low high. rw c.end_block.ensures.items at (c.end_block.ensures.none_queued at StillQueued low high))
     (λ t le. c.is_past.ensures.tracks s.told.fragment t c.if-not-is_past.false le)

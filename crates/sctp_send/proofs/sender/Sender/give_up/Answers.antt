@@ -1,9 +1,11 @@
-use Rattle.std.proofs.Common.{◌<◌, ◌∙◌, List, length, ap, subst, sym, arith}
-use Rattle.std.proofs.lemmas.List.{length-map}
+use Rattle.std.proofs.Common.{◌-◌, ◌^◌, ◌<◌, ◌∙◌, List, length, ap, subst, sym, arith}
+use Rattle.std.proofs.lemmas.List.{length-map, length-set}
 use Rattle.sctp_send.specs.OutstandingFields.{item_meaning}
 use Rattle.sctp_send.specs.inner.Changes.{as_abandoned}
 use Rattle.sctp_send.specs.SenderKept.{Kept}
 use Rattle.sctp_send.specs.declared.kept.entry.Entry.{Entry as EntryFields}
+use Rattle.sctp_send.specs.declared.kept.message.Fate.{Fate}
+use Rattle.sctp_send.specs.declared.kept.message.Fate.TheVariants.{Abandoned}
 use Rattle.sctp_send.specs.SenderStands.{StandsFor, Keeps}
 use Rattle.sctp_send.proofs.abandon.AbandonedLemmas.{items_abandoned}
 use Rattle.sctp_send.proofs.abandon.EndLemmas.{keeps_abandoned, keeps_ended}
@@ -18,11 +20,12 @@ returns-in-Some g c = λ v stands on may.
     let keeps = subst (λ (k : Kept). Keeps g.F.Framing.format k v) (sym c.self.view_is) stands in
     let m = may_be_abandoned g.F.Framing.format _ v c.args.ticket keeps on may in
     let behind = open_missing g.F.Framing.format _ v c.args.ticket keeps (whole_is g.F.Framing.format _ v c.args.ticket m.name keeps m.kept ∙ m.uncovered) in
-    let taken = keeps_ended g.F.Framing.format _ v c.args.ticket m.name _ _ keeps m.kept m.uncovered m.partial (c.in-Some.ensures.some s.told.fragment) in
+    let few : length s.told.fates.items < 2 ^ 64 = (let put = ap (λ (xs : List Fate). length xs) (c.give_up.ensures.items (omega (arith, behind))) ∙ length-set s.told.fates.items (c.args.ticket - 1) Abandoned in let all = c.give_up.ensures.few in omega (arith, put, all)) in
+    let taken = keeps_ended g.F.Framing.format _ v c.args.ticket m.name _ _ keeps m.kept m.uncovered m.partial few (c.in-Some.ensures.some s.told.fragment) in
     let long = length-map s.parts.outstanding.items (item_meaning s.told.fragment) in
     let same = ap (λ (es : List EntryFields). length es) c.abandon.ensures.items ∙ length-map s.parts.outstanding.items (as_abandoned c.args.ticket) in
     let room : length c.abandon.new.self.items < c.abandon.new.self.capacity = omega (arith, taken.0, long, same, c.abandon.ensures.kept.capacity) in
-    rw (c.set.ensures.items (omega (arith, behind)), c.set.ensures.ended, c.push_end.ensures.items s.told.fragment room, c.abandon.ensures.items, items_abandoned, (c.push_end.ensures.kept room).capacity, c.abandon.ensures.kept.capacity) taken.1
+    rw (c.give_up.ensures.items (omega (arith, behind)), c.give_up.ensures.ended, c.give_up.ensures.abandoned, c.push_end.ensures.items s.told.fragment room, c.abandon.ensures.items, items_abandoned, (c.push_end.ensures.kept room).capacity, c.abandon.ensures.kept.capacity) taken.1
 
 pub returns-in_default : goal.returns-in_default
 unfolding StandsFor
@@ -31,5 +34,6 @@ returns-in_default g c = λ v stands on may.
     let keeps = subst (λ (k : Kept). Keeps g.F.Framing.format k v) (sym c.self.view_is) stands in
     let m = may_be_abandoned g.F.Framing.format _ v c.args.ticket keeps on may in
     let behind = open_missing g.F.Framing.format _ v c.args.ticket keeps (whole_is g.F.Framing.format _ v c.args.ticket m.name keeps m.kept ∙ m.uncovered) in
-    let taken = keeps_abandoned g.F.Framing.format _ v c.args.ticket m.name keeps m.kept m.uncovered m.partial (c.in_default.ensures.none s.told.fragment) in
-    rw (c.set.ensures.items (omega (arith, behind)), c.set.ensures.ended, c.abandon.ensures.items, items_abandoned, c.in_default.ensures.same, c.abandon.ensures.kept.capacity) taken
+    let few : length s.told.fates.items < 2 ^ 64 = (let put = ap (λ (xs : List Fate). length xs) (c.give_up.ensures.items (omega (arith, behind))) ∙ length-set s.told.fates.items (c.args.ticket - 1) Abandoned in let all = c.give_up.ensures.few in omega (arith, put, all)) in
+    let taken = keeps_abandoned g.F.Framing.format _ v c.args.ticket m.name keeps m.kept m.uncovered m.partial few (c.in_default.ensures.none s.told.fragment) in
+    rw (c.give_up.ensures.items (omega (arith, behind)), c.give_up.ensures.ended, c.give_up.ensures.abandoned, c.abandon.ensures.items, items_abandoned, c.in_default.ensures.same, c.abandon.ensures.kept.capacity) taken

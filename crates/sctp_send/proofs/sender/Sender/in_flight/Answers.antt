@@ -1,4 +1,4 @@
-use Rattle.std.proofs.Common.{◌≡◌, ◌∙◌, List, ℕ, map, length, sym, ap}
+use Rattle.std.proofs.Common.{◌∙◌, List, ℕ, map, length, sym, ap}
 use Rattle.std.proofs.lemmas.List.{length-map}
 use Rattle.sctp_send.specs.OutstandingFields.{item_meaning}
 use Rattle.sctp_send.specs.SenderKept.{Item, Kept}

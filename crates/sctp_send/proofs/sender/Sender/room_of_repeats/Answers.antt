@@ -1,6 +1,6 @@
-use Rattle.std.proofs.Common.{◌≡◌, ◌∙◌, ℕ, List, map, sym, ap, arith}
+use Rattle.std.proofs.Common.{◌∙◌, ℕ, map, sym, ap, arith}
 use Rattle.sctp_send.specs.OutstandingFields.{item_meaning}
-use Rattle.sctp_send.specs.SenderKept.{Item, Kept}
+use Rattle.sctp_send.specs.SenderKept.{Kept}
 use Rattle.sctp_send.specs.SenderStands.{StandsFor}
 use Rattle.sctp_send.specs.inner.Weighing.{repeats_room}
 use Rattle.sctp_send.proofs.pace.RepeatLemmas.{fill_repeats}

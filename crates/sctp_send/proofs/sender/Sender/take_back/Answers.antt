@@ -11,4 +11,4 @@ returns g c = λ v stands waiting.
     let s = c.self.inside in
     let keeps = subst (λ (k : Kept). Keeps g.F.Framing.format k v) (sym c.self.view_is) stands in
     let behind = open_waiting g.F.Framing.format _ v c.args.ticket keeps waiting in
-    rw (c.withdraw.ensures.items s.told.fragment, c.set.ensures.items (omega (arith, behind)), c.set.ensures.ended) (keeps_withdrawn g.F.Framing.format _ v c.args.ticket keeps waiting)
+    rw (c.withdraw.ensures.items s.told.fragment, c.set.ensures.items (omega (arith, behind)), c.set.ensures.ended, c.set.ensures.abandoned) (keeps_withdrawn g.F.Framing.format _ v c.args.ticket keeps waiting)

@@ -1,4 +1,4 @@
-use Rattle.std.proofs.Common.{◌≡◌, ◌∙◌, ◌<◌, ℕ, List, map, true, sym, ap, subst}
+use Rattle.std.proofs.Common.{◌∙◌, ℕ, List, map, sym, ap, subst}
 use Rattle.sctp_wire.specs.ChunkTree.{sack_meaning}
 use Rattle.sctp_model.specs.sender.SackTaken.{sack_covers, sack_after}
 use Rattle.sctp_send.specs.OutstandingFields.{item_meaning}

@@ -1,5 +1,4 @@
-use Rattle.std.proofs.Common.{◌≡◌, ◌∙◌, ◌*◌, ◌≤◌, ◌^◌, ◌<◌, ◌%◌, ◌+◌, List, ℕ, length, map, refl, sym, ap, subst, arith}
-use Rattle.std.proofs.lemmas.List.{length-map}
+use Rattle.std.proofs.Common.{◌*◌, ◌≤◌, List, length, map, refl, ap, subst, arith}
 use Rattle.sctp_model.specs.sender.Words.{sum_below}
 use Rattle.sctp_send.specs.OutstandingFields.{item_meaning}
 use Rattle.sctp_send.specs.SenderKept.{Item, Kept}

@@ -2,5 +2,5 @@ use Rattle.sctp_send.proofs.fill.FilledLemmas.{IsFilledSoFar}
 use Rattle.sctp_send.specs.inner.Stocking.{bare}
 use Rattle.sctp_send.proofs.told.Told.put_all.Given as goal
 
-abbrev pub invariant-loop : goal.invariant-loop
-invariant-loop g l = IsFilledSoFar g.F.Framing.format (bare l.self) l.initial.packet l.packet l.initial.stock l.stock l.counter
+abbrev pub invariant-loop-turn : goal.invariant-loop-turn
+invariant-loop-turn g l = IsFilledSoFar g.F.Framing.format (bare l.self) l.initial.packet l.packet l.initial.stock l.stock l.turn l.missed l.resent

@@ -1,9 +1,7 @@
-use Rattle.std.proofs.Common.{◌≡◌, ◌∙◌, ◌+◌, ◌-◌, ◌<◌, ◌≤◌, suc, length, map, drop, true, false, sym, ap, refl, arith}
-use Rattle.std.proofs.lemmas.Bool.Decides.{nat_tests}
+use Rattle.std.proofs.Common.{◌≡◌, ◌∙◌, ◌+◌, ◌-◌, ◌<◌, ◌≤◌, suc, length, map, sym, ap, arith}
 use Rattle.sctp_send.specs.OutstandingFields.{item_meaning}
 use Rattle.sctp_send.specs.PartsKept.{OutstandingKept}
-use Rattle.sctp_send.specs.inner.Wishing.{is_item_marked}
-use Rattle.sctp_send.specs.inner.Weighing.{item_room, repeats_room}
+use Rattle.sctp_send.specs.inner.Weighing.{item_room}
 use Rattle.sctp_send.proofs.pace.HereLemmas.{item_read}
 use Rattle.sctp_send.proofs.pace.RepeatLemmas.{repeats_behind, repeats_fit, repeats_full, repeats_past}
 use Rattle.sctp_send.proofs.kept.outstanding.Outstanding.room_of_repeats.Goals.{then-is_repeat+else-taken-from, else-is_repeat}

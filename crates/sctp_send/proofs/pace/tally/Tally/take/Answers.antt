@@ -1,7 +1,6 @@
-use Rattle.std.proofs.Common.{◌≡◌, ◌∙◌, ◌+◌, ◌-◌, ◌<◌, ◌≤◌, ℕ, suc, length, map, true, false, sym, ap, subst, arith}
-use Rattle.std.proofs.lemmas.Bool.Decides.{nat_tests}
+use Rattle.std.proofs.Common.{◌≡◌, ◌+◌, ◌-◌, ◌<◌, suc, length, map, arith}
 use Rattle.sctp_send.specs.OutstandingFields.{item_meaning}
-use Rattle.sctp_send.specs.inner.Weighing.{is_item_news, unsettled_bytes, is_item_open, IsTally}
+use Rattle.sctp_send.specs.inner.Weighing.{is_item_open}
 use Rattle.sctp_send.proofs.pace.HereLemmas.{item_read, here_past}
 use Rattle.sctp_send.proofs.pace.TallyLemmas.{tally_with, tally_skip, idle_closed}
 use Rattle.sctp_send.proofs.pace.tally.Tally.take.Goals as goal

@@ -1,0 +1,49 @@
+-- Of the user data in a packet that an end builds: how many of its chunks are sent for the first time, and how many again (RFC 9260, 6.1, 6.3.3 and 7.2.4).
+use Rattle.std.specs.Prelude.{◌≡◌, Bool, true, false, List, [], ◌++◌}
+use Rattle.std.specs.List.{All}
+use Rattle.sctp_model.specs.wire.Chunk.{ChunkMeaning, Data, IData, Init, InitAck, Sack, Heartbeat, HeartbeatAck, Abort, Shutdown, ShutdownAck, Error, CookieEcho, CookieAck, ShutdownComplete, ForwardTsn, IForwardTsn, Unknown}
+use Rattle.sctp_model.specs.end.EndView.{EndView}
+use Rattle.sctp_model.specs.end.Building.{filled_behind, fragments}
+use Rattle.sctp_model.specs.end.Wearing.{missed_below}
+use Rattle.sctp_send.specs.FillAnswers.{sendings_of}
+use Rattle.sctp_send.specs.declared.fill.Filled.{Filled}
+use Rattle.sctp_send.specs.declared.fill.sendings.Sendings.{Sendings}
+
+-- user data, by SSN or by MID (RFC 9260, 3.3.1; RFC 8260, 2.1)
+abbrev pub is_user_data : ChunkMeaning → Bool
+is_user_data (Data p) = true
+is_user_data (IData p) = true
+is_user_data (Init m) = false
+is_user_data (InitAck m) = false
+is_user_data (Sack s) = false
+is_user_data (Heartbeat info) = false
+is_user_data (HeartbeatAck info) = false
+is_user_data (Abort reflected causes) = false
+is_user_data (Shutdown seen) = false
+is_user_data ShutdownAck = false
+is_user_data (Error causes) = false
+is_user_data (CookieEcho cookie) = false
+is_user_data CookieAck = false
+is_user_data (ShutdownComplete reflected) = false
+is_user_data (ForwardTsn point) = false
+is_user_data (IForwardTsn point) = false
+is_user_data (Unknown kind flags value) = false
+
+-- a control chunk: any other (RFC 9260, 3.2)
+abbrev pub IsControl : ChunkMeaning → Type 0
+IsControl x = is_user_data x ≡ false
+
+-- no user data
+abbrev pub none_sent : Sendings
+none_sent = record { first = 0; timed = 0; missed = 0 }
+
+-- none was filled in
+pub record FillsNone (x : Filled) : Type 0 where
+  pub tickets : x.tickets.items ≡ []
+  pub sendings : x.sendings ≡ none_sent
+
+-- The sendings of these chunks, which are built by this end: none where they are control chunks alone; else those of what fills the packet behind its
+-- control chunks. What has an index below that below which all was missed three times is fast retransmitted (RFC 9260, 7.2.4).
+pub data Sends (e : EndView) : List ChunkMeaning → Sendings → Type 0 where
+  SendsNone : (zs : List ChunkMeaning) → All IsControl zs → Sends e zs none_sent
+  SendsBehind : (zs : List ChunkMeaning) → All IsControl zs → Sends e (zs ++ fragments e zs) (sendings_of (missed_below e.pace) (filled_behind e zs).wishes)

@@ -1,0 +1,4 @@
+pub mod Reading
+pub mod Meanings
+pub mod Laws
+pub mod SameCodes
