@@ -7,7 +7,7 @@ the status are asked too. The ends of every third script close by the RFC's time
 the two ends differ; with --unlike in all. With --limited they are those of limited.py: limits of
 retransmissions; with --paced those of paced.py: fast retransmit and congestion control too; with --options
 those of mixed.py: every option of each end is chosen at random; with the last two the line `path` is asked,
-with --counts the line `counts`, which sctp-end doesn't have.
+with --counts the line `counts`.
 ends.py --write FILE N [SEED] writes the lines of each end and the answers wanted, and runs nothing.
 """
 
