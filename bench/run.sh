@@ -56,7 +56,7 @@ crc32c() {
 }
 
 receiver() {
-    build receiver sctp_model sctp_values sctp_safety sctp_serial sctp_wire sctp_framing sctp_chains sctp_sequence sctp_recv
+    build receiver sctp_model sctp_values sctp_safety sctp_serial sctp_wire sctp_reconfig sctp_framing sctp_chains sctp_sequence sctp_recv
     for range in '1000 2000' '10000 20000' '100000 200000'; do
         # shellcheck disable=SC2086
         each "a message of 64 bytes in order ($range)" $range 1 "$built" order
@@ -91,7 +91,7 @@ sender() {
 }
 
 # the crates that an endpoint stands on
-end='sctp_model sctp_values sctp_terms sctp_safety sctp_outcomes sctp_serial sctp_wire sctp_cookie sctp_framing sctp_packet sctp_opening sctp_chains sctp_sequence sctp_recv sctp_send sctp_congestion sctp_association sctp_endpoint'
+end='sctp_model sctp_values sctp_terms sctp_safety sctp_outcomes sctp_serial sctp_wire sctp_reconfig sctp_cookie sctp_framing sctp_packet sctp_opening sctp_chains sctp_sequence sctp_recv sctp_send sctp_congestion sctp_association sctp_endpoint'
 
 # what an endpoint adds to a message: the same packets over two endpoints, and over a sender and a receiver side by side
 endpoint() {
@@ -191,7 +191,7 @@ growth() {
 
 # calls of a receiver
 receiver_growth() {
-    build receiver_growth sctp_model sctp_values sctp_safety sctp_serial sctp_wire sctp_framing sctp_chains sctp_sequence sctp_recv
+    build receiver_growth sctp_model sctp_values sctp_safety sctp_serial sctp_wire sctp_reconfig sctp_framing sctp_chains sctp_sequence sctp_recv
     for format in data i-data; do
         # what is freed at the program's end jumps
         within='sctp_recv::receiver::Receiver::on_data*'

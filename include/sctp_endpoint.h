@@ -73,6 +73,7 @@ enum sctp_endpoint_result {
     SCTP_EP_MISUSE = 11,        /* the handle is empty; a call that makes an endpoint: it isn't empty */
     SCTP_EP_BAD_DRAW = 12,      /* a tag is 0 */
     SCTP_EP_BAD_RESERVED = 13,  /* a reserved number isn't 0, or a flag has no meaning */
+    SCTP_EP_RESETTING = 14,     /* the stream is being reset; no call of this library resets one */
     /* the first thing wrong with a configuration, in this order */
     SCTP_EP_BAD_PORT = 21,
     SCTP_EP_BAD_PACKET_LIMIT = 22,

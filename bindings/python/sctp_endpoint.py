@@ -45,6 +45,7 @@ class Result(enum.IntEnum):
     MISUSE = 11
     BAD_DRAW = 12
     BAD_RESERVED = 13
+    RESETTING = 14
     BAD_PORT = 21
     BAD_PACKET_LIMIT = 22
     BAD_FRAGMENT = 23

@@ -25,6 +25,8 @@ pub enum Error {
     NotOpen,
     /// The call isn't allowed in this state.
     BadState,
+    /// The stream is being reset; no call of this library resets one.
+    Resetting,
     /// The buffer is too small: so many bytes are needed. Nothing is lost.
     NeedsRoom(usize),
     /// A port is 0.
@@ -53,6 +55,7 @@ impl Error {
             7 => Error::NotOpen,
             8 => Error::BadState,
             NEEDS_ROOM => Error::NeedsRoom(length),
+            14 => Error::Resetting,
             21 => Error::BadPort,
             22 => Error::BadPacketLimit,
             23 => Error::BadFragment,
@@ -75,6 +78,7 @@ impl Error {
             Error::NotOpen => 7,
             Error::BadState => 8,
             Error::NeedsRoom(_) => NEEDS_ROOM,
+            Error::Resetting => 14,
             Error::BadPort => 21,
             Error::BadPacketLimit => 22,
             Error::BadFragment => 23,

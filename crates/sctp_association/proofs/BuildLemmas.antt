@@ -238,12 +238,16 @@ on_traffic m a b v x is k kept stands =
 unpaced_still : (m : Machine) (v : EndView) (o : Option Pace) → KeepsMachine m v → (m.pace ≡ None → o ≡ None) → v.configuration.fast_retransmit ≡ false → o ≡ None
 unpaced_still m v o k none off = none (k.pace ∙ k.unpaced off)
 
+-- with its pace gone on, too
+pub with_traffic_and_pace : (m : Machine) (a b : Association) (v : EndView) (x : SenderView) (o : Option Pace) → m.life ≡ life.Joined a → KeepsMachine m v → b ≡ record a { traffic = b.traffic }
+    → (m.pace ≡ None → o ≡ None) → TrafficStands b.traffic (format_for v.terms.interleave) x v.receiver → KeepsMachine (record m { life = life.Joined b; pace = o }) (record v { sender = x; pace = o })
+with_traffic_and_pace m a b v x o is k kept none stands = with_pace _ (record v { sender = x }) o (on_traffic m a b v x is k kept stands) (unpaced_still m v o k none)
+
 pub with_sender : {E : Type 0} (r : Result Filled E) (e v : EndView) (p : Packing) (m : Machine) (a b : Association) (o : Option Pace) → m.life ≡ life.Joined a → KeepsMachine m v
     → b ≡ record a { traffic = b.traffic } → (m.pace ≡ None → o ≡ None)
     → IfOk r (λ filled. (x : SenderView) × IsPacked e x o p filled × TrafficStands b.traffic (format_for v.terms.interleave) x v.receiver)
     → IfOk r (λ filled. (x : SenderView) × IsPacked e x o p filled × KeepsMachine (record m { life = life.Joined b; pace = o }) (record v { sender = x; pace = o }))
-with_sender (Ok filled) e v p m a b o is k kept none packed =
-    (packed.0, packed.1, with_pace _ (record v { sender = packed.0 }) o (on_traffic m a b v packed.0 is k kept packed.2) (unpaced_still m v o k none))
+with_sender (Ok filled) e v p m a b o is k kept none packed = (packed.0, packed.1, with_traffic_and_pace m a b v packed.0 o is k kept none packed.2)
 with_sender (Err failed) e v p m a b o is k kept none packed = packed
 
 pub still_stands : {A E : Type 0} (r : Result A E) (v : EndView) (m : Machine) (a b : Association) (o : Option Pace) → m.life ≡ life.Joined a → KeepsMachine m v → b ≡ record a { traffic = b.traffic }

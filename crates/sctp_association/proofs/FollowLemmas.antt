@@ -1,5 +1,6 @@
 -- `hear_sack`, `hear_shutdown` at an endpoint with a pace: what the sender says of an acknowledgement, and the pace and the data timer after it.
-use Rattle.std.proofs.Common.{◌≡◌, ◌∙◌, ℕ, Bool, nat_lt, refl, sym, ap, subst}
+use Rattle.std.proofs.Common.{◌≡◌, ◌∙◌, ℕ, Bool, true, false, nat_lt, refl, sym, ap, subst}
+use Rattle.std.proofs.lemmas.Bool.{and_parts}
 use Rattle.std.specs.Prelude.{Option, None, Some, IfSome, ◌||◌, unwrap_or, option_map, nat_le, ◌&&◌, not}
 use Rattle.sctp_model.specs.sender.SenderView.{SenderView}
 use Rattle.sctp_model.specs.sender.Entries.{in_flight}
@@ -39,6 +40,21 @@ acked_at : (v u : SenderView) (o : Option Timed) (acked : Bool) → IfSome (opti
     → IfSome o (λ t. acked ≡ is_measured v u t.index)
 acked_at v u None acked is = tt
 acked_at v u (Some t) acked is = is
+
+-- if it is acknowledged by it, it is acknowledged after it
+pub covers_acked : (v u : SenderView) (o : Option Timed) (acked : Bool) → IfSome (option_map (λ t. t.index) o) (λ i. acked ≡ (nat_lt v.cum i && (u.covered i && not (was_given_up v i))))
+    → IfSome o (λ t. acked ≡ true → u.covered t.index ≡ true)
+covers_acked v u None acked is = tt
+covers_acked v u (Some t) acked is = λ on.
+    (and_parts (u.covered t.index) (not (was_given_up v t.index)) (and_parts (nat_lt v.cum t.index) (u.covered t.index && not (was_given_up v t.index)) (sym is ∙ on)).1).0
+
+pub over_acked : (u : SenderView) (o : Option Timed) (acked : Bool) → acked ≡ true → IfSome o (λ t. acked ≡ true → u.covered t.index ≡ true) → IfSome o (λ t. true ≡ (u.marked t.index || u.covered t.index))
+over_acked u None acked on covers = tt
+over_acked u (Some t) acked on covers = sym (ap (λ (b : Bool). u.marked t.index || b) (covers on) ∙ or_true (u.marked t.index))
+  where
+    or_true : (b : Bool) → (b || true) ≡ true
+    or_true true = refl
+    or_true false = refl
 
 -- the numbers of an acknowledgement, by those before it
 pub weighs : (v u : SenderView) (p : Pace) (b : Before) (m : Misses) (from below : ℕ) (lost : Option ℕ) (sent left : ℕ) (over : Bool) → IsBefore v u p b → m ≡ misses_heard v u p.misses

@@ -1,5 +1,5 @@
 -- `hear_piece`, `hear_forward`, `hear_sack`, `hear_shutdown`: what sender and receiver do with a chunk is the step of the open association's view.
-use Rattle.std.proofs.Common.{◌≡◌, ◌∙◌, ℕ, nat_le, nat_lt, Bool, true, false, List, length, refl, ap, subst}
+use Rattle.std.proofs.Common.{◌≡◌, ◌∙◌, ℕ, nat_le, nat_lt, Bool, true, false, List, length, refl, sym, ap, subst}
 use Rattle.std.specs.Prelude.{Option, Some, None, is_some, if◌then◌else◌, ◌&&◌, Result, Ok, Err, IfOk, OnOk, OnErr}
 use Rattle.sctp_model.specs.wire.Chunk.{PieceMeaning, ForwardMeaning, SackMeaning}
 use Rattle.sctp_model.specs.receiver.ReceiverView.{ReceiverView}
@@ -10,10 +10,11 @@ use Rattle.sctp_model.specs.sender.SenderView.{SenderView}
 use Rattle.sctp_model.specs.sender.SackTaken.{SackFault, sack_fault, sack_taken, sack_after, shutdown_fault, shutdown_taken, shutdown_after}
 use Rattle.sctp_model.specs.end.EndView.{EndView, Alarm, DataAlarm, Timer, format_of}
 use Rattle.sctp_model.specs.end.EndView as model
-use Rattle.sctp_model.specs.end.Clock.{replaced, renewed, with_timer, settled, is_point_past}
+use Rattle.sctp_model.specs.end.Clock.{replaced, renewed, with_timer, is_point_past}
 use Rattle.sctp_model.specs.end.Closing.{with_due}
 use Rattle.sctp_model.specs.end.Reports.{with_causes}
-use Rattle.sctp_model.specs.end.Acting.{piece_causes, heartbeat_heard, shut_timer, sack_heard}
+use Rattle.sctp_model.specs.end.Acting.{piece_causes, heartbeat_heard, shut_timer, sack_heard, shutdown_counted}
+use Rattle.sctp_wire.specs.ChunkTree.{sack_meaning}
 use Rattle.sctp_model.specs.sender.Readers.{unsettled}
 use Rattle.sctp_model.proofs.sender.HeardLaws.{unpaced}
 use Rattle.sctp_values.specs.declared.no_memory.NoMemory.{NoMemory}
@@ -27,6 +28,9 @@ use Rattle.sctp_recv.specs.declared.forward.ForwardAnswer.{ForwardAnswer}
 use Rattle.sctp_outcomes.proofs.Buffers.{piece_keeps_buffer, forward_keeps_buffer}
 use Rattle.sctp_association.specs.TimersMean.{kept_if}
 use Rattle.sctp_association.specs.SackLeaves.{left_with, sack_counted}
+use Rattle.sctp_association.specs.Acknowledges.{rests_after, timer_after, shut_rests, shut_timer_of, fault_said, after_said, rests_said}
+use Rattle.sctp_association.specs.declared.peer.pacing.Acknowledging.{Acknowledging}
+use Rattle.sctp_association.specs.declared.peer.pacing.Acknowledging.TheVariants.{Sack, Shutdown}
 use Rattle.sctp_association.specs.PhaseMeans.{phase_unjoined, phase_of}
 use Rattle.sctp_association.specs.TrafficStands.{TrafficStands}
 use Rattle.sctp_association.specs.MachineStands.{KeepsMachine}
@@ -134,12 +138,6 @@ twice_at t u f model.AckAlarm = refl
 twice_at t u f model.ResetAlarm = refl
 
 -- what a SACK leaves beside the pace, in the order of the definition: settled first, and then its data timer
-abbrev pub rests_after : EndView → SackMeaning → EndView
-rests_after v x = settled (record v { sender = sack_taken v.sender x; due = record v.due { forward = true } })
-
-abbrev pub timer_after : EndView → SackMeaning → Timer
-timer_after v x = renewed v.moment (nat_lt v.sender.cum (sack_taken v.sender x).cum) ((rests_after v x).timers DataAlarm)
-
 pub counts_as : (v : EndView) (x : SackMeaning) → None ≡ sack_fault v.sender x → with_timer DataAlarm (timer_after v x) (rests_after v x) ≡ sack_counted v x
 counts_as v x none =
     let u = sack_taken v.sender x in
@@ -148,6 +146,30 @@ counts_as v x none =
       due = record v.due { forward = is_point_past u };
       timers = λ a. twice_at (timer_after v x) (kept_if (unsettled u) (v.timers DataAlarm)) v.timers a i;
     }) ∙ ap (λ (y : EndView). left_with v y.sender) (sack_counts v x none)
+
+pub counts_sack : (r : Result (Unit {0}) code.SackFault) (m : Machine) (v : EndView) (x : SackMeaning) → reason_meaning r ≡ sack_fault v.sender x → OnOk r (KeepsMachine m (sack_counted v x))
+    → OnOk r (KeepsMachine m (with_timer DataAlarm (timer_after v x) (rests_after v x)))
+counts_sack (Ok u) m v x none keeps = at_view m _ (sack_counted v x) (counts_as v x none) keeps
+counts_sack (Err fault) m v x some keeps = tt
+
+-- what either leaves beside the pace: the pace, the phase, and the sender that has taken it
+pub pace_said : (v : EndView) (said : Acknowledging) → (rests_said v said).pace ≡ v.pace
+pace_said v (Sack x) = refl
+pace_said v (Shutdown tsn) = refl
+
+pub phase_said : (v : EndView) (said : Acknowledging) → (rests_said v said).phase ≡ v.phase
+phase_said v (Sack x) = refl
+phase_said v (Shutdown tsn) = refl
+
+pub sender_said : (v : EndView) (said : Acknowledging) → None ≡ fault_said v.sender said → after_said v.sender said ≡ (rests_said v said).sender
+sender_said v (Sack x) none = sym (ap (λ (y : EndView). y.sender) (sack_counts v (sack_meaning x.now) none))
+sender_said v (Shutdown tsn) none = sym (ap (λ (y : EndView). y.sender) (shutdown_counts v tsn none))
+
+-- a SHUTDOWN at an end without a pace
+pub shut_unpaced : (r : Result (Unit {0}) code.SackFault) (m : Machine) (v : EndView) (tsn : ℕ) → v.pace ≡ None → OnOk r (KeepsMachine m (with_timer DataAlarm (shut_timer_of v tsn) (shut_rests v tsn)))
+    → OnOk r (KeepsMachine m (shutdown_counted v tsn))
+shut_unpaced (Ok u) m v tsn free keeps = at_view m (shutdown_counted v tsn) _ (unpaced v.sender (v.timers DataAlarm).wait (shut_timer_of v tsn) (shut_rests v tsn) free) keeps
+shut_unpaced (Err fault) m v tsn free keeps = tt
 
 pub sack_unpaced : (v : EndView) (x : SackMeaning) → v.pace ≡ None → None ≡ sack_fault v.sender x → sack_heard v x ≡ sack_counted v x
 sack_unpaced v x free none = unpaced v.sender (v.timers DataAlarm).wait (timer_after v x) (rests_after v x) free ∙ counts_as v x none

@@ -13,11 +13,13 @@ pub mod MissedLemmas
 pub mod FillLemmas
 pub mod StartLemmas
 pub mod RoomLemmas
+pub mod PassedLemmas
 pub mod PutLemmas
 pub mod InitLemmas
 pub mod SameLemmas
 pub mod SendsLemmas
 pub mod BuildLemmas
+pub mod DrainedLemmas
 pub mod PaceLemmas
 pub mod PlainLemmas
 pub mod AbortLemmas

@@ -1,10 +1,11 @@
 -- The fast path: if no slot but the SACK's is due, a packet of SACK and user data is the specification's next packet.
-use Rattle.std.proofs.Common.{◌≡◌, ◌∙◌, ℕ, Bool, true, false, ◌&&◌, [], ◌∷◌, None, Result, Ok, Err, IfOk, refl, ap, sym, subst}
+use Rattle.std.proofs.Common.{◌≡◌, ◌∙◌, ℕ, Bool, true, false, ◌&&◌, [], ◌∷◌, Option, None, Result, Ok, Err, IfOk, refl, ap, sym, subst}
 use Rattle.sctp_model.specs.sender.SenderView.{SenderView}
 use Rattle.sctp_model.specs.end.EndView as model
 use Rattle.sctp_model.specs.end.EndView.{EndView, Alarm, InitAlarm, CookieAlarm, DataAlarm, ShutdownAlarm, AckAlarm, ResetAlarm, format_of, format_for}
 use Rattle.sctp_model.specs.end.Clock.{is_point_past}
-use Rattle.sctp_model.specs.end.Building.{CookieAckSlot, HeartbeatSlot, ErrorSlot, SackSlot, ForwardSlot, AnswerSlot, RequestSlot, ShutdownSlot, ShutdownAckSlot, open_slots}
+use Rattle.sctp_model.specs.end.Pacing.{Pace}
+use Rattle.sctp_model.specs.end.Building.{CookieAckSlot, HeartbeatSlot, ErrorSlot, SackSlot, ForwardSlot, AnswerSlot, RequestSlot, ShutdownSlot, ShutdownAckSlot, open_slots, sent}
 use Rattle.sctp_packet.specs.Draft.{Draft}
 use Rattle.sctp_send.specs.declared.fill.Filled.{Filled}
 use Rattle.sctp_values.specs.declared.no_memory.NoMemory.{NoMemory}
@@ -13,7 +14,7 @@ use Rattle.sctp_association.specs.DueStands.{DueStands}
 use Rattle.sctp_association.specs.PhaseMeans.{phase_unjoined}
 use Rattle.sctp_association.specs.TrafficStands.{TrafficStands}
 use Rattle.sctp_association.specs.MachineStands.{KeepsMachine}
-use Rattle.sctp_association.specs.Drafted.{due_left, IsFresh, IsOf, IsEmpty, PutsAt, IsPacked, IsQuiet}
+use Rattle.sctp_association.specs.Drafted.{due_left, drafted, IsFresh, IsOf, IsEmpty, PutsAt, IsPacked, IsQuiet}
 use Rattle.sctp_association.specs.FillsBehind.{FillsBehind}
 use Rattle.sctp_association.specs.PlainPacket.{IsPlain, fragments_alone, plain_marks}
 use Rattle.sctp_association.specs.declared.state.due.Due.{Due}
@@ -26,9 +27,8 @@ use Rattle.sctp_association.specs.declared.build.plain.Plain.{Plain}
 use Rattle.sctp_association.specs.declared.build.packing.Packing.{Packing}
 use Rattle.sctp_association.specs.declared.machine.Machine.{Machine}
 use Rattle.sctp_association.proofs.PutLemmas.{not_due, joined, cut, then_quiet}
-use Rattle.sctp_association.proofs.PaceLemmas.{paced_none}
 use Rattle.sctp_association.proofs.SameLemmas.{due_same, drafted_same}
-use Rattle.sctp_association.proofs.BuildLemmas.{fills_packet, on_traffic}
+use Rattle.sctp_association.proofs.BuildLemmas.{fills_packet, with_traffic_and_pace}
 
 -- a plain packet in the making
 abbrev pub plain_at : Due → Draft → (sack fragments : Bool) → Packing
@@ -68,12 +68,11 @@ module _ (e : EndView) (d : Due) (plain : IsPlain d e.due) (quiet : IsQuiet e) w
 
 -- fragments behind the SACK
 pub plain_fills : (e : EndView) (t : model.Tags) (g : model.Stage) (d : Due) (old mid new : Draft) (s some : Bool) (traffic : Traffic) (filled : Filled) → e.phase ≡ model.Open t g
-    → e.pace ≡ None → IsQuiet e → IsEmpty e (plain_at d old s false) → PutsAt open_slots e (plain_at d old s false) (plain_at d mid false false) true
-    → FillsBehind e (plain_at d mid false false) (plain_at d new false some) traffic filled
-    → (x : SenderView) × IsPacked e x e.pace (plain_at d new false some) filled × TrafficStands traffic (format_of e) x e.receiver
-plain_fills e t g d old mid new s some traffic filled phase none quiet empty puts fills =
-    fills_packet {E = NoMemory} (Ok filled) e t g (plain_at d old s false) (plain_at d mid false false) (plain_at d new false some) true traffic e.pace phase quiet empty refl puts fills
-    (paced_none e (plain_marks d false false) mid.chunks e.pace refl none)
+    → (o : Option Pace) → IsQuiet e → IsEmpty e (plain_at d old s false) → PutsAt open_slots e (plain_at d old s false) (plain_at d mid false false) true
+    → FillsBehind e (plain_at d mid false false) (plain_at d new false some) traffic filled → o ≡ (sent (drafted (plain_marks d false false) e) mid.chunks).pace
+    → (x : SenderView) × IsPacked e x o (plain_at d new false some) filled × TrafficStands traffic (format_of e) x e.receiver
+plain_fills e t g d old mid new s some traffic filled phase o quiet empty puts fills paced =
+    fills_packet {E = NoMemory} (Ok filled) e t g (plain_at d old s false) (plain_at d mid false false) (plain_at d new false some) true traffic o phase quiet empty refl puts fills paced
 
 -- no timer but that of fragments starts
 starts_alone_at : (b : Bool) (a : Alarm) → starts_at (fragments_alone b) a ≡ with_fragments b (starts_at (fragments_alone false)) a
@@ -108,12 +107,12 @@ never_open Listening t g is = cc
 never_open (Calling d) t g is = cc
 never_open (Failed why) t g is = cc
 
-pub plain_sender : (r : Result Plain NoMemory) (e v : EndView) (d : Due) (w : Draft) (m : Machine) (a b : Association) → m.life ≡ life.Joined a → KeepsMachine m v
-    → b ≡ record a { traffic = b.traffic }
-    → IfOk r (λ p. (x : SenderView) × IsPacked e x v.pace (plain_at d w p.sack p.fragments) p.filled × TrafficStands b.traffic (format_for v.terms.interleave) x v.receiver)
-    → IfOk r (λ p. (x : SenderView) × IsPacked e x v.pace (plain_at d w p.sack p.fragments) p.filled × KeepsMachine (record m { life = life.Joined b }) (record v { sender = x }))
-plain_sender (Ok p) e v d w m a b is k kept packed = (packed.0, packed.1, on_traffic m a b v packed.0 is k kept packed.2)
-plain_sender (Err failed) e v d w m a b is k kept packed = packed
+pub plain_sender : (r : Result Plain NoMemory) (e v : EndView) (d : Due) (w : Draft) (m : Machine) (a b : Association) (o : Option Pace) → m.life ≡ life.Joined a → KeepsMachine m v
+    → b ≡ record a { traffic = b.traffic } → (m.pace ≡ None → o ≡ None)
+    → IfOk r (λ p. (x : SenderView) × IsPacked e x o (plain_at d w p.sack p.fragments) p.filled × TrafficStands b.traffic (format_for v.terms.interleave) x v.receiver)
+    → IfOk r (λ p. (x : SenderView) × IsPacked e x o (plain_at d w p.sack p.fragments) p.filled × KeepsMachine (record m { life = life.Joined b; pace = o }) (record v { sender = x; pace = o }))
+plain_sender (Ok p) e v d w m a b o is k kept none packed = (packed.0, packed.1, with_traffic_and_pace m a b v packed.0 o is k kept none packed.2)
+plain_sender (Err failed) e v d w m a b o is k kept none packed = packed
 
 -- what is due behind it
 pub due_plain : (d n : Due) (x : model.Due) (s f : Bool) → DueStands d x → DueStands n (record x { sack = s }) → DueStands n (due_left (plain_marks d s f) x)

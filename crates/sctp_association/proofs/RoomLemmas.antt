@@ -29,7 +29,7 @@ some_count [] = refl
 some_count (w ∷ ws) = sym (some_length (length ws))
 
 -- a timer put in its own place changes nothing
-data_same : (f : Alarm → Timer) (b : Alarm) → replaced DataAlarm (f DataAlarm) f b ≡ f b
+pub data_same : (f : Alarm → Timer) (b : Alarm) → replaced DataAlarm (f DataAlarm) f b ≡ f b
 data_same f InitAlarm = refl
 data_same f CookieAlarm = refl
 data_same f DataAlarm = refl

@@ -232,5 +232,5 @@ fn pack_open(
     if !put_open(config, traffic, due, packing)? {
         return Ok(filled_none(alloc));
     }
-    fill_behind(traffic, pace, moment, packing)
+    fill_behind(alloc, traffic, pace, moment, packing)
 }

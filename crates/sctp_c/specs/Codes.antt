@@ -8,7 +8,7 @@ use Rattle.sctp_association.specs.declared.user.calls.Refused.{Refused}
 use Rattle.sctp_association.specs.declared.user.calls.Refused.TheVariants.{NotOpen, Fault}
 use Rattle.sctp_send.specs.declared.queueing.SendFault.{SendFault}
 use Rattle.sctp_send.specs.declared.queueing.SendFault.TheVariants as fault
-use Rattle.sctp_c.specs.declared.codes.TheConstants.{OK, NO_SUCH_STREAM, EMPTY, TOO_LONG, QUEUE_FULL, SPENT, NO_MEMORY, NOT_OPEN, BAD_STATE}
+use Rattle.sctp_c.specs.declared.codes.TheConstants.{OK, NO_SUCH_STREAM, EMPTY, TOO_LONG, QUEUE_FULL, RESETTING, SPENT, NO_MEMORY, NOT_OPEN, BAD_STATE}
 
 -- ---- times
 
@@ -37,10 +37,6 @@ abbrev pub shutdown_code : calls.ShutdownAnswer → ℕ
 shutdown_code calls.Shut = OK
 shutdown_code calls.NotShut = NOT_OPEN
 
--- a message for a stream that is being reset; no call resets one yet
-abbrev pub RESETTING : ℕ
-RESETTING = 14
-
 -- why a message is refused
 abbrev pub refusal_code : queueing.Refusal → ℕ
 refusal_code queueing.NoSuchStream = NO_SUCH_STREAM
@@ -57,6 +53,7 @@ fault_code fault.Empty = EMPTY
 fault_code fault.TooLong = TOO_LONG
 fault_code fault.QueueFull = QUEUE_FULL
 fault_code fault.Spent = SPENT
+fault_code fault.Resetting = RESETTING
 fault_code fault.NoMemory = NO_MEMORY
 
 -- why send is refused: the association isn't established, or what is wrong with the message

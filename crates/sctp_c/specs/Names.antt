@@ -35,4 +35,5 @@ name_of n =
     else if n == 11 then codes "the handle is empty, or, to make an endpoint, isn't"
     else if n == 12 then codes "a tag is 0"
     else if n == 13 then codes "a reserved number isn't 0"
+    else if n == 14 then codes "the stream is being reset"
     else config_name n

@@ -30,6 +30,8 @@ pub(crate) const MISUSE: u32 = 11;
 pub(crate) const BAD_DRAW: u32 = 12;
 /// A reserved number isn't 0.
 pub(crate) const BAD_RESERVED: u32 = 13;
+/// The stream is being reset (RFC 6525, 5.1.2). No call resets one.
+pub(crate) const RESETTING: u32 = 14;
 /// What the first fault of a configuration is counted from: 21 to 25.
 pub(crate) const BAD_CONFIG: u32 = 20;
 
@@ -69,6 +71,7 @@ pub fn result_numbers()
     ensures misuse { MISUSE ≡ 11 }
     ensures bad_draw { BAD_DRAW ≡ 12 }
     ensures bad_reserved { BAD_RESERVED ≡ 13 }
+    ensures resetting { RESETTING ≡ 14 }
     ensures bad_config { BAD_CONFIG ≡ 20 }
 {}
 

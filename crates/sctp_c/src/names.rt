@@ -6,7 +6,7 @@ ghost use Rattle.sctp_c.specs.Names.{name_of, config_name, IsText};
 use crate::buffers::put_text;
 use crate::codes::{
     BAD_DRAW, BAD_RESERVED, BAD_STATE, EMPTY, MISUSE, NEEDS_ROOM, NO_MEMORY, NO_SUCH_STREAM,
-    NOT_OPEN, NOTHING, OK, QUEUE_FULL, SPENT, TOO_LONG,
+    NOT_OPEN, NOTHING, OK, QUEUE_FULL, RESETTING, SPENT, TOO_LONG,
 };
 
 /// What a result that is a fault of a configuration means.
@@ -42,6 +42,7 @@ fn name_of(code: u32) -> &'static [u8]
         MISUSE => b"the handle is empty, or, to make an endpoint, isn't",
         BAD_DRAW => b"a tag is 0",
         BAD_RESERVED => b"a reserved number isn't 0",
+        RESETTING => b"the stream is being reset",
         _ => config_name(code),
     }
 }

@@ -73,7 +73,7 @@ fn tell_poll(
         reserved: 0,
     };
     // Before the copy, which is a call: so nothing of them has to outlive it.
-    drop(begun);
+    end.recycle_tickets(begun);
     let _ = put_bytes(&packet, buffer);
     end.recycle(packet);
     OK

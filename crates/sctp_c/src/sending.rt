@@ -10,7 +10,7 @@ ghost use Rattle.sctp_c.specs.Codes.{moment_of, refused_code};
 ghost use Rattle.sctp_c.specs.Told.{SendTold, Sends};
 
 use crate::codes::{
-    EMPTY, MISUSE, NO_MEMORY, NO_SUCH_STREAM, NOT_OPEN, OK, QUEUE_FULL, SPENT, TOO_LONG,
+    EMPTY, MISUSE, NO_MEMORY, NO_SUCH_STREAM, NOT_OPEN, OK, QUEUE_FULL, RESETTING, SPENT, TOO_LONG,
 };
 use crate::handle::SctpEndpoint;
 use sctp_endpoint::{Refused, SendFault, Ticket};
@@ -37,6 +37,7 @@ fn send_code(why: Refused) -> u32
     match why {
         Refused::NotOpen => NOT_OPEN,
         Refused::Fault(SendFault::NoSuchStream) => NO_SUCH_STREAM,
+        Refused::Fault(SendFault::Resetting) => RESETTING,
         Refused::Fault(SendFault::Empty) => EMPTY,
         Refused::Fault(SendFault::TooLong) => TOO_LONG,
         Refused::Fault(SendFault::QueueFull) => QUEUE_FULL,

@@ -1,6 +1,7 @@
 //! The calls, read from a line of a case.
 
 use crate::plain::{Plain, read_plain};
+use crate::resets::{ResetCall, read_reset_call};
 use crate::words::Words;
 use sctp_send::Ticket;
 use sctp_values::GREATEST_PACKET;
@@ -39,6 +40,8 @@ pub enum Call<'a> {
     },
     Fill {
         limit: u16,
+        /// The buffer of the tickets is returned to the sender.
+        recycled: bool,
     },
     /// A FORWARD for packets of a limit, into a packet of a given size.
     Forward {
@@ -104,6 +107,8 @@ pub enum Call<'a> {
     Acknowledge,
     /// The readers of the receiver.
     Receiving,
+    /// A call of stream reset.
+    Reset(ResetCall<'a>),
     /// A call of numbers, bytes or cookies.
     Plain(Plain<'a>),
 }
@@ -151,8 +156,9 @@ fn read_sending<'a>(name: &str, words: &mut Words<'a>) -> Option<Call<'a>> {
             until: words.until()?,
             bytes: words.next()?,
         },
-        "fill" => Call::Fill {
+        "fill" | "recycle" => Call::Fill {
             limit: words.number()?,
+            recycled: name == "recycle",
         },
         "forward" => Call::Forward {
             room: words.number()?,
@@ -221,6 +227,14 @@ fn read_receiving<'a>(name: &str, words: &mut Words<'a>) -> Option<Call<'a>> {
         "tell" => Call::Tell,
         "acknowledge" => Call::Acknowledge,
         "receiving" => Call::Receiving,
-        _ => return Some(Call::Plain(read_plain(name, words)?)),
+        _ => return read_other(name, words),
     })
+}
+
+/// A call of stream reset, or one of numbers, bytes or cookies.
+fn read_other<'a>(name: &str, words: &mut Words<'a>) -> Option<Call<'a>> {
+    match read_reset_call(name, words) {
+        Some(call) => Some(Call::Reset(call)),
+        None => Some(Call::Plain(read_plain(name, words)?)),
+    }
 }

@@ -4,6 +4,7 @@ use crate::call::Call;
 use crate::parts::{bytes_of, skips_of};
 use crate::plain::answer;
 use crate::receiving::{carry, data, leap, receiving, rise, skip, taken};
+use crate::resets::make_reset_call;
 use crate::sending::{Packets, fill, forward, queue, sack, sack_answer, send};
 use crate::shown::sack_digits;
 use anyhow::Result;
@@ -43,6 +44,9 @@ impl<F: Framing> Ends<F> {
         match call {
             Call::Sender { .. } | Call::Receiver { .. } => self.begin(call, out)?,
             Call::Acknowledge => self.acknowledge(out)?,
+            Call::Reset(call) => {
+                make_reset_call(self.alloc, &mut self.sender, &mut self.receiver, *call, out)?;
+            }
             Call::Plain(call) => answer(self.alloc, call, out)?,
             _ => {
                 if let Some(sender) = &mut self.sender {
@@ -148,7 +152,7 @@ fn sending_call<F: Framing>(
         } => queue_each(
             alloc, sender, streams, ordered, payload_id, bytes, until, out,
         ),
-        Call::Fill { limit } => fill(alloc, sender, packets, limit, out),
+        Call::Fill { limit, recycled } => fill(alloc, sender, packets, limit, recycled, out),
         Call::Forward { room, limit } => forward(alloc, sender, packets, room, limit, out),
         Call::Sack { tsn, rwnd, blocks } => sack(alloc, sender, tsn, rwnd, blocks, out),
         _ => send(sender, call, out),

@@ -13,6 +13,8 @@ mod numbers;
 mod parts;
 mod plain;
 mod receiving;
+mod reconfig;
+mod resets;
 mod sending;
 mod shown;
 mod words;

@@ -57,6 +57,7 @@ pub fn queue<F: Framing>(
     match sender.queue(stream, ordered, payload_id, bytes, until) {
         Ok(Ticket(ticket)) => write!(out, "ticket {ticket}")?,
         Err(SendFault::NoSuchStream) => write!(out, "no such stream")?,
+        Err(SendFault::Resetting) => write!(out, "resetting")?,
         Err(SendFault::Empty) => write!(out, "empty")?,
         Err(SendFault::TooLong) => write!(out, "too long")?,
         Err(SendFault::QueueFull) => write!(out, "queue full")?,
@@ -66,12 +67,13 @@ pub fn queue<F: Framing>(
     Ok(())
 }
 
-/// Fills a packet of a given maximum size.
+/// Fills a packet of a given maximum size; the buffer of the tickets may be returned to the sender.
 pub fn fill<F: Framing>(
     alloc: Global,
     sender: &mut Sender<F>,
     packets: &mut Packets,
     limit: u16,
+    recycled: bool,
     out: &mut String,
 ) -> Result<()> {
     let mut packet = PacketWriter::new(alloc, limit, 1, 2, 3);
@@ -80,7 +82,11 @@ pub fn fill<F: Framing>(
         Some(bytes) => packets.keep(alloc, bytes, out)?,
         None => write!(out, "nothing")?,
     }
-    show_tickets(&filled.tickets, out)
+    show_tickets(&filled.tickets, out)?;
+    if recycled {
+        sender.recycle_tickets(filled.tickets);
+    }
+    Ok(())
 }
 
 /// The tickets that were given TSNs; of many the first ones.

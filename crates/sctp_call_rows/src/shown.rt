@@ -38,12 +38,17 @@ pub fn show_packet(alloc: Global, packet: &[u8], out: &mut String) -> Result<()>
 
 /// A chunk, or its first bytes and its size.
 fn show_chunk(alloc: Global, chunk: &Chunk<'_>, out: &mut String) -> Result<()> {
-    let bytes = bytes_of(alloc, chunk)?;
+    write!(out, " ")?;
+    show_bytes(alloc, &bytes_of(alloc, chunk)?, out)
+}
+
+/// The bytes of a chunk or of parameters, or the first of them and their number.
+pub fn show_bytes(alloc: Global, bytes: &[u8], out: &mut String) -> Result<()> {
     if bytes.len() <= WHOLE_CHUNK {
-        write!(out, " {}", hex::encode(alloc, bytes.as_slice())?)?;
+        write!(out, "{}", hex::encode(alloc, bytes)?)?;
     } else {
         let start = bytes.get(..CHUNK_START).unwrap_or(&[]);
-        write!(out, " {}..{}", hex::encode(alloc, start)?, bytes.len())?;
+        write!(out, "{}..{}", hex::encode(alloc, start)?, bytes.len())?;
     }
     Ok(())
 }

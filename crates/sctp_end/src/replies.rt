@@ -27,6 +27,7 @@ fn fault_told(fault: SendFault) -> Reply
 {
     match fault {
         SendFault::NoSuchStream => Reply::Refused(Refusal::NoSuchStream),
+        SendFault::Resetting => Reply::Refused(Refusal::Resetting),
         SendFault::Empty => Reply::Refused(Refusal::Empty),
         SendFault::TooLong => Reply::Refused(Refusal::TooLong),
         SendFault::QueueFull => Reply::Refused(Refusal::QueueFull),

@@ -9,6 +9,7 @@ ghost use Rattle.sctp_endpoint.specs.KeptBuffer.{kept_capacity};
 
 use crate::endpoint::Endpoint;
 use sctp_recv::Message;
+use sctp_values::Ticket;
 
 #[tactic(auto, unfolding(crate::specs::EndpointStands::EndpointStands, crate::specs::Counted::counted))]
 impl Endpoint {
@@ -23,6 +24,19 @@ impl Endpoint {
         ensures counts { counted self.new ≡ counted self.old }
     {
         self.machine.recycle(packet);
+    }
+
+    /// Returns the buffer of the tickets of a packet that was sent: they are dropped, and those of the next packet are written to it in place of a new
+    /// allocation. One buffer is kept, the larger one of two, and none for more than 128 tickets. Calling it is optional, and no other result depends on
+    /// it. It allocates no memory.
+    #[inline(always)]
+    pub fn recycle_tickets(&mut self, tickets: Vec<Ticket>)
+        ensures stands { (v : EndView) → EndpointStands self.old v → EndpointStands self.new v }
+        ensures counts { counted self.new ≡ counted self.old }
+    {
+        if tickets.capacity() > 0 {
+            self.machine.recycle_tickets(tickets);
+        }
     }
 
     /// Returns the memory of a message that was taken: its bytes are dropped, and user data received later may be kept in its blocks in place of new

@@ -55,6 +55,7 @@ refusal_meaning refusal.State = meaning.RefusedState
 refusal_meaning refusal.ReasonTooLong = meaning.AbortTooLong
 refusal_meaning refusal.NotOpen = meaning.Told calls.NotOpen
 refusal_meaning refusal.NoSuchStream = meaning.Told (calls.Refused refusals.NoSuchStream)
+refusal_meaning refusal.Resetting = meaning.Told (calls.Refused refusals.Resetting)
 refusal_meaning refusal.Empty = meaning.Told (calls.Refused refusals.Empty)
 refusal_meaning refusal.TooLong = meaning.Told (calls.Refused refusals.TooLong)
 refusal_meaning refusal.QueueFull = meaning.Told (calls.Refused refusals.QueueFull)

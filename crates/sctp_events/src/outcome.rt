@@ -16,6 +16,8 @@ pub enum Refusal {
     NotOpen,
     /// `send`: there is no such stream.
     NoSuchStream,
+    /// `send`: the stream is being reset (RFC 6525, 5.1.2).
+    Resetting,
     /// `send`: the message is empty.
     Empty,
     /// `send`: the message has more than 65,536 bytes.

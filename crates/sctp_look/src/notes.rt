@@ -164,6 +164,7 @@ fn refusal_word(refusal: Refusal) -> &'static str {
         Refusal::ReasonTooLong | Refusal::TooLong => "too long",
         Refusal::NotOpen => "not open",
         Refusal::NoSuchStream => "no such stream",
+        Refusal::Resetting => "resetting",
         Refusal::Empty => "empty",
         Refusal::QueueFull => "queue full",
         Refusal::Spent => "spent",

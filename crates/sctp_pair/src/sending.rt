@@ -51,6 +51,7 @@ pub(crate) fn send_at(
         Ok(ticket) => Ok(Outcome::Ticket { ticket }),
         Err(Refused::NotOpen) => refused(Refusal::NotOpen),
         Err(Refused::Fault(SendFault::NoSuchStream)) => refused(Refusal::NoSuchStream),
+        Err(Refused::Fault(SendFault::Resetting)) => refused(Refusal::Resetting),
         Err(Refused::Fault(SendFault::Empty)) => refused(Refusal::Empty),
         Err(Refused::Fault(SendFault::TooLong)) => refused(Refusal::TooLong),
         Err(Refused::Fault(SendFault::QueueFull)) => refused(Refusal::QueueFull),

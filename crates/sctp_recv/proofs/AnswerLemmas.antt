@@ -7,25 +7,30 @@ use Rattle.std.proofs.lemmas.Grind.{common_steps}
 use Rattle.sctp_model.specs.numbers.Limits.{WINDOW}
 use Rattle.sctp_model.specs.numbers.Serial.{COUNTS, tsn, before, near}
 use Rattle.sctp_model.specs.wire.Chunk.{PieceMeaning}
-use Rattle.sctp_model.specs.messages.Format.{Format, Plain, Interleaved, Kind, Ordered, Unordered, is_numbered}
+use Rattle.sctp_model.specs.messages.Format.{Format, Plain, Interleaved, Kind, Ordered, Unordered, is_numbered, unordered_lane}
 use Rattle.sctp_model.specs.messages.Framing.{lane_kind, number_near, as_number}
 use Rattle.sctp_model.specs.receiver.ReceiverView.{ReceiverView, held_bytes}
 use Rattle.sctp_model.specs.receiver.Rows.{first_of}
 use Rattle.sctp_model.specs.receiver.Top.{top}
-use Rattle.sctp_model.specs.receiver.Reading.{index_at, is_behind, is_ahead, lane_of, is_late, lowest_in, reference_in, piece_at}
+use Rattle.sctp_model.specs.receiver.Reading.{index_at, is_behind, is_ahead, lane_of, is_late, lowest_in, number_in, piece_at}
 use Rattle.sctp_model.specs.receiver.PieceTaken.{PieceAnswer, Duplicate, Ahead, NoSuchStream, Passed, NoRoom, Kept, is_repeated, is_passed, is_too_much}
 use Rattle.sctp_recv.specs.Runs.{in_runs}
 use Rattle.sctp_recv.specs.SeenKept.{is_reached, AreWithin}
 use Rattle.sctp_chains.specs.Cells.{counted}
-use Rattle.sctp_recv.specs.ReceiverKept.{ReceiverKept, stream_at, near_of, lowest_of, is_below_or_none}
+use Rattle.sctp_recv.specs.ReceiverKept.{ReceiverKept, stream_at, near_of, number_read, lowest_of, is_below_or_none}
 use Rattle.sctp_recv.specs.StandsFor.{KeepsView}
 use Rattle.sctp_recv.specs.inner.Rows.{offset_from, IsAbove, IsNewIndex, answer_at}
-use Rattle.sctp_recv.proofs.UnresetLemmas.{number_unreset}
+use Rattle.sctp_recv.specs.Resets.{base_of, restart_in}
+use Rattle.sctp_recv.proofs.PastLaws.{top_is}
 
 -- ---- the table, its tests told
 
 table : (behind seen far other passed much : Bool) → PieceAnswer
 table a b d e g h = first_of ((a || b, Duplicate) ∷ (d, Ahead) ∷ (e, NoSuchStream) ∷ (g, Passed) ∷ (h, NoRoom) ∷ []) Kept
+
+table_ahead : (a b d e g h : Bool) → a ≡ false → b ≡ false → d ≡ true → table a b d e g h ≡ Ahead
+unfolding table
+table_ahead a b d e g h i j k = rw (i, j, k) refl
 
 table_passed : (a b d e g h : Bool) → a ≡ false → b ≡ false → d ≡ false → e ≡ false → g ≡ true → table a b d e g h ≡ Passed
 unfolding table
@@ -42,9 +47,9 @@ table_taken a b d e g h i j k l m n = rw (i, j, k, l, m, n) refl
 -- ---- what is read near one count or another
 
 -- an unordered number counts under I-DATA alone
-pub near_reads : (f : Format) (a b wire : ℕ) → (f ≡ Interleaved → a ≡ b) → number_near f Unordered wire a ≡ number_near f Unordered wire b
-near_reads Plain a b wire same = refl
-near_reads Interleaved a b wire same = ap (λ (m : ℕ). number_near Interleaved Unordered wire m) (same refl)
+pub near_reads : (f : Format) (c d a b wire : ℕ) → (f ≡ Interleaved → c ≡ d) → (f ≡ Interleaved → a ≡ b) → number_read f Unordered c wire a ≡ number_read f Unordered d wire b
+near_reads Plain c d a b wire base same = refl
+near_reads Interleaved c d a b wire base same = (λ i. number_read Interleaved Unordered (base refl i) wire (same refl i))
 
 -- ---- a chunk that comes to a receiver
 
@@ -59,6 +64,23 @@ module _ (f : Format) (k : ReceiverKept) (v : ReceiverView) (p : PieceMeaning) (
 
   offset_is : index_at v k.seen.cumulative p.tsn ≡ k.seen.cumulative + offset_from k.initial k.seen.cumulative p.tsn
   offset_is = ap (λ (i : ℕ). k.seen.cumulative + offset_from i k.seen.cumulative p.tsn) w.initial
+
+  -- a TSN past the window, or whose index is no count below the largest, wasn't recorded
+  far_unseen : (o : ℕ) → (nat_lt WINDOW o || nat_le (COUNTS - 1) (k.seen.cumulative + o)) ≡ true → v.seen (k.seen.cumulative + o) ≡ false
+  far_unseen o far = elim (cases_Bool (v.seen (k.seen.cumulative + o))) [
+    | inl came ↦
+        let small = w.counts (k.seen.cumulative + o) came in
+        let low : WINDOW < o = grind (arith, far, small, nat_tests, common_steps) in
+        let run : in_runs k.seen.runs (k.seen.cumulative + o) ≡ true = sym (w.seen.above (k.seen.cumulative + o) (omega (arith, low))) ∙ came in
+        let near = within (k.seen.cumulative + o) run in
+        absurd (omega (arith, low, near))
+    | inr unseen ↦ unseen
+  ]
+
+  pub row_ahead : before 32 (tsn k.initial k.seen.cumulative) p.tsn ≡ true →
+      (nat_lt WINDOW (offset_from k.initial k.seen.cumulative p.tsn) || nat_le (COUNTS - 1) (k.seen.cumulative + offset_from k.initial k.seen.cumulative p.tsn)) ≡ true → answer_at f k v p ≡ Ahead
+  row_ahead e far = reads ∙ table_ahead _ _ _ _ _ _ (behind_is true e) (ap v.seen offset_is ∙ far_unseen (offset_from k.initial k.seen.cumulative p.tsn) far)
+      (ap (λ (j : ℕ). nat_lt WINDOW (offset_from j k.seen.cumulative p.tsn) || nat_le (COUNTS - 1) (k.seen.cumulative + offset_from j k.seen.cumulative p.tsn)) w.initial ∙ far)
 
   module _ (i : ℕ) (a : IsAbove k.initial k.seen.cumulative p.tsn i) where
     same_index : i ≡ (piece_at f v k.seen.cumulative p).index
@@ -117,12 +139,13 @@ module _ (f : Format) (k : ReceiverKept) (v : ReceiverView) (p : PieceMeaning) (
   late_same None u = refl
   late_same (Some n) u = ap (λ (m : ℕ). nat_lt n m) (lowest_same u)
 
-  near_same : (u : Bool) → number_near f (lane_kind u) p.number (near_of (stream_at k.streams p.stream) (lane_kind u)) ≡ number_near f (lane_kind u) p.number (reference_in v p.stream (lane_kind u))
-  near_same true = near_reads f (near_of (stream_at k.streams p.stream) Unordered) (top v p.stream) p.number (λ e. sym (w.top p.stream e))
-  near_same false = ap (λ (m : ℕ). number_near f Ordered p.number m) (sym (w.next p.stream))
+  near_same : (u : Bool) → number_read f (lane_kind u) (base_of (restart_in k.resets p.stream) (lane_kind u)) p.number (near_of (stream_at k.streams p.stream) (lane_kind u)) ≡ number_in f v (lane_of p.stream u) p.number
+  near_same true = near_reads f (base_of (restart_in k.resets p.stream) Unordered) (v.resets.base (unordered_lane p.stream)) (near_of (stream_at k.streams p.stream) Unordered) (top v p.stream) p.number
+      (λ e. sym (w.resets.unordered p.stream e)) (λ e. sym (top_is v p.stream ∙ ap (λ (n : ℕ). n - 1) (w.past p.stream e)))
+  near_same false = (λ i. number_read f Ordered (sym (w.resets.ordered p.stream) i) p.number (sym (w.next p.stream) i))
 
-  pub number_same : number_near f (lane_kind p.unordered) p.number (near_of (stream_at k.streams p.stream) (lane_kind p.unordered)) ≡ (piece_at f v k.seen.cumulative p).number
-  number_same = near_same p.unordered ∙ sym (number_unreset f v (lane_of p.stream p.unordered) p.number w.resets)
+  pub number_same : number_read f (lane_kind p.unordered) (base_of (restart_in k.resets p.stream) (lane_kind p.unordered)) p.number (near_of (stream_at k.streams p.stream) (lane_kind p.unordered)) ≡ (piece_at f v k.seen.cumulative p).number
+  number_same = near_same p.unordered
 
   pub passed_late : (n : Option ℕ) → n ≡ (piece_at f v k.seen.cumulative p).number →
       (is_numbered f (lane_kind p.unordered) && is_below_or_none (lowest_of (stream_at k.streams p.stream) (lane_kind p.unordered)) n) ≡ true → is_passed f v (piece_at f v k.seen.cumulative p) ≡ true

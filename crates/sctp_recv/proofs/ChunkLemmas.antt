@@ -4,7 +4,7 @@ use Rattle.std.specs.Prelude.{◌&&◌, is_some}
 use Rattle.sctp_model.specs.numbers.Serial.{COUNTS}
 use Rattle.sctp_model.specs.wire.Chunk.{PieceMeaning}
 use Rattle.sctp_model.specs.messages.Format.{Format, Plain, Interleaved, Kind, Ordered, Unordered, Lane, is_numbered}
-use Rattle.sctp_model.specs.messages.Framing.{lane_kind, number_near}
+use Rattle.sctp_model.specs.messages.Framing.{lane_kind}
 use Rattle.sctp_model.specs.messages.Pieces.{Piece}
 use Rattle.sctp_model.specs.receiver.ReceiverView.{ReceiverView}
 use Rattle.sctp_model.specs.receiver.PieceTaken.{is_repeated}
@@ -18,27 +18,26 @@ use Rattle.sctp_recv.specs.declared.stream.Stream.{Stream}
 use Rattle.sctp_chains.specs.Cells.{counted}
 use Rattle.sctp_model.specs.receiver.KeptOfLane.{of_lane}
 use Rattle.sctp_recv.specs.Filed.{Keeps, IsFiledOn}
-use Rattle.sctp_recv.specs.ReceiverKept.{ReceiverKept, is_below_or_none}
+use Rattle.sctp_recv.specs.ReceiverKept.{ReceiverKept, number_read, IsCount, is_below_or_none}
 use Rattle.sctp_recv.specs.SeenKept.{SeenKept}
-use Rattle.sctp_recv.proofs.AnswerLemmas.{near_small}
 use Rattle.sctp_recv.proofs.RecordedLemmas.{IsKeepable}
 
 -- a number that isn't too late is there exactly where the format has one
-numbered_is : (f : Format) (k : Kind) (wire reference low : ℕ) (n : Option ℕ) → n ≡ number_near f k wire reference → (is_numbered f k && is_below_or_none low n) ≡ false → is_some n ≡ is_numbered f k
-numbered_is Plain Unordered wire reference low n near late = ap is_some near
-numbered_is Plain Ordered wire reference low None near late = absurd (cc)
-numbered_is Plain Ordered wire reference low (Some m) near late = refl
-numbered_is Interleaved Ordered wire reference low None near late = absurd (cc)
-numbered_is Interleaved Ordered wire reference low (Some m) near late = refl
-numbered_is Interleaved Unordered wire reference low None near late = absurd (cc)
-numbered_is Interleaved Unordered wire reference low (Some m) near late = refl
+numbered_is : (f : Format) (k : Kind) (base wire reference low : ℕ) (n : Option ℕ) → n ≡ number_read f k base wire reference → (is_numbered f k && is_below_or_none low n) ≡ false → is_some n ≡ is_numbered f k
+numbered_is Plain Unordered base wire reference low n near late = ap is_some near
+numbered_is Plain Ordered base wire reference low None near late = absurd (cc)
+numbered_is Plain Ordered base wire reference low (Some m) near late = refl
+numbered_is Interleaved Ordered base wire reference low None near late = absurd (cc)
+numbered_is Interleaved Ordered base wire reference low (Some m) near late = refl
+numbered_is Interleaved Unordered base wire reference low None near late = absurd (cc)
+numbered_is Interleaved Unordered base wire reference low (Some m) near late = refl
 
-pub chunk_of : (f : Format) (p : PieceMeaning) (n : Option ℕ) (i reference low : ℕ) → n ≡ number_near f (lane_kind p.unordered) p.number reference →
+pub chunk_of : (f : Format) (p : PieceMeaning) (n : Option ℕ) (i base reference low : ℕ) → n ≡ number_read f (lane_kind p.unordered) base p.number reference → IsCount n →
     (is_numbered f (lane_kind p.unordered) && is_below_or_none low n) ≡ false → suc i < COUNTS → p.word < COUNTS → IsOf f (lane_of p.stream p.unordered) (counted i p n)
-chunk_of f p n i reference low near late count word = record {
+chunk_of f p n i base reference low near small late count word = record {
   lane = refl;
-  numbered = numbered_is f (lane_kind p.unordered) p.number reference low n near late;
-  number = λ m is. let small = near_small f (lane_kind p.unordered) p.number reference m (sym near ∙ is) in omega (arith, small);
+  numbered = numbered_is f (lane_kind p.unordered) base p.number reference low n near late;
+  number = λ m is. let below = small m is in omega (arith, below);
   index = count;
   word = word;
 }

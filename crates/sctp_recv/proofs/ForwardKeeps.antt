@@ -8,13 +8,14 @@ use Rattle.sctp_model.specs.wire.Chunk.{SkipMeaning, ForwardMeaning}
 use Rattle.sctp_model.specs.messages.Format.{Format, Interleaved, Unordered, Lane, same_lane, ordered_lane, unordered_lane}
 use Rattle.sctp_model.specs.messages.Framing.{lets_go}
 use Rattle.sctp_model.specs.messages.Pieces.{Piece}
-use Rattle.sctp_model.specs.receiver.ReceiverView.{ReceiverView, held_bytes, size_of_pieces, size_of_waiting}
+use Rattle.sctp_model.specs.receiver.Incoming.{Incoming}
+use Rattle.sctp_model.specs.receiver.ReceiverView.{Handed, ReceiverView, held_bytes, size_of_pieces, size_of_waiting}
 use Rattle.sctp_model.specs.receiver.Receiving.{GivesAll}
 use Rattle.sctp_model.specs.receiver.Reading.{index_at, lane_of}
 use Rattle.sctp_model.specs.receiver.ForwardTaken.{names_other_stream, skips_read, jumped, let_go, forwarded}
 use Rattle.sctp_model.specs.receiver.ForwardTaken as model
 use Rattle.sctp_model.specs.receiver.Top.{top}
-use Rattle.sctp_model.proofs.receiver.TopLaws.{top_all_given, top_let_go, top_skips}
+use Rattle.sctp_model.specs.receiver.ResetTaken.{past_top}
 use Rattle.sctp_model.proofs.receiver.ForwardAtRest.{skips_below, skipped_other}
 use Rattle.sctp_model.proofs.receiver.Giving.{at_elsewhere, AreServed, all_served}
 use Rattle.sctp_model.proofs.receiver.HeldBytes.{all_holds, filter_size}
@@ -27,25 +28,28 @@ use Rattle.sctp_model.specs.receiver.KeptOfLane.{of_lane}
 use Rattle.sctp_recv.specs.Filed.{AreFiled}
 use Rattle.sctp_recv.specs.SeenKept.{SeenKept}
 use Rattle.sctp_recv.specs.SeenStands.{SeenStands, Jumps}
-use Rattle.sctp_recv.specs.ReceiverKept.{StreamKept, ReceiverKept, FRESH, stream_at, near_of}
+use Rattle.sctp_recv.specs.ReceiverKept.{StreamKept, ReceiverKept, FRESH, stream_at, past_of, near_of}
+use Rattle.sctp_recv.specs.declared.restart.Restart.{Restart}
+use Rattle.sctp_recv.specs.Resets.{restart_in, KeepsResets}
 use Rattle.sctp_recv.specs.StandsFor.{KeepsView}
 use Rattle.sctp_recv.specs.inner.Rows.{offset_from, IsAbove}
-use Rattle.sctp_recv.specs.inner.Forwarding.{one_past, most_skipped, lowest_after, skip_after, stay, AreToPass, ArePassed}
+use Rattle.sctp_recv.specs.inner.Forwarding.{one_past, most_skipped, lowest_after, skip_after, AreCounts, stay, AreToPass, ArePassed}
 use Rattle.sctp_recv.proofs.AnswerLemmas.{near_reads}
 use Rattle.sctp_recv.proofs.FiledLemmas.{got_below}
 use Rattle.sctp_recv.proofs.StreamLemmas.{past_streams, got_stream}
-use Rattle.sctp_recv.proofs.UnresetLemmas.{all_resets}
+use Rattle.sctp_recv.proofs.ResetsStay.{all_resets, all_taken}
+use Rattle.sctp_recv.proofs.PastLaws.{top_is, past_all_given, past_let_go, past_skips}
 use Rattle.sctp_recv.proofs.ForwardSkips.{unordered_read, ordered_read}
 
 -- ---- what is read near one count or another
 
-skipped_near : (f : Format) (q a b : ℕ) (xs : List SkipMeaning) → (f ≡ Interleaved → a ≡ b) → most_skipped f (unordered_lane q) a xs ≡ most_skipped f (unordered_lane q) b xs
-skipped_near f q a b [] same = refl
-skipped_near f q a b (x ∷ xs) same =
-    (λ i. max (if same_lane (unordered_lane q) (lane_of x.stream x.unordered) then one_past (near_reads f a b x.number same i) else 0) (skipped_near f q a b xs same i))
+skipped_near : (f : Format) (q c d a b : ℕ) (xs : List SkipMeaning) → (f ≡ Interleaved → c ≡ d) → (f ≡ Interleaved → a ≡ b) → most_skipped f (unordered_lane q) c a xs ≡ most_skipped f (unordered_lane q) d b xs
+skipped_near f q c d a b [] base same = refl
+skipped_near f q c d a b (x ∷ xs) base same =
+    (λ i. max (if same_lane (unordered_lane q) (lane_of x.stream x.unordered) then one_past (near_reads f c d a b x.number base same i) else 0) (skipped_near f q c d a b xs base same i))
 
-lowest_near : (f : Format) (q a b lowest : ℕ) (xs : List SkipMeaning) → (f ≡ Interleaved → a ≡ b) → lowest_after f (unordered_lane q) a lowest xs ≡ lowest_after f (unordered_lane q) b lowest xs
-lowest_near f q a b lowest xs same = ap (λ (n : ℕ). max lowest n) (skipped_near f q a b xs same)
+lowest_near : (f : Format) (q c d a b lowest : ℕ) (xs : List SkipMeaning) → (f ≡ Interleaved → c ≡ d) → (f ≡ Interleaved → a ≡ b) → lowest_after f (unordered_lane q) c a lowest xs ≡ lowest_after f (unordered_lane q) d b lowest xs
+lowest_near f q c d a b lowest xs base same = ap (λ (n : ℕ). max lowest n) (skipped_near f q c d a b xs base same)
 
 -- ---- what handing over on all streams leaves
 
@@ -68,6 +72,9 @@ module _ (f : Format) (k : ReceiverKept) (v : ReceiverView) (x : ForwardMeaning)
 
   abbrev left : ReceiverView
   left = forwarded f v k.seen.cumulative x
+
+  abbrev b : ℕ → Restart
+  b = restart_in k.resets
 
   index_is : index_at v k.seen.cumulative x.cumulative ≡ i
   index_is = ap (λ (n : ℕ). k.seen.cumulative + offset_from n k.seen.cumulative x.cumulative) h.initial ∙ sym above.index
@@ -95,39 +102,42 @@ module _ (f : Format) (k : ReceiverKept) (v : ReceiverView) (x : ForwardMeaning)
         filter_turned (λ (y : Piece). same_lane y.lane (ordered_lane q)) stays v.kept
         ∙ filter_none stays (of_lane (ordered_lane q) v.kept) (λ y has. ap (λ (l : Lane). model.stays_by l.kind f passed y) (of_says (ordered_lane q) v.kept y has).1)
 
-    near_is : (q : ℕ) (z : Stream F) → slice_get streams q ≡ Some z → f ≡ Interleaved → top v q ≡ near_of (stream_of z) Unordered
-    near_is q z got idata = h.top q idata ∙ ap (λ (a : StreamKept). near_of a Unordered) (stream_is q z got)
+    past_is : (q : ℕ) (z : Stream F) → slice_get streams q ≡ Some z → f ≡ Interleaved → past_top v q ≡ past_of (stream_of z)
+    past_is q z got idata = h.past q idata ∙ ap past_of (stream_is q z got)
 
-    skip_now : (q : ℕ) (z : Stream F) → slice_get streams q ≡ Some z → passed.skip (unordered_lane q) ≡ skip_after f q (stream_of z) x.skips
+    near_is : (q : ℕ) (z : Stream F) → slice_get streams q ≡ Some z → f ≡ Interleaved → top v q ≡ near_of (stream_of z) Unordered
+    near_is q z got idata = top_is v q ∙ ap (λ (n : ℕ). n - 1) (past_is q z got idata)
+
+    skip_now : (q : ℕ) (z : Stream F) → slice_get streams q ≡ Some z → passed.skip (unordered_lane q) ≡ skip_after f (b q) q (stream_of z) x.skips
     skip_now q z got =
-        unordered_read f v q x.skips h.resets
-        ∙ lowest_near f q (top v q) (near_of (stream_of z) Unordered) (v.skip (unordered_lane q)) x.skips (near_is q z got)
-        ∙ ap (λ (n : ℕ). lowest_after f (unordered_lane q) (near_of (stream_of z) Unordered) n x.skips) (h.skip q ∙ ap (λ (a : StreamKept). a.skip) (stream_is q z got))
+        unordered_read f v q x.skips
+        ∙ lowest_near f q (v.resets.base (unordered_lane q)) (b q).unordered (top v q) (near_of (stream_of z) Unordered) (v.skip (unordered_lane q)) x.skips (h.resets.unordered q) (near_is q z got)
+        ∙ ap (λ (n : ℕ). lowest_after f (unordered_lane q) (b q).unordered (near_of (stream_of z) Unordered) n x.skips) (h.skip q ∙ ap (λ (a : StreamKept). a.skip) (stream_is q z got))
 
     -- what is let go had lower numbers than those that are skipped
-    top_passed : (q : ℕ) → f ≡ Interleaved → top left q ≡ max (top v q) (passed.skip (unordered_lane q) - 1)
-    top_passed q idata =
-        let more : v.skip (unordered_lane q) ≤ passed.skip (unordered_lane q) = let read = unordered_read f v q x.skips h.resets in omega (arith, read) in
-        ap (λ (g : Format). top (let_go g passed) q) idata ∙ top_let_go passed q ∙ top_skips v passed.jump passed.skip q more
+    past_passed : (q : ℕ) → f ≡ Interleaved → past_top left q ≡ max (past_top v q) (passed.skip (unordered_lane q))
+    past_passed q idata =
+        let more : v.skip (unordered_lane q) ≤ passed.skip (unordered_lane q) = let read = unordered_read f v q x.skips in omega (arith, read) in
+        ap (λ (g : Format). past_top (let_go g passed) q) idata ∙ past_let_go passed q ∙ past_skips v passed.jump passed.skip q more
 
-    top_now : (q : ℕ) (z : Stream F) → slice_get streams q ≡ Some z → f ≡ Interleaved → top left q ≡ max (skip_after f q (stream_of z) x.skips - 1) (stream_of z).largest
-    top_now q z got idata =
-        let all = top_passed q idata in
-        let near = near_is q z got idata in
+    past_now : (q : ℕ) (z : Stream F) → slice_get streams q ≡ Some z → f ≡ Interleaved → past_top left q ≡ max (skip_after f (b q) q (stream_of z) x.skips) (stream_of z).past
+    past_now q z got idata =
+        let all = past_passed q idata in
+        let past = past_is q z got idata in
         let skip = skip_now q z got in
-        omega (arith, all, near, skip)
+        omega (arith, all, past, skip)
 
-    unordered_stay : (q : ℕ) (z : Stream F) → slice_get streams q ≡ Some z → of_lane (unordered_lane q) left.kept ≡ stay f i (skip_after f q (stream_of z) x.skips) (of_lane (unordered_lane q) v.kept)
+    unordered_stay : (q : ℕ) (z : Stream F) → slice_get streams q ≡ Some z → of_lane (unordered_lane q) left.kept ≡ stay f i (skip_after f (b q) q (stream_of z) x.skips) (of_lane (unordered_lane q) v.kept)
     unordered_stay q z got =
         filter_turned (λ (y : Piece). same_lane y.lane (unordered_lane q)) stays v.kept
-        ∙ filter_where stays (λ (y : Piece). not (lets_go f y.index y.number i (skip_after f q (stream_of z) x.skips))) (of_lane (unordered_lane q) v.kept)
+        ∙ filter_where stays (λ (y : Piece). not (lets_go f y.index y.number i (skip_after f (b q) q (stream_of z) x.skips))) (of_lane (unordered_lane q) v.kept)
         (λ y has.
         let lane = (of_says (unordered_lane q) v.kept y has).1 in
         ap (λ (l : Lane). model.stays_by l.kind f passed y) lane
         ∙ (λ j. not (lets_go f y.index y.number (jump_is j) ((ap passed.skip lane ∙ skip_now q z got) j))))
 
-    pub to_pass : AreFiled f v.kept streams → AreToPass f i x.skips v left streams k.held
-    to_pass filed = record {
+    pub to_pass : AreFiled f v.kept streams → ((q : ℕ) (z : Stream F) → slice_get streams q ≡ Some z → AreCounts f (b q) q (stream_of z) x.skips) → AreToPass f b i x.skips v left streams k.held
+    to_pass filed counts = record {
       filed = filed;
       counted = h.numbers;
       stream = λ q z got. record { next = h.next q ∙ ap (λ (a : StreamKept). a.next) (stream_is q z got); waiting = h.waiting q ∙ ap (λ (a : StreamKept). a.waiting) (stream_is q z got) };
@@ -135,9 +145,10 @@ module _ (f : Format) (k : ReceiverKept) (v : ReceiverView) (x : ForwardMeaning)
       unordered = unordered_stay;
       within = λ y has. filter_has stays v.kept y has;
       skip = skip_now;
-      top = top_now;
-      floor = λ q z got. subst (λ (n : ℕ). max n (passed.skip (ordered_lane q)) ≡ lowest_after f (ordered_lane q) n n x.skips) (h.next q ∙ ap (λ (a : StreamKept). a.next) (stream_is q z got))
-          (ordered_read f v q x.skips h.resets (h.skipped q));
+      past = past_now;
+      counts = counts;
+      floor = λ q z got. subst (λ (n : ℕ). max n (passed.skip (ordered_lane q)) ≡ lowest_after f (ordered_lane q) (b q).ordered n n x.skips) (h.next q ∙ ap (λ (a : StreamKept). a.next) (stream_is q z got))
+          (subst (λ (c : ℕ). max (v.next q) (passed.skip (ordered_lane q)) ≡ lowest_after f (ordered_lane q) c (v.next q) (v.next q) x.skips) (h.resets.ordered q) (ordered_read f v q x.skips (h.skipped q)));
       next = refl;
       waiting = refl;
       held = h.held ∙ ap (λ (n : ℕ). size_of_pieces v.kept + size_of_waiting v.waiting n) (h.streams ∙ count);
@@ -180,10 +191,10 @@ module _ (f : Format) (k : ReceiverKept) (v : ReceiverView) (x : ForwardMeaning)
       ]
 
       -- a stream that isn't there has no numbers
-      top_past : (q : ℕ) → length streams ≤ q → f ≡ Interleaved → top t q ≡ near_of FRESH Unordered
-      top_past q high idata =
-          let all = top_all_given f (length streams) left t q gives ∙ top_passed q idata in
-          let was : top v q ≡ 0 = h.top q idata ∙ fresh_past (λ (a : StreamKept). near_of a Unordered) q high in
+      none_past : (q : ℕ) → length streams ≤ q → f ≡ Interleaved → past_top t q ≡ past_of FRESH
+      none_past q high idata =
+          let all = past_all_given f (length streams) left t q gives ∙ past_passed q idata in
+          let was : past_top v q ≡ 0 = h.past q idata ∙ fresh_past past_of q high in
           let skip : passed.skip (unordered_lane q) ≡ 0 = skip_other (unordered_lane q) (let n = count in omega (arith, n, high)) ∙ h.skip q ∙ fresh_past (λ (a : StreamKept). a.skip) q high in
           omega (arith, all, was, skip)
 
@@ -199,6 +210,13 @@ module _ (f : Format) (k : ReceiverKept) (v : ReceiverView) (x : ForwardMeaning)
           let now : held ≡ held_bytes t = p.held ∙ ap (λ (n : ℕ). size_of_pieces t.kept + size_of_waiting t.waiting n) (sym streams_now) in
           omega (arith, less, fewer, was, room, now)
 
+      resets_kept : KeepsResets f k.resets t.initial t.streams t.taken t.resets
+      resets_kept =
+          subst (λ (n : ℕ). KeepsResets f k.resets n t.streams t.taken t.resets) (sym served.giving.initial)
+          (subst (λ (n : ℕ). KeepsResets f k.resets v.initial n t.taken t.resets) (sym served.giving.streams)
+          (subst (λ (g : ℕ → List Handed). KeepsResets f k.resets v.initial v.streams g t.resets) (sym (all_taken f (length streams) left t gives))
+          (subst (λ (y : Incoming). KeepsResets f k.resets v.initial v.streams v.taken y) (sym (all_resets f (length streams) left t gives)) h.resets)))
+
       pub keeps_forwarded : KeepsView f (record k { seen = seen; streams = map stream_of news; held = held }) t
       keeps_forwarded = record {
         seen = stands;
@@ -210,14 +228,14 @@ module _ (f : Format) (k : ReceiverKept) (v : ReceiverView) (x : ForwardMeaning)
             (λ q high. served.others q high ∙ h.next q ∙ fresh_past (λ (a : StreamKept). a.next) q high);
         skip = each_field (λ (a : StreamKept). a.skip) (λ (q : ℕ). t.skip (unordered_lane q)) (λ q z got. (p.stream q z got).1)
             (λ q high. skip_is (unordered_lane q) ∙ skip_other (unordered_lane q) (let n = count in omega (arith, n, high)) ∙ h.skip q ∙ fresh_past (λ (a : StreamKept). a.skip) q high);
-        top = λ q idata. each_field (λ (a : StreamKept). near_of a Unordered) (λ (j : ℕ). top t j) (λ j z got. (p.stream j z got).2 idata) (λ j high. top_past j high idata) q;
+        past = λ q idata. each_field past_of (λ (j : ℕ). past_top t j) (λ j z got. (p.stream j z got).2 idata) (λ j high. none_past j high idata) q;
         skipped = skipped_under;
         waiting = each_field (λ (a : StreamKept). a.waiting) t.waiting (λ q z got. (p.stream q z got).0.waiting)
             (λ q high. gives_past f (length streams) left t gives q high ∙ h.waiting q ∙ fresh_past (λ (a : StreamKept). a.waiting) q high);
         streams = streams_now ∙ sym (length-map news stream_of);
         few_streams = let few = h.few_streams in let n = count in let m = length-map news stream_of in omega (arith, few, n, m, size);
         duplicates = (gives_rest f (length streams) left t gives).1 ∙ h.duplicates;
-        resets = all_resets f (length streams) left t gives ∙ h.resets;
+        resets = resets_kept;
         held = p.held ∙ ap (λ (n : ℕ). size_of_pieces t.kept + size_of_waiting t.waiting n) (sym streams_now);
         room = under;
         small = h.small;

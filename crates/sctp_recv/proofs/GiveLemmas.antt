@@ -52,7 +52,7 @@ handed_none f s floor kept start = record {
 -- and then a message more
 module _ {F : Type 0} (f : Format) (s floor : ℕ) (kept rest : List Piece) (start old now : Inbound F) (given bytes sum : ℕ) (so : IsHandedSoFar f s floor kept start old given rest)
     (counted : AreCounted kept) (n : ℕ) (from last : ℕ) (m : Whole) (new : Chains F) (t : TakesNumber f (ordered_lane s) rest from last m new n) (is_from : from ≡ old.next) (is_last : last ≤ max old.next floor)
-    (h : Handed) (made : h ≡ message_of f t.head t.rest) (next : now.next ≡ suc n) (skip : now.skip ≡ old.skip) (largest : now.largest ≡ old.largest) (waits : map handed_of now.waiting.items ≡ map handed_of old.waiting.items ++ h ∷ [])
+    (h : Handed) (made : h ≡ message_of f t.head t.rest) (next : now.next ≡ suc n) (skip : now.skip ≡ old.skip) (past : now.past ≡ old.past) (waits : map handed_of now.waiting.items ≡ map handed_of old.waiting.items ++ h ∷ [])
     (same : (l : Lane) (ks : List Piece) → lane.StandsFor f old.unordered l ks → lane.StandsFor f now.unordered l ks) (is_bytes : bytes ≡ sized (length h.bytes)) (is_sum : sum ≡ sized (given + bytes)) where
   low : old.next ≤ n
   low = let l = t.low in omega (arith, l, is_from)
@@ -70,14 +70,14 @@ module _ {F : Type 0} (f : Format) (s floor : ℕ) (kept rest : List Piece) (sta
       let before = so.bytes in
       let bytes_is : length h.bytes ≡ length (message_of f t.head t.rest).bytes = ap (λ (g : Handed). length g.bytes) made in
       let skipped : now.skip ≡ start.skip = skip ∙ ap (λ (a : StreamKept). a.skip) so.stream in
-      let highest : now.largest ≡ start.largest = largest ∙ ap (λ (a : StreamKept). a.largest) so.stream in
+      let highest : now.past ≡ start.past = past ∙ ap (λ (a : StreamKept). a.past) so.stream in
       record {
         messages = so.messages ++ message_of f t.head t.rest ∷ [];
         within = λ x there. so.within x (filter_has (λ (y : Piece). not (is_number_below (suc n) y.number)) rest x there);
         rests = subst (λ (k : ℕ). IsRest k kept (from_number (suc n) rest)) (sym next) (rest_next old.next n kept rest so.rests low);
         due = subst (λ (k : ℕ). IsDueSoFar f kept s start.next floor k (so.messages ++ message_of f t.head t.rest ∷ [])) (sym next)
             (due_more f kept rest s start.next floor old.next n so.messages t.head t.rest so.due so.rests low high (subst (λ (k : ℕ). (j : ℕ) → k ≤ j → j < n → HasNoWhole f rest (ordered_lane s) j) is_from t.before) t.whole t.lowest);
-        stream = λ i. record { next = now.next; skip = skipped i; largest = highest i; waiting = all_waits i };
+        stream = λ i. record { next = now.next; skip = skipped i; past = highest i; waiting = all_waits i };
         others = λ l ks stands. same l ks (so.others l ks stands);
         bytes = omega (arith, before, both, bytes_is, is_bytes, is_sum);
       }

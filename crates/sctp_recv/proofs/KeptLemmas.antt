@@ -4,19 +4,19 @@ use Rattle.std.proofs.lemmas.Bool.{cases_eq}
 use Rattle.std.proofs.lemmas.Bool.Decides.{nat_tests}
 use Rattle.sctp_model.specs.numbers.Serial.{COUNTS}
 use Rattle.sctp_model.specs.numbers.Lists.{Has, at}
-use Rattle.sctp_model.specs.messages.Format.{Format, Interleaved, Unordered, ordered_lane, unordered_lane}
+use Rattle.sctp_model.specs.messages.Format.{Format, Interleaved, ordered_lane, unordered_lane}
 use Rattle.sctp_model.specs.messages.Pieces.{Piece}
 use Rattle.sctp_model.specs.receiver.ReceiverView.{Handed, ReceiverView, size_of_pieces, size_of_messages, size_of_waiting}
 use Rattle.sctp_model.specs.receiver.Receiving.{recorded}
 use Rattle.sctp_model.specs.receiver.Laws.{IsFilledOnce}
-use Rattle.sctp_model.specs.receiver.Top.{number_on, top}
-use Rattle.sctp_model.proofs.receiver.TopLaws.{top_kept, other_stream}
+use Rattle.sctp_model.specs.receiver.ResetTaken.{past_on, past_top}
 use Rattle.sctp_model.proofs.receiver.OneStep.{filter_has, filter_apart, kept_apart}
 use Rattle.sctp_recv.specs.SeenKept.{SeenKept}
-use Rattle.sctp_recv.specs.ReceiverKept.{StreamKept, ReceiverKept, stream_at, near_of}
+use Rattle.sctp_recv.specs.ReceiverKept.{StreamKept, ReceiverKept, stream_at, past_of}
 use Rattle.sctp_recv.specs.StandsFor.{KeepsView}
 use Rattle.sctp_recv.specs.inner.Giving.{sized}
 use Rattle.sctp_recv.proofs.StreamLemmas.{one_stream, same_field, stream_set_same, stream_set_other, length_set, waiting_set, size_append}
+use Rattle.sctp_recv.proofs.PastLaws.{past_chunk, other_stream}
 use Rattle.sctp_recv.proofs.RecordedLemmas.{at_cases, at_stays, at_here, IsKeepable}
 
 -- the view with the chunk kept, before anything is handed over
@@ -45,24 +45,24 @@ module _ (f : Format) (k : ReceiverKept) (v : ReceiverView) (x : Piece) (seen : 
   all_numbers y n (inl e) number = h.number n (ap (λ (z : Piece). z.number) e ∙ number)
   all_numbers y n (inr there) number = h.keeps.numbers y n there number
 
-  -- the largest unordered number of each stream, once the chunk is kept: it may be that of its own
-  pub top_with : (s : ℕ) (b : StreamKept) → s < length k.streams → x.lane.stream ≡ s → b.skip ≡ (stream_at k.streams s).skip →
-      max (near_of (stream_at k.streams s) Unordered) (number_on (unordered_lane s) x.lane x.number) ≡ near_of b Unordered → (q : ℕ) → f ≡ Interleaved →
-      top (with_chunk v x) q ≡ near_of (stream_at (set k.streams s b) q) Unordered
-  top_with s b low mine skip near q idata =
-      let more = top_kept v x q in
-      let was = h.keeps.top q idata in
+  -- one past the largest unordered number of each stream, once the chunk is kept: it may be that of its own
+  pub past_with : (s : ℕ) (b : StreamKept) → s < length k.streams → x.lane.stream ≡ s → b.skip ≡ (stream_at k.streams s).skip →
+      max (past_of (stream_at k.streams s)) (past_on (unordered_lane s) x.lane x.number) ≡ past_of b → (q : ℕ) → f ≡ Interleaved →
+      past_top (with_chunk v x) q ≡ past_of (stream_at (set k.streams s b) q)
+  past_with s b low mine skip near q idata =
+      let more = past_chunk v x q in
+      let was = h.keeps.past q idata in
       elim (cases_eq q s) [
         | inl same ↦
-            let now : near_of (stream_at (set k.streams s b) q) Unordered ≡ near_of b Unordered =
-            ap (λ (i : ℕ). near_of (stream_at (set k.streams s b) i) Unordered) same ∙ ap (λ (a : StreamKept). near_of a Unordered) (stream_set_same k.streams s b low) in
-            let old : near_of (stream_at k.streams q) Unordered ≡ near_of (stream_at k.streams s) Unordered = ap (λ (i : ℕ). near_of (stream_at k.streams i) Unordered) same in
-            let number : number_on (unordered_lane q) x.lane x.number ≡ number_on (unordered_lane s) x.lane x.number = ap (λ (i : ℕ). number_on (unordered_lane i) x.lane x.number) same in
+            let now : past_of (stream_at (set k.streams s b) q) ≡ past_of b =
+            ap (λ (i : ℕ). past_of (stream_at (set k.streams s b) i)) same ∙ ap (λ (a : StreamKept). past_of a) (stream_set_same k.streams s b low) in
+            let old : past_of (stream_at k.streams q) ≡ past_of (stream_at k.streams s) = ap (λ (i : ℕ). past_of (stream_at k.streams i)) same in
+            let number : past_on (unordered_lane q) x.lane x.number ≡ past_on (unordered_lane s) x.lane x.number = ap (λ (i : ℕ). past_on (unordered_lane i) x.lane x.number) same in
             omega (arith, more, was, now, old, number, near)
         | inr other ↦
-            let now : near_of (stream_at (set k.streams s b) q) Unordered ≡ near_of (stream_at k.streams q) Unordered = ap (λ (a : StreamKept). near_of a Unordered) (stream_set_other k.streams s q b other) in
+            let now : past_of (stream_at (set k.streams s b) q) ≡ past_of (stream_at k.streams q) = ap (λ (a : StreamKept). past_of a) (stream_set_other k.streams s q b other) in
             let test : (q == x.lane.stream) ≡ false = grind (arith, other, mine, nat_tests) in
-            let none : number_on (unordered_lane q) x.lane x.number ≡ 0 = other_stream x.lane x.number q test in
+            let none : past_on (unordered_lane q) x.lane x.number ≡ 0 = other_stream x.lane x.number q test in
             omega (arith, more, was, now, none)
       ]
 
@@ -70,7 +70,7 @@ module _ (f : Format) (k : ReceiverKept) (v : ReceiverView) (x : Piece) (seen : 
   pub keeps_fewer : (s : ℕ) (test : Piece → Bool) (b : StreamKept) (held : ℕ) (nexts : ℕ → ℕ) (ms : List Handed) → s < length k.streams →
       ((q : ℕ) → nexts q ≡ (stream_at (set k.streams s b) q).next) → ((q : ℕ) → v.skip (ordered_lane q) ≤ nexts q) →
       b.skip ≡ (stream_at k.streams s).skip →
-      ((q : ℕ) → f ≡ Interleaved → top (record (with_chunk v x) { next = nexts; waiting = at v.waiting s (v.waiting s ++ ms); kept = filter test (x ∷ v.kept) }) q ≡ near_of (stream_at (set k.streams s b) q) Unordered) →
+      ((q : ℕ) → f ≡ Interleaved → past_top (record (with_chunk v x) { next = nexts; waiting = at v.waiting s (v.waiting s ++ ms); kept = filter test (x ∷ v.kept) }) q ≡ past_of (stream_at (set k.streams s b) q)) →
       b.waiting ≡ (stream_at k.streams s).waiting ++ ms →
       size_of_messages ms + size_of_pieces (filter test (x ∷ v.kept)) ≤ size_of_pieces (x ∷ v.kept) →
       held + (length x.bytes + size_of_pieces v.kept) ≡ k.held + length x.bytes + size_of_pieces (filter test (x ∷ v.kept)) + size_of_messages ms →
@@ -84,7 +84,7 @@ module _ (f : Format) (k : ReceiverKept) (v : ReceiverView) (x : Piece) (seen : 
     numbers = λ y n there. all_numbers y n (filter_has test (x ∷ v.kept) y there);
     next = each;
     skip = λ q. h.keeps.skip q ∙ sym (same_field (λ (a : StreamKept). a.skip) k.streams s b l skip q);
-    top = tops;
+    past = tops;
     skipped = above;
     waiting = one_stream v.waiting (λ (a : StreamKept). a.waiting) k.streams s b (v.waiting s ++ ms) l h.keeps.waiting
         (ap (λ (hs : List Handed). hs ++ ms) (h.keeps.waiting s) ∙ sym waits);

@@ -1,5 +1,12 @@
 mod ResultLemmas
-mod UnresetLemmas
+mod ResetsStay
+mod PastLaws
+mod NumberLemmas
+mod ResetLemmas
+mod ResponseLemmas
+mod RestartLemmas
+mod RequestLemmas
+mod ReportLemmas
 mod AnswerLemmas
 mod RecordedLemmas
 mod ForwardSkips

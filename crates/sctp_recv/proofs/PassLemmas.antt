@@ -9,27 +9,28 @@ use Rattle.sctp_model.specs.messages.Framing.{lets_go}
 use Rattle.sctp_model.specs.messages.Pieces.{Piece}
 use Rattle.sctp_model.specs.receiver.ReceiverView.{Handed, ReceiverView, size_of_pieces, size_of_messages, size_of_waiting}
 use Rattle.sctp_model.specs.receiver.Receiving.{IsDue, Stop, IsWholeNumber, HasNoWhole, is_below, without_below, handed_ordered, GivesAll}
-use Rattle.sctp_model.specs.receiver.Top.{top}
+use Rattle.sctp_model.specs.receiver.ResetTaken.{past_top}
 use Rattle.sctp_model.proofs.receiver.Giving.{at_here, at_elsewhere}
-use Rattle.sctp_model.proofs.receiver.TopLaws.{top_given, top_all_given}
 use Rattle.sctp_model.proofs.receiver.HeldBytes.{filter_size}
 use Rattle.sctp_model.proofs.receiver.OfLane.{whole_of, of_below, of_below_other, off_below, size_of_lane}
 use Rattle.sctp_model.proofs.receiver.OneStep.{filter_has}
 use Rattle.sctp_model.proofs.receiver.Sizes.{due_size}
 use Rattle.sctp_chains.specs.WholeOf.{from_number}
 use Rattle.sctp_recv.specs.declared.stream.Stream.{Stream}
+use Rattle.sctp_recv.specs.declared.restart.Restart.{Restart}
 use Rattle.sctp_recv.specs.Fields.{inside, stream_of}
 use Rattle.sctp_model.specs.receiver.KeptOfLane.{of_lane}
 use Rattle.sctp_recv.specs.Filed.{Keeps, IsFiledOn}
-use Rattle.sctp_recv.specs.ReceiverKept.{StreamKept, near_of}
+use Rattle.sctp_recv.specs.ReceiverKept.{StreamKept, past_of}
 use Rattle.sctp_recv.specs.inner.Giving.{sized, IsDueView}
 use Rattle.sctp_recv.specs.inner.Forwarding.{next_after, skip_after, stay, IsQuiet, PassesOn, IsStreamOf, AreToPass}
+use Rattle.sctp_recv.proofs.PastLaws.{past_given, past_all_given}
 use Rattle.sctp_recv.proofs.StreamLemmas.{waiting_set, size_append}
 use Rattle.sctp_recv.proofs.FiledLemmas.{got_set_same, got_set_other, one_got, sum_to, sum_same, sum_upto, stream_size, all_sizes}
 
 -- a stream's numbers and messages are the view's, those of unordered messages too
 abbrev pub IsPassed : {F : Type 0} → Format → ReceiverView → (q : ℕ) → Stream F → Type 0
-IsPassed f t q x = IsStreamOf t q x × (t.skip (unordered_lane q) ≡ (stream_of x).skip) × (f ≡ Interleaved → top t q ≡ near_of (stream_of x) Unordered)
+IsPassed f t q x = IsStreamOf t q x × (t.skip (unordered_lane q) ≡ (stream_of x).skip) × (f ≡ Interleaved → past_top t q ≡ past_of (stream_of x))
 
 -- What came of the streams below k, in a view that r leads to.
 pub record IsUpTo {F : Type 0} (f : Format) (v r : ReceiverView) (olds now : List (Stream F)) (bytes left k : ℕ) (t : ReceiverView) : Type 0 where
@@ -46,8 +47,8 @@ pub record IsUpTo {F : Type 0} (f : Format) (v r : ReceiverView) (olds now : Lis
   pub less : sum_to (stream_size t.kept) k + size_of_waiting t.waiting (length olds) ≤ sum_to (stream_size v.kept) k + size_of_waiting v.waiting (length olds)
   pub more : size_of_waiting v.waiting (length olds) ≤ size_of_waiting t.waiting (length olds)
 
-pub upto_first : {F : Type 0} (f : Format) (jump : ℕ) (xs : List SkipMeaning) (v r : ReceiverView) (olds : List (Stream F)) (held : ℕ) → AreToPass f jump xs v r olds held → IsUpTo f v r olds olds held held 0 r
-upto_first f jump xs v r olds held h = record {
+pub upto_first : {F : Type 0} (f : Format) (b : ℕ → Restart) (jump : ℕ) (xs : List SkipMeaning) (v r : ReceiverView) (olds : List (Stream F)) (held : ℕ) → AreToPass f b jump xs v r olds held → IsUpTo f v r olds olds held held 0 r
+upto_first f b jump xs v r olds held h = record {
   gives = refl;
   done = λ q x low got. absurd (omega (arith, low));
   later = λ q high. refl;
@@ -80,7 +81,7 @@ lanes_apart q p other e = other (ap (λ (l : Lane). l.stream) e)
 kinds_apart : (q p : ℕ) → unordered_lane q ≡ ordered_lane p → ⊥
 kinds_apart q p e = let no : Unordered ≡ Ordered = ap (λ (l : Lane). l.kind) e in cc
 
-module _ {F : Type 0} (f : Format) (jump : ℕ) (xs : List SkipMeaning) (v r : ReceiverView) (olds now : List (Stream F)) (held left k : ℕ) (t : ReceiverView) (h : AreToPass f jump xs v r olds held)
+module _ {F : Type 0} (f : Format) (b : ℕ → Restart) (jump : ℕ) (xs : List SkipMeaning) (v r : ReceiverView) (olds now : List (Stream F)) (held left k : ℕ) (t : ReceiverView) (h : AreToPass f b jump xs v r olds held)
     (u : IsUpTo f v r olds now held left k t) (x : Stream F) (low : k < length olds) (size : length now ≡ length olds) (got : slice_get olds k ≡ Some x) where
   own : of_lane (ordered_lane k) t.kept ≡ of_lane (ordered_lane k) v.kept
   own = u.kept k (omega arith) ∙ h.ordered k
@@ -94,7 +95,7 @@ module _ {F : Type 0} (f : Format) (jump : ℕ) (xs : List SkipMeaning) (v r : R
   skip_is : t.skip (ordered_lane k) ≡ r.skip (ordered_lane k)
   skip_is = ap (λ (g : Lane → ℕ). g (ordered_lane k)) u.skip
 
-  view : IsDueView f (of_lane (ordered_lane k) v.kept) k (stream_of x).next (next_after f k (stream_of x) xs) t
+  view : IsDueView f (of_lane (ordered_lane k) v.kept) k (stream_of x).next (next_after f (b k) k (stream_of x) xs) t
   view = record {
     same = own;
     above = let both = h.floor k x got in let s = skip_is in omega (arith, both, s);
@@ -114,7 +115,7 @@ module _ {F : Type 0} (f : Format) (jump : ℕ) (xs : List SkipMeaning) (v r : R
   under = let sum = u.held in let less = u.less in omega (arith, sum, less)
 
   -- a stream that is quiet is passed as it is
-  pub nothing : IsQuiet f jump xs v k x → PassesOn f k jump xs (of_lane (ordered_lane k) v.kept) (of_lane (unordered_lane k) v.kept) (inside x) (inside x) left left
+  pub nothing : IsQuiet f (b k) jump xs v k x → PassesOn f (b k) k jump xs (of_lane (ordered_lane k) v.kept) (of_lane (unordered_lane k) v.kept) (inside x) (inside x) left left
   nothing q = record {
     messages = [];
     next = (stream_of x).next;
@@ -139,10 +140,10 @@ module _ {F : Type 0} (f : Format) (jump : ℕ) (xs : List SkipMeaning) (v r : R
       none_more [] = refl
       none_more (m ∷ ms) = ap (λ (os : List Handed). m ∷ os) (none_more ms)
 
-      none_go : stay f jump (skip_after f k (stream_of x) xs) (of_lane (unordered_lane k) v.kept) ≡ of_lane (unordered_lane k) v.kept
+      none_go : stay f jump (skip_after f (b k) k (stream_of x) xs) (of_lane (unordered_lane k) v.kept) ≡ of_lane (unordered_lane k) v.kept
       none_go = ap (λ (n : ℕ). stay f jump n (of_lane (unordered_lane k) v.kept)) q.unordered ∙ q.stays
 
-  module _ (y : Stream F) (now_left : ℕ) (p : PassesOn f k jump xs (of_lane (ordered_lane k) v.kept) (of_lane (unordered_lane k) v.kept) (inside x) (inside y) left now_left) where
+  module _ (y : Stream F) (now_left : ℕ) (p : PassesOn f (b k) k jump xs (of_lane (ordered_lane k) v.kept) (of_lane (unordered_lane k) v.kept) (inside x) (inside y) left now_left) where
     due : IsDue f t k (t.next k) p.messages p.next
     due = subst (λ (n : ℕ). IsDue f t k n p.messages p.next) (sym next_is) (p.due t view)
 
@@ -155,7 +156,7 @@ module _ {F : Type 0} (f : Format) (jump : ℕ) (xs : List SkipMeaning) (v r : R
     unordered_off : (q : ℕ) → of_lane (unordered_lane q) (without_below t.kept k p.next) ≡ of_lane (unordered_lane q) t.kept
     unordered_off q = of_below_other (unordered_lane q) k p.next t.kept (kinds_apart q k)
 
-    loose_after : of_lane (unordered_lane k) (without_below t.kept k p.next) ≡ stay f jump (skip_after f k (stream_of x) xs) (of_lane (unordered_lane k) v.kept)
+    loose_after : of_lane (unordered_lane k) (without_below t.kept k p.next) ≡ stay f jump (skip_after f (b k) k (stream_of x) xs) (of_lane (unordered_lane k) v.kept)
     loose_after = unordered_off k ∙ u.loose k ∙ h.unordered k x got
 
     -- the stream itself
@@ -172,13 +173,13 @@ module _ {F : Type 0} (f : Format) (jump : ℕ) (xs : List SkipMeaning) (v r : R
     }
 
     -- what is handed over in order says nothing of unordered numbers
-    top_same : (q : ℕ) → top (handed_ordered t k p.messages p.next) q ≡ top t q
-    top_same q = top_given f k t (handed_ordered t k p.messages p.next) q (p.messages, p.next, due, refl)
+    past_same : (q : ℕ) → past_top (handed_ordered t k p.messages p.next) q ≡ past_top t q
+    past_same q = past_given f k t (handed_ordered t k p.messages p.next) q (p.messages, p.next, due, refl)
 
-    top_here : f ≡ Interleaved → top (handed_ordered t k p.messages p.next) k ≡ near_of (stream_of y) Unordered
-    top_here e =
-        top_same k ∙ top_all_given f k r t k u.gives ∙ h.top k x got e
-        ∙ (λ j. max (sym (ap (λ (a : StreamKept). a.skip) p.stream) j - 1) (sym (ap (λ (a : StreamKept). a.largest) p.stream) j))
+    past_here : f ≡ Interleaved → past_top (handed_ordered t k p.messages p.next) k ≡ past_of (stream_of y)
+    past_here e =
+        past_same k ∙ past_all_given f k r t k u.gives ∙ h.past k x got e
+        ∙ (λ j. max (sym (ap (λ (a : StreamKept). a.skip) p.stream) j) (sym (ap (λ (a : StreamKept). a.past) p.stream) j))
 
     -- one that was done before
     still : (q : ℕ) (z : Stream F) → (q ≡ k → ⊥) → IsFiledOn f t.kept q z × IsPassed f t q z →
@@ -194,7 +195,7 @@ module _ {F : Type 0} (f : Format) (jump : ℕ) (xs : List SkipMeaning) (v r : R
           waiting = at_elsewhere t.waiting k (t.waiting k ++ p.messages) q other ∙ stream.waiting;
         },
         skip,
-        λ e. top_same q ∙ highest e,
+        λ e. past_same q ∙ highest e,
       ),
     )
 
@@ -211,7 +212,7 @@ module _ {F : Type 0} (f : Format) (jump : ℕ) (xs : List SkipMeaning) (v r : R
 
     unordered_less : size_of_pieces (of_lane (unordered_lane k) (without_below t.kept k p.next)) ≤ size_of_pieces (of_lane (unordered_lane k) v.kept)
     unordered_less =
-        let less = filter_size (λ (z : Piece). not (lets_go f z.index z.number jump (skip_after f k (stream_of x) xs))) (of_lane (unordered_lane k) v.kept) in
+        let less = filter_size (λ (z : Piece). not (lets_go f z.index z.number jump (skip_after f (b k) k (stream_of x) xs))) (of_lane (unordered_lane k) v.kept) in
         let same = ap size_of_pieces loose_after in
         omega (arith, less, same)
 
@@ -242,7 +243,7 @@ module _ {F : Type 0} (f : Format) (jump : ℕ) (xs : List SkipMeaning) (v r : R
             let is : y ≡ z = one_got (slice_get (set now k y) k) y z (got_set_same now k y (omega (arith, low, size))) (ap (slice_get (set now k y)) (sym same) ∙ at_q) in
             let skip = ap (λ (g : Lane → ℕ). g (unordered_lane k)) u.skip ∙ h.skip k x got ∙ sym (ap (λ (a : StreamKept). a.skip) p.stream) in
             subst (λ (i : ℕ). IsFiledOn f (without_below t.kept k p.next) i z × IsPassed f (handed_ordered t k p.messages p.next) i z) (sym same)
-            (subst (λ (w : Stream F). IsFiledOn f (without_below t.kept k p.next) k w × IsPassed f (handed_ordered t k p.messages p.next) k w) is (here, (says, skip, top_here)))
+            (subst (λ (w : Stream F). IsFiledOn f (without_below t.kept k p.next) k w × IsPassed f (handed_ordered t k p.messages p.next) k w) is (here, (says, skip, past_here)))
         | inr other ↦ still q z other (u.done q z (omega (arith, less, other)) (sym (got_set_other now k q y other) ∙ at_q))
       ];
       later = λ q high. got_set_other now k q y (λ e. omega (arith, high, e)) ∙ u.later q (omega (arith, high));

@@ -1,16 +1,19 @@
 -- What a receiver keeps, after each of its smaller steps.
-use Rattle.std.proofs.Common.{◌≡◌, ℕ, suc, ◌+◌, ◌-◌, ◌^◌, ◌<◌, true, false, ◌==◌, List, [], ◌∷◌, ◌++◌, length, set, replicate, Some, inl, inr, refl, sym, ◌∙◌, ap, arith}
+use Rattle.std.proofs.Common.{◌≡◌, ℕ, suc, ◌+◌, ◌-◌, ◌^◌, ◌<◌, true, false, ◌==◌, List, [], ◌∷◌, ◌++◌, length, set, replicate, Option, None, Some, inl, inr, refl, sym, ◌∙◌, ap, arith}
 use Rattle.std.proofs.lemmas.Bool.{cases_Bool}
 use Rattle.std.proofs.lemmas.Bool.Decides.{nat_tests}
 use Rattle.sctp_model.specs.numbers.Lists.{at}
-use Rattle.sctp_model.specs.messages.Format.{Format, Unordered}
+use Rattle.sctp_model.specs.messages.Format.{Format}
 use Rattle.sctp_model.specs.receiver.ReceiverView.{Handed, ReceiverView, IsCumulative, fresh_receiver, size_of_messages}
 use Rattle.sctp_model.specs.receiver.SackMade.{first_taken}
-use Rattle.sctp_model.proofs.receiver.TopLaws.{top_taken}
 use Rattle.sctp_recv.specs.SeenKept.{SeenKept}
 use Rattle.sctp_recv.specs.SeenStands.{SeenStands}
-use Rattle.sctp_recv.specs.ReceiverKept.{StreamKept, ReceiverKept, FRESH, stream_at, near_of}
+use Rattle.sctp_recv.specs.ReceiverKept.{StreamKept, ReceiverKept, FRESH, stream_at, past_of}
 use Rattle.sctp_recv.specs.StandsFor.{KeepsView}
+use Rattle.sctp_recv.specs.ResetsKept.{ResetsKept}
+use Rattle.sctp_recv.specs.inner.Restarting.{HasTaken}
+use Rattle.sctp_recv.proofs.PastLaws.{past_taken}
+use Rattle.sctp_recv.proofs.ResetLemmas.{none_kept, taken_kept}
 use Rattle.sctp_recv.proofs.RunLemmas.{none_after}
 use Rattle.sctp_recv.proofs.StreamLemmas.{fresh_at, length_fresh, no_waiting, stream_set_same, stream_set_other, same_field, length_set, waiting_set}
 
@@ -28,7 +31,7 @@ cumulative_is k v s = record {
 -- ---- a fresh receiver
 
 pub keeps_fresh : (f : Format) (seen : SeenKept) (ss : List StreamKept) (initial n buffer : ℕ) → SeenStands seen (λ i. false) 0 → ss ≡ replicate n FRESH → n < 2 ^ 16 → buffer < 2 ^ 32 →
-    KeepsView f (record { seen = seen; streams = ss; duplicates = []; held = 0; initial = initial; buffer = buffer }) (fresh_receiver initial n buffer)
+    KeepsView f (record { seen = seen; streams = ss; duplicates = []; resets = None; held = 0; initial = initial; buffer = buffer }) (fresh_receiver initial n buffer)
 keeps_fresh f seen ss initial n buffer s e few fits = record {
   seen = s;
   counts = λ i came. absurd (let never : false ≡ true = came in cc);
@@ -37,13 +40,13 @@ keeps_fresh f seen ss initial n buffer s e few fits = record {
   numbers = λ x m h is. absurd h;
   next = λ q. sym (ap (λ (xs : List StreamKept). (stream_at xs q).next) e ∙ ap (λ (x : StreamKept). x.next) (fresh_at n q));
   skip = λ q. sym (ap (λ (xs : List StreamKept). (stream_at xs q).skip) e ∙ ap (λ (x : StreamKept). x.skip) (fresh_at n q));
-  top = λ q idata. sym (ap (λ (xs : List StreamKept). near_of (stream_at xs q) Unordered) e ∙ ap (λ (x : StreamKept). near_of x Unordered) (fresh_at n q));
+  past = λ q idata. sym (ap (λ (xs : List StreamKept). past_of (stream_at xs q)) e ∙ ap (λ (x : StreamKept). past_of x) (fresh_at n q));
   skipped = λ q. omega arith;
   waiting = λ q. sym (ap (λ (xs : List StreamKept). (stream_at xs q).waiting) e ∙ ap (λ (x : StreamKept). x.waiting) (fresh_at n q));
   streams = sym (ap (λ (xs : List StreamKept). length xs) e ∙ length_fresh n);
   few_streams = let count = ap (λ (xs : List StreamKept). length xs) e ∙ length_fresh n in omega arith;
   duplicates = refl;
-  resets = refl;
+  resets = none_kept f initial n;
   held = let none = no_waiting n in omega arith;
   room = omega arith;
   small = fits;
@@ -53,11 +56,11 @@ keeps_fresh f seen ss initial n buffer s e few fits = record {
 
 -- ---- a message taken
 
-pub keeps_taken : (f : Format) (k : ReceiverKept) (v : ReceiverView) (s held : ℕ) (h : Handed) (rest : List Handed) (x : StreamKept) → KeepsView f k v → s < length k.streams →
-    stream_at k.streams s ≡ record x { waiting = h ∷ rest } → x.waiting ≡ rest → held ≡ k.held - length h.bytes →
-    KeepsView f (record k { streams = set k.streams s x; held = held })
+pub keeps_taken : (f : Format) (k : ReceiverKept) (v : ReceiverView) (s held : ℕ) (h : Handed) (rest : List Handed) (x : StreamKept) (resets : Option ResetsKept) → KeepsView f k v → s < length k.streams →
+    stream_at k.streams s ≡ record x { waiting = h ∷ rest } → x.waiting ≡ rest → held ≡ k.held - length h.bytes → HasTaken s k.resets resets →
+    KeepsView f (record k { streams = set k.streams s x; resets = resets; held = held })
     (record v { taken = at v.taken s (v.taken s ++ h ∷ []); waiting = at v.waiting s rest })
-keeps_taken f k v s held h rest x w l at_s left less = record {
+keeps_taken f k v s held h rest x resets w l at_s left less has = record {
   seen = w.seen;
   counts = w.counts;
   apart = w.apart;
@@ -77,7 +80,7 @@ keeps_taken f k v s held h rest x w l at_s left less = record {
         ∙ sym (ap (λ (i : ℕ). (stream_at (set k.streams s x) i).skip) same ∙ ap (λ (y : StreamKept). y.skip) (stream_set_same k.streams s x l))
     | inr e ↦ w.skip q ∙ sym (ap (λ (y : StreamKept). y.skip) (stream_set_other k.streams s q x (λ same. grind (arith, nat_tests))))
   ];
-  top = λ q idata. top_taken v s (Some h) (first_taken v s h rest) q (rest, waits_here, refl) ∙ w.top q idata ∙ sym (same_field (λ (y : StreamKept). near_of y Unordered) k.streams s x l near_same q);
+  past = λ q idata. past_taken v s (Some h) (first_taken v s h rest) q (rest, waits_here, refl) ∙ w.past q idata ∙ sym (same_field (λ (y : StreamKept). past_of y) k.streams s x l near_same q);
   skipped = w.skipped;
   waiting = λ q. elim (cases_Bool (q == s)) [
     | inl e ↦
@@ -91,7 +94,7 @@ keeps_taken f k v s held h rest x w l at_s left less = record {
   streams = w.streams ∙ sym (length_set k.streams s x);
   few_streams = let few = w.few_streams in let same = length_set k.streams s x in omega arith;
   duplicates = w.duplicates;
-  resets = w.resets;
+  resets = taken_kept f k.resets resets v.initial v.streams s v.taken v.resets h has w.resets;
   held =
       let waits : v.waiting s ≡ h ∷ rest = w.waiting s ∙ ap (λ (y : StreamKept). y.waiting) at_s in
       let sizes = waiting_set v.waiting s v.streams rest (omega (arith, w.streams)) in
@@ -106,5 +109,5 @@ keeps_taken f k v s held h rest x w l at_s left less = record {
     waits_here : v.waiting s ≡ h ∷ rest
     waits_here = w.waiting s ∙ ap (λ (y : StreamKept). y.waiting) at_s
 
-    near_same : near_of x Unordered ≡ near_of (stream_at k.streams s) Unordered
-    near_same = sym (ap (λ (y : StreamKept). near_of y Unordered) at_s)
+    near_same : past_of x ≡ past_of (stream_at k.streams s)
+    near_same = sym (ap (λ (y : StreamKept). past_of y) at_s)

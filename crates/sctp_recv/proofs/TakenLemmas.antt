@@ -1,5 +1,5 @@
 -- What a receiver keeps after a chunk was kept, and what was then due delivered.
-use Rattle.std.proofs.Common.{◌≡◌, ℕ, ◌+◌, ◌-◌, ◌<◌, ◌≤◌, ◌⊎◌, max, Bool, true, false, ◌==◌, List, [], ◌∷◌, ◌++◌, length, set, map, Option, None, Some, inl, inr, refl, sym, ◌∙◌, ap, subst, arith}
+use Rattle.std.proofs.Common.{◌≡◌, ℕ, suc, ◌+◌, ◌-◌, ◌<◌, ◌≤◌, ◌⊎◌, max, Bool, true, false, ◌==◌, List, [], ◌∷◌, ◌++◌, length, set, map, Option, None, Some, inl, inr, refl, sym, ◌∙◌, ap, subst, arith}
 use Rattle.std.specs.Prelude.{not, slice_get}
 use Rattle.std.specs.declared.alloc.Global.{Global}
 use Rattle.std.specs.declared.boxed.Box.{Box}
@@ -12,8 +12,7 @@ use Rattle.sctp_model.specs.messages.Pieces.{Piece}
 use Rattle.sctp_model.specs.receiver.ReceiverView.{Handed, ReceiverView, size_of_pieces, size_of_messages, size_of_waiting}
 use Rattle.sctp_model.specs.receiver.Receiving.{IsDue, is_below, without_below, handed_ordered, without_message, goes_with, handed_unordered, IsWholeWith, message_of, GivesOrdered, GivesUnordered, Gives, TakesPiece}
 use Rattle.sctp_model.specs.receiver.Reading.{lane_of}
-use Rattle.sctp_model.specs.receiver.Top.{number_on, top}
-use Rattle.sctp_model.proofs.receiver.TopLaws.{ordered_none, number_own, top_given, top_whole}
+use Rattle.sctp_model.specs.receiver.ResetTaken.{past_on, past_top}
 use Rattle.sctp_model.proofs.receiver.OfLane.{of_more, of_other, of_below, of_below_other, with_of, without_of, without_other}
 use Rattle.sctp_model.proofs.receiver.OneStep.{filter_has}
 use Rattle.sctp_model.proofs.receiver.RowFacts.{row_same}
@@ -26,23 +25,24 @@ use Rattle.sctp_recv.specs.Fields.{inbound_of, stream_of}
 use Rattle.sctp_model.specs.receiver.KeptOfLane.{of_lane}
 use Rattle.sctp_recv.specs.Filed.{IsFiledOn, AreFiled}
 use Rattle.sctp_recv.specs.SeenKept.{SeenKept}
-use Rattle.sctp_recv.specs.ReceiverKept.{StreamKept, ReceiverKept, stream_at, near_of, or_larger}
+use Rattle.sctp_recv.specs.ReceiverKept.{StreamKept, ReceiverKept, stream_at, past_of, or_past}
 use Rattle.sctp_recv.specs.StandsFor.{KeepsView}
 use Rattle.sctp_recv.specs.inner.Giving.{sized, IsDueView, GivesDue, GivesWhole, GivesNone, GivesBy}
 use Rattle.sctp_recv.proofs.StreamLemmas.{one_stream, same_field, length_set, got_stream}
 use Rattle.sctp_recv.proofs.FiledLemmas.{SameOff, filed_set, sum_has, stream_size, all_sizes, size_changed}
 use Rattle.sctp_recv.proofs.DueLemmas.{due_above}
-use Rattle.sctp_recv.proofs.KeptLemmas.{with_chunk, held_counted, all_apart, all_recorded, all_numbers, top_with, keeps_fewer}
+use Rattle.sctp_recv.proofs.KeptLemmas.{with_chunk, held_counted, all_apart, all_recorded, all_numbers, past_with, keeps_fewer}
+use Rattle.sctp_recv.proofs.PastLaws.{ordered_none, number_own, past_given, past_whole}
 use Rattle.sctp_recv.proofs.RecordedLemmas.{at_cases, IsKeepable}
 
--- the larger of a number and another, where that is the one of its lane
-or_larger_is : (n m : ℕ) (o : Option ℕ) → ((i : ℕ) → o ≡ Some i → m ≡ i) × (o ≡ None → m ≡ 0) → or_larger n o ≡ max n m
-or_larger_is n m None (some, none) = let is = none refl in omega (arith, is)
-or_larger_is n m (Some i) (some, none) = let is = some i refl in omega (arith, is)
+-- past a number, where that is the one of its lane
+or_past_is : (n m : ℕ) (o : Option ℕ) → ((i : ℕ) → o ≡ Some i → m ≡ suc i) × (o ≡ None → m ≡ 0) → or_past n o ≡ max n m
+or_past_is n m None (some, none) = let is = none refl in omega (arith, is)
+or_past_is n m (Some i) (some, none) = let is = some i refl in omega (arith, is)
 
 -- under I-DATA a whole message that goes leaves the largest number as it was
-top_whole_in : (f : Format) (r : ReceiverView) (x : Piece) (xs : List Piece) (q : ℕ) → f ≡ Interleaved → Has r.kept x → top (handed_unordered f r x xs) q ≡ top r q
-top_whole_in f r x xs q idata there = ap (λ (g : Format). top (handed_unordered g r x xs) q) idata ∙ top_whole r x xs q there
+past_whole_in : (f : Format) (r : ReceiverView) (x : Piece) (xs : List Piece) (q : ℕ) → f ≡ Interleaved → Has r.kept x → past_top (handed_unordered f r x xs) q ≡ past_top r q
+past_whole_in f r x xs q idata there = ap (λ (g : Format). past_top (handed_unordered g r x xs) q) idata ∙ past_whole r x xs q there
 
 -- a stream of which this is known
 abbrev pub boxed : {F : Type 0} → Box (Inbound F) Global → Stream F
@@ -136,20 +136,20 @@ module _ (f : Format) (k : ReceiverKept) (v : ReceiverView) (x : Piece) (seen : 
         skip_same : (inbound_of new).skip ≡ (stream_at k.streams s).skip
         skip_same = ap (λ (c : StreamKept). c.skip) g.stream ∙ sym (ap (λ (c : StreamKept). c.skip) stream_is)
 
-        near_same : near_of (inbound_of new) Unordered ≡ near_of (stream_at k.streams s) Unordered
-        near_same = ap (λ (c : StreamKept). near_of c Unordered) g.stream ∙ sym (ap (λ (c : StreamKept). near_of c Unordered) stream_is)
+        near_same : past_of (inbound_of new) ≡ past_of (stream_at k.streams s)
+        near_same = ap (λ (c : StreamKept). past_of c) g.stream ∙ sym (ap (λ (c : StreamKept). past_of c) stream_is)
 
-        top_now : (q : ℕ) → f ≡ Interleaved → top (handed_ordered (with_chunk v x) s g.messages g.next) q ≡ near_of (stream_at (set k.streams s (inbound_of new)) q) Unordered
-        top_now q idata =
-            let none : number_on (unordered_lane s) x.lane x.number ≡ 0 = ap (λ (l : Lane). number_on (unordered_lane s) l x.number) lane_is ∙ ordered_none s s x.number in
+        past_after_now : (q : ℕ) → f ≡ Interleaved → past_top (handed_ordered (with_chunk v x) s g.messages g.next) q ≡ past_of (stream_at (set k.streams s (inbound_of new)) q)
+        past_after_now q idata =
+            let none : past_on (unordered_lane s) x.lane x.number ≡ 0 = ap (λ (l : Lane). past_on (unordered_lane s) l x.number) lane_is ∙ ordered_none s s x.number in
             let same = near_same in
-            top_given f s (with_chunk v x) (handed_ordered (with_chunk v x) s g.messages g.next) q (g.messages, g.next, due, refl)
-            ∙ top_with f k v x seen h s (inbound_of new) within mine skip_same (omega (arith, none, same)) q idata
+            past_given f s (with_chunk v x) (handed_ordered (with_chunk v x) s g.messages g.next) q (g.messages, g.next, due, refl)
+            ∙ past_with f k v x seen h s (inbound_of new) within mine skip_same (omega (arith, none, same)) q idata
 
         stands : KeepsView f (record k { seen = seen; streams = set k.streams s (inbound_of new); held = held }) (handed_ordered (with_chunk v x) s g.messages g.next)
         stands = keeps_fewer f k v x seen h s (λ (z : Piece). not (is_below s g.next z)) (inbound_of new) held (at v.next s g.next) g.messages within
             (one_stream v.next (λ (c : StreamKept). c.next) k.streams s (inbound_of new) g.next within h.keeps.next (sym (ap (λ (c : StreamKept). c.next) g.stream))) above
-            skip_same top_now
+            skip_same past_after_now
             (ap (λ (c : StreamKept). c.waiting) g.stream ∙ ap (λ (hs : List Handed). hs ++ g.messages) (sym (ap (λ (c : StreamKept). c.waiting) stream_is)))
             size (counts_kept (without_below (x ∷ v.kept) s g.next) g.messages held after given (λ y has. there_now y (filter_has (λ (z : Piece). not (is_below s g.next z)) (x ∷ v.kept) y has)) off size (afters (without_below (x ∷ v.kept) s g.next) here) g.bytes counts)
 
@@ -166,14 +166,14 @@ module _ (f : Format) (k : ReceiverKept) (v : ReceiverView) (x : Piece) (seen : 
       more = of_more (unordered_lane s) x v.kept lane_is
 
       -- the chunk's number counts among its stream's
-      largest_now : (inbound_of new).largest ≡ or_larger old.largest x.number → (inbound_of new).skip ≡ old.skip → (q : ℕ) → f ≡ Interleaved →
-          top (with_chunk v x) q ≡ near_of (stream_at (set k.streams s (inbound_of new)) q) Unordered
-      largest_now largest skip q idata =
+      past_now : (inbound_of new).past ≡ or_past old.past x.number → (inbound_of new).skip ≡ old.skip → (q : ℕ) → f ≡ Interleaved →
+          past_top (with_chunk v x) q ≡ past_of (stream_at (set k.streams s (inbound_of new)) q)
+      past_now past skip q idata =
           let own = number_own s x.number in
-          let lane : number_on (unordered_lane s) x.lane x.number ≡ number_on (unordered_lane s) (unordered_lane s) x.number = ap (λ (l : Lane). number_on (unordered_lane s) l x.number) lane_is in
-          let was : near_of (stream_at k.streams s) Unordered ≡ max (old.skip - 1) old.largest = ap (λ (a : StreamKept). near_of a Unordered) stream_is in
-          let raised = or_larger_is old.largest (number_on (unordered_lane s) (unordered_lane s) x.number) x.number own in
-          top_with f k v x seen h s (inbound_of new) within mine (skip ∙ sym (ap (λ (a : StreamKept). a.skip) stream_is)) (omega (arith, largest, skip, lane, was, raised)) q idata
+          let lane : past_on (unordered_lane s) x.lane x.number ≡ past_on (unordered_lane s) (unordered_lane s) x.number = ap (λ (l : Lane). past_on (unordered_lane s) l x.number) lane_is in
+          let was : past_of (stream_at k.streams s) ≡ max old.skip old.past = ap (λ (a : StreamKept). past_of a) stream_is in
+          let raised = or_past_is old.past (past_on (unordered_lane s) (unordered_lane s) x.number) x.number own in
+          past_with f k v x seen h s (inbound_of new) within mine (skip ∙ sym (ap (λ (a : StreamKept). a.skip) stream_is)) (omega (arith, past, skip, lane, was, raised)) q idata
 
       off_chunk : SameOff s v.kept (x ∷ v.kept)
       off_chunk l other = of_other l x v.kept (λ e. other (ap (λ (m : Lane). m.stream) (sym e) ∙ mine))
@@ -212,20 +212,20 @@ module _ (f : Format) (k : ReceiverKept) (v : ReceiverView) (x : Piece) (seen : 
           bytes : given ≡ sized (size_of_messages (message_of f g.head g.rest ∷ []))
           bytes = let own = g.bytes in omega (arith, own)
 
-          top_whole_now : (q : ℕ) → f ≡ Interleaved →
-              top (record (with_chunk v x) { waiting = at v.waiting s (v.waiting s ++ message_of f g.head g.rest ∷ []); kept = without_message f (x ∷ v.kept) (g.head ∷ g.rest) }) q
-              ≡ near_of (stream_at (set k.streams s (inbound_of new)) q) Unordered
-          top_whole_now q idata =
-              ap (λ (i : ℕ). top (record (with_chunk v x) { waiting = at v.waiting i (v.waiting i ++ message_of f g.head g.rest ∷ []); kept = without_message f (x ∷ v.kept) (g.head ∷ g.rest) }) q)
+          past_whole_now : (q : ℕ) → f ≡ Interleaved →
+              past_top (record (with_chunk v x) { waiting = at v.waiting s (v.waiting s ++ message_of f g.head g.rest ∷ []); kept = without_message f (x ∷ v.kept) (g.head ∷ g.rest) }) q
+              ≡ past_of (stream_at (set k.streams s (inbound_of new)) q)
+          past_whole_now q idata =
+              ap (λ (i : ℕ). past_top (record (with_chunk v x) { waiting = at v.waiting i (v.waiting i ++ message_of f g.head g.rest ∷ []); kept = without_message f (x ∷ v.kept) (g.head ∷ g.rest) }) q)
               (sym (ap (λ (m : Lane). m.stream) head_lane))
-              ∙ top_whole_in f (with_chunk v x) g.head g.rest q idata (whole.1 g.head (inl refl))
-              ∙ largest_now (ap (λ (c : StreamKept). c.largest) g.stream) (ap (λ (c : StreamKept). c.skip) g.stream) q idata
+              ∙ past_whole_in f (with_chunk v x) g.head g.rest q idata (whole.1 g.head (inl refl))
+              ∙ past_now (ap (λ (c : StreamKept). c.past) g.stream) (ap (λ (c : StreamKept). c.skip) g.stream) q idata
 
           first_so : KeepsView f (record k { seen = seen; streams = set k.streams s (inbound_of new); held = held })
               (record (with_chunk v x) { waiting = at v.waiting s (v.waiting s ++ message_of f g.head g.rest ∷ []); kept = without_message f (x ∷ v.kept) (g.head ∷ g.rest) })
           first_so = keeps_fewer f k v x seen h s (λ (z : Piece). not (goes_with f (g.head ∷ g.rest) z)) (inbound_of new) held v.next (message_of f g.head g.rest ∷ []) within
               (λ q. h.keeps.next q ∙ sym (same_field (λ (c : StreamKept). c.next) k.streams s (inbound_of new) within (ap (λ (c : StreamKept). c.next) g.stream ∙ sym (ap (λ (c : StreamKept). c.next) stream_is)) q)) h.keeps.skipped
-              (ap (λ (c : StreamKept). c.skip) g.stream ∙ sym (ap (λ (c : StreamKept). c.skip) stream_is)) top_whole_now
+              (ap (λ (c : StreamKept). c.skip) g.stream ∙ sym (ap (λ (c : StreamKept). c.skip) stream_is)) past_whole_now
               (ap (λ (c : StreamKept). c.waiting) g.stream ∙ ap (λ (hs : List Handed). hs ++ message_of f g.head g.rest ∷ []) (sym (ap (λ (c : StreamKept). c.waiting) stream_is)))
               size (counts_kept (without_message f (x ∷ v.kept) (g.head ∷ g.rest)) (message_of f g.head g.rest ∷ []) held after given there off size (afters (without_message f (x ∷ v.kept) (g.head ∷ g.rest)) here) bytes counts)
 
@@ -263,7 +263,7 @@ module _ (f : Format) (k : ReceiverKept) (v : ReceiverView) (x : Piece) (seen : 
             numbers = all_numbers f k v x seen h;
             next = λ q. h.keeps.next q ∙ sym (same (λ (c : StreamKept). c.next) (ap (λ (c : StreamKept). c.next) g.stream) q);
             skip = λ q. h.keeps.skip q ∙ sym (same (λ (c : StreamKept). c.skip) (ap (λ (c : StreamKept). c.skip) g.stream) q);
-            top = largest_now (ap (λ (c : StreamKept). c.largest) g.stream) (ap (λ (c : StreamKept). c.skip) g.stream);
+            past = past_now (ap (λ (c : StreamKept). c.past) g.stream) (ap (λ (c : StreamKept). c.skip) g.stream);
             skipped = h.keeps.skipped;
             waiting = λ q. h.keeps.waiting q ∙ sym (same (λ (c : StreamKept). c.waiting) (ap (λ (c : StreamKept). c.waiting) g.stream) q);
             streams = h.keeps.streams ∙ sym (length_set k.streams s (inbound_of new));

@@ -21,6 +21,7 @@ use Rattle.sctp_model.proofs.receiver.Filters.{filter_none}
 use Rattle.sctp_model.proofs.receiver.OfLane.{of_says, of_below}
 use Rattle.sctp_chains.specs.WholeOf.{from_number}
 use Rattle.sctp_recv.specs.declared.stream.Stream.{Stream}
+use Rattle.sctp_recv.specs.declared.restart.Restart.{Restart}
 use Rattle.sctp_recv.specs.ReceiverKept.{near_of}
 use Rattle.sctp_recv.specs.Fields.{stream_of}
 use Rattle.sctp_recv.specs.StandsFor.{IsFindable, AreFindable}
@@ -85,11 +86,11 @@ below_more touched n next new count s below here up now i q low got = elim (case
 
 -- ---- a stream that isn't touched is quiet
 
-unnamed : (f : Format) (l : Lane) (near : ℕ) (xs : List SkipMeaning) → ((x : SkipMeaning) → Has xs x → x.stream ≡ l.stream → ⊥) → most_skipped f l near xs ≡ 0
-unnamed f l near [] other = refl
-unnamed f l near (x ∷ xs) other = elim (cases_Bool (same_lane l (lane_of x.stream x.unordered))) [
+unnamed : (f : Format) (l : Lane) (base near : ℕ) (xs : List SkipMeaning) → ((x : SkipMeaning) → Has xs x → x.stream ≡ l.stream → ⊥) → most_skipped f l base near xs ≡ 0
+unnamed f l base near [] other = refl
+unnamed f l base near (x ∷ xs) other = elim (cases_Bool (same_lane l (lane_of x.stream x.unordered))) [
   | inl same ↦ absurd (other x (inl refl) (sym (ap (λ (k : Lane). k.stream) (lanes_same l (lane_of x.stream x.unordered) same))))
-  | inr apart ↦ let more = unnamed f l near xs (λ y there. other y (inr there)) in rw apart (omega (arith, more))
+  | inr apart ↦ let more = unnamed f l base near xs (λ y there. other y (inr there)) in rw apart (omega (arith, more))
 ]
 
 -- no unordered chunk goes from a stream to which the index doesn't lead, and that no entry names
@@ -104,12 +105,12 @@ none_left Plain jump skip q lows us off all = filter_none (λ (y : Piece). not (
     ]
 none_left Interleaved jump skip q lows us off all = filter_none (λ (y : Piece). not (is_skipped y.number skip)) us (λ y has. ap not (all y has).1)
 
-pub are_quiet : {F : Type 0} (f : Format) (jump : ℕ) (xs : List SkipMeaning) (v : ReceiverView) (lows : Lows) (touched : List ℕ) (streams : List (Stream F)) → IsAtRest f v → AreFindable f v lows →
+pub are_quiet : {F : Type 0} (f : Format) (b : ℕ → Restart) (jump : ℕ) (xs : List SkipMeaning) (v : ReceiverView) (lows : Lows) (touched : List ℕ) (streams : List (Stream F)) → IsAtRest f v → AreFindable f v lows →
     ((s : ℕ) → IsTouched s lows jump xs → Contains touched s) → ((q : ℕ) (x : Stream F) → slice_get streams q ≡ Some x → v.next q ≡ (stream_of x).next) →
-    ((q : ℕ) (x : Stream F) → slice_get streams q ≡ Some x → v.skip (unordered_lane q) ≡ (stream_of x).skip) → AreQuiet f jump xs v touched streams
-are_quiet f jump xs v lows touched streams rest findable all next skip q x got off = record {
-  ordered = let none = unnamed f (ordered_lane q) (stream_of x).next xs (λ y there same. off (all q (inr (y, there, same)))) in omega (arith, none);
-  unordered = let none = unnamed f (unordered_lane q) (near_of (stream_of x) Unordered) xs (λ y there same. off (all q (inr (y, there, same)))) in omega (arith, none);
+    ((q : ℕ) (x : Stream F) → slice_get streams q ≡ Some x → v.skip (unordered_lane q) ≡ (stream_of x).skip) → AreQuiet f b jump xs v touched streams
+are_quiet f b jump xs v lows touched streams rest findable all next skip q x got off = record {
+  ordered = let none = unnamed f (ordered_lane q) (b q).ordered (stream_of x).next xs (λ y there same. off (all q (inr (y, there, same)))) in omega (arith, none);
+  unordered = let none = unnamed f (unordered_lane q) (b q).unordered (near_of (stream_of x) Unordered) xs (λ y there same. off (all q (inr (y, there, same)))) in omega (arith, none);
   none = subst (λ (n : ℕ). HasNoWhole f v.kept (ordered_lane q) n) (next q x got) (rest.idle.ordered q).none;
   clear = subst (λ (n : ℕ). from_number n (of_lane (ordered_lane q) v.kept) ≡ of_lane (ordered_lane q) v.kept) (next q x got) clear_there;
   stays = none_left f jump (stream_of x).skip q lows (of_lane (unordered_lane q) v.kept) (λ there. off (all q (inl there)))

@@ -12,7 +12,7 @@ use Rattle.sctp_recv.specs.declared.stream.Stream.{Stream}
 
 -- numbers and messages, these as they were handed over
 abbrev pub inbound_of : {F : Type 0} → Inbound F → StreamKept
-inbound_of x = record { next = x.next; skip = x.skip; largest = x.largest; waiting = map handed_of x.waiting.items }
+inbound_of x = record { next = x.next; skip = x.skip; past = x.past; waiting = map handed_of x.waiting.items }
 
 -- the same, and nothing where nothing is known
 abbrev pub known_of : {F : Type 0} → Option (Inbound F) → StreamKept

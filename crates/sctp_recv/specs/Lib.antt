@@ -4,8 +4,10 @@ pub mod SeenStands
 pub mod Blocks
 pub mod Parts
 pub mod HandedOf
+pub mod ResetsKept
 pub mod ReceiverKept
 pub mod Fields
+pub mod Resets
 pub mod KeptOf
 pub mod Lows
 pub mod Filed
@@ -14,4 +16,5 @@ pub mod StandsFor
 pub mod SackOf
 pub mod Laws
 pub mod AnswerOf
+pub mod Requests
 pub mod inner

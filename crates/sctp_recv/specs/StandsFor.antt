@@ -5,22 +5,22 @@ use Rattle.sctp_model.specs.numbers.Serial.{COUNTS}
 use Rattle.sctp_model.specs.messages.Format.{Format, Plain, Interleaved, Unordered, is_numbered, ordered_lane, unordered_lane}
 use Rattle.sctp_model.specs.messages.Framing.{is_skipped}
 use Rattle.sctp_model.specs.messages.Pieces.{Piece}
-use Rattle.sctp_model.specs.receiver.Incoming.{no_incoming}
 use Rattle.sctp_model.specs.receiver.ReceiverView.{ReceiverView, held_bytes}
 use Rattle.sctp_model.specs.receiver.Laws.{IsFilledOnce, IsAtRest}
-use Rattle.sctp_model.specs.receiver.Top.{top}
-use Rattle.sctp_recv.specs.ReceiverKept.{ReceiverKept, stream_at, near_of}
+use Rattle.sctp_model.specs.receiver.ResetTaken.{past_top}
+use Rattle.sctp_recv.specs.ReceiverKept.{ReceiverKept, stream_at, past_of}
 use Rattle.sctp_recv.specs.SeenStands.{SeenStands}
 use Rattle.sctp_recv.specs.KeptOf.{kept_of}
 use Rattle.sctp_recv.specs.Filed.{AreFiled}
+use Rattle.sctp_recv.specs.Resets.{KeepsResets}
 use Rattle.sctp_recv.specs.Lows.{IsMarked}
 use Rattle.sctp_recv.specs.inner.Bits.{IsShown}
 use Rattle.sctp_recv.specs.declared.places.Lows.{Lows}
 use Rattle.sctp_recv.specs.declared.receiver.Receiver.{Receiver}
 
 -- What is kept says the view, up to what the receiver has let go: the indexes at or below the cumulative one, the messages taken, and the
--- skipped ordered numbers, of which none is past the next; of unordered ones the largest, where they are numbered. The chunks kept are apart, each was recorded, and all that is held fits the buffer;
--- a stream's number has 16 bits; the peer has reset no stream.
+-- skipped ordered numbers, of which none is past the next; of unordered ones the largest, where they are numbered; of streams that were reset, how many of the messages that wait were delivered before. The chunks kept are apart, each was recorded, and all that is held fits the buffer;
+-- a stream's number has 16 bits.
 pub record KeepsView (f : Format) (k : ReceiverKept) (v : ReceiverView) : Type 0 where
   pub seen : SeenStands k.seen v.seen v.jump
   pub counts : (i : ℕ) → v.seen i ≡ true → suc i < COUNTS
@@ -29,13 +29,13 @@ pub record KeepsView (f : Format) (k : ReceiverKept) (v : ReceiverView) : Type 0
   pub numbers : (x : Piece) (n : ℕ) → Has v.kept x → x.number ≡ Some n → suc n < COUNTS
   pub next : (s : ℕ) → v.next s ≡ (stream_at k.streams s).next
   pub skip : (s : ℕ) → v.skip (unordered_lane s) ≡ (stream_at k.streams s).skip
-  pub top : (s : ℕ) → f ≡ Interleaved → top v s ≡ near_of (stream_at k.streams s) Unordered
+  pub past : (s : ℕ) → f ≡ Interleaved → past_top v s ≡ past_of (stream_at k.streams s)
   pub skipped : (s : ℕ) → v.skip (ordered_lane s) ≤ v.next s
   pub waiting : (s : ℕ) → v.waiting s ≡ (stream_at k.streams s).waiting
   pub streams : v.streams ≡ length k.streams
   pub few_streams : length k.streams < 2 ^ 16
   pub duplicates : v.duplicates ≡ k.duplicates
-  pub resets : v.resets ≡ no_incoming
+  pub resets : KeepsResets f k.resets v.initial v.streams v.taken v.resets
   pub held : k.held ≡ held_bytes v
   pub room : k.held ≤ k.buffer
   pub small : k.buffer < 2 ^ 32

@@ -4,3 +4,5 @@ pub mod Forwarding
 pub mod Places
 pub mod Bits
 pub mod Reassembly
+pub mod Restarting
+pub mod Requesting

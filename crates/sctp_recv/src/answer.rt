@@ -31,6 +31,8 @@ pub(crate) enum Row {
     NoSuchStream { index: u64 },
     Passed { index: u64 },
     NoRoom,
+    /// Taken, but its number is no count below the largest.
+    Uncounted,
     Taken { index: u64, number: Option<u64> },
 }
 

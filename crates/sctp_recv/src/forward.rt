@@ -4,7 +4,6 @@
 //! each such stream times its entries, under DATA also twice the height of the tree of `lows.rt`; other streams aren't looked at.
 
 ghost use Rattle.std.specs.Prelude.{◌≡◌, ℕ, true, false, List, map, length, Some, IfOk, OnOk, OnErr};
-ghost use Rattle.std.specs.List.{Contains};
 ghost use Rattle.std.specs.List.Sorted.{IsNonDecreasing, IsPermutation};
 ghost use Rattle.sctp_model.specs.receiver.ReceiverView.{ReceiverView, IsCumulative};
 ghost use Rattle.sctp_model.specs.receiver.Receiving.{GivesAll};
@@ -15,21 +14,26 @@ ghost use Rattle.sctp_wire.specs.ChunkTree.{skip_meaning, forward_meaning};
 ghost use Rattle.sctp_chains.specs.Cells.{Kept};
 ghost use Rattle.sctp_chains.specs.StandsFor as lane;
 ghost use Rattle.sctp_recv.specs.AnswerOf.{forward_answer_of};
-ghost use Rattle.sctp_recv.specs.Fields.{inside, stream_of};
+ghost use Rattle.sctp_recv.specs.Fields.{inside, inbound_of, stream_of};
+ghost use Rattle.sctp_recv.specs.Resets.{restart_in, resets_in};
 ghost use Rattle.sctp_recv.specs.Filed.{Keeps, SameLanes, AreFiled};
 ghost use Rattle.sctp_recv.specs.StandsFor.{Stands, AreFindable, StandsFor};
 ghost use Rattle.sctp_recv.specs.inner.Bits.{AreShown, IsShown};
-ghost use Rattle.sctp_recv.specs.inner.Forwarding.{AreByStream, IsTouched, HasRoomOn, HaveRoom, AreQuiet, PassesOn, AreToPass, ArePassed};
+ghost use Rattle.sctp_recv.specs.inner.Forwarding.{AreByStream, AreCounts, HasRoomOn, HaveRoom, AreQuiet, PassesOn, AreToPass, ArePassed};
 ghost use Rattle.sctp_recv.specs.inner.Giving.{HasRoom, AreCounted};
 ghost use Rattle.sctp_recv.specs.inner.Rows.{IsAbove};
 
 use crate::answer::{TsnPlace, place_of_tsn};
-use crate::entries::{by_stream, lowest_after, names_other_stream, of_stream};
+use crate::entries::{
+    all_count, by_stream, lowest_after, names_other_stream, of_stream, touched_by,
+};
 use crate::give::{give_ordered, make_room};
 use crate::inbound::Inbound;
 use crate::places::Lows;
 use crate::ready::{Ready, show};
 use crate::receiver::Receiver;
+use crate::resets::{Resets, restart_of};
+use crate::restart::Restart;
 use crate::stream::{Stream, make};
 use sctp_framing::Framing;
 use sctp_values::{Kind, NoMemory};
@@ -45,27 +49,6 @@ pub enum ForwardAnswer {
     Bad,
     /// The cumulative TSN moved, and the messages that were then due were delivered.
     Moved,
-}
-
-/// The streams that a FORWARD up to an index may change, in rising order: those that it names, and those of which it discards something by the index.
-///
-/// # Errors
-/// Allocation failed.
-fn touched_by(
-    alloc: Global,
-    lows: &Lows,
-    jump: u64,
-    skips: &Skips<'_>,
-) -> Result<Vec<u16>, NoMemory>
-    ensures rising { IfOk result (λ streams. IsNonDecreasing streams.items) }
-    ensures named { IfOk result (λ streams. (s : ℕ) → IsTouched s lows.now jump skips.now.skips → Contains streams.items s) }
-{
-    let mut streams = lows.upto(alloc, jump)?;
-    for skip in skips.iter() {
-        streams.push(skip.stream).map_err(|_| NoMemory)?;
-    }
-    streams.sort_unstable();
-    Ok(streams)
 }
 
 /// Reserves memory on a stream for the messages that may be delivered.
@@ -111,17 +94,21 @@ fn make_rooms<F: Framing>(
 fn pass_in<F: Framing>(
     inbound: &mut Inbound<F>,
     stream: u16,
+    restart: Restart,
     entries: &[Skip],
     jump: u64,
     held: u32,
 ) -> u32
     ensures { (os us : Kept) → lane.StandsFor F.format inbound.old.ordered (ordered_lane stream) os → lane.StandsFor F.format inbound.old.unordered (unordered_lane stream) us
-        → AreCounted os → HasRoom inbound.old 0 → PassesOn F.format stream jump (map skip_meaning entries.now) os us (Some inbound.old) (Some inbound.new) held result }
+        → AreCounted os → HasRoom inbound.old 0 → AreCounts F.format restart stream (inbound_of inbound.old) (map skip_meaning entries.now)
+        → PassesOn F.format restart stream jump (map skip_meaning entries.now) os us (Some inbound.old) (Some inbound.new) held result }
 {
     let next = inbound.next;
-    let floor = lowest_after::<F>(entries, stream, Kind::Ordered, next, next);
+    let floor = lowest_after::<F>(entries, stream, Kind::Ordered, restart.ordered, next, next);
     let near = inbound.near(Kind::Unordered);
-    inbound.skip = lowest_after::<F>(entries, stream, Kind::Unordered, near, inbound.skip);
+    let skip = inbound.skip;
+    let base = restart.unordered;
+    inbound.skip = lowest_after::<F>(entries, stream, Kind::Unordered, base, near, skip);
     let before = inbound.kept_bytes();
     inbound.unordered.let_go(jump, inbound.skip);
     let given = give_ordered(inbound, stream, floor);
@@ -134,15 +121,17 @@ fn pass_in<F: Framing>(
 fn pass_on<F: Framing>(
     known: &mut Stream<F>,
     stream: u16,
+    restart: Restart,
     entries: &[Skip],
     jump: u64,
     held: u32,
 ) -> u32
     ensures { (os us : Kept) → Keeps F.format (inside known.old) false (ordered_lane stream) os → Keeps F.format (inside known.old) true (unordered_lane stream) us
-        → AreCounted os → HasRoomOn (inside known.old) → PassesOn F.format stream jump (map skip_meaning entries.now) os us (inside known.old) (inside known.new) held result }
+        → AreCounted os → HasRoomOn (inside known.old) → AreCounts F.format restart stream (stream_of known.old) (map skip_meaning entries.now)
+        → PassesOn F.format restart stream jump (map skip_meaning entries.now) os us (inside known.old) (inside known.new) held result }
 {
     match &mut known.inbound {
-        Some(inbound) => pass_in(inbound, stream, entries, jump, held),
+        Some(inbound) => pass_in(inbound, stream, restart, entries, jump, held),
         None => held,
     }
 }
@@ -151,6 +140,7 @@ fn pass_on<F: Framing>(
 fn pass_on_all<F: Framing>(
     streams: &mut Vec<Stream<F>>,
     ready: &mut Ready,
+    resets: &Option<Box<Resets>>,
     touched: &[u16],
     entries: &[Skip],
     jump: u64,
@@ -159,8 +149,8 @@ fn pass_on_all<F: Framing>(
     ensures count { length streams.new.items ≡ length streams.old.items }
     ensures shown { AreShown ready.old.words.items (map stream_of streams.old.items) → AreShown ready.new.words.items (map stream_of streams.new.items) }
     ensures passed { (v r : ReceiverView) (xs : List SkipMeaning) → AreByStream entries.now → IsPermutation xs (map skip_meaning entries.now)
-        → AreToPass F.format jump xs v r streams.old.items held → HaveRoom touched.now (length touched.now) streams.old.items
-        → IsNonDecreasing touched.now → AreQuiet F.format jump xs v touched.now streams.old.items
+        → AreToPass F.format (restart_in (resets_in resets.now)) jump xs v r streams.old.items held → HaveRoom touched.now (length touched.now) streams.old.items
+        → IsNonDecreasing touched.now → AreQuiet F.format (restart_in (resets_in resets.now)) jump xs v touched.now streams.old.items
         → (t : ReceiverView) × GivesAll F.format (length streams.old.items) r t × ArePassed F.format t streams.new.items result }
 {
     let mut left = held;
@@ -170,7 +160,8 @@ fn pass_on_all<F: Framing>(
         let place = usize::from(stream);
         if next <= place && place < streams.len() {
             let own = of_stream(entries, stream);
-            left = pass_on(&mut streams[place], stream, own, jump, left);
+            let restart = restart_of(resets, stream);
+            left = pass_on(&mut streams[place], stream, restart, own, jump, left);
             show(ready, streams, stream);
             next = place + 1;
         }
@@ -223,7 +214,7 @@ impl<F: Framing> Receiver<F> {
     /// Passes all up to an index, and of each stream and kind the numbers that are skipped; then delivers what is due.
     ///
     /// # Errors
-    /// Allocation failed, and nothing changed.
+    /// Allocation failed, or a number is no count below the largest; nothing changed.
     fn pass_to(&mut self, index: u64, skips: &Skips<'_>) -> Result<(), NoMemory>
         ensures passed { (v : ReceiverView) → StandsFor F.format self.old v → (x : ForwardMeaning) → x.skips ≡ skips.now.skips
             → IsAbove self.old.initial self.old.seen.kept.cumulative x.cumulative index → names_other_stream (length self.old.streams.items) x.skips ≡ false
@@ -233,9 +224,13 @@ impl<F: Framing> Receiver<F> {
         let entries = by_stream(self.alloc, skips)?;
         let touched = touched_by(self.alloc, &self.lows, index, skips)?;
         make_rooms(self.alloc, &mut self.streams, &touched)?;
+        if !all_count(&self.streams, &self.resets, &entries) {
+            return Err(NoMemory);
+        }
         self.held = pass_on_all(
             &mut self.streams,
             &mut self.ready,
+            &self.resets,
             &touched,
             &entries,
             index,

@@ -11,7 +11,7 @@ ghost use Rattle.sctp_chains.specs.StandsFor.{IsNew};
 ghost use Rattle.sctp_chains.specs.Cells.{counted};
 ghost use Rattle.sctp_recv.specs.Fields.{inbound_of};
 ghost use Rattle.sctp_recv.specs.Filed.{lane_in};
-ghost use Rattle.sctp_recv.specs.ReceiverKept.{or_larger};
+ghost use Rattle.sctp_recv.specs.ReceiverKept.{or_past};
 ghost use Rattle.sctp_recv.specs.HandedOf.{handed_of, message_bytes};
 ghost use Rattle.sctp_recv.specs.inner.Giving.{sized, HasRoom, SameChunks, AreCounted, GivesDue, IsGivenSoFar, GivesNewest, GivesBy};
 
@@ -139,13 +139,13 @@ fn give_kept<F: Framing>(inbound: &mut Inbound<F>, stream: u16, floor: u64, befo
     given
 }
 
-/// The larger of two numbers, or the first if there is no second.
-fn larger(largest: u64, number: Option<u64>) -> u64
-    ensures { result ≡ or_larger largest number }
+/// The number past those up to `past` and another, if there is one.
+fn past_after(past: u64, number: Option<u64>) -> u64
+    ensures { ((n : ℕ) → number ≡ Some n → suc n < 2 ^ 64) → result ≡ or_past past number }
 {
     match number {
-        Some(number) => largest.max(number),
-        None => largest,
+        Some(number) => past.max(number.saturating_add(1)),
+        None => past,
     }
 }
 
@@ -205,13 +205,13 @@ fn keep_unordered<F: Framing>(
 ) -> Result<u32, NoMemory>
     ensures given { (kept : Kept) → lane.StandsFor F.format inbound.old.unordered (unordered_lane piece.now.stream) kept
         → IsNew F.format (unordered_lane piece.now.stream) kept (counted index (piece_meaning piece.now) number)
-        → lane_of piece.now.stream piece.now.unordered ≡ unordered_lane piece.now.stream
+        → lane_of piece.now.stream piece.now.unordered ≡ unordered_lane piece.now.stream → ((n : ℕ) → number ≡ Some n → suc n < 2 ^ 64)
         → IfOk result (λ bytes. GivesNewest F.format piece.now.stream (counted index (piece_meaning piece.now) number) kept inbound.old inbound.new bytes) }
     ensures refused { OnErr result ((inbound_of inbound.new ≡ inbound_of inbound.old) × SameChunks F.format inbound.old inbound.new) }
 {
     make_one(&mut inbound.waiting)?;
     inbound.unordered.add(spare, piece, index, number)?;
-    inbound.largest = larger(inbound.largest, number);
+    inbound.past = past_after(inbound.past, number);
     match inbound.unordered.take_with(piece, index, number) {
         Some(whole) => Ok(wait_reserved(
             &mut inbound.waiting,

@@ -1,6 +1,6 @@
 //! The state of a stream on which something was received.
 
-ghost use Rattle.std.specs.Prelude.{◌≡◌, ℕ, ◌+◌, [], min, length, if◌then◌else◌};
+ghost use Rattle.std.specs.Prelude.{◌≡◌, ℕ, ◌+◌, ◌^◌, ◌<◌, [], min, length, if◌then◌else◌};
 ghost use Rattle.sctp_model.specs.messages.Format.{Lane};
 ghost use Rattle.sctp_model.specs.receiver.ReceiverView.{size_of_pieces};
 ghost use Rattle.sctp_model.specs.receiver.PieceTaken.{is_repeated};
@@ -10,7 +10,7 @@ ghost use Rattle.sctp_chains.specs.Cells.{Kept, IsOf, counted};
 ghost use Rattle.sctp_chains.specs.StandsFor as lane;
 ghost use Rattle.sctp_recv.specs.Fields.{inbound_of};
 ghost use Rattle.sctp_recv.specs.Filed.{lane_in};
-ghost use Rattle.sctp_recv.specs.ReceiverKept.{FRESH, near_of, lowest_of};
+ghost use Rattle.sctp_recv.specs.ReceiverKept.{FRESH, past_of, near_of, lowest_of};
 ghost use Rattle.sctp_recv.specs.inner.Giving.{sized};
 
 use crate::message::Message;
@@ -28,8 +28,8 @@ pub(crate) struct Inbound<F: Framing> {
     pub(crate) next: u64,
     /// The lowest unordered number not skipped.
     pub(crate) skip: u64,
-    /// The largest number of an unordered chunk that was kept, 0 if there was none.
-    pub(crate) largest: u64,
+    /// One past the largest number of an unordered chunk that was kept, 0 if there was none.
+    pub(crate) past: u64,
     /// The messages that were delivered and wait for the user, first to last.
     pub(crate) waiting: VecDeque<Message>,
     /// The ordered chunks kept.
@@ -48,20 +48,29 @@ impl<F: Framing> Inbound<F> {
         Inbound {
             next: 0,
             skip: 0,
-            largest: 0,
+            past: 0,
             waiting: VecDeque::new(alloc),
             ordered: Chains::new(alloc),
             unordered: Chains::new(alloc),
         }
     }
 
+    /// One past the largest unordered number that was recorded or skipped, 0 if there was none.
+    pub(crate) fn past_all(&self) -> u64
+        ensures { result ≡ past_of (inbound_of self.now) }
+    {
+        self.skip.max(self.past)
+    }
+
     /// The count near which a wire value is read: the next ordered number, or the largest unordered one that was recorded or skipped.
     pub(crate) fn near(&self, kind: Kind) -> u64
-        ensures { result ≡ near_of (inbound_of self.now) (kind_meaning kind) }
+        ensures near { result ≡ near_of (inbound_of self.now) (kind_meaning kind) }
+        // The lowest number that counts is a count.
+        ensures lowest { lowest_of (inbound_of self.now) (kind_meaning kind) < 2 ^ 64 }
     {
         match kind {
-            Kind::Ordered => self.next,
-            Kind::Unordered => self.skip.saturating_sub(1).max(self.largest),
+            Kind::Ordered => self.lowest(kind),
+            Kind::Unordered => self.past_all().saturating_sub(1),
         }
     }
 

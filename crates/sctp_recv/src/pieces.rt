@@ -12,7 +12,7 @@
 //! message is taken that it belongs to. Under I-DATA a stream knows near which count its unordered MIDs are read by two numbers, the
 //! lowest not skipped and the largest kept.
 
-ghost use Rattle.std.specs.Prelude.{◌≡◌, ◌<◌, ℕ, true, false, ◌&&◌, IfOk, OnOk, OnErr};
+ghost use Rattle.std.specs.Prelude.{◌≡◌, ◌<◌, ◌≤◌, length, ℕ, true, false, ◌&&◌, IfOk, OnOk, OnErr};
 ghost use Rattle.sctp_model.specs.messages.Format.{Unordered, is_numbered};
 ghost use Rattle.sctp_model.specs.receiver.ReceiverView.{ReceiverView, IsCumulative};
 ghost use Rattle.sctp_model.specs.receiver.Receiving.{TakesPiece};
@@ -24,7 +24,7 @@ ghost use Rattle.sctp_recv.specs.KeptOf.{kept_of};
 ghost use Rattle.sctp_recv.specs.Lows.{IsMarked};
 ghost use Rattle.sctp_recv.specs.StandsFor.{Stands, StandsFor};
 ghost use Rattle.sctp_recv.specs.inner.Bits.{IsShown};
-ghost use Rattle.sctp_recv.specs.inner.Rows.{IsRowOf, IsWanted};
+ghost use Rattle.sctp_recv.specs.inner.Rows.{IsRowOf, IsByRoom, IsWanted};
 
 use crate::answer::{Answer, Row, TsnPlace, place_of_tsn};
 use crate::give::keep_in;
@@ -32,6 +32,8 @@ use crate::inbound::Inbound;
 use crate::places::Lows;
 use crate::ready::show_change;
 use crate::receiver::Receiver;
+use crate::resets::restart_of;
+use crate::restart::is_largest;
 use crate::stream::make;
 use sctp_framing::Framing;
 use sctp_values::{Kind, NoMemory};
@@ -56,7 +58,7 @@ impl<F: Framing> Receiver<F> {
     /// Handles a DATA or I-DATA chunk: the first row of the table that applies is its answer, and is carried out.
     ///
     /// # Errors
-    /// Allocation failed, and nothing changed.
+    /// Allocation failed, or after a reset the number of a chunk to be kept is no count below the largest; nothing changed.
     pub fn on_data(&mut self, piece: &Piece<'_>) -> Result<Answer, NoMemory>
         ensures step { (v : ReceiverView) → StandsFor F.format self.old v
             → IfOk result (λ a. (t : ReceiverView) × PieceTaken F.format v (piece_meaning piece.now) (answer_of a) t × StandsFor F.format self.new t) }
@@ -79,12 +81,24 @@ impl<F: Framing> Receiver<F> {
                 Ok(Answer::Passed)
             }
             Row::NoRoom => Ok(Answer::NoRoom),
+            Row::Uncounted => Err(NoMemory),
             Row::Taken { index, number } => {
                 note::<F>(&mut self.lows, piece, index);
                 self.keep(piece, index, number)?;
                 Ok(Answer::Taken)
             }
         }
+    }
+
+    /// The row of a chunk that is wanted, but whose number is no count below the largest.
+    fn row_by_room(&self, piece: &Piece<'_>) -> Row
+        ensures { self.now.held ≤ self.now.buffer → IsByRoom (kept_of self.now) (length (piece_meaning piece.now).bytes) result }
+    {
+        let room = self.buffer.saturating_sub(self.held) as usize;
+        if room < piece.bytes.len() {
+            return Row::NoRoom;
+        }
+        Row::Uncounted
     }
 
     /// The first row of the table that applies to a chunk.
@@ -106,7 +120,11 @@ impl<F: Framing> Receiver<F> {
         }
         let known = &self.streams[stream];
         let kind = Kind::of_flag(piece.unordered);
-        let number = known.number_near(kind, piece.number);
+        let base = restart_of(&self.resets, piece.stream).base(kind);
+        let number = known.number_near(kind, piece.number, base);
+        if is_largest(number) {
+            return self.row_by_room(piece);
+        }
         if known.is_late(kind, number) || known.is_held(piece, number) {
             return Row::Passed { index };
         }

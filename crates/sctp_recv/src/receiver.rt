@@ -19,6 +19,7 @@ use crate::give::less;
 use crate::message::Message;
 use crate::places::Lows;
 use crate::ready::{Ready, show_change};
+use crate::resets::{Resets, count_off};
 use crate::sack::SackLists;
 use crate::seen::Seen;
 use crate::stream::{Stream, fresh_streams, take_first};
@@ -38,6 +39,8 @@ pub struct Receiver<F: Framing> {
     pub(crate) seen: Seen,
     pub(crate) streams: Vec<Stream<F>>,
     pub(crate) duplicates: Duplicates,
+    /// The resets of the peer's streams, once it made a request.
+    pub(crate) resets: Option<Box<Resets>>,
     /// For each stream a bound of the indexes of the unordered chunks kept, if their messages have no number.
     pub(crate) lows: Lows,
     /// On which streams a message waits.
@@ -81,6 +84,7 @@ impl<F: Framing> Receiver<F> {
             seen: Seen::new(alloc),
             streams,
             duplicates: Duplicates::new(alloc),
+            resets: None,
             lows,
             ready,
             spare: Spare::new(alloc),
@@ -182,6 +186,7 @@ impl<F: Framing> Receiver<F> {
             Some(message) => {
                 self.held = less(self.held, &message);
                 self.spare.taken();
+                count_off(&mut self.resets, stream);
                 let waits = self.streams[at].has_message();
                 show_change(&mut self.ready, &self.streams, stream, true, waits);
                 Some(message)

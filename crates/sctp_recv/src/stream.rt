@@ -1,8 +1,7 @@
 //! A stream, with or without state.
 
-ghost use Rattle.std.specs.Prelude.{◌≡◌, ℕ, true, false, [], ◌∷◌, ◌&&◌, min, length, if◌then◌else◌, map, replicate, slice_get, None, Some, IfOk, OnOk, IsSome, MatchOption};
+ghost use Rattle.std.specs.Prelude.{◌≡◌, ◌<◌, ◌^◌, ℕ, true, false, [], ◌∷◌, ◌&&◌, min, length, if◌then◌else◌, map, replicate, slice_get, None, Some, IfOk, OnOk, IsSome, MatchOption};
 ghost use Rattle.sctp_model.specs.messages.Format.{Lane, is_numbered};
-ghost use Rattle.sctp_model.specs.messages.Framing.{number_near};
 ghost use Rattle.sctp_model.specs.receiver.PieceTaken.{is_repeated};
 ghost use Rattle.sctp_values.specs.Meanings.{kind_meaning};
 ghost use Rattle.sctp_wire.specs.ChunkTree.{piece_meaning};
@@ -11,10 +10,12 @@ ghost use Rattle.sctp_chains.specs.StandsFor as lane;
 ghost use Rattle.sctp_recv.specs.Fields.{inbound_of, inside, stream_of};
 ghost use Rattle.sctp_recv.specs.Filed.{Keeps, SameLanes, AreFiled};
 ghost use Rattle.sctp_recv.specs.HandedOf.{handed_of};
-ghost use Rattle.sctp_recv.specs.ReceiverKept.{FRESH, near_of, lowest_of, is_below_or_none};
+ghost use Rattle.sctp_recv.specs.ReceiverKept.{FRESH, near_of, number_read, in_64, lowest_of, is_below_or_none};
+ghost use Rattle.sctp_recv.specs.inner.Restarting.{restart_from};
 
 use crate::inbound::Inbound;
 use crate::message::Message;
+use crate::restart::Restart;
 use sctp_framing::Framing;
 use sctp_values::{Kind, NoMemory};
 use sctp_wire::Piece;
@@ -28,8 +29,10 @@ pub(crate) struct Stream<F: Framing> {
 
 impl<F: Framing> Stream<F> {
     /// The count near which a wire value is read.
-    fn near(&self, kind: Kind) -> u64
-        ensures { result ≡ near_of (stream_of self.now) (kind_meaning kind) }
+    pub(crate) fn near(&self, kind: Kind) -> u64
+        ensures near { result ≡ near_of (stream_of self.now) (kind_meaning kind) }
+        // The lowest number that counts is a count.
+        ensures lowest { lowest_of (stream_of self.now) (kind_meaning kind) < 2 ^ 64 }
     {
         match &self.inbound {
             Some(inbound) => inbound.near(kind),
@@ -47,11 +50,29 @@ impl<F: Framing> Stream<F> {
         }
     }
 
-    /// The number that a wire value is read as.
-    pub(crate) fn number_near(&self, kind: Kind, wire: u32) -> Option<u64>
-        ensures { result ≡ number_near F.format (kind_meaning kind) wire (near_of (stream_of self.now) (kind_meaning kind)) }
+    /// The number that a wire value is read as, if `base` is 0 on the wire: the largest stands for each that is no count below it.
+    pub(crate) fn number_near(&self, kind: Kind, wire: u32, base: u64) -> Option<u64>
+        ensures number { result ≡ in_64 (number_read F.format (kind_meaning kind) base wire (near_of (stream_of self.now) (kind_meaning kind))) }
+        ensures lowest { lowest_of (stream_of self.now) (kind_meaning kind) < 2 ^ 64 }
     {
-        F::number_near(kind, wire, self.near(kind))
+        match F::number_near(kind, wire, self.near(kind).saturating_sub(base)) {
+            Some(number) => Some(base.saturating_add(number)),
+            None => None,
+        }
+    }
+
+    /// How its numbers begin anew, if it is reset now.
+    pub(crate) fn restart(&self) -> Restart
+        ensures { result ≡ restart_from (stream_of self.now) }
+    {
+        match &self.inbound {
+            Some(inbound) => Restart {
+                ordered: inbound.next,
+                unordered: inbound.past_all(),
+                old: inbound.waiting.len(),
+            },
+            None => Restart::none(),
+        }
     }
 
     /// Whether a chunk is too late: its number is below those that count, or it has none although its kind is numbered.

@@ -78,7 +78,7 @@ fn stream_named(event: &Event) -> u16
     }
 }
 
-/// The code of a refusal, 1 to 7.
+/// The code of a refusal, 1 to 8.
 fn refusal_code(refusal: Refusal) -> u64
     ensures { (x : world.Side) (s : ℕ) → outcome_words x s (refusal_meaning refusal) ≡ codes "refused" ∷ decimal result ∷ [] }
 {
@@ -89,6 +89,7 @@ fn refusal_code(refusal: Refusal) -> u64
         Refusal::QueueFull => 4,
         Refusal::Spent => 5,
         Refusal::NotOpen => 7,
+        Refusal::Resetting => 8,
     }
 }
 

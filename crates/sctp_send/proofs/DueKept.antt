@@ -61,7 +61,7 @@ keeps_told f s v t r ms k told long here others = record {
     ];
   };
   forward = k.forward;
-  unreset = k.unreset;
+  resets = k.resets;
   before = k.before;
   counted = k.counted;
   reached = k.reached;
@@ -104,7 +104,7 @@ keeps_awake f s v size es ms b k are long each woken = record {
         record { queue = i.queue; items = λ on. by_sleep t now lt s.asleep b refl refl (i.items on); tracks = i.tracks };
   };
   forward = k.forward;
-  unreset = k.unreset;
+  resets = k.resets;
   before = k.before;
   counted = k.counted;
   reached = k.reached;
@@ -154,7 +154,7 @@ keeps_passed f s v n last k end most queue rests items = record {
     ];
   };
   forward = k.forward;
-  unreset = k.unreset;
+  resets = k.resets;
   before = k.before;
   counted = k.counted;
   reached = k.reached;

@@ -152,7 +152,7 @@ keeps_sacked f s v x n b rs k before stays p none runs =
             };
       };
       forward = k.forward;
-      unreset = k.unreset;
+      resets = k.resets;
       before = before ∙ ap (last_that v.sent) (sym p.index);
       counted = k.counted;
       reached = Covers v x k.reached none;
@@ -201,7 +201,7 @@ keeps_shut f s v wire n b k before p none =
       over = record { within = k.over.within; each = λ t le. let o = k.over.each t le in record { queue = o.queue; tracks = o.tracks; items = no_item_behind t n s.items o.items } };
       due = record { many = k.due.many; each = λ t now lt. let i = k.due.each t now lt in record { queue = i.queue; items = λ on. late_behind now t n s.asleep s.items (i.items on); tracks = i.tracks } };
       forward = k.forward;
-      unreset = k.unreset;
+      resets = k.resets;
       before = before ∙ ap (last_that v.sent) (sym p.index);
       counted = k.counted;
       reached = Closes v wire k.reached none;

@@ -3,7 +3,7 @@ pub mod HeldLemmas
 pub mod OverLemmas
 pub mod DueLemmas
 pub mod KeepLemmas
-pub mod UnresetLemmas
+pub mod ResetLemmas
 pub mod TimerLemmas
 pub mod QueueLemmas
 pub mod ReaderLemmas

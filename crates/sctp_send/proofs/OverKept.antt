@@ -52,7 +52,7 @@ keeps_over f s v n last d k given low moved rests items = record {
   };
   due = record { many = k.due.many; each = λ t now lt. let i = k.due.each t now lt in record { queue = i.queue; items = i.items; tracks = i.tracks } };
   forward = k.forward;
-  unreset = k.unreset;
+  resets = k.resets;
   before = k.before;
   counted = k.counted;
   reached = k.reached;

@@ -10,6 +10,7 @@ use Rattle.sctp_model.specs.messages.Plan.{Entry, Part, End}
 use Rattle.sctp_model.specs.sender.SenderView.{Queued, SenderView}
 use Rattle.sctp_model.specs.sender.Entries.{continued, fragments_from, one_if_some, sum_below, in_part}
 use Rattle.sctp_model.specs.sender.Queueing.{cut, owed_for, owed_by_queue, owed_by_parts, promised, refusal, queued, Spent}
+use Rattle.sctp_model.specs.sender.Outgoing.{is_sending}
 use Rattle.sctp_model.specs.sender.Words.{when, first_there}
 use Rattle.sctp_model.specs.sender.Abandoning.{waits, name_of}
 use Rattle.sctp_model.specs.sender.Reached.{Queues}
@@ -25,6 +26,7 @@ use Rattle.sctp_values.specs.declared.ticket.Ticket.{Ticket}
 use Rattle.sctp_send.specs.declared.queueing.SendFault.{SendFault}
 use Rattle.sctp_send.specs.declared.queueing.SendFault.TheVariants.{NoMemory}
 use Rattle.sctp_send.specs.SenderKept.{Track, Kept}
+use Rattle.sctp_send.specs.ResetsKept.{sending_under}
 use Rattle.sctp_send.specs.SenderStands.{table, rest_here, track_here, fate_here, fate_named, Keeps}
 use Rattle.sctp_send.specs.inner.Walks.{total, one_if_rest, rest_owes}
 use Rattle.sctp_send.specs.declared.kept.message.Fate.{Fate}
@@ -35,7 +37,7 @@ use Rattle.sctp_send.proofs.DueLemmas.{late_queue_more, late_before}
 use Rattle.sctp_send.proofs.kept.MomentLemmas.{due_push}
 use Rattle.sctp_send.proofs.kept.GivenUpLemmas.{push_open}
 use Rattle.sctp_send.proofs.KeepLemmas.{kept_length}
-use Rattle.sctp_send.proofs.UnresetLemmas.{takes_messages}
+use Rattle.sctp_send.proofs.ResetLemmas.{sends_by}
 
 -- ---- fragments
 
@@ -146,7 +148,7 @@ keeps_queued f s v lane payload ticket bytes until limit k free given small =
             };
       };
       forward = k.forward;
-      unreset = k.unreset;
+      resets = k.resets;
       before = k.before;
       counted = k.counted ∙ sym (push_open s.fates StillQueued refl);
       reached = Queues v lane payload bytes until limit k.reached free;
@@ -172,9 +174,10 @@ cut_short size bytes p = rw (length-cut size bytes) (ceil_short (length bytes) s
 owed_small : (n : ℕ) → n ≤ 65536 → owed_for n ≤ 65537
 owed_small n le = omega arith
 
--- the first four reasons don't hold
+-- the first five reasons don't hold
 pub record IsFit (s : Kept) (n : ℕ) (bytes : List ℕ) : Type 0 where
   pub stream : n < s.streams
+  pub sends : is_sending (sending_under s.resets.table n) ≡ true
   pub some : 0 < length bytes
   pub short : length bytes ≤ 65536
   pub waits : length s.queue < 1024
@@ -193,7 +196,7 @@ only_spent f s v stream bytes k fit =
     let b : (length bytes == 0) ≡ false = grind (arith, nat_tests) in
     let c : nat_lt LONGEST_MESSAGE (length bytes) ≡ false = grind (arith, nat_tests) in
     let d : nat_le QUEUE_LIMIT (length v.queue) ≡ false = grind (arith, nat_tests) in
-    let e = takes_messages f s v stream k in
+    let e = sends_by f s v stream k (omega arith) ∙ fit.sends in
     rw (a, b, c, d, e) (by_test (nat_le TICKET_LIMIT v.tickets || nat_lt TSN_LIMIT (promised v + owed_for (length (cut v.fragment bytes)))))
   where
     by_test : (x : Bool) → first_there (when x Spent ∷ []) ≡ (if x then Some Spent else None)

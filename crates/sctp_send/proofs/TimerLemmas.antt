@@ -113,7 +113,7 @@ keeps_marked f s v test from to k tells =
       over = record { within = k.over.within; each = λ t le. let o = k.over.each t le in record { queue = o.queue; tracks = o.tracks; items = same_timed t s.partial rs within 0 s.items ∙ o.items } };
       due = record { many = k.due.many; each = λ t now lt. let i = k.due.each t now lt in record { queue = i.queue; items = λ on. late_timed now t s.asleep s.partial rs within 0 s.items ∙ i.items on; tracks = i.tracks } };
       forward = k.forward;
-      unreset = k.unreset;
+      resets = k.resets;
       before = k.before;
       counted = k.counted;
       reached = Repeats v test k.reached;
@@ -148,7 +148,7 @@ offsets_all last k lt = let one : nat_le 0 k ≡ true = grind (arith, nat_tests)
 
 -- a sender that was given nothing
 pub keeps_fresh : (f : Format) (initial streams fragment rwnd capacity : ℕ) (partial : Bool) → 0 < fragment
-    → Keeps f (record { initial = initial; streams = streams; fragment = fragment; partial = partial; cum = 0; rwnd = rwnd; turn = 0; items = []; queue = []; tracks = replicate streams (record { ordered = 0; unordered = 0; rest = None }); fates = []; ended = 0; abandoned = 0; runs = Some []; capacity = capacity; passed = 0; moments = []; asleep = false; before = 0; forward = None })
+    → Keeps f (record { initial = initial; streams = streams; fragment = fragment; partial = partial; cum = 0; rwnd = rwnd; turn = 0; items = []; queue = []; tracks = replicate streams (record { ordered = 0; unordered = 0; rest = None }); fates = []; ended = 0; abandoned = 0; runs = Some []; capacity = capacity; passed = 0; moments = []; asleep = false; before = 0; forward = None; resets = record { table = None } })
     (fresh_sender initial streams fragment rwnd partial)
 keeps_fresh f initial streams fragment rwnd capacity partial large = record {
   holds = record {
@@ -169,7 +169,7 @@ keeps_fresh f initial streams fragment rwnd capacity partial large = record {
   over = record { within = omega arith; each = λ t le. record { queue = refl; tracks = no_rests t streams; items = refl } };
   due = record { many = refl; each = λ t now lt. record { queue = refl; items = λ on. refl; tracks = λ on. late_no_rests now t streams } };
   forward = tt;
-  unreset = record { base = refl; sending = refl; pending = refl };
+  resets = record { base = refl; sending = λ s low. refl; made = refl; pending = refl; table = tt };
   before = refl;
   counted = refl;
   reached = Begins initial streams fragment rwnd partial large;

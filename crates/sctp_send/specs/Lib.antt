@@ -1,6 +1,7 @@
 pub mod CoveredRuns
 pub mod PartsKept
 pub mod SenderKept
+pub mod ResetsKept
 pub mod ForwardKept
 pub mod SenderStands
 pub mod OutstandingFields
@@ -8,5 +9,6 @@ pub mod SenderFields
 pub mod SenderAnswers
 pub mod Waiting
 pub mod FillAnswers
+pub mod ResetAnswers
 pub mod PaceAnswers
 pub mod inner

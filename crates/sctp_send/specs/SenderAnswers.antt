@@ -16,7 +16,7 @@ use Rattle.sctp_send.specs.declared.abandon.Abandoned.{Abandoned as AbandonedFie
 use Rattle.sctp_send.specs.declared.abandon.Abandoned.TheVariants.{Withdrawn, Abandoned, Acknowledged, Unknown, Reliable}
 use Rattle.sctp_values.specs.declared.ticket.Ticket.{Ticket}
 use Rattle.sctp_send.specs.declared.queueing.SendFault.{SendFault}
-use Rattle.sctp_send.specs.declared.queueing.SendFault.TheVariants.{NoSuchStream, Empty, TooLong, QueueFull, Spent, NoMemory}
+use Rattle.sctp_send.specs.declared.queueing.SendFault.TheVariants.{NoSuchStream, Resetting, Empty, TooLong, QueueFull, Spent, NoMemory}
 use Rattle.sctp_send.specs.declared.sack.SackFault.{SackFault}
 use Rattle.sctp_send.specs.declared.sack.SackFault.TheVariants.{Stale, Beyond, BadBlock}
 
@@ -38,6 +38,7 @@ reason_meaning (Err fault) = Some (fault_meaning fault)
 -- the refusal given is the first that holds; want of memory is told where none does
 abbrev pub refused_with : Option model.Refusal → SendFault → Type 0
 refused_with r NoSuchStream = r ≡ Some model.NoSuchStream
+refused_with r Resetting = r ≡ Some model.Resetting
 refused_with r Empty = r ≡ Some model.Empty
 refused_with r TooLong = r ≡ Some model.TooLong
 refused_with r QueueFull = r ≡ Some model.QueueFull

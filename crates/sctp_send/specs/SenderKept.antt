@@ -5,6 +5,7 @@ use Rattle.sctp_model.specs.sender.SenderView.{Queued}
 use Rattle.sctp_send.specs.declared.kept.message.Fate.{Fate}
 use Rattle.sctp_send.specs.declared.kept.entry.CoveredRun.{CoveredRun}
 use Rattle.sctp_send.specs.declared.kept.last_forward.LastForward.{LastForward}
+use Rattle.sctp_send.specs.declared.kept.resets.OutgoingResets.{OutgoingResets}
 
 -- what is kept of one index above CUM
 pub record Item : Type 0 where
@@ -59,3 +60,5 @@ pub record Kept : Type 0 where
   pub before : ℕ
   -- the FORWARD that was built last
   pub forward : Option LastForward
+  -- the resets of streams
+  pub resets : OutgoingResets

@@ -2,14 +2,13 @@
 use Rattle.std.specs.Prelude.{◌≡◌, ℕ, zero, suc, ◌+◌, ◌≤◌, min, max, false, if◌then◌else◌, List, [], ◌∷◌, length, drop, Option, None, Some}
 use Rattle.sctp_model.specs.messages.Format.{Format, ordered_lane, unordered_lane}
 use Rattle.sctp_model.specs.messages.Plan.{Entry, Plan}
-use Rattle.sctp_model.specs.sender.Outgoing.{Outgoing, Sends}
 use Rattle.sctp_model.specs.sender.SenderView.{SenderView}
 use Rattle.sctp_model.specs.sender.Entries.{entry_message, is_of_abandoned, continued, in_part}
 use Rattle.sctp_model.specs.sender.Abandoning.{Name, name_of, waits, is_abandoned}
 use Rattle.sctp_model.specs.sender.Words.{last_that}
 use Rattle.sctp_model.specs.sender.Reached.{IsReached}
 use Rattle.sctp_send.specs.SenderKept.{Item, Rest, Track, Kept}
-use Rattle.sctp_send.specs.OutstandingFields.{no_base}
+use Rattle.sctp_send.specs.ResetsKept.{AreResets}
 use Rattle.sctp_send.specs.CoveredRuns.{AreCovered}
 use Rattle.sctp_send.specs.ForwardKept.{IsForwardKept}
 use Rattle.sctp_send.specs.inner.Walks.{any_item, any_rest, how_many_abandoned}
@@ -89,20 +88,14 @@ pub record AreOver (s : Kept) (given : ℕ) : Type 0 where
   pub within : s.ended ≤ given
   pub each : (t : ℕ) → t ≤ max s.ended s.passed → IsOver s t
 
--- No stream is reset: each takes messages, its numbers on the wire are those of the plan, and no request waits for its answer.
-pub record IsUnreset (x : Outgoing) : Type 0 where
-  pub base : x.base ≡ no_base
-  pub sending : x.sending ≡ (λ s. Sends)
-  pub pending : x.pending ≡ None
-
--- It is a view that calls reach, without a reset; tickets that count as ended are over, no ticket is late before its moment, the FORWARD that was built
--- last is still true of the entries that it was built from, and the messages that were abandoned are counted.
+-- It is a view that calls reach; tickets that count as ended are over, no ticket is late before its moment, the FORWARD that was built last is still true
+-- of the entries that it was built from, resets are those that are kept, and the messages that were abandoned are counted.
 pub record Keeps (f : Format) (s : Kept) (v : SenderView) : Type 0 where
   pub holds : Holds s v
   pub over : AreOver s v.tickets
   pub due : AreDue s v.tickets
-  pub forward : IsForwardKept f v.streams v.plan.entries s.forward
-  pub unreset : IsUnreset v.resets
+  pub forward : IsForwardKept f v.resets.base v.streams v.plan.entries s.forward
+  pub resets : AreResets v.streams s.resets v.resets
   pub before : s.before ≡ last_that v.sent v.cum
   pub counted : s.abandoned ≡ how_many_abandoned s.fates
   pub reached : IsReached f v

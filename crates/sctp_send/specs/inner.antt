@@ -19,3 +19,4 @@ pub mod FateBlocks
 pub mod Stretching
 pub mod Dues
 pub mod Wearing
+pub mod Resetting

@@ -26,12 +26,14 @@ use crate::fill::sendings::{Resent, Sendings};
 use crate::kept::fates::Fates;
 use crate::kept::message::Fate;
 use crate::sender::Sender;
-use crate::stock::{Stock, begin_anew, forget_changes, undo_all};
+use crate::stock::{Stock, begin_anew, forget_changes, take_tickets, undo_all};
 use crate::told::Told;
 use sctp_framing::Framing;
 use sctp_packet::PacketWriter;
 use sctp_values::{NoMemory, Ticket};
-use std::mem;
+
+/// No buffer for more tickets is kept for the next fill.
+const MOST_TICKETS: usize = 128;
 
 /// What went into a packet.
 #[derive(Debug, Drop)]
@@ -113,7 +115,7 @@ impl<F: Framing> Sender<F> {
         match self.told.put_all::<F>(&mut self.parts, missed, packet) {
             Ok(sendings) => {
                 forget_changes(&mut self.parts.log);
-                let tickets = mem::replace(&mut self.parts.tickets, Vec::new(self.told.alloc));
+                let tickets = take_tickets(self.told.alloc, &mut self.parts.tickets);
                 number_all(&mut self.told.fates, &tickets);
                 Ok(Filled { tickets, sendings })
             }
@@ -122,6 +124,19 @@ impl<F: Framing> Sender<F> {
                 Err(failed)
             }
         }
+    }
+
+    /// Returns the buffer of the tickets that a fill returned: they are dropped, and the next fill writes to it in place of a new allocation. One buffer is
+    /// kept, the larger one of two, and none for more than 128 tickets. It allocates no memory.
+    #[inline(always)]
+    pub fn recycle_tickets(&mut self, tickets: Vec<Ticket>)
+        ensures { (v : SenderView) → StandsFor F.format self.old v → StandsFor F.format self.new v }
+    {
+        let count = tickets.capacity();
+        if count <= self.parts.tickets.capacity() || count > MOST_TICKETS {
+            return;
+        }
+        self.parts.tickets = tickets;
     }
 }
 

@@ -18,14 +18,16 @@ ghost use Rattle.sctp_model.specs.sender.SentChunks.{skip_said, forward_end, for
 ghost use Rattle.sctp_wire.specs.Skips.{skip_size, IsSkip};
 ghost use Rattle.sctp_framing.specs.SkipForms.{skip_form};
 ghost use Rattle.sctp_packet.specs.Draft.{has_room, after_try};
-ghost use Rattle.sctp_send.specs.OutstandingFields.{item_meaning, entries_of, no_base};
+ghost use Rattle.sctp_send.specs.OutstandingFields.{item_meaning, entries_of};
 ghost use Rattle.sctp_send.specs.SenderKept.{Kept};
 ghost use Rattle.sctp_send.specs.SenderStands.{StandsFor, Keeps};
+ghost use Rattle.sctp_send.specs.ResetsKept.{base_of};
 ghost use Rattle.sctp_send.specs.inner.Lanes.{passed_meaning, forward_of_lanes, forward_of_list};
 
 use crate::forward::keeping::kept_for;
 use crate::forward::lanes::{Lanes, PACKET_ALONE, Passed, list_of, note_first};
 use crate::kept::outstanding::Outstanding;
+use crate::kept::resets::OutgoingResets;
 use crate::readers::abandoned_run;
 use crate::sender::Sender;
 use arrayvec::ArrayVec;
@@ -77,7 +79,13 @@ impl<F: Framing> Sender<F> {
         }
         let end = self.told.cum.wrapping_add(u64::from(passed));
         let cumulative = tsn_of(self.told.initial, end);
-        put_lanes::<F>(self.told.alloc, cumulative, lanes.as_slice(), packet)
+        put_lanes::<F>(
+            self.told.alloc,
+            &self.told.resets,
+            cumulative,
+            lanes.as_slice(),
+            packet,
+        )
     }
 }
 
@@ -110,22 +118,23 @@ fn note_within<F: Framing>(
 /// `NoMemory`, and only where it fits.
 fn put_lanes<F: Framing>(
     alloc: Global,
+    resets: &OutgoingResets,
     cumulative: u32,
     lanes: &[Passed],
     packet: &mut PacketWriter,
 ) -> Result<bool, NoMemory>
-    requires fits { AllByRecursion (IsSkip (skip_form F.format)) (map (skip_said F.format no_base) (map passed_meaning lanes.now)) }
+    requires fits { AllByRecursion (IsSkip (skip_form F.format)) (map (skip_said F.format (base_of resets.now)) (map passed_meaning lanes.now)) }
     requires few { skip_size (skip_form F.format) * length lanes.now ≤ GREATEST_PACKET }
-    ensures answer { IfOk result (λ put. put ≡ has_room packet.old (forward_of_lanes F.format cumulative lanes.now)) }
-    ensures after { IfOk result (λ put. packet.new ≡ after_try packet.old (forward_of_lanes F.format cumulative lanes.now) put) }
+    ensures answer { IfOk result (λ put. put ≡ has_room packet.old (forward_of_lanes F.format (base_of resets.now) cumulative lanes.now)) }
+    ensures after { IfOk result (λ put. packet.new ≡ after_try packet.old (forward_of_lanes F.format (base_of resets.now) cumulative lanes.now) put) }
     ensures unchanged { OnErr result (packet.new ≡ packet.old) }
-    ensures memory { OnErr result (has_room packet.old (forward_of_lanes F.format cumulative lanes.now) ≡ true) }
+    ensures memory { OnErr result (has_room packet.old (forward_of_lanes F.format (base_of resets.now) cumulative lanes.now) ≡ true) }
 {
     let form = F::skip_form();
     if FORWARD_HEADER + form.size() * lanes.len() > packet.room() {
         return Ok(false);
     }
-    let list = list_of::<F>(alloc, lanes)?;
+    let list = list_of::<F>(alloc, resets, lanes)?;
     put_list::<F>(cumulative, &list, packet)
 }
 

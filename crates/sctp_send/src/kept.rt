@@ -34,6 +34,7 @@ pub mod outstanding;
 pub mod part_lists;
 pub mod pieces;
 pub mod queue;
+pub mod resets;
 pub mod run_room;
 pub mod searching;
 pub mod seats;

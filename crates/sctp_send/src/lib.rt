@@ -7,10 +7,11 @@
 //! | call | promise (clause) |
 //! |---|---|
 //! | [`Sender::new`] | the sender stands for the fresh view of its arguments, also with 0 streams |
-//! | [`Sender::queue`] | `answer`: the first of NoSuchStream, Empty, TooLong, QueueFull, Spent that applies, each if and only if it is the first; NoMemory only if none applies; an accepted message has the next ticket. `step`: the view with the message at the end of its queue, cut into fragments, or the same view |
+//! | [`Sender::queue`] | `answer`: the first of NoSuchStream, Resetting, Empty, TooLong, QueueFull, Spent that applies, each if and only if it is the first; NoMemory only if none applies; an accepted message has the next ticket. `step`: the view with the message at the end of its queue, cut into fragments, or the same view |
 //! | [`Sender::queue_limited`] | as `queue`, of a message each of whose fragments is retransmitted at most so often, if there is a limit |
 //! | [`Sender::fill`] | `step`: the packet gets the longest list of chunks of which each is the next to be sent and may go (it fits, the flow rule and the window allow it), after its own chunks; the sender stands for the view after them; the tickets returned are those of the messages that began, in the order of their first TSNs. `memory`: after NoMemory it stands for the same view. `some`: the packet then has a beginning of that list, each chunk whole, and one more would go |
 //! | [`Sender::fill_counting`], [`Sendings`] | as `fill`; `sendings`: how many of the chunks were sent for the first time, and how many were retransmitted with an index below a given one, and not below it |
+//! | [`Sender::recycle_tickets`] | the same view: the buffer of the tickets that a fill returned is used for the next fill |
 //! | [`Sender::on_sack`] | `answer`: the first of Stale, Beyond, BadBlock that applies, in this order, each if and only if it is the first. `step`: the view with the SACK's CUM, gap blocks (in place of those of the last SACK) and window, or the same view |
 //! | [`Sender::on_shutdown`] | as `on_sack` for the cumulative TSN of a SHUTDOWN; what gap blocks acknowledged beyond it stays acknowledged |
 //! | [`Sender::on_timeout`] | every chunk that was sent and is neither acknowledged nor abandoned is marked for retransmission, unless it was retransmitted as often as its message's limit allows |
@@ -28,10 +29,13 @@
 //! | [`Sender::first_missed`], [`Sender::is_marked_or_covered`] | the lowest index in flight from one on, below another; whether an index is marked or acknowledged |
 //! | [`Sender::weigh`], [`Sender::weigh_shutdown`], [`Weight`] | of a SACK or a SHUTDOWN without a fault, before it is taken: whether it moves CUM, CUM after it, the highest indexes and the bytes that it newly acknowledges, and whether the chunk that is timed is among them (`IsWeight`) |
 //! | [`Sender::queued`], [`Sender::queued_bytes`] | the length and the bytes of the queue; at most 1,024 messages of 65,536 bytes (`bound`) |
+//! | [`Sender::reset`], [`Sender::is_resetting`], [`Sender::resetting_streams`] | the stream takes no further message (`resetting`), or the same view if memory is refused (`memory`); whether it waits for its reset, and how many do |
+//! | [`Sender::may_ask`], [`Sender::ask`], [`Sender::request`], [`ResetRequest`] | whether a request to reset streams may be made; `step`: the view in which it is made, if it may; what the request that waits says: its number, the last TSN that was assigned when it was made, and its streams, the lowest 256 of which nothing waits or is outstanding |
+//! | [`Sender::on_response`] | the view after a response: its streams count from 0 again and take messages, the request has the next number, or its streams take none |
 //! | [`Sender::reached`] | a law: each view that a sender stands for is one that its calls reach |
 //! | [`Sender::limited`] | laws: an abandoned message isn't at its limit (`gone`), and `wear` and `wear_between` abandon only messages that `next_at_limit` gives (`only`) |
 //!
-//! Only `new`, `queue`, `queue_limited`, `fill` and `put_forward` return NoMemory; `keep_forward` may allocate, and the others don't. So that
+//! Only `new`, `queue`, `queue_limited`, `fill`, `put_forward`, `reset` and `ask` return NoMemory; `keep_forward` may allocate, and the others don't. So that
 //! `abandon`, `expire`, `wear` and SACKs needn't, a message that begins reserves one entry for its end mark, besides those of the messages in part
 //! (`room` of `Holds`), and the first entry reserves the space for the runs of SACKs.
 //!
@@ -53,14 +57,16 @@
 //! `on_timeout` and `wear` all that is outstanding, `on_missed` and `wear_between` what is of their range, `next_at_limit` the outstanding entries of
 //! higher tickets up to the one that it finds; `expire` and `next_late` the tickets whose deadlines have passed; `weigh` what the SACK does but for what is
 //! no longer acknowledged, each entry once, `first_missed` its range, `room_of_repeats` the entries from the first marked one on, `last_sent` the
-//! entries after it, which were never sent; other readers are constant, `abandon` and `acknowledged` a binary search and the message's own entries. What is kept for that is in `kept`, and each part's counts are its invariant: an entry
+//! entries after it, which were never sent; other readers are constant, `abandon` and `acknowledged` a binary search and the message's own entries. `reset` and `on_response` cost all streams,
+//! `may_ask` and `ask` the streams that wait for their reset, each with its search in the queue and a walk over the entries up to its first one, and nothing if
+//! there are none; without a reset no table is kept, and a message costs one test more. What is kept for that is in `kept`, and each part's counts are its invariant: an entry
 //! takes 32 bytes with the count of its retransmissions, which ends at 65,535, as limits do.
 //!
-//! The files of `src` form a path on which each imports only what is before it: `due_pages`, `last_forward`, `message`, `ordered`, `sendings`; `blocks`, `by_ticket`,
+//! The files of `src` form a path on which each imports only what is before it: `due_pages`, `last_forward`, `message`, `ordered`, `resets`, `sendings`; `blocks`, `by_ticket`,
 //! `due_table`, `entry`, `seats`, `track`; `dues`, `fates`, `part_lists`, `pieces`; `looking`, `queue`, `told`, `wishes`; `counts`, `streams`; `stretches`;
-//! `outstanding`; `by_message`, `entries`, `flying`, `lanes`, `marking`, `pushing`, `repeats`, `run_room`, `searching`, `stock`, `tally`, `telling`,
-//! `weight`; `assigning`, `covered`, `indexed`, `sender`, `waking`; `at_limit`, `entering`, `fill`, `last`, `laws`, `pace`, `passing`, `queueing`,
-//! `readers`, `sack`, `wear`, `weighing`; `abandon`, `keeping`, `moments`; `expire`, `forward`, `putting`.
+//! `outstanding`; `by_message`, `entries`, `flying`, `lanes`, `marking`, `pushing`, `repeats`, `run_room`, `searching`, `stock`, `table`, `tally`, `telling`,
+//! `weight`; `assigning`, `covered`, `indexed`, `restarting`, `sender`, `still`, `waking`; `answering`, `at_limit`, `entering`, `fill`, `last`, `laws`, `pace`, `passing`, `queueing`,
+//! `readers`, `resetting`, `sack`, `wear`, `weighing`; `abandon`, `keeping`, `moments`; `expire`, `forward`, `putting`.
 //!
 //! What a body may still get away with: nothing that a caller can see but costs, how much memory is kept, and the texts of `Debug` and of faults. Only
 //! tested: `crates/sctp_call_rows` compares each answer and each packet's bytes at the limits (docs/CALLS.md).
@@ -74,6 +80,7 @@ mod laws;
 mod pace;
 mod queueing;
 mod readers;
+mod resetting;
 mod sack;
 mod sender;
 mod stock;
@@ -84,6 +91,7 @@ pub use fill::Filled;
 pub use fill::sendings::Sendings;
 pub use pace::weight::Weight;
 pub use queueing::SendFault;
+pub use resetting::ResetRequest;
 pub use sack::SackFault;
 pub use sctp_values::{NoMemory, Ticket};
 pub use sender::Sender;

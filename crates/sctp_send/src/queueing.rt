@@ -29,6 +29,9 @@ pub enum SendFault {
     /// The stream number isn't below the number of outgoing streams.
     #[error("there is no such stream")]
     NoSuchStream,
+    /// The stream is being reset, or the peer refused to reset it (RFC 6525, 5.1).
+    #[error("the stream is being reset")]
+    Resetting,
     /// The message is empty (RFC 9260, 3.3.1: a DATA chunk has at least one byte).
     #[error("the message is empty")]
     Empty,
@@ -148,6 +151,9 @@ impl<F: Framing> Sender<F> {
     {
         if stream >= self.told.streams {
             return Some(SendFault::NoSuchStream);
+        }
+        if !self.told.resets.sends(stream) {
+            return Some(SendFault::Resetting);
         }
         if bytes.len() == 0 {
             return Some(SendFault::Empty);

@@ -11,6 +11,7 @@ use crate::kept::fates::Fates;
 use crate::kept::message::MOST_SHELLS;
 use crate::kept::outstanding::Outstanding;
 use crate::kept::queue::Queue;
+use crate::kept::resets::OutgoingResets;
 use crate::kept::streams::Streams;
 use crate::stock::Stock;
 use crate::told::Told;
@@ -59,6 +60,7 @@ impl<F: Framing> Model for Sender<F> {
       asleep = s.told.dues.asleep;
       before = s.told.before;
       forward = s.told.forward;
+      resets = s.told.resets;
     } };
 
     ghost invariant = { λ s. IsSized s.told.fragment s.parts };
@@ -103,6 +105,7 @@ impl<F: Framing> Sender<F> {
                 is_known: true,
                 spare: Vec::new(alloc),
                 forward: None,
+                resets: OutgoingResets::none(),
                 shells,
             },
             parts: Stock {

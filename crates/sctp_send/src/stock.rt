@@ -14,6 +14,8 @@ use crate::kept::queue::Queue;
 use crate::kept::streams::Streams;
 use crate::kept::track::Track;
 use sctp_values::{Kind, NoMemory, Ticket};
+use std::alloc::Global;
+use std::mem;
 use std::sync::Arc;
 
 /// The stock of a sender: entries, the queue, streams and the turn; and of the fill that goes on, the messages that took their numbers, in
@@ -110,6 +112,17 @@ pub(crate) fn reserve_tickets(tickets: &mut Vec<Ticket>) -> Result<(), NoMemory>
         return Ok(());
     }
     tickets.reserve(TICKETS).map_err(|_| NoMemory)
+}
+
+/// Takes the tickets that are told; if there are none, their buffer stays.
+#[inline(always)]
+pub(crate) fn take_tickets(alloc: Global, tickets: &mut Vec<Ticket>) -> Vec<Ticket>
+    ensures { result.items ≡ tickets.old.items }
+{
+    if tickets.is_empty() {
+        return Vec::new(alloc);
+    }
+    mem::replace(tickets, Vec::new(alloc))
 }
 
 /// A change is noted, where there is room for that.

@@ -5,6 +5,7 @@ use crate::kept::entry::CoveredRun;
 use crate::kept::fates::Fates;
 use crate::kept::last_forward::LastForward;
 use crate::kept::message::Message;
+use crate::kept::resets::OutgoingResets;
 use std::alloc::Global;
 use std::sync::Arc;
 
@@ -33,6 +34,8 @@ pub(crate) struct Told {
     pub(crate) spare: Vec<CoveredRun>,
     // the FORWARD that was built last, if one was
     pub(crate) forward: Option<LastForward>,
+    // the resets of streams
+    pub(crate) resets: OutgoingResets,
     // memory of messages that are gone, without their bytes, for messages to come
     pub(crate) shells: Vec<Arc<Message>>,
 }

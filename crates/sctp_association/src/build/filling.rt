@@ -175,6 +175,7 @@ pub(crate) fn fill_rest(
 /// # Errors
 /// `NoMemory` if an allocation was refused; nothing of the traffic and of the pace changed then.
 pub(crate) fn fill_behind(
+    alloc: Global,
     traffic: &mut Traffic,
     pace: &mut Option<Pacing>,
     moment: u64,
@@ -188,7 +189,7 @@ pub(crate) fn fill_behind(
     ensures kept { OnErr result (pace.new ≡ pace.old) }
     ensures unpaced { pace.old ≡ None → pace.new ≡ None }
 {
-    let fragments = fill_by(traffic, pace, moment, &mut packing.writer)?;
+    let fragments = fill_by(alloc, traffic, pace, moment, &mut packing.writer)?;
     start_fragments(&mut packing.marks.starts, fragments.some);
     Ok(fragments.filled)
 }

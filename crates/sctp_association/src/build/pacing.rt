@@ -16,17 +16,21 @@ ghost use Rattle.sctp_association.specs.FillsBehind.{FillsBehind};
 ghost use Rattle.sctp_association.specs.declared.time.starts.Starts as starts;
 ghost use Rattle.sctp_association.specs.declared.build.packing.Marks as marks;
 
-use crate::build::filling::{Fragments, fill_rest};
+use crate::build::filling::{Fragments, fill_rest, filled_none};
 use crate::traffic::Traffic;
 use sctp_congestion::{Allowance, Pacing};
 use sctp_packet::PacketWriter;
 use sctp_values::NoMemory;
+use std::alloc::Global;
 
-/// Fills what is left of a packet with user data, at this time in milliseconds: all of it without a pace, else what the pace allows.
+/// Fills what is left of a packet with user data, at this time in milliseconds: all of it without a pace, else what the pace allows. With one, a sender
+/// that has nothing to send costs one test.
 ///
 /// # Errors
 /// `NoMemory` if an allocation was refused; nothing of the traffic and of the pace changed then.
+#[inline(always)]
 pub(crate) fn fill_by(
+    alloc: Global,
     traffic: &mut Traffic,
     pace: &mut Option<Pacing>,
     moment: u64,
@@ -44,7 +48,19 @@ pub(crate) fn fill_by(
 {
     match pace {
         None => fill_rest(traffic, 0, writer),
-        Some(pace) => fill_paced(traffic, pace, moment, writer),
+        Some(pace) => {
+            if traffic.drained() {
+                // law: then it has nothing to send
+                traffic.reached();
+                let filled = filled_none(alloc);
+                return Ok(Fragments {
+                    some: false,
+                    filled,
+                });
+            }
+            let fragments = fill_paced(traffic, pace, moment, writer)?;
+            Ok(fragments)
+        }
     }
 }
 
@@ -52,6 +68,7 @@ pub(crate) fn fill_by(
 ///
 /// # Errors
 /// `NoMemory` if an allocation was refused; nothing of the traffic and of the pace changed then.
+#[inline(always)]
 fn fill_paced(
     traffic: &mut Traffic,
     pace: &mut Pacing,
@@ -71,11 +88,15 @@ fn fill_paced(
     narrow(traffic, pace, writer);
     let missed = pace.misses().passed();
     let fragments = fill_rest(traffic, missed, writer)?;
+    if !fragments.some {
+        return Ok(fragments);
+    }
     pace.sent(moment, before, traffic.last_sent(), fragments.some);
     Ok(fragments)
 }
 
 /// Lowers the limit of a packet to what congestion control allows of its space (RFC 9260, 6.1, rules B and D; 7.2.4, step 3).
+#[inline(always)]
 fn narrow(traffic: &Traffic, pace: &Pacing, writer: &mut PacketWriter)
     ensures room { (f : Format) (s : SenderView) (r : ReceiverView) → TrafficStands traffic.now f s r → room_in writer.new ≡ room_paced pace.now.control f (room_in writer.old) s }
     ensures within { writer.new.limit ≤ writer.old.limit }

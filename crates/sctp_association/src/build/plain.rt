@@ -1,4 +1,4 @@
-//! The fast path of most packets: while the association is open without a pace and nothing is due but a SACK, no other chunk that may be due is looked at (RFC 9260,
+//! The fast path of most packets: while the association is open and nothing is due but a SACK, no other chunk that may be due is looked at (RFC 9260,
 //! 6.1, 6.2 and 6.10). SACK and user data go in by the same functions as in any other packet.
 
 ghost use Rattle.std.specs.Prelude.{◌≡◌, ◌≤◌, ℕ, [], true, false, None, length, IfOk, OnErr, IfSome, MatchOption};
@@ -19,12 +19,14 @@ ghost use Rattle.sctp_association.specs.PlainPacket.{IsPlain, plain_marks};
 ghost use Rattle.sctp_association.specs.declared.state.due.Due as kept;
 
 use crate::build::Built;
-use crate::build::filling::{fill_rest, filled_none};
+use crate::build::filling::filled_none;
+use crate::build::pacing::fill_by;
 use crate::build::putting::put_due_sack;
 use crate::machine::Machine;
 use crate::state::due::Due;
 use crate::state::life::Life;
 use crate::traffic::Traffic;
+use sctp_congestion::Pacing;
 use sctp_packet::PacketWriter;
 use sctp_send::Filled;
 use sctp_values::NoMemory;
@@ -67,15 +69,12 @@ impl Due {
 
 #[tactic(auto, unfolding(crate::specs::MachineStands::MachineStands))]
 impl Machine {
-    /// The association is open and has no pace, and nothing is due but a SACK at most.
+    /// The association is open, and nothing is due but a SACK at most.
     #[inline(always)]
     pub(crate) fn is_plain(&self) -> bool
         ensures { (v : EndView) → MachineStands self.now v → result ≡ true
-            → (t : model.Tags) × (g : model.Stage) × (v.phase ≡ model.Open t g) × (v.pace ≡ None) × IsPlain self.now.due v.due }
+            → (t : model.Tags) × (g : model.Stage) × (v.phase ≡ model.Open t g) × IsPlain self.now.due v.due }
     {
-        if self.pace.is_some() {
-            return false;
-        }
         match self.opened() {
             Some(_) => self.due.is_plain(),
             None => false,
@@ -88,27 +87,28 @@ impl Machine {
     /// `NoMemory` if an allocation was refused; nothing changed then, not even the clock.
     #[inline(always)]
     pub(crate) fn build_plain(&mut self, moment: u64) -> Result<Option<Built>, NoMemory>
-        ensures built { (v : EndView) (t : model.Tags) (g : model.Stage) → MachineStands self.old v → v.phase ≡ model.Open t g → v.pace ≡ None → IsPlain self.old.due v.due
+        ensures built { (v : EndView) (t : model.Tags) (g : model.Stage) → MachineStands self.old v → v.phase ≡ model.Open t g → IsPlain self.old.due v.due
             → IfOk result (λ built. BuildAnswer (record v { moment = moment }) built self.new) }
         ensures memory { (v : EndView) → MachineStands self.old v → OnErr result (MachineStands self.new v) }
     {
         let mut writer = self.empty_packet();
-        let plain = self.pack_plain(&mut writer)?;
+        let plain = self.pack_plain(moment, &mut writer)?;
         Ok(self.sent_plain(moment, writer, plain))
     }
 
-    /// Puts the SACK in, if it is due, and user data. Of the endpoint only the sender changes.
+    /// Puts the SACK in, if it is due, and user data, at this time in milliseconds. Of the endpoint only the sender and the pace change.
     ///
     /// # Errors
     /// `NoMemory` if an allocation was refused.
     #[inline(always)]
-    fn pack_plain(&mut self, writer: &mut PacketWriter) -> Result<Plain, NoMemory>
-        ensures packed { (v : EndView) (t : model.Tags) (g : model.Stage) (moment : ℕ) → MachineStands self.old v → v.phase ≡ model.Open t g → v.pace ≡ None → IsPlain self.old.due v.due
+    fn pack_plain(&mut self, moment: u64, writer: &mut PacketWriter) -> Result<Plain, NoMemory>
+        ensures packed { (v : EndView) (t : model.Tags) (g : model.Stage) → MachineStands self.old v → v.phase ≡ model.Open t g → IsPlain self.old.due v.due
             → IsEmpty (record v { moment = moment }) (record { writer = writer.old; marks = plain_marks self.old.due self.old.due.sack false })
-            → IfOk result (λ p. (s : SenderView) × IsPacked (record v { moment = moment }) s v.pace (record { writer = writer.new; marks = plain_marks self.old.due p.sack p.fragments }) p.filled
-            × MachineStands self.new (record v { sender = s })) }
+            → IfOk result (λ p. (s : SenderView)
+            × IsPacked (record v { moment = moment }) s self.new.pace (record { writer = writer.new; marks = plain_marks self.old.due p.sack p.fragments }) p.filled
+            × MachineStands self.new (record v { sender = s; pace = self.new.pace })) }
         ensures memory { (v : EndView) → MachineStands self.old v → OnErr result (MachineStands self.new v) }
-        ensures kept { self.new ≡ record self.old { life = self.new.life } }
+        ensures kept { self.new ≡ record self.old { life = self.new.life; pace = self.new.pace } }
     {
         let alloc = self.alloc;
         let sack = self.due.sack;
@@ -118,7 +118,10 @@ impl Machine {
                 fragments: false,
                 filled: filled_none(alloc),
             }),
-            Life::Joined(association) => put_plain(alloc, &mut association.traffic, sack, writer),
+            Life::Joined(association) => {
+                let traffic = &mut association.traffic;
+                put_plain(alloc, traffic, &mut self.pace, moment, sack, writer)
+            }
         }
     }
 
@@ -141,22 +144,26 @@ impl Machine {
     }
 }
 
-/// Puts the SACK in, if it is due, and user data in what is left after it.
+/// Puts the SACK in, if it is due, and user data in what is left after it, as far as the pace allows, at this time in milliseconds.
 ///
 /// # Errors
-/// `NoMemory` if an allocation was refused; nothing of the traffic changed then.
+/// `NoMemory` if an allocation was refused; nothing of the traffic and of the pace changed then.
 #[inline(always)]
 fn put_plain(
     alloc: Global,
     traffic: &mut Traffic,
+    pace: &mut Option<Pacing>,
+    moment: u64,
     sack: bool,
     writer: &mut PacketWriter,
 ) -> Result<Plain, NoMemory>
-    ensures packed { (e : EndView) (t : model.Tags) (g : model.Stage) (d : kept.Due) → e.phase ≡ model.Open t g → e.pace ≡ None → IsPlain d e.due → IsQuiet e
+    ensures packed { (e : EndView) (t : model.Tags) (g : model.Stage) (d : kept.Due) → e.phase ≡ model.Open t g → pace.old ≡ e.pace → moment ≡ e.moment → IsPlain d e.due → IsQuiet e
         → TrafficStands traffic.old (format_of e) e.sender e.receiver → IsEmpty e (record { writer = writer.old; marks = plain_marks d sack false })
-        → IfOk result (λ p. (s : SenderView) × IsPacked e s e.pace (record { writer = writer.new; marks = plain_marks d p.sack p.fragments }) p.filled
+        → IfOk result (λ p. (s : SenderView) × IsPacked e s pace.new (record { writer = writer.new; marks = plain_marks d p.sack p.fragments }) p.filled
         × TrafficStands traffic.new (format_of e) s e.receiver) }
     ensures memory { (f : Format) (s : SenderView) (r : ReceiverView) → TrafficStands traffic.old f s r → OnErr result (TrafficStands traffic.new f s r) }
+    ensures unchanged { OnErr result (pace.new ≡ pace.old) }
+    ensures unpaced { pace.old ≡ None → pace.new ≡ None }
 {
     if !put_due_sack(traffic, sack, writer)? {
         return Ok(Plain {
@@ -165,7 +172,7 @@ fn put_plain(
             filled: filled_none(alloc),
         });
     }
-    let fragments = fill_rest(traffic, 0, writer)?;
+    let fragments = fill_by(alloc, traffic, pace, moment, writer)?;
     Ok(Plain {
         sack: false,
         fragments: fragments.some,

@@ -18,8 +18,10 @@ ghost use Rattle.sctp_send.specs.SenderAnswers.{reason_meaning};
 ghost use Rattle.sctp_association.specs.TimersMean.{alarm_meaning};
 ghost use Rattle.sctp_association.specs.MachineStands.{MachineStands};
 ghost use Rattle.sctp_association.specs.SackLeaves.{fault_of, IsLeft, sack_counted};
+ghost use Rattle.sctp_association.specs.Acknowledges.{shut_timer_of, shut_rests};
 
 use crate::machine::Machine;
+use crate::peer::pacing::Acknowledging;
 use crate::state::life::Life;
 use crate::time::timer::Alarm;
 use crate::traffic::acknowledging::Acknowledged;
@@ -110,7 +112,7 @@ impl Machine {
             → OnErr result (MachineStands self.new v) }
     {
         if self.pace.is_some() {
-            return self.hear_sack_paced(sack);
+            return self.hear_paced(Acknowledging::Sack(sack));
         }
         self.count_sack(sack)
     }
@@ -161,16 +163,6 @@ impl Machine {
         }
     }
 
-    /// The index of the cumulative TSN Ack Point, counted from the initial TSN.
-    fn cum(&self) -> u64
-        ensures { (v : EndView) → MachineStands self.now v → result ≡ v.sender.cum }
-    {
-        match &self.life {
-            Life::Unjoined(_) => 0,
-            Life::Joined(association) => association.traffic.cum(),
-        }
-    }
-
     /// A timer counts its retransmissions anew; if something new was acknowledged, its timeout begins anew, too (RFC 9260, 6.3.2 and 9.2).
     pub(crate) fn renew(&mut self, alarm: Alarm, moved: bool)
         ensures { (v : EndView) → MachineStands self.old v
@@ -193,13 +185,30 @@ impl Machine {
         ensures refused { (v : EndView) (t : model.Tags) (g : model.Stage) → MachineStands self.old v → v.phase ≡ model.Open t g
             → OnErr result (MachineStands self.new v) }
     {
+        if self.pace.is_some() {
+            return self.hear_paced(Acknowledging::Shutdown(tsn));
+        }
+        self.count_shutdown(tsn)
+    }
+
+    /// What the cumulative TSN of a SHUTDOWN does beside the pace.
+    ///
+    /// # Errors
+    /// Its first fault; nothing changed then.
+    #[inline(never)]
+    pub(crate) fn count_shutdown(&mut self, tsn: u32) -> Result<(), SackFault>
+        ensures answer { (v : EndView) (t : model.Tags) (g : model.Stage) → MachineStands self.old v → v.phase ≡ model.Open t g
+            → reason_meaning result ≡ shutdown_fault v.sender tsn }
+        ensures step { (v : EndView) (t : model.Tags) (g : model.Stage) → MachineStands self.old v → v.phase ≡ model.Open t g
+            → OnOk result (MachineStands self.new (with_timer model.DataAlarm (shut_timer_of v tsn) (shut_rests v tsn))) }
+        ensures refused { (v : EndView) (t : model.Tags) (g : model.Stage) → MachineStands self.old v → v.phase ≡ model.Open t g
+            → OnErr result (MachineStands self.new v) }
+    {
         let before = self.cum();
-        let weighed = self.weigh_shutdown(tsn);
         match self.take_shutdown(tsn) {
             Ok(()) => {
                 self.settle();
                 self.renew_shut(before < self.cum());
-                self.follow(weighed);
                 Ok(())
             }
             Err(fault) => Err(fault),

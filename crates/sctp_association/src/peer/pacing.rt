@@ -1,21 +1,21 @@
 //! What an acknowledgement does at an endpoint with a pace, after its sender has taken it: misses are counted, what was missed three times is marked for
 //! retransmission, the round trip is measured, the congestion window grows or shrinks, and the data timer follows (RFC 9260, 6.3.1, 6.3.2 and 7.2).
 
-ghost use Rattle.std.specs.Prelude.{◌≡◌, ◌||◌, None, Some, IfSome, OnOk, OnErr};
+ghost use Rattle.std.specs.Prelude.{◌≡◌, ◌||◌, ◌&&◌, true, nat_le, nat_lt, None, Some, IfSome, OnOk, OnErr};
 ghost use Rattle.sctp_model.specs.messages.Format.{Format};
 ghost use Rattle.sctp_model.specs.sender.SenderView.{SenderView};
 ghost use Rattle.sctp_model.specs.receiver.ReceiverView.{ReceiverView};
-ghost use Rattle.sctp_model.specs.sender.SackTaken.{sack_fault, sack_after, shutdown_fault, shutdown_after};
+ghost use Rattle.sctp_model.specs.sender.Abandoning.{marking};
 ghost use Rattle.sctp_model.specs.end.Pacing.{heard};
 ghost use Rattle.sctp_model.specs.end.EndView.{EndView};
 ghost use Rattle.sctp_model.specs.end.EndView as model;
 ghost use Rattle.sctp_model.specs.end.Clock.{with_timer, paced};
-ghost use Rattle.sctp_model.specs.end.Acting.{sack_heard};
-ghost use Rattle.sctp_wire.specs.ChunkTree.{sack_meaning};
 ghost use Rattle.sctp_send.specs.SenderAnswers.{reason_meaning};
+ghost use Rattle.sctp_send.specs.PaceAnswers.{first_in_flight};
 ghost use Rattle.sctp_association.specs.TrafficStands.{TrafficStands};
 ghost use Rattle.sctp_association.specs.MachineStands.{MachineStands};
 ghost use Rattle.sctp_association.specs.Weighing.{timed_of, IsBefore, AreBefore, IsReply};
+ghost use Rattle.sctp_association.specs.Acknowledges.{fault_said, after_said, timer_said, rests_said, heard_said};
 
 use crate::machine::Machine;
 use crate::state::life::Life;
@@ -24,6 +24,15 @@ use crate::traffic::Traffic;
 use sctp_congestion::{Highest, Pacing, Reply, Weighed};
 use sctp_send::{SackFault, Weight};
 use sctp_wire::Sack;
+
+/// What acknowledges user data.
+#[derive(Clone, Copy)]
+pub(crate) enum Acknowledging<'a> {
+    /// A SACK.
+    Sack(&'a Sack<'a>),
+    /// The cumulative TSN of a SHUTDOWN.
+    Shutdown(u32),
+}
 
 /// What an endpoint with a pace knows of an acknowledgement before its sender takes it.
 #[derive(Clone, Copy)]
@@ -38,21 +47,21 @@ pub(crate) struct Before {
 
 #[tactic(auto, unfolding(crate::specs::MachineStands::MachineStands))]
 impl Machine {
-    /// `hear_sack` at an endpoint with a pace.
+    /// `hear_sack` and `hear_shutdown` at an endpoint with a pace: one function for both, so that all it calls is inlined once.
     ///
     /// # Errors
     /// Its first fault; nothing changed then.
     #[inline(never)]
-    pub(crate) fn hear_sack_paced(&mut self, sack: &Sack<'_>) -> Result<(), SackFault>
+    pub(crate) fn hear_paced(&mut self, said: Acknowledging<'_>) -> Result<(), SackFault>
         ensures answer { (v : EndView) (t : model.Tags) (g : model.Stage) → MachineStands self.old v → v.phase ≡ model.Open t g
-            → reason_meaning result ≡ sack_fault v.sender (sack_meaning sack.now) }
+            → reason_meaning result ≡ fault_said v.sender said.entry }
         ensures step { (v : EndView) (t : model.Tags) (g : model.Stage) → MachineStands self.old v → v.phase ≡ model.Open t g
-            → OnOk result (MachineStands self.new (sack_heard v (sack_meaning sack.now))) }
+            → OnOk result (MachineStands self.new (heard_said v said.entry)) }
         ensures refused { (v : EndView) (t : model.Tags) (g : model.Stage) → MachineStands self.old v → v.phase ≡ model.Open t g
             → OnErr result (MachineStands self.new v) }
     {
-        let weighed = self.weigh(sack);
-        match self.count_sack(sack) {
+        let weighed = self.weigh(said);
+        match self.count_said(said) {
             Ok(()) => {
                 self.follow(weighed);
                 Ok(())
@@ -61,17 +70,18 @@ impl Machine {
         }
     }
 
-    /// What is known of a SACK before the sender takes it; None without a pace.
-    fn weigh(&self, sack: &Sack<'_>) -> Option<Before>
-        ensures { (v : EndView) (t : model.Tags) (g : model.Stage) → MachineStands self.now v → v.phase ≡ model.Open t g → sack_fault v.sender (sack_meaning sack.now) ≡ None
-            → AreBefore v (sack_after v.sender (sack_meaning sack.now)) result }
+    /// What is known of an acknowledgement before the sender takes it; None without a pace.
+    #[inline(always)]
+    fn weigh(&self, said: Acknowledging<'_>) -> Option<Before>
+        ensures { (v : EndView) (t : model.Tags) (g : model.Stage) → MachineStands self.now v → v.phase ≡ model.Open t g → fault_said v.sender said.entry ≡ None
+            → AreBefore v (after_said v.sender said.entry) result }
     {
         match &self.pace {
             None => None,
             Some(pace) => match &self.life {
                 Life::Unjoined(_) => None,
                 Life::Joined(association) => Some(Before {
-                    weight: association.traffic.weigh(sack, timed_by(pace)),
+                    weight: association.traffic.weigh_said(said, timed_by(pace)),
                     flight: association.traffic.in_flight(),
                     rto: self.timers.get(Alarm::Fragments).wait,
                 }),
@@ -79,21 +89,22 @@ impl Machine {
         }
     }
 
-    /// What is known of the cumulative TSN of a SHUTDOWN before the sender takes it; None without a pace.
-    pub(crate) fn weigh_shutdown(&self, tsn: u32) -> Option<Before>
-        ensures { (v : EndView) (t : model.Tags) (g : model.Stage) → MachineStands self.now v → v.phase ≡ model.Open t g → shutdown_fault v.sender tsn ≡ None
-            → AreBefore v (shutdown_after v.sender tsn) result }
+    /// What an acknowledgement does beside the pace.
+    ///
+    /// # Errors
+    /// Its first fault; nothing changed then.
+    #[inline(always)]
+    fn count_said(&mut self, said: Acknowledging<'_>) -> Result<(), SackFault>
+        ensures answer { (v : EndView) (t : model.Tags) (g : model.Stage) → MachineStands self.old v → v.phase ≡ model.Open t g
+            → reason_meaning result ≡ fault_said v.sender said.entry }
+        ensures step { (v : EndView) (t : model.Tags) (g : model.Stage) → MachineStands self.old v → v.phase ≡ model.Open t g
+            → OnOk result (MachineStands self.new (with_timer model.DataAlarm (timer_said v said.entry) (rests_said v said.entry))) }
+        ensures refused { (v : EndView) (t : model.Tags) (g : model.Stage) → MachineStands self.old v → v.phase ≡ model.Open t g
+            → OnErr result (MachineStands self.new v) }
     {
-        match &self.pace {
-            None => None,
-            Some(pace) => match &self.life {
-                Life::Unjoined(_) => None,
-                Life::Joined(association) => Some(Before {
-                    weight: association.traffic.weigh_shutdown(tsn, timed_by(pace)),
-                    flight: association.traffic.in_flight(),
-                    rto: self.timers.get(Alarm::Fragments).wait,
-                }),
-            },
+        match said {
+            Acknowledging::Sack(sack) => self.count_sack(sack),
+            Acknowledging::Shutdown(tsn) => self.count_shutdown(tsn),
         }
     }
 
@@ -110,7 +121,7 @@ impl Machine {
     }
 
     /// The same at an endpoint with a pace.
-    #[inline(never)]
+    #[inline(always)]
     fn follow_paced(&mut self, before: Before)
         ensures { (v x : EndView) (t : model.Timer) (s : model.Tags) (g : model.Stage) → AreBefore v x.sender (Some before) → x.pace ≡ v.pace → x.phase ≡ model.Open s g
             → MachineStands self.old (with_timer model.DataAlarm t x) → MachineStands self.new (paced v.sender (v.timers model.DataAlarm).wait t x) }
@@ -133,6 +144,7 @@ impl Machine {
 }
 
 /// The index of the chunk that is timed, if there is one.
+#[inline(always)]
 fn timed_by(pace: &Pacing) -> Option<u64>
     ensures { result ≡ timed_of pace.now }
 {
@@ -144,6 +156,7 @@ fn timed_by(pace: &Pacing) -> Option<u64>
 
 /// Counts the misses of an acknowledgement that the sender has taken, marks what was missed three times for retransmission, and has the pace act on it
 /// at this time, in milliseconds (RFC 9260, 6.3.1 and 7.2).
+#[inline(always)]
 fn respond(pace: &mut Pacing, traffic: &mut Traffic, now: u64, before: Before) -> Reply
     ensures pace { (f : Format) (v u : SenderView) (r : ReceiverView) → TrafficStands traffic.old f u r → IsBefore v u pace.old before → pace.new ≡ (heard now v u pace.old).pace }
     ensures traffic { (f : Format) (v u : SenderView) (r : ReceiverView) → TrafficStands traffic.old f u r → IsBefore v u pace.old before
@@ -158,10 +171,9 @@ fn respond(pace: &mut Pacing, traffic: &mut Traffic, now: u64, before: Before) -
     });
     let misses = pace.misses();
     let (from, below) = (misses.passed(), misses.third());
-    let lost = traffic.first_missed(from, below);
     let last_sent = traffic.last_sent();
-    traffic.on_missed(from, below);
-    let over = is_over(pace, traffic);
+    let lost = mark_missed(traffic, weight.cum, from, below);
+    let over = is_over(weight.acked, pace, traffic);
     pace.hear(
         now,
         Weighed {
@@ -178,10 +190,34 @@ fn respond(pace: &mut Pacing, traffic: &mut Traffic, now: u64, before: Before) -
     )
 }
 
-/// The chunk that is timed is acknowledged, or marked for retransmission; false without one (RFC 9260, 6.3.1, C5).
-fn is_over(pace: &Pacing, traffic: &Traffic) -> bool
-    ensures { (f : Format) (u : SenderView) (r : ReceiverView) → TrafficStands traffic.now f u r → IfSome pace.now.trips.timed (λ t. result ≡ (u.marked t.index || u.covered t.index)) }
+/// What is outstanding with the indexes from `from` on, below `below`, is marked for retransmission, at the cumulative TSN's index `cum`. Returns the
+/// lowest index that was in flight among them. If the cumulative TSN passed them all, there is none (RFC 9260, 7.2.4).
+#[inline(always)]
+fn mark_missed(traffic: &mut Traffic, cum: u64, from: u64, below: u64) -> Option<u64>
+    ensures lost { (f : Format) (s : SenderView) (r : ReceiverView) → TrafficStands traffic.old f s r → cum ≡ s.cum → result ≡ first_in_flight s from below }
+    ensures marked { (f : Format) (s : SenderView) (r : ReceiverView) → TrafficStands traffic.old f s r → cum ≡ s.cum
+        → TrafficStands traffic.new f (marking s (λ i. nat_le from i && nat_lt i below)) r }
 {
+    // law: what the cumulative TSN passed is acknowledged
+    traffic.reached();
+    if below <= cum {
+        return None;
+    }
+    let lost = traffic.first_missed(from, below);
+    traffic.on_missed(from, below);
+    lost
+}
+
+/// The chunk that is timed is acknowledged, or marked for retransmission; it is, if it was newly acknowledged (`acked`). Not to be read without one
+/// (RFC 9260, 6.3.1, C5).
+#[inline(always)]
+fn is_over(acked: bool, pace: &Pacing, traffic: &Traffic) -> bool
+    ensures { (f : Format) (u : SenderView) (r : ReceiverView) → TrafficStands traffic.now f u r → IfSome pace.now.trips.timed (λ t. acked ≡ true → u.covered t.index ≡ true)
+        → IfSome pace.now.trips.timed (λ t. result ≡ (u.marked t.index || u.covered t.index)) }
+{
+    if acked {
+        return true;
+    }
     match pace.trips().timed() {
         None => false,
         Some(chunk) => traffic.is_marked_or_covered(chunk.index()),

@@ -13,7 +13,9 @@ ghost use Rattle.sctp_model.specs.end.Control.{room_of_repeats};
 ghost use Rattle.sctp_wire.specs.ChunkTree.{sack_meaning};
 ghost use Rattle.sctp_send.specs.PaceAnswers.{first_in_flight, IsWeight};
 ghost use Rattle.sctp_association.specs.TrafficStands.{TrafficStands};
+ghost use Rattle.sctp_association.specs.Acknowledges.{fault_said, after_said};
 
+use crate::peer::pacing::Acknowledging;
 use crate::traffic::Traffic;
 use sctp_send::Weight;
 use sctp_wire::Sack;
@@ -30,6 +32,7 @@ impl Traffic {
     }
 
     /// The highest index that was sent; 0 before the first.
+    #[inline(always)]
     pub(crate) fn last_sent(&self) -> u64
         ensures { (f : Format) (s : SenderView) (r : ReceiverView) → TrafficStands self.now f s r → result ≡ last_sent s }
     {
@@ -50,6 +53,7 @@ impl Traffic {
     }
 
     /// The chunk with this index, from 1 on, is marked for retransmission or acknowledged (RFC 9260, 6.3.1, C5).
+    #[inline(always)]
     pub(crate) fn is_marked_or_covered(&self, index: u64) -> bool
         ensures { (f : Format) (s : SenderView) (r : ReceiverView) → TrafficStands self.now f s r → 0 < index → result ≡ (s.marked index || s.covered index) }
     {
@@ -71,7 +75,8 @@ impl Traffic {
     }
 
     /// What a SACK without a fault does, before it is taken; `timed` is the index of the chunk that is timed, if there is one (RFC 9260, 6.3.1 and 7.2).
-    pub(crate) fn weigh(&self, sack: &Sack<'_>, timed: Option<u64>) -> Weight
+    #[inline(always)]
+    fn weigh(&self, sack: &Sack<'_>, timed: Option<u64>) -> Weight
         ensures { (f : Format) (s : SenderView) (r : ReceiverView) → TrafficStands self.now f s r → sack_fault s (sack_meaning sack.now) ≡ None
             → IsWeight s (sack_after s (sack_meaning sack.now)) timed result }
     {
@@ -82,13 +87,24 @@ impl Traffic {
     }
 
     /// What the cumulative TSN of a SHUTDOWN without a fault does, before it is taken.
-    pub(crate) fn weigh_shutdown(&self, tsn: u32, timed: Option<u64>) -> Weight
+    fn weigh_shutdown(&self, tsn: u32, timed: Option<u64>) -> Weight
         ensures { (f : Format) (s : SenderView) (r : ReceiverView) → TrafficStands self.now f s r → shutdown_fault s tsn ≡ None
             → IsWeight s (shutdown_after s tsn) timed result }
     {
         match self {
             Traffic::Plain(directions) => directions.sender.weigh_shutdown(tsn, timed),
             Traffic::Interleaved(directions) => directions.sender.weigh_shutdown(tsn, timed),
+        }
+    }
+
+    /// What an acknowledgement without a fault does, before it is taken.
+    #[inline(always)]
+    pub(crate) fn weigh_said(&self, said: Acknowledging<'_>, timed: Option<u64>) -> Weight
+        ensures { (f : Format) (s : SenderView) (r : ReceiverView) → TrafficStands self.now f s r → fault_said s said.entry ≡ None → IsWeight s (after_said s said.entry) timed result }
+    {
+        match said {
+            Acknowledging::Sack(sack) => self.weigh(sack, timed),
+            Acknowledging::Shutdown(tsn) => self.weigh_shutdown(tsn, timed),
         }
     }
 

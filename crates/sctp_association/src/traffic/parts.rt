@@ -40,6 +40,16 @@ impl Machine {
         }
     }
 
+    /// The index of the cumulative TSN Ack Point, counted from the initial TSN.
+    pub(crate) fn cum(&self) -> u64
+        ensures { (v : EndView) → MachineStands self.now v → result ≡ v.sender.cum }
+    {
+        match &self.life {
+            Life::Unjoined(_) => 0,
+            Life::Joined(association) => association.traffic.cum(),
+        }
+    }
+
     /// The index of the Advanced Peer Ack Point, up to which all is acknowledged or abandoned (RFC 3758, 3.5).
     pub(crate) fn point(&self) -> u64
         ensures { (v : EndView) → MachineStands self.now v → result ≡ point v.sender }

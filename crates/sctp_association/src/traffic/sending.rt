@@ -19,6 +19,7 @@ use sctp_values::Ticket;
 
 impl Traffic {
     /// The index of the cumulative TSN Ack Point, counted from the initial TSN.
+    #[inline(always)]
     pub(crate) fn cum(&self) -> u64
         ensures { (f : Format) (s : SenderView) (r : ReceiverView) → TrafficStands self.now f s r → result ≡ s.cum }
     {
@@ -94,6 +95,17 @@ impl Traffic {
         match self {
             Traffic::Plain(directions) => directions.sender.tickets(),
             Traffic::Interleaved(directions) => directions.sender.tickets(),
+        }
+    }
+
+    /// Returns the buffer of the tickets that were told with a packet: no view of the sender changes.
+    #[inline(always)]
+    pub(crate) fn recycle_tickets(&mut self, tickets: Vec<Ticket>)
+        ensures { (f : Format) (s : SenderView) (r : ReceiverView) → TrafficStands self.old f s r → TrafficStands self.new f s r }
+    {
+        match self {
+            Traffic::Plain(directions) => directions.sender.recycle_tickets(tickets),
+            Traffic::Interleaved(directions) => directions.sender.recycle_tickets(tickets),
         }
     }
 

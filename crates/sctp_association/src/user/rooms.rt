@@ -8,6 +8,7 @@ ghost use Rattle.sctp_association.specs.KeptRoom.{kept_capacity, kept_of};
 use crate::machine::Machine;
 use crate::state::life::Life;
 use sctp_recv::Message;
+use sctp_values::Ticket;
 use std::mem::replace;
 
 #[tactic(auto, unfolding(crate::specs::MachineStands::MachineStands))]
@@ -27,6 +28,17 @@ impl Machine {
             return;
         }
         self.room = packet;
+    }
+
+    /// Returns the buffer of the tickets that were returned with a packet: they are dropped, and the tickets of the next packet are written to it in place
+    /// of a new allocation. One buffer is kept, the larger one of two. It doesn't allocate.
+    pub fn recycle_tickets(&mut self, tickets: Vec<Ticket>)
+        ensures { (v : EndView) → MachineStands self.old v → MachineStands self.new v }
+    {
+        match &mut self.life {
+            Life::Unjoined(_) => {}
+            Life::Joined(association) => association.traffic.recycle_tickets(tickets),
+        }
     }
 
     /// Hands back a message that was taken: its bytes are forgotten, and its memory may be used for the next received data. It doesn't allocate.

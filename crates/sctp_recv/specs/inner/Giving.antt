@@ -14,7 +14,7 @@ use Rattle.sctp_chains.specs.StandsFor.{whole_count}
 use Rattle.sctp_chains.specs.WholeOf.{from_number}
 use Rattle.sctp_recv.specs.declared.inbound.Inbound.{Inbound}
 use Rattle.sctp_recv.specs.Fields.{inbound_of}
-use Rattle.sctp_recv.specs.ReceiverKept.{or_larger}
+use Rattle.sctp_recv.specs.ReceiverKept.{or_past}
 use Rattle.sctp_model.specs.receiver.KeptOfLane.{of_lane}
 use Rattle.sctp_recv.specs.SeenKept.{SeenKept, is_reached}
 use Rattle.sctp_recv.specs.SeenStands.{Records}
@@ -89,14 +89,14 @@ pub record GivesWhole {F : Type 0} (f : Format) (s : ℕ) (x : Piece) (kept : Li
   pub rest : List Piece
   pub whole : IsWholeWith f (x ∷ kept) x (head ∷ rest)
   pub left : lane.StandsFor f new.unordered (unordered_lane s) (without_message f (x ∷ kept) (head ∷ rest))
-  pub stream : inbound_of new ≡ record (inbound_of old) { largest = or_larger (inbound_of old).largest x.number; waiting = (inbound_of old).waiting ++ message_of f head rest ∷ [] }
+  pub stream : inbound_of new ≡ record (inbound_of old) { past = or_past (inbound_of old).past x.number; waiting = (inbound_of old).waiting ++ message_of f head rest ∷ [] }
   pub bytes : given ≡ sized (length (text_of (head ∷ rest)))
 
 -- It isn't whole, and stays with the others.
 pub record GivesNone {F : Type 0} (f : Format) (s : ℕ) (x : Piece) (kept : List Piece) (old new : Inbound F) (given : ℕ) : Type 0 where
   pub none : HasNoWholeWith f (x ∷ kept) x
   pub left : lane.StandsFor f new.unordered (unordered_lane s) (x ∷ kept)
-  pub stream : inbound_of new ≡ record (inbound_of old) { largest = or_larger (inbound_of old).largest x.number }
+  pub stream : inbound_of new ≡ record (inbound_of old) { past = or_past (inbound_of old).past x.number }
   pub bytes : given ≡ 0
 
 -- an unordered message is handed over, if it is whole; the ordered chunks are those that they were

@@ -10,7 +10,7 @@ use Rattle.sctp_chains.specs.Cells.{IsOf}
 use Rattle.sctp_chains.specs.Cells.{counted}
 use Rattle.sctp_model.specs.receiver.PieceTaken as model
 use Rattle.sctp_recv.specs.declared.answer.Row.{Row}
-use Rattle.sctp_recv.specs.declared.answer.Row.TheVariants.{Duplicate, Ahead, NoSuchStream, Passed, NoRoom, Taken}
+use Rattle.sctp_recv.specs.declared.answer.Row.TheVariants.{Duplicate, Ahead, NoSuchStream, Passed, NoRoom, Uncounted, Taken}
 use Rattle.sctp_recv.specs.declared.answer.TsnPlace.{TsnPlace}
 use Rattle.sctp_recv.specs.declared.answer.TsnPlace.TheVariants as place
 use Rattle.sctp_recv.specs.ReceiverKept.{ReceiverKept}
@@ -57,6 +57,16 @@ pub record IsWanted (f : Format) (k : ReceiverKept) (v : ReceiverView) (p : Piec
   pub fits : k.held + length p.bytes ≤ k.buffer
   pub of : IsOf f (lane_of p.stream p.unordered) (counted i p n)
 
+-- by the space in the buffer alone
+abbrev pub IsByRoom : ReceiverKept → (size : ℕ) → Row → Type 0
+IsByRoom k n Duplicate = ⊥
+IsByRoom k n Ahead = ⊥
+IsByRoom k n (NoSuchStream i) = ⊥
+IsByRoom k n (Passed i) = ⊥
+IsByRoom k n NoRoom = k.buffer < k.held + n
+IsByRoom k n Uncounted = k.held + n ≤ k.buffer
+IsByRoom k n (Taken i m) = ⊥
+
 -- its answer by the table, read at the cumulative index that is kept
 abbrev pub answer_at : Format → ReceiverKept → ReceiverView → PieceMeaning → model.PieceAnswer
 answer_at f k v p = model.answer_to f v k.seen.cumulative p
@@ -68,4 +78,5 @@ IsRowOf f k v p Ahead = answer_at f k v p ≡ model.Ahead
 IsRowOf f k v p (NoSuchStream i) = (answer_at f k v p ≡ model.NoSuchStream) × IsNewIndex f k v p i
 IsRowOf f k v p (Passed i) = (answer_at f k v p ≡ model.Passed) × IsNewIndex f k v p i
 IsRowOf f k v p NoRoom = answer_at f k v p ≡ model.NoRoom
+IsRowOf f k v p Uncounted = answer_at f k v p ≡ model.Kept
 IsRowOf f k v p (Taken i n) = (answer_at f k v p ≡ model.Kept) × IsWanted f k v p i n

@@ -127,8 +127,8 @@ keeps_abandoned f s v t n k m off partial few none =
       };
       over = record { within = k.over.within; each = λ x le. let o = k.over.each x le in record { queue = o.queue; tracks = o.tracks; items = same_items x (abandoned_item t) s.items (abandoned_message t) ∙ o.items } };
       due = record { many = k.due.many; each = λ x now lt. let i = k.due.each x now lt in record { queue = i.queue; items = λ on. late_abandoned now x t s.asleep s.items (i.items on); tracks = i.tracks } };
-      forward = still_forward f v.streams v.plan.entries [] u.plan.entries s.forward (entries ∙ sym (append-nil v.plan.entries)) k.forward;
-      unreset = k.unreset;
+      forward = still_forward f v.resets.base v.streams v.plan.entries [] u.plan.entries s.forward (entries ∙ sym (append-nil v.plan.entries)) k.forward;
+      resets = k.resets;
       before = k.before;
       counted = counted_gone f s v t n k m.waits m.named m.kept m.low m.high few;
       reached = rw after at reached;
@@ -226,8 +226,8 @@ keeps_ended f s v t n r tracks k m off partial few ends =
                 tracks = λ on. ap (λ (ts : List Track). some_late now x (rest_messages ts)) ends.now ∙ late_rest_set now x ends.at s.tracks (record ends.track { rest = None }) (i.tracks on) refl;
               };
         };
-        forward = still_forward f v.streams v.plan.entries (End n.lane n.number ∷ []) u.plan.entries s.forward (ap (λ (p : Plan). p.entries) plan) k.forward;
-        unreset = k.unreset;
+        forward = still_forward f v.resets.base v.streams v.plan.entries (End n.lane n.number ∷ []) u.plan.entries s.forward (ap (λ (p : Plan). p.entries) plan) k.forward;
+        resets = k.resets;
         before = k.before;
         counted = counted_gone f s v t n k m.waits m.named m.kept m.low m.high few;
         reached = rw after at reached;

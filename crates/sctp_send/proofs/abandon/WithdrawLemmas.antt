@@ -127,7 +127,7 @@ keeps_withdrawn f s v t k on =
       over = record { within = k.over.within; each = λ x le. let o = k.over.each x le in record { queue = not_waiting_without x t s.queue o.queue; tracks = o.tracks; items = o.items } };
       due = record { many = k.due.many; each = λ x now lt. let i = k.due.each x now lt in record { queue = late_without now x t s.queue i.queue; items = i.items; tracks = i.tracks } };
       forward = k.forward;
-      unreset = k.unreset;
+      resets = k.resets;
       before = k.before;
       counted = counted_waiting f s v t Withdrawn k on refl;
       reached = rw after at reached;

@@ -198,8 +198,8 @@ begun_kept f s v q rest d turn capacity room x k taken idle low first space =
               tracks = λ on. late_rest_set now t q.lane.stream s.tracks (begun_track q (suc d) (get_or s.tracks q.lane.stream x)) (i.tracks on) (late_rest_begun now t q (suc d) (get_or s.tracks q.lane.stream x) left.one);
             };
       };
-      forward = still_forward f v.streams v.plan.entries (parts_from q.lane (length (v.plan.messages q.lane)) 0 (suc d)) u.plan.entries s.forward refl k.forward;
-      unreset = k.unreset;
+      forward = still_forward f v.resets.base v.streams v.plan.entries (parts_from q.lane (length (v.plan.messages q.lane)) 0 (suc d)) u.plan.entries s.forward refl k.forward;
+      resets = k.resets;
       before = k.before ∙ sym (sent_above v.sent (suc (length v.plan.entries)) v.cum (omega (arith, count)));
       counted = counted_waiting f s v q.message.ticket Numbered k taken.was refl;
       reached = Goes v room (newcomer v u) k.reached parts.0 parts.1;
@@ -265,8 +265,8 @@ continued_kept f s v j turn capacity room e x k low on first space =
               tracks = λ may. late_rest_set now t j s.tracks (record (get_or s.tracks j x) { rest = rest_after r.entry r.message }) (i.tracks may) (late_rest_after now t (get_or s.tracks j x) r.entry r.message (other may));
             };
       };
-      forward = still_forward f v.streams v.plan.entries (e ∷ []) u.plan.entries s.forward refl k.forward;
-      unreset = k.unreset;
+      forward = still_forward f v.resets.base v.streams v.plan.entries (e ∷ []) u.plan.entries s.forward refl k.forward;
+      resets = k.resets;
       before = k.before ∙ sym (sent_above v.sent (suc (length v.plan.entries)) v.cum (omega (arith, count)));
       counted = k.counted;
       reached = Goes v room (newcomer v u) k.reached parts.0 parts.1;

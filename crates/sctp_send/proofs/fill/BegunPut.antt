@@ -25,7 +25,8 @@ use Rattle.sctp_model.proofs.sender.QueueLaws.{IsTaken, taken_head, taken_first}
 use Rattle.sctp_packet.specs.Draft.{Draft as PacketDraft, room_in, has_room, with_chunks}
 use Rattle.sctp_send.specs.SenderKept.{Item, Track, Kept}
 use Rattle.sctp_send.specs.SenderStands.{track_here, Keeps}
-use Rattle.sctp_send.specs.OutstandingFields.{item_meaning, lane_meaning, message_meaning, queued_meaning, no_base}
+use Rattle.sctp_send.specs.OutstandingFields.{item_meaning, lane_meaning, message_meaning, queued_meaning}
+use Rattle.sctp_send.specs.ResetsKept.{base_of}
 use Rattle.sctp_send.specs.SenderFields.{queued_by, track_meaning}
 use Rattle.sctp_send.specs.inner.Walks.{total, one_if_rest}
 use Rattle.sctp_send.specs.inner.Newcomers.{gone_item, new_item, new_items, begun_items, number_in, begun_track, rest_at, has_rest, one_if, without_place, fresh_track, number_on, begun, IsBegun}
@@ -141,17 +142,17 @@ module _ (f : Format) (s : Kept) (v : SenderView) (old : Stock) (m : MessageFiel
       omega (arith, same, few)
 
   -- its chunk
-  begun_chunk : chunk_of f (newcomer v led) ≡ fragment_chunk f s.fragment s.initial (suc (s.cum + length old.outstanding.items)) m number (Fragment 0)
+  begun_chunk : chunk_of f (newcomer v led) ≡ fragment_chunk f (base_of s.resets) s.fragment s.initial (suc (s.cum + length old.outstanding.items)) m number (Fragment 0)
   begun_chunk =
       let q = queued_meaning s.fragment m in
       let long = length-map old.outstanding.items (item_meaning s.fragment) in
       chunk_begun f (stocked s old) v q (without_place place v.queue) by.less turn fresh_track k by.low
-      ∙ ap (λ (n : ℕ). data_chunk f (piece_said f s.initial no_base (suc (s.cum + n)) (Part q.lane (number_on (stocked s old).tracks (lane_meaning m)) 0) (Some q.message))) long
-      ∙ ap (λ (n : ℕ). fragment_chunk f s.fragment s.initial (suc (s.cum + length old.outstanding.items)) m n (Fragment 0)) (sym its)
+      ∙ ap (λ (n : ℕ). data_chunk f (piece_said f s.initial (base_of s.resets) (suc (s.cum + n)) (Part q.lane (number_on (stocked s old).tracks (lane_meaning m)) 0) (Some q.message))) long
+      ∙ ap (λ (n : ℕ). fragment_chunk f (base_of s.resets) s.fragment s.initial (suc (s.cum + length old.outstanding.items)) m n (Fragment 0)) (sym its)
 
   begun_may : (p : PacketDraft) → may_go f (room_in p) (newcomer v led)
       ≡ ((flows s old (bytes_in (Part (lane_meaning m) number 0) (Some (message_meaning s.fragment m)))
-      && has_room p (fragment_chunk f s.fragment s.initial (suc (s.cum + length old.outstanding.items)) m number (Fragment 0))) && nat_le (outstanding led) WINDOW)
+      && has_room p (fragment_chunk f (base_of s.resets) s.fragment s.initial (suc (s.cum + length old.outstanding.items)) m number (Fragment 0))) && nat_le (outstanding led) WINDOW)
   begun_may p =
       let q = queued_meaning s.fragment m in
       let bytes = bytes_begun f (stocked s old) v q (without_place place v.queue) by.less turn fresh_track k by.low in
@@ -203,8 +204,8 @@ module _ (f : Format) (s : Kept) (v : SenderView) (old : Stock) (m : MessageFiel
 
   -- its chunk, of the item that it is then
   begun_tried : (p r : PacketDraft) (new : Stock) (at capacity : ℕ) (none : Item) (put : Bool) → at ≡ length old.outstanding.items → stocked s new ≡ begun (stocked s old) (queued_meaning s.fragment m) place count turn capacity
-      → IsTried p r (item_chunk f s.initial (suc (s.cum + at)) (get_or (stocked s new).items at none)) put
-      → IsTried p r (fragment_chunk f s.fragment s.initial (suc (s.cum + length old.outstanding.items)) m number (Fragment 0)) put
+      → IsTried p r (item_chunk f (base_of s.resets) s.initial (suc (s.cum + at)) (get_or (stocked s new).items at none)) put
+      → IsTried p r (fragment_chunk f (base_of s.resets) s.fragment s.initial (suc (s.cum + length old.outstanding.items)) m number (Fragment 0)) put
   begun_tried p r new at capacity none put here kept tried =
       let q = queued_meaning s.fragment m in
       let xs = (stocked s old).items in
@@ -214,8 +215,8 @@ module _ (f : Format) (s : Kept) (v : SenderView) (old : Stock) (m : MessageFiel
       let item = ap (λ (ys : List Item). get_or ys at none) items ∙ ap (λ (j : ℕ). get_or (xs ++ begun_items q.lane n q.message (suc by.less)) j none) long
       ∙ item_behind xs (gone_item (new_item (Part q.lane n 0) q.message)) (new_items q.lane n q.message 1 by.less) none
       ∙ ap (λ (j : ℕ). gone_item (new_item (Part q.lane j 0) q.message)) (sym its) in
-      subst (λ (j : ℕ). IsTried p r (fragment_chunk f s.fragment s.initial (suc (s.cum + j)) m number (Fragment 0)) put) here
-      (subst (λ (x : Item). IsTried p r (item_chunk f s.initial (suc (s.cum + at)) x) put) item tried)
+      subst (λ (j : ℕ). IsTried p r (fragment_chunk f (base_of s.resets) s.fragment s.initial (suc (s.cum + j)) m number (Fragment 0)) put) here
+      (subst (λ (x : Item). IsTried p r (item_chunk f (base_of s.resets) s.initial (suc (s.cum + at)) x) put) item tried)
 
   -- it is in the packet, and took its number
   pub begun_put : (p r : PacketDraft) (new : Stock) (more : Bool) (at capacity : ℕ) (none : Item) (put : Bool) → more ≡ nat_lt count (length (cut s.fragment m.bytes.items))
@@ -223,7 +224,7 @@ module _ (f : Format) (s : Kept) (v : SenderView) (old : Stock) (m : MessageFiel
       → let_in f (item_flight (map (item_meaning s.fragment) old.outstanding.items)) s (suc (s.cum + length old.outstanding.items)) p (Part (lane_meaning m) number 0) (Some (message_meaning s.fragment m)) ≡ true → at ≡ length old.outstanding.items
       → stocked s new ≡ begun (stocked s old) (queued_meaning s.fragment m) place count turn capacity → old.streams.size ≡ s.fragment → ends_of old.streams + 1 + length new.outstanding.items ≤ capacity
       → numbers_of new.tickets.items ≡ numbers_of old.tickets.items ++ m.ticket ∷ []
-      → IsTried p r (item_chunk f s.initial (suc (s.cum + at)) (get_or (stocked s new).items at none)) put → PutAnswer f s v p r old new put
+      → IsTried p r (item_chunk f (base_of s.resets) s.initial (suc (s.cum + at)) (get_or (stocked s new).items at none)) put → PutAnswer f s v p r old new put
   begun_put p r new more at capacity none put is window on here kept sized room tickets tried =
       let q = queued_meaning s.fragment m in
       let goes_now = begun_goes p more is window on in

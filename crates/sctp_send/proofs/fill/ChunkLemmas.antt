@@ -24,6 +24,7 @@ use Rattle.sctp_wire.specs.Layouts.{Fits}
 use Rattle.sctp_send.specs.SenderKept.{Item, Track, Kept}
 use Rattle.sctp_send.specs.SenderStands.{item_here, items_from, Keeps}
 use Rattle.sctp_send.specs.OutstandingFields.{lane_meaning, message_meaning, entry_meaning, no_base}
+use Rattle.sctp_send.specs.ResetsKept.{base_of}
 use Rattle.sctp_send.specs.declared.kept.message.Message.{Message as MessageFields}
 use Rattle.sctp_send.specs.declared.kept.entry.Content.{Content}
 use Rattle.sctp_send.specs.declared.kept.entry.Content.TheVariants.{Fragment, EndMark}
@@ -39,13 +40,13 @@ record IsFor (w : Wish) (e : Entry) (m : Option Message) : Type 0 where
   entry : wished w ≡ e
   message : entry_message w.view.plan e ≡ m
 
-chunk_for : (f : Format) (w : Wish) (e : Entry) (m : Option Message) (initial index : ℕ) → IsFor w e m → w.view.resets.base ≡ no_base → w.view.initial ≡ initial → w.index ≡ index
-    → chunk_of f w ≡ data_chunk f (piece_said f initial no_base index e m)
-chunk_for f w e m initial index for unreset from at =
-    ap (λ (b : Lane → ℕ). data_chunk f (piece_said f w.view.initial b w.index (wished w) (entry_message w.view.plan (wished w)))) unreset
-    ∙ ap (λ (x : Entry). data_chunk f (piece_said f w.view.initial no_base w.index x (entry_message w.view.plan x))) for.entry
-    ∙ ap (λ (x : Option Message). data_chunk f (piece_said f w.view.initial no_base w.index e x)) for.message
-    ∙ ap (λ (n : ℕ). data_chunk f (piece_said f n no_base w.index e m)) from ∙ ap (λ (n : ℕ). data_chunk f (piece_said f initial no_base n e m)) at
+chunk_for : (f : Format) (w : Wish) (e : Entry) (m : Option Message) (base : Lane → ℕ) (initial index : ℕ) → IsFor w e m → w.view.resets.base ≡ base → w.view.initial ≡ initial → w.index ≡ index
+    → chunk_of f w ≡ data_chunk f (piece_said f initial base index e m)
+chunk_for f w e m base initial index for based from at =
+    ap (λ (b : Lane → ℕ). data_chunk f (piece_said f w.view.initial b w.index (wished w) (entry_message w.view.plan (wished w)))) based
+    ∙ ap (λ (x : Entry). data_chunk f (piece_said f w.view.initial base w.index x (entry_message w.view.plan x))) for.entry
+    ∙ ap (λ (x : Option Message). data_chunk f (piece_said f w.view.initial base w.index e x)) for.message
+    ∙ ap (λ (n : ℕ). data_chunk f (piece_said f n base w.index e m)) from ∙ ap (λ (n : ℕ). data_chunk f (piece_said f initial base n e m)) at
 
 bytes_for : (w : Wish) (e : Entry) (m : Option Message) → IsFor w e m → bytes_of_wish w ≡ bytes_in e m
 bytes_for w e m for = ap (λ (x : Entry). bytes_in x (entry_message w.view.plan x)) for.entry ∙ ap (bytes_in e) for.message
@@ -73,9 +74,9 @@ stands_for f s v at d k low =
     }
 
 pub chunk_standing : (f : Format) (s : Kept) (v : SenderView) (at : ℕ) (d : Item) → Keeps f s v → at < length s.items
-    → chunk_of f (standing v (suc (v.cum + at))) ≡ data_chunk f (piece_said f s.initial no_base (suc (s.cum + at)) (get_or s.items at d).entry (get_or s.items at d).message)
+    → chunk_of f (standing v (suc (v.cum + at))) ≡ data_chunk f (piece_said f s.initial (base_of s.resets) (suc (s.cum + at)) (get_or s.items at d).entry (get_or s.items at d).message)
 chunk_standing f s v at d k low =
-    chunk_for f (standing v (suc (v.cum + at))) (get_or s.items at d).entry (get_or s.items at d).message s.initial (suc (s.cum + at)) (stands_for f s v at d k low) k.unreset.base (sym k.holds.initial)
+    chunk_for f (standing v (suc (v.cum + at))) (get_or s.items at d).entry (get_or s.items at d).message (base_of s.resets) s.initial (suc (s.cum + at)) (stands_for f s v at d k low) k.resets.base (sym k.holds.initial)
     (ap (λ (n : ℕ). suc (n + at)) (sym k.holds.cum))
 
 pub bytes_standing : (f : Format) (s : Kept) (v : SenderView) (at : ℕ) (d : Item) → Keeps f s v → at < length s.items
@@ -103,9 +104,9 @@ begins_for f s v q rest d turn x k low =
 
 pub chunk_begun : (f : Format) (s : Kept) (v : SenderView) (q : Queued) (rest : List Queued) (d turn : ℕ) (x : Track) → Keeps f s v → q.lane.stream < v.streams
     → chunk_of f (newcomer v (numbered v q (suc d) rest turn))
-    ≡ data_chunk f (piece_said f s.initial no_base (suc (s.cum + length s.items)) (Part q.lane (number_in q.lane.kind (get_or s.tracks q.lane.stream x)) 0) (Some q.message))
+    ≡ data_chunk f (piece_said f s.initial (base_of s.resets) (suc (s.cum + length s.items)) (Part q.lane (number_in q.lane.kind (get_or s.tracks q.lane.stream x)) 0) (Some q.message))
 chunk_begun f s v q rest d turn x k low =
-    chunk_for f (newcomer v (numbered v q (suc d) rest turn)) _ _ s.initial (suc (s.cum + length s.items)) (begins_for f s v q rest d turn x k low) k.unreset.base (sym k.holds.initial) (next_index f s v k)
+    chunk_for f (newcomer v (numbered v q (suc d) rest turn)) _ _ (base_of s.resets) s.initial (suc (s.cum + length s.items)) (begins_for f s v q rest d turn x k low) k.resets.base (sym k.holds.initial) (next_index f s v k)
 
 pub bytes_begun : (f : Format) (s : Kept) (v : SenderView) (q : Queued) (rest : List Queued) (d turn : ℕ) (x : Track) → Keeps f s v → q.lane.stream < v.streams
     → bytes_of_wish (newcomer v (numbered v q (suc d) rest turn)) ≡ bytes_in (Part q.lane (number_in q.lane.kind (get_or s.tracks q.lane.stream x)) 0) (Some q.message)
@@ -115,8 +116,8 @@ continues_for : (v : SenderView) (e : Entry) (turn : ℕ) → IsFor (newcomer v 
 continues_for v e turn = record { entry = ap (λ (o : Option Entry). unwrap_or o (End (ordered_lane 0) 0)) (behind v.plan.entries e []); message = refl }
 
 pub chunk_continued : (f : Format) (s : Kept) (v : SenderView) (e : Entry) (turn : ℕ) → Keeps f s v
-    → chunk_of f (newcomer v (gone_on v e turn)) ≡ data_chunk f (piece_said f s.initial no_base (suc (s.cum + length s.items)) e (entry_message v.plan e))
-chunk_continued f s v e turn k = chunk_for f (newcomer v (gone_on v e turn)) e (entry_message v.plan e) s.initial (suc (s.cum + length s.items)) (continues_for v e turn) k.unreset.base (sym k.holds.initial) (next_index f s v k)
+    → chunk_of f (newcomer v (gone_on v e turn)) ≡ data_chunk f (piece_said f s.initial (base_of s.resets) (suc (s.cum + length s.items)) e (entry_message v.plan e))
+chunk_continued f s v e turn k = chunk_for f (newcomer v (gone_on v e turn)) e (entry_message v.plan e) (base_of s.resets) s.initial (suc (s.cum + length s.items)) (continues_for v e turn) k.resets.base (sym k.holds.initial) (next_index f s v k)
 
 pub bytes_continued : (v : SenderView) (e : Entry) (turn : ℕ) → bytes_of_wish (newcomer v (gone_on v e turn)) ≡ bytes_in e (entry_message v.plan e)
 bytes_continued v e turn = bytes_for (newcomer v (gone_on v e turn)) e (entry_message v.plan e) (continues_for v e turn)

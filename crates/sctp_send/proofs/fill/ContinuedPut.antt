@@ -20,7 +20,8 @@ use Rattle.sctp_model.proofs.sender.FillLaws.{goes_is, goes_not}
 use Rattle.sctp_packet.specs.Draft.{Draft as PacketDraft, room_in, has_room, with_chunks}
 use Rattle.sctp_send.specs.SenderKept.{Item, Rest, Track, Kept}
 use Rattle.sctp_send.specs.SenderStands.{rest_here, track_here, Keeps}
-use Rattle.sctp_send.specs.OutstandingFields.{item_meaning, lane_meaning, message_meaning, no_base}
+use Rattle.sctp_send.specs.OutstandingFields.{item_meaning, lane_meaning, message_meaning}
+use Rattle.sctp_send.specs.ResetsKept.{base_of}
 use Rattle.sctp_send.specs.SenderFields.{number_left, track_meaning, rest_meaning}
 use Rattle.sctp_send.specs.inner.Walks.{total, one_if_rest}
 use Rattle.sctp_send.specs.inner.Newcomers as kept
@@ -98,15 +99,15 @@ module _ (f : Format) (s : Kept) (v : SenderView) (old : Stock) (t : Track) (r :
   continued_few = few_fragments f v stream e k.reached left.on
 
   -- its chunk
-  continued_chunk : chunk_of f (newcomer v led) ≡ fragment_chunk f s.fragment s.initial (suc (s.cum + length old.outstanding.items)) r.message.value (number_left t r) (Fragment r.fragment)
+  continued_chunk : chunk_of f (newcomer v led) ≡ fragment_chunk f (base_of s.resets) s.fragment s.initial (suc (s.cum + length old.outstanding.items)) r.message.value (number_left t r) (Fragment r.fragment)
   continued_chunk =
       let long = length-map old.outstanding.items (item_meaning s.fragment) in
-      chunk_continued f (stocked s old) v e (stream_after v stream) k ∙ ap (λ (n : ℕ). data_chunk f (piece_said f s.initial no_base (suc (s.cum + n)) e (entry_message v.plan e))) long
-      ∙ ap (λ (x : Option Message). data_chunk f (piece_said f s.initial no_base (suc (s.cum + length old.outstanding.items)) e x)) (sym left.message)
+      chunk_continued f (stocked s old) v e (stream_after v stream) k ∙ ap (λ (n : ℕ). data_chunk f (piece_said f s.initial (base_of s.resets) (suc (s.cum + n)) e (entry_message v.plan e))) long
+      ∙ ap (λ (x : Option Message). data_chunk f (piece_said f s.initial (base_of s.resets) (suc (s.cum + length old.outstanding.items)) e x)) (sym left.message)
 
   continued_may : (p : PacketDraft) → may_go f (room_in p) (newcomer v led)
       ≡ ((flows s old (bytes_in e (Some (message_meaning s.fragment r.message.value)))
-      && has_room p (fragment_chunk f s.fragment s.initial (suc (s.cum + length old.outstanding.items)) r.message.value (number_left t r) (Fragment r.fragment))) && nat_le (outstanding led) WINDOW)
+      && has_room p (fragment_chunk f (base_of s.resets) s.fragment s.initial (suc (s.cum + length old.outstanding.items)) r.message.value (number_left t r) (Fragment r.fragment))) && nat_le (outstanding led) WINDOW)
   continued_may p = new_may f s v led p old _ _ k led_is continued_chunk (bytes_continued v e (stream_after v stream) ∙ ap (bytes_in e) (sym left.message))
 
   -- how the code tests the window
@@ -153,15 +154,15 @@ module _ (f : Format) (s : Kept) (v : SenderView) (old : Stock) (t : Track) (r :
 
   -- its chunk, of the item that it is then
   continued_tried : (p q : PacketDraft) (new : Stock) (at turn capacity : ℕ) (none : Item) (put : Bool) → at ≡ length old.outstanding.items → stocked s new ≡ kept.gone_on (stocked s old) (rest_meaning s.fragment t r) stream turn capacity
-      → IsTried p q (item_chunk f s.initial (suc (s.cum + at)) (get_or (stocked s new).items at none)) put
-      → IsTried p q (fragment_chunk f s.fragment s.initial (suc (s.cum + length old.outstanding.items)) r.message.value (number_left t r) (Fragment r.fragment)) put
+      → IsTried p q (item_chunk f (base_of s.resets) s.initial (suc (s.cum + at)) (get_or (stocked s new).items at none)) put
+      → IsTried p q (fragment_chunk f (base_of s.resets) s.fragment s.initial (suc (s.cum + length old.outstanding.items)) r.message.value (number_left t r) (Fragment r.fragment)) put
   continued_tried p q new at turn capacity none put here same tried =
       let xs = (stocked s old).items in
       let x = gone_item (rest_item (rest_meaning s.fragment t r)) in
       let long : at ≡ length xs = here ∙ sym (length-map old.outstanding.items (item_meaning s.fragment)) in
       let item = ap (λ (y : Kept). get_or y.items at none) same ∙ ap (λ (j : ℕ). get_or (xs ++ x ∷ []) j none) long ∙ item_behind xs x [] none in
-      subst (λ (j : ℕ). IsTried p q (fragment_chunk f s.fragment s.initial (suc (s.cum + j)) r.message.value (number_left t r) (Fragment r.fragment)) put) here
-      (subst (λ (y : Item). IsTried p q (item_chunk f s.initial (suc (s.cum + at)) y) put) item tried)
+      subst (λ (j : ℕ). IsTried p q (fragment_chunk f (base_of s.resets) s.fragment s.initial (suc (s.cum + j)) r.message.value (number_left t r) (Fragment r.fragment)) put) here
+      (subst (λ (y : Item). IsTried p q (item_chunk f (base_of s.resets) s.initial (suc (s.cum + at)) y) put) item tried)
 
   -- it is in the packet, and took its index
   pub continued_put : (p q : PacketDraft) (new : Stock) (more : Bool) (at capacity : ℕ) (none : Item) (put : Bool) → more ≡ nat_lt (suc r.fragment) (length (cut s.fragment r.message.value.bytes.items))
@@ -169,7 +170,7 @@ module _ (f : Format) (s : Kept) (v : SenderView) (old : Stock) (t : Track) (r :
       → let_in f (item_flight (map (item_meaning s.fragment) old.outstanding.items)) s (suc (s.cum + length old.outstanding.items)) p e (Some (message_meaning s.fragment r.message.value)) ≡ true → at ≡ length old.outstanding.items
       → stocked s new ≡ kept.gone_on (stocked s old) (rest_meaning s.fragment t r) stream (suc stream % s.streams) capacity
       → old.streams.size ≡ s.fragment → ends_of old.streams + length new.outstanding.items ≤ capacity → new.tickets ≡ old.tickets
-      → IsTried p q (item_chunk f s.initial (suc (s.cum + at)) (get_or (stocked s new).items at none)) put → PutAnswer f s v p q old new put
+      → IsTried p q (item_chunk f (base_of s.resets) s.initial (suc (s.cum + at)) (get_or (stocked s new).items at none)) put → PutAnswer f s v p q old new put
   continued_put p q new more at capacity none put is window on here same sized room tickets tried =
       let goes_now = continued_goes p more is window on in
       let many = ap (λ (y : Kept). length y.items) same in

@@ -14,7 +14,7 @@ use Rattle.sctp_model.specs.sender.Queueing.{cut}
 use Rattle.sctp_model.specs.sender.PieceSaid.{is_unordered}
 use Rattle.sctp_send.specs.PartsKept.{OutstandingKept, IsSameRoom}
 use Rattle.sctp_send.specs.SenderKept.{Item, Rest, Track, Kept}
-use Rattle.sctp_send.specs.OutstandingFields.{item_meaning, queued_meaning, lane_meaning, message_meaning, entry_meaning}
+use Rattle.sctp_send.specs.OutstandingFields.{item_meaning, queued_meaning, lane_meaning, message_meaning, entry_meaning, no_base}
 use Rattle.sctp_send.specs.inner.Newcomers.{gone_item, new_item, new_items, begun_items, fresh_track, track_of, number_on, without_place, number_in, counted_in, begun, gone_on}
 use Rattle.sctp_send.specs.inner.Stocking.{numbers_of, all_numbered, AreOpen, stocked, fragment_chunk, fragment_item, rest_from, counted_track, left_track}
 use Rattle.sctp_send.specs.SenderFields.{queued_by, latest_in, number_left, track_meaning, rest_meaning}
@@ -31,7 +31,7 @@ use Rattle.sctp_send.specs.declared.kept.message.Message.{Message as MessageFiel
 use Rattle.sctp_send.specs.declared.kept.entry.Content.{Content}
 use Rattle.sctp_send.specs.declared.kept.entry.Content.TheVariants.{Fragment, EndMark}
 use Rattle.sctp_values.specs.declared.ticket.Ticket.{Ticket}
-use Rattle.sctp_send.proofs.UnresetLemmas.{from_zero}
+use Rattle.sctp_send.proofs.ResetLemmas.{from_zero}
 use Rattle.sctp_send.proofs.WalkLemmas.{none_behind}
 use Rattle.sctp_send.proofs.fill.ChunkLemmas.{fragment_is}
 
@@ -119,7 +119,7 @@ pub same_chunk : (f : Format) (size initial i n tsn fragment count number word s
     → ((l : Lane) (k : ℕ) → fragment ≡ entry_fragment (entry_meaning l k p)) → count ≡ length (cut size m.bytes.items) → number ≡ wire_number f (kind_meaning m.kind) n → word ≡ word_of f payload fragment
     → stream ≡ m.stream → payload ≡ m.payload_id → lane_kind unordered ≡ kind_meaning m.kind → ((l : Lane) (k : ℕ) → bytes ≡ bytes_in (entry_meaning l k p) (Some (message_meaning size m)))
     → data_chunk f (record { immediate = false; unordered = unordered; begin = fragment == 0; end = (fragment + 1) == count; tsn = tsn; stream = stream; number = number; word = word; bytes = bytes })
-    ≡ fragment_chunk f size initial i m n p
+    ≡ fragment_chunk f no_base size initial i m n p
 same_chunk f size initial i n tsn fragment count number word stream payload unordered m (Fragment k) bytes at is many wire said on named flag range =
     let one : fragment + 1 ≡ suc k = omega (arith, is (lane_meaning m) n) in
     rw (one, many, wire ∙ sym (from_zero f (lane_meaning m) n), said, range (lane_meaning m) n, at, on, named, is (lane_meaning m) n, said_unordered unordered (kind_meaning m.kind) flag) refl

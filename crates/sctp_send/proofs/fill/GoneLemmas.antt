@@ -87,7 +87,7 @@ keeps_gone f s v room at d k first low =
       over = record { within = k.over.within; each = λ t le. let o = k.over.each t le in record { queue = o.queue; tracks = o.tracks; items = same_gone t at s.items d ∙ o.items } };
       due = record { many = k.due.many; each = λ t now lt. let i = k.due.each t now lt in record { queue = i.queue; items = λ on. late_gone now t at s.asleep s.items d ∙ i.items on; tracks = i.tracks } };
       forward = k.forward;
-      unreset = k.unreset;
+      resets = k.resets;
       before = k.before ∙ sym (sent_above v.sent (suc (v.cum + at)) v.cum (omega arith));
       counted = k.counted;
       reached = Goes v room (standing v (suc (v.cum + at))) k.reached parts.0 parts.1;

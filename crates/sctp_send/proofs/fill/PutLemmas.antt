@@ -17,7 +17,8 @@ use Rattle.sctp_packet.specs.Draft.{Draft as PacketDraft, room_in, has_room, wit
 use Rattle.sctp_send.specs.SenderKept.{Item, Kept}
 use Rattle.sctp_send.specs.SenderStands.{item_here, Keeps}
 use Rattle.sctp_send.specs.PartsKept.{OutstandingKept, changed_at, changed}
-use Rattle.sctp_send.specs.OutstandingFields.{item_meaning, lane_meaning, message_meaning, entry_meaning, no_base}
+use Rattle.sctp_send.specs.OutstandingFields.{item_meaning, lane_meaning, message_meaning, entry_meaning}
+use Rattle.sctp_send.specs.ResetsKept.{base_of}
 use Rattle.sctp_send.specs.inner.Wishing.{first_offset, is_item_marked, is_item_unsent, item_flight, lets_flow}
 use Rattle.sctp_send.specs.inner.Newcomers.{gone_item}
 use Rattle.sctp_send.specs.inner.Stocking.{numbers_of, stocked, fragment_chunk, item_chunk, went_out, IsPut, IsStopped, IsRefused, IsTried, PutAnswer, IsNextEntry, IsNextUnsent, NothingStands}
@@ -117,19 +118,19 @@ may_where_fits f s v p i k flows =
 
 -- its chunk, by what the stock keeps
 standing_chunk : (f : Format) (s : Kept) (v : SenderView) (old : Stock) (at : ℕ) (x : EntryFields) → Keeps f (stocked s old) v → at < length old.outstanding.items → x ≡ get_or old.outstanding.items at x
-    → chunk_of f (standing v (suc (v.cum + at))) ≡ fragment_chunk f s.fragment s.initial (suc (s.cum + at)) x.message.value x.number x.content
+    → chunk_of f (standing v (suc (v.cum + at))) ≡ fragment_chunk f (base_of s.resets) s.fragment s.initial (suc (s.cum + at)) x.message.value x.number x.content
 standing_chunk f s v old at x k low read =
     let long = length-map old.outstanding.items (item_meaning s.fragment) in
     let item = item_read s.fragment old.outstanding.items at x read in
-    chunk_standing f (stocked s old) v at (item_meaning s.fragment x) k (omega arith) ∙ ap (λ (y : Item). data_chunk f (piece_said f s.initial no_base (suc (s.cum + at)) y.entry y.message)) item
+    chunk_standing f (stocked s old) v at (item_meaning s.fragment x) k (omega arith) ∙ ap (λ (y : Item). data_chunk f (piece_said f s.initial (base_of s.resets) (suc (s.cum + at)) y.entry y.message)) item
 
 -- what a stock keeps when the entry at this offset went out
 abbrev pub with_gone : Kept → Stock → (at : ℕ) → EntryFields → Kept
 with_gone s d at x = record (stocked s d) { items = set (map (item_meaning s.fragment) d.outstanding.items) at (item_meaning s.fragment (went_out x)) }
 
 pub entry_goes : (f : Format) (s : Kept) (v : SenderView) (before after : PacketDraft) (old new : Stock) (at : ℕ) (x : EntryFields) → Keeps f (stocked s old) v → IsNextEntry f v at
-    → at < length old.outstanding.items → x ≡ get_or old.outstanding.items at x → has_room before (fragment_chunk f s.fragment s.initial (suc (s.cum + at)) x.message.value x.number x.content) ≡ true
-    → after ≡ with_chunks before (fragment_chunk f s.fragment s.initial (suc (s.cum + at)) x.message.value x.number x.content ∷ []) → stocked s new ≡ with_gone s old at x
+    → at < length old.outstanding.items → x ≡ get_or old.outstanding.items at x → has_room before (fragment_chunk f (base_of s.resets) s.fragment s.initial (suc (s.cum + at)) x.message.value x.number x.content) ≡ true
+    → after ≡ with_chunks before (fragment_chunk f (base_of s.resets) s.fragment s.initial (suc (s.cum + at)) x.message.value x.number x.content ∷ []) → stocked s new ≡ with_gone s old at x
     → numbers_of new.tickets.items ≡ numbers_of old.tickets.items → IsPut f s v before after old new
 entry_goes f s v before after old new at x k premise low read room packet kept tickets =
     let w = standing v (suc (v.cum + at)) in
@@ -150,7 +151,7 @@ entry_goes f s v before after old new at x k premise low read room packet kept t
 
 -- it doesn't where its chunk doesn't fit
 pub entry_stops : (f : Format) (s : Kept) (v : SenderView) (before after : PacketDraft) (old new : Stock) (at : ℕ) (x : EntryFields) → Keeps f (stocked s old) v → IsNextEntry f v at
-    → at < length old.outstanding.items → x ≡ get_or old.outstanding.items at x → has_room before (fragment_chunk f s.fragment s.initial (suc (s.cum + at)) x.message.value x.number x.content) ≡ false
+    → at < length old.outstanding.items → x ≡ get_or old.outstanding.items at x → has_room before (fragment_chunk f (base_of s.resets) s.fragment s.initial (suc (s.cum + at)) x.message.value x.number x.content) ≡ false
     → after ≡ before → stocked s new ≡ stocked s old → new.tickets ≡ old.tickets → IsStopped f s v before after old new
 entry_stops f s v before after old new at x k premise low read room packet kept tickets =
     let chunk = standing_chunk f s v old at x k low read in
@@ -159,7 +160,7 @@ entry_stops f s v before after old new at x k premise low read room packet kept 
 
 -- memory ran out for it
 pub entry_refused : (f : Format) (s : Kept) (v : SenderView) (before after : PacketDraft) (old : Stock) (at : ℕ) (x : EntryFields) → Keeps f (stocked s old) v → IsNextEntry f v at → at < length old.outstanding.items
-    → x ≡ get_or old.outstanding.items at x → has_room before (fragment_chunk f s.fragment s.initial (suc (s.cum + at)) x.message.value x.number x.content) ≡ true → after ≡ before → IsRefused f v before after
+    → x ≡ get_or old.outstanding.items at x → has_room before (fragment_chunk f (base_of s.resets) s.fragment s.initial (suc (s.cum + at)) x.message.value x.number x.content) ≡ true → after ≡ before → IsRefused f v before after
 entry_refused f s v before after old at x k premise low read room packet =
     let chunk = standing_chunk f s v old at x k low read in
     let may = may_where_fits f (stocked s old) v before (suc (v.cum + at)) k premise.flows ∙ ap (has_room before) chunk ∙ room in
@@ -168,20 +169,20 @@ entry_refused f s v before after old at x k premise low read room packet =
 -- one of the two, as the packet answered
 pub entry_put : (f : Format) (s : Kept) (v : SenderView) (before after : PacketDraft) (old new : Stock) (at : ℕ) (x : EntryFields) (put : Bool) → Keeps f (stocked s old) v → IsNextEntry f v at
     → at < length old.outstanding.items → x ≡ get_or old.outstanding.items at x
-    → IsTried before after (item_chunk f s.initial (suc (s.cum + at)) (get_or (map (item_meaning s.fragment) old.outstanding.items) at (item_meaning s.fragment x))) put
+    → IsTried before after (item_chunk f (base_of s.resets) s.initial (suc (s.cum + at)) (get_or (map (item_meaning s.fragment) old.outstanding.items) at (item_meaning s.fragment x))) put
     → (put ≡ true → (stocked s new ≡ with_gone s old at x) × (new.tickets ≡ old.tickets)) → (put ≡ false → (stocked s new ≡ stocked s old) × (new.tickets ≡ old.tickets)) → PutAnswer f s v before after old new put
 entry_put f s v before after old new at x put k premise low read tried went stayed = by_put put refl
   where
-    here : IsTried before after (fragment_chunk f s.fragment s.initial (suc (s.cum + at)) x.message.value x.number x.content) put
-    here = subst (λ (y : Item). IsTried before after (item_chunk f s.initial (suc (s.cum + at)) y) put) (item_read s.fragment old.outstanding.items at x read) tried
+    here : IsTried before after (fragment_chunk f (base_of s.resets) s.fragment s.initial (suc (s.cum + at)) x.message.value x.number x.content) put
+    here = subst (λ (y : Item). IsTried before after (item_chunk f (base_of s.resets) s.initial (suc (s.cum + at)) y) put) (item_read s.fragment old.outstanding.items at x read) tried
 
     by_put : (b : Bool) → put ≡ b → PutAnswer f s v before after old new b
     by_put true is =
         entry_goes f s v before after old new at x k premise low read (sym here.answer ∙ is)
-        (here.packet ∙ ap (after_try before (fragment_chunk f s.fragment s.initial (suc (s.cum + at)) x.message.value x.number x.content)) is) (went is).0 (ap (λ (ts : _). numbers_of ts.items) (went is).1)
+        (here.packet ∙ ap (after_try before (fragment_chunk f (base_of s.resets) s.fragment s.initial (suc (s.cum + at)) x.message.value x.number x.content)) is) (went is).0 (ap (λ (ts : _). numbers_of ts.items) (went is).1)
     by_put false is =
         entry_stops f s v before after old new at x k premise low read (sym here.answer ∙ is)
-        (here.packet ∙ ap (after_try before (fragment_chunk f s.fragment s.initial (suc (s.cum + at)) x.message.value x.number x.content)) is) (stayed is).0 (stayed is).1
+        (here.packet ∙ ap (after_try before (fragment_chunk f (base_of s.resets) s.fragment s.initial (suc (s.cum + at)) x.message.value x.number x.content)) is) (stayed is).0 (stayed is).1
 
 -- the stock in which an entry went out
 pub sent_stock : (s : Kept) (old : Stock) (w : OutstandingKept) (at : ℕ) (x : EntryFields) → x ≡ get_or old.outstanding.items at x → w ≡ changed went_out at old.outstanding → stocked s (record old { outstanding = w }) ≡ with_gone s old at x

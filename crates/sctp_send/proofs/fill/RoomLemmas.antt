@@ -3,7 +3,7 @@ use Rattle.std.proofs.Common.{◌≡◌, ℕ, suc, ◌+◌, ◌-◌, ◌<◌, �
 use Rattle.std.specs.Prelude.{nat_le, ◌&&◌}
 use Rattle.std.proofs.lemmas.Bool.Decides.{nat_tests}
 use Rattle.sctp_model.specs.numbers.Limits.{WINDOW}
-use Rattle.sctp_model.specs.messages.Format.{Format, Plain, Interleaved}
+use Rattle.sctp_model.specs.messages.Format.{Format, Plain, Interleaved, Lane}
 use Rattle.sctp_model.specs.wire.Chunk.{ChunkMeaning, padded, size_of_chunk}
 use Rattle.sctp_model.specs.wire.Packet.{size_of_chunks, size_of_packet}
 use Rattle.sctp_model.specs.messages.Framing.{header_of}
@@ -42,9 +42,9 @@ pub has_room_is : (f : Format) (d : Draft) (w : Wish) → has_room d (chunk_of f
 has_room_is f d w = fits_room d (chunk_of f w) (room_some f w)
 
 -- the chunk of a message's entry fits by the bytes of its data alone
-pub fits_by_length : (f : Format) (d : Draft) (initial i : ℕ) (e : Entry) (m : Option Message) → has_room d (said_chunk f initial i e m) ≡ nat_le (padded (header_of f + length (bytes_in e m))) (room_in d)
-fits_by_length Plain d initial i e m = fits_room d (said_chunk Plain initial i e m) (omega arith)
-fits_by_length Interleaved d initial i e m = fits_room d (said_chunk Interleaved initial i e m) (omega arith)
+pub fits_by_length : (f : Format) (d : Draft) (base : Lane → ℕ) (initial i : ℕ) (e : Entry) (m : Option Message) → has_room d (said_chunk f base initial i e m) ≡ nat_le (padded (header_of f + length (bytes_in e m))) (room_in d)
+fits_by_length Plain d base initial i e m = fits_room d (said_chunk Plain base initial i e m) (omega arith)
+fits_by_length Interleaved d base initial i e m = fits_room d (said_chunk Interleaved base initial i e m) (omega arith)
 
 -- what is left behind a chunk
 pub room_more : (d : Draft) (m : ChunkMeaning) → room_in (with_chunks d (m ∷ [])) ≡ room_in d - size_of_chunk m

@@ -4,7 +4,7 @@ use Rattle.std.specs.Prelude.{nat_le, if◌then◌else◌}
 use Rattle.std.specs.List.{AllByRecursion}
 use Rattle.std.proofs.lemmas.List.{length-map, map-append}
 use Rattle.std.proofs.lemmas.Bool.Decides.{nat_tests}
-use Rattle.sctp_model.specs.messages.Format.{Format, Plain, Interleaved, is_numbered}
+use Rattle.sctp_model.specs.messages.Format.{Format, Plain, Interleaved, Lane, is_numbered}
 use Rattle.sctp_model.specs.messages.Framing.{lane_kind, wire_number, forward_chunk}
 use Rattle.sctp_values.specs.Meanings.{kind_meaning}
 use Rattle.sctp_values.specs.declared.kind.Kind.{Kind}
@@ -26,7 +26,7 @@ use Rattle.sctp_packet.specs.Draft.{Draft, room_in, has_room}
 use Rattle.sctp_packet.proofs.DraftLemmas.{size_of_more}
 use Rattle.sctp_framing.specs.SkipForms.{skip_form}
 use Rattle.sctp_send.specs.SenderKept.{Item, Kept}
-use Rattle.sctp_send.specs.OutstandingFields.{lane_of, item_meaning, entries_of, no_base}
+use Rattle.sctp_send.specs.OutstandingFields.{lane_of, item_meaning, entries_of}
 use Rattle.sctp_send.specs.SenderStands.{items_from, Keeps}
 use Rattle.sctp_send.specs.inner.Walks.{abandoned_items}
 use Rattle.sctp_send.specs.declared.kept.entry.Entry.{Entry as EntryFields}
@@ -78,24 +78,24 @@ all_joined : {A : Type 0} (P : A → Type 0) (xs ys : List A) → AllByRecursion
 all_joined P [] ys h k = k
 all_joined P (x ∷ xs) ys h k = (h.0, all_joined P xs ys h.1 k)
 
-lane_fits : (f : Format) (es : List Entry) (stream : ℕ) (kind : Kind) → stream < 2 ^ 16 → AllByRecursion (IsSkip (skip_form f)) (map (skip_said f no_base) (skip_of f es (lane_of stream kind)))
-lane_fits f es stream kind small = by_kind (is_numbered f (kind_meaning kind)) refl
+lane_fits : (f : Format) (base : Lane → ℕ) (es : List Entry) (stream : ℕ) (kind : Kind) → stream < 2 ^ 16 → AllByRecursion (IsSkip (skip_form f)) (map (skip_said f base) (skip_of f es (lane_of stream kind)))
+lane_fits f base es stream kind small = by_kind (is_numbered f (kind_meaning kind)) refl
   where
-    by_largest : is_numbered f (kind_meaning kind) ≡ true → (o : Option ℕ) → AllByRecursion (IsSkip (skip_form f)) (map (skip_said f no_base) (skip_in (lane_of stream kind) o))
+    by_largest : is_numbered f (kind_meaning kind) ≡ true → (o : Option ℕ) → AllByRecursion (IsSkip (skip_form f)) (map (skip_said f base) (skip_in (lane_of stream kind) o))
     by_largest on None = tt
-    by_largest on (Some n) = (skip_fits f stream (n - 0) (is_unordered (kind_meaning kind)) kind small on (kind_said kind), tt)
+    by_largest on (Some n) = (skip_fits f stream (n - base (lane_of stream kind)) (is_unordered (kind_meaning kind)) kind small on (kind_said kind), tt)
 
-    by_kind : (b : Bool) → is_numbered f (kind_meaning kind) ≡ b → AllByRecursion (IsSkip (skip_form f)) (map (skip_said f no_base) (if b then skip_in (lane_of stream kind) (largest_in (lane_of stream kind) None es) else []))
+    by_kind : (b : Bool) → is_numbered f (kind_meaning kind) ≡ b → AllByRecursion (IsSkip (skip_form f)) (map (skip_said f base) (if b then skip_in (lane_of stream kind) (largest_in (lane_of stream kind) None es) else []))
     by_kind false off = tt
     by_kind true on = by_largest on (largest_in (lane_of stream kind) None es)
 
 -- the entries of a FORWARD are within their bits
-pub all_fit : (f : Format) (es : List Entry) (streams : ℕ) → streams ≤ 2 ^ 16 → AllByRecursion (IsSkip (skip_form f)) (map (skip_said f no_base) (skips_below f es streams))
-all_fit f es zero le = tt
-all_fit f es (suc s) le =
-    rw (map-append (skip_said f no_base) (skips_below f es s) (skips_on f es s), map-append (skip_said f no_base) (skip_of f es (lane_of s Ordered)) (skip_of f es (lane_of s Unordered)))
-    (all_joined (IsSkip (skip_form f)) (map (skip_said f no_base) (skips_below f es s)) (map (skip_said f no_base) (skip_of f es (lane_of s Ordered)) ++ map (skip_said f no_base) (skip_of f es (lane_of s Unordered))) (all_fit f es s (omega arith))
-    (all_joined (IsSkip (skip_form f)) (map (skip_said f no_base) (skip_of f es (lane_of s Ordered))) (map (skip_said f no_base) (skip_of f es (lane_of s Unordered))) (lane_fits f es s Ordered (omega arith)) (lane_fits f es s Unordered (omega arith))))
+pub all_fit : (f : Format) (base : Lane → ℕ) (es : List Entry) (streams : ℕ) → streams ≤ 2 ^ 16 → AllByRecursion (IsSkip (skip_form f)) (map (skip_said f base) (skips_below f es streams))
+all_fit f base es zero le = tt
+all_fit f base es (suc s) le =
+    rw (map-append (skip_said f base) (skips_below f es s) (skips_on f es s), map-append (skip_said f base) (skip_of f es (lane_of s Ordered)) (skip_of f es (lane_of s Unordered)))
+    (all_joined (IsSkip (skip_form f)) (map (skip_said f base) (skips_below f es s)) (map (skip_said f base) (skip_of f es (lane_of s Ordered)) ++ map (skip_said f base) (skip_of f es (lane_of s Unordered))) (all_fit f base es s (omega arith))
+    (all_joined (IsSkip (skip_form f)) (map (skip_said f base) (skip_of f es (lane_of s Ordered))) (map (skip_said f base) (skip_of f es (lane_of s Unordered))) (lane_fits f base es s Ordered (omega arith)) (lane_fits f base es s Unordered (omega arith))))
 
 -- a FORWARD is as long with its padding
 pub forward_size : (f : Format) (x : ForwardMeaning) → size_of_chunk (forward_chunk f x) ≡ 8 + skip_size (skip_form f) * length x.skips
@@ -106,17 +106,17 @@ forward_size f x = ap padded (forward_length f x) ∙ whole f (length x.skips)
     whole Interleaved n = omega arith
 
 -- it fits where its entries do
-pub room_counted : (f : Format) (d : Draft) (n cumulative : ℕ) (xs : List Skip) → n ≡ length xs
-    → nat_le (8 + skip_size (skip_form f) * n) (room_in d) ≡ has_room d (forward_chunk f (record { cumulative = cumulative; skips = map (skip_said f no_base) xs }))
-room_counted f d n cumulative xs is = by_test (nat_le (8 + skip_size (skip_form f) * n) (room_in d)) refl
+pub room_counted : (f : Format) (base : Lane → ℕ) (d : Draft) (n cumulative : ℕ) (xs : List Skip) → n ≡ length xs
+    → nat_le (8 + skip_size (skip_form f) * n) (room_in d) ≡ has_room d (forward_chunk f (record { cumulative = cumulative; skips = map (skip_said f base) xs }))
+room_counted f base d n cumulative xs is = by_test (nat_le (8 + skip_size (skip_form f) * n) (room_in d)) refl
   where
     chunk : ChunkMeaning
-    chunk = forward_chunk f (record { cumulative = cumulative; skips = map (skip_said f no_base) xs })
+    chunk = forward_chunk f (record { cumulative = cumulative; skips = map (skip_said f base) xs })
 
     size : size_of_chunk chunk ≡ 8 + skip_size (skip_form f) * n
     size =
-        let all : length (map (skip_said f no_base) xs) ≡ n = length-map xs (skip_said f no_base) ∙ sym is in
-        forward_size f (record { cumulative = cumulative; skips = map (skip_said f no_base) xs }) ∙ rw all refl
+        let all : length (map (skip_said f base) xs) ≡ n = length-map xs (skip_said f base) ∙ sym is in
+        forward_size f (record { cumulative = cumulative; skips = map (skip_said f base) xs }) ∙ rw all refl
 
     by_test : (x : Bool) → nat_le (8 + skip_size (skip_form f) * n) (room_in d) ≡ x → x ≡ has_room d chunk
     by_test true on =

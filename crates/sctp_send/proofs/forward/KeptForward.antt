@@ -2,7 +2,7 @@
 use Rattle.std.proofs.Common.{◌≡◌, ℕ, suc, ◌+◌, ◌-◌, ◌/◌, ◌%◌, ◌^◌, ◌<◌, ◌≤◌, List, length, map, take, drop, Option, Some, None, refl, sym, ap, ◌∙◌, subst, arith}
 use Rattle.std.specs.Prelude.{IfSome}
 use Rattle.std.proofs.lemmas.List.{length-map, take-take}
-use Rattle.sctp_model.specs.messages.Format.{Format}
+use Rattle.sctp_model.specs.messages.Format.{Format, Lane}
 use Rattle.sctp_model.specs.messages.Framing.{forward_chunk}
 use Rattle.sctp_model.specs.messages.Plan.{Entry}
 use Rattle.sctp_model.specs.messages.Forward.{Skip}
@@ -16,14 +16,14 @@ use Rattle.sctp_wire.specs.Skips.{skip_size, skips_in}
 use Rattle.sctp_framing.specs.SkipForms.{skip_form}
 use Rattle.sctp_send.specs.SenderKept.{Kept}
 use Rattle.sctp_send.specs.SenderStands.{Keeps}
-use Rattle.sctp_send.specs.OutstandingFields.{item_meaning, entries_of, no_base}
+use Rattle.sctp_send.specs.OutstandingFields.{item_meaning, entries_of}
+use Rattle.sctp_send.specs.ResetsKept.{base_of}
 use Rattle.sctp_send.specs.ForwardKept.{IsBuilt, IsLastForward, IsForwardKept}
 use Rattle.sctp_send.specs.inner.Walks.{abandoned_items}
 use Rattle.sctp_send.specs.inner.Lanes.{passed_meaning, forward_of_list}
 use Rattle.sctp_send.specs.declared.kept.last_forward.LastForward.{LastForward}
 use Rattle.sctp_send.specs.declared.forward.lanes.Passed.{Passed}
 use Rattle.sctp_send.specs.declared.kept.entry.Entry.{Entry as EntryFields}
-use Rattle.sctp_send.proofs.UnresetLemmas.{unreset_skips}
 use Rattle.sctp_send.proofs.KeepLemmas.{kept_length}
 use Rattle.sctp_send.proofs.HeldLemmas.{held_forward}
 use Rattle.sctp_send.proofs.forward.ForwardLemmas.{is_passed, first_entries, first_kept}
@@ -31,13 +31,13 @@ use Rattle.sctp_send.proofs.forward.ReachLemmas.{IsFurthest, furthest_is_end}
 
 -- ---- one is kept
 
-pub keeps_forward : (f : Format) (s : Kept) (v : SenderView) (o : Option LastForward) → Keeps f s v → IsForwardKept f v.streams v.plan.entries o → Keeps f (record s { forward = o }) v
+pub keeps_forward : (f : Format) (s : Kept) (v : SenderView) (o : Option LastForward) → Keeps f s v → IsForwardKept f v.resets.base v.streams v.plan.entries o → Keeps f (record s { forward = o }) v
 keeps_forward f s v o k built = record {
   holds = held_forward s v o k.holds;
   over = record { within = k.over.within; each = λ t le. let x = k.over.each t le in record { queue = x.queue; tracks = x.tracks; items = x.items } };
   due = record { many = k.due.many; each = λ t now lt. let i = k.due.each t now lt in record { queue = i.queue; items = i.items; tracks = i.tracks } };
   forward = built;
-  unreset = k.unreset;
+  resets = k.resets;
   before = k.before;
   counted = k.counted;
   reached = k.reached;
@@ -45,10 +45,11 @@ keeps_forward f s v o k built = record {
 
 -- one that was built from the entries that are kept
 pub forward_built : (f : Format) (s : Kept) (v : SenderView) (size streams run : ℕ) (es : List EntryFields) (l : LastForward) → Keeps f s v → s.items ≡ map (item_meaning size) es → s.streams ≡ streams → run ≤ length s.items
-    → l.cum ≡ s.cum → l.run ≡ run → IsBuilt f streams (entries_of (map (item_meaning size) (take run es))) l → IsLastForward f v.streams v.plan.entries l
+    → l.cum ≡ s.cum → l.run ≡ run → IsBuilt f (base_of s.resets) streams (entries_of (map (item_meaning size) (take run es))) l → IsLastForward f v.resets.base v.streams v.plan.entries l
 forward_built f s v size streams run es l k items same within cum long built = record {
   there = let count = kept_length f s v k in let at = k.holds.cum in omega (arith, count, at, within, cum, long);
-  built = subst (λ (n : ℕ). IsBuilt f n (take l.run (drop l.cum v.plan.entries)) l) (sym same ∙ k.holds.streams) (subst (λ (xs : List Entry). IsBuilt f streams xs l) here built);
+  built = subst (λ (b : Lane → ℕ). IsBuilt f b v.streams (take l.run (drop l.cum v.plan.entries)) l) (sym k.resets.base)
+      (subst (λ (n : ℕ). IsBuilt f (base_of s.resets) n (take l.run (drop l.cum v.plan.entries)) l) (sym same ∙ k.holds.streams) (subst (λ (xs : List Entry). IsBuilt f (base_of s.resets) streams xs l) here built));
 }
   where
     here : entries_of (map (item_meaning size) (take run es)) ≡ take l.run (drop l.cum v.plan.entries)
@@ -56,20 +57,20 @@ forward_built f s v size streams run es l k items same within cum long built = r
 
 -- what was built, or nothing
 pub forward_made : (f : Format) (s : Kept) (v : SenderView) (size streams cum run : ℕ) (es : List EntryFields) (o : Option LastForward) → Keeps f s v → s.items ≡ map (item_meaning size) es → s.streams ≡ streams → s.cum ≡ cum
-    → run ≤ length s.items → IfSome o (λ l. l.cum ≡ cum) → IfSome o (λ l. l.run ≡ run) → IfSome o (λ l. IsBuilt f streams (entries_of (map (item_meaning size) (take run es))) l) → IsForwardKept f v.streams v.plan.entries o
+    → run ≤ length s.items → IfSome o (λ l. l.cum ≡ cum) → IfSome o (λ l. l.run ≡ run) → IfSome o (λ l. IsBuilt f (base_of s.resets) streams (entries_of (map (item_meaning size) (take run es))) l) → IsForwardKept f v.resets.base v.streams v.plan.entries o
 forward_made f s v size streams cum run es None k items same at within first long built = tt
 forward_made f s v size streams cum run es (Some l) k items same at within first long built = forward_built f s v size streams run es l k items same within (first ∙ sym at) long built
 
 -- the walk over the entries gave it
-pub built_is : (f : Format) (streams size most : ℕ) (es : List EntryFields) (lanes : List Passed) (l : LastForward) → 20 ≤ l.limit → most ≡ (l.limit - 20) / skip_size (skip_form f) → (l.passed ≡ 0 → ⊥) → l.passed ≤ l.run
+pub built_is : (f : Format) (base : Lane → ℕ) (streams size most : ℕ) (es : List EntryFields) (lanes : List Passed) (l : LastForward) → 20 ≤ l.limit → most ≡ (l.limit - 20) / skip_size (skip_form f) → (l.passed ≡ 0 → ⊥) → l.passed ≤ l.run
     → map passed_meaning lanes ≡ skips_below f (entries_of (map (item_meaning size) (take l.passed es))) streams → length lanes ≤ most
     → (l.passed < l.run → most < length (skips_below f (entries_of (map (item_meaning size) (take (l.passed + 1) es))) streams))
-    → skips_in (skip_form f) l.list.items ≡ map (skip_said f no_base) (map passed_meaning lanes) → IsBuilt f streams (entries_of (map (item_meaning size) (take l.run es))) l
-built_is f streams size most es lanes l least limit some within is few last said = record {
+    → skips_in (skip_form f) l.list.items ≡ map (skip_said f base) (map passed_meaning lanes) → IsBuilt f base streams (entries_of (map (item_meaning size) (take l.run es))) l
+built_is f base streams size most es lanes l least limit some within is few last said = record {
   least = least;
   some = omega (arith, some);
   within = within;
-  skips = said ∙ ap (map (skip_said f no_base)) (is ∙ below l.passed within);
+  skips = said ∙ ap (map (skip_said f base)) (is ∙ below l.passed within);
   few = let same = ap (λ (xs : List Skip). length xs) (is ∙ below l.passed within) in let long = length-map lanes passed_meaning in omega (arith, same, long, few, limit);
   last = λ lt.
       let one : l.passed + 1 ≡ suc l.passed = omega arith in
@@ -93,8 +94,8 @@ pub record IsThis (f : Format) (s : Kept) (v : SenderView) (limit run : ℕ) (l 
   pub here : run ≡ abandoned_items s.items % 2 ^ 32
 
 module _ (f : Format) (s : Kept) (v : SenderView) (limit run : ℕ) (l : LastForward) (k : Keeps f s v) (this : IsThis f s v limit run l) where
-  last : IsLastForward f v.streams v.plan.entries l
-  last = subst (λ (o : Option LastForward). IsForwardKept f v.streams v.plan.entries o) this.kept k.forward
+  last : IsLastForward f v.resets.base v.streams v.plan.entries l
+  last = subst (λ (o : Option LastForward). IsForwardKept f v.resets.base v.streams v.plan.entries o) this.kept k.forward
 
   -- the first entries that it was built from are those after CUM
   first : (n : ℕ) → n ≤ l.run → skips_below f (take n (take l.run (drop l.cum v.plan.entries))) v.streams ≡ (forward_to f v (v.cum + n)).skips
@@ -138,7 +139,7 @@ module _ (f : Format) (s : Kept) (v : SenderView) (limit run : ℕ) (l : LastFor
       let same = this.long ∙ this.here in
       let there : (l.cum + l.passed) % 2 ^ 64 ≡ v.cum + l.passed = omega (arith, inside, within, cum, was, same) in
       let at : cumulative ≡ tsn v.initial (v.cum + l.passed) = said ∙ rw (k.holds.initial, there) refl in
-      let skips : skips_in (skip_form f) l.list.items ≡ (forward_said f v (v.cum + l.passed)).skips = b.skips ∙ ap (map (skip_said f no_base)) (first l.passed within) ∙ unreset_skips f s v (v.cum + l.passed) k in
+      let skips : skips_in (skip_form f) l.list.items ≡ (forward_said f v (v.cum + l.passed)).skips = b.skips ∙ ap (map (skip_said f v.resets.base)) (first l.passed within) in
       ap (λ (c : ℕ). forward_of_list f c l.list.items) at
       ∙ ap (λ (xs : List SkipMeaning). forward_chunk f (record { cumulative = tsn v.initial (v.cum + l.passed); skips = xs })) skips
       ∙ sym (ap (forward_chunk_to f v) kept_end)

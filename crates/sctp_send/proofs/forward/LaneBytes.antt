@@ -1,8 +1,8 @@
 -- The lanes of a FORWARD as bytes, and the ranks at which they stand.
-use Rattle.std.proofs.Common.{◌≡◌, ℕ, zero, suc, ◌+◌, ◌*◌, ◌%◌, ◌<◌, ◌≤◌, max, List, [], ◌∷◌, ◌++◌, length, map, take, drop, set, get_or, Bool, true, false, refl, sym, ap, ◌∙◌, arith}
+use Rattle.std.proofs.Common.{◌≡◌, ℕ, zero, suc, ◌+◌, ◌-◌, ◌*◌, ◌%◌, ◌<◌, ◌≤◌, max, List, [], ◌∷◌, ◌++◌, length, map, take, drop, set, get_or, Bool, true, false, refl, sym, ap, ◌∙◌, arith}
 use Rattle.std.specs.List.{AllByRecursion, refill}
 use Rattle.std.proofs.lemmas.List.{length-map, map-append, map-set, take_more, get_or-map}
-use Rattle.sctp_model.specs.messages.Format.{Format, Plain, Interleaved}
+use Rattle.sctp_model.specs.messages.Format.{Format, Plain, Interleaved, Lane}
 use Rattle.sctp_model.specs.messages.Forward.{Skip}
 use Rattle.sctp_model.specs.sender.Forwarding.{larger}
 use Rattle.sctp_model.specs.messages.Framing.{lane_kind, wire_number}
@@ -12,39 +12,38 @@ use Rattle.sctp_values.specs.Meanings.{kind_meaning}
 use Rattle.sctp_wire.specs.declared.skips.SkipForm.{SkipForm}
 use Rattle.sctp_wire.specs.Skips.{skip_size, skips_in, IsSkip}
 use Rattle.sctp_framing.specs.SkipForms.{skip_form}
-use Rattle.sctp_send.specs.OutstandingFields.{lane_of, no_base}
+use Rattle.sctp_send.specs.OutstandingFields.{lane_of}
 use Rattle.sctp_send.specs.inner.Lanes.{lane_key, passed_meaning, AreRising, before, told_at, noted}
 use Rattle.sctp_send.specs.declared.forward.lanes.Passed.{Passed}
-use Rattle.sctp_send.proofs.UnresetLemmas.{from_zero}
 use Rattle.sctp_send.proofs.forward.LaneWalks.{before_above, before_below, noted_here, noted_new, passed_read}
 
 -- ---- as bytes
 
-pub said_is : (f : Format) (p : Passed) (b : Bool) (w : ℕ) → lane_kind b ≡ kind_meaning p.kind → w ≡ wire_number f (kind_meaning p.kind) p.number
-    → record { stream = p.stream; unordered = b; number = w } ≡ skip_said f no_base (passed_meaning p)
-said_is f p b w flag number =
+pub said_is : (f : Format) (base : Lane → ℕ) (p : Passed) (b : Bool) (w : ℕ) → lane_kind b ≡ kind_meaning p.kind → w ≡ wire_number f (kind_meaning p.kind) (p.number - base (lane_of p.stream p.kind))
+    → record { stream = p.stream; unordered = b; number = w } ≡ skip_said f base (passed_meaning p)
+said_is f base p b w flag number =
     let unordered : b ≡ is_unordered (kind_meaning p.kind) = by_flag b ∙ ap is_unordered flag in
-    rw (number ∙ sym (from_zero f (lane_of p.stream p.kind) p.number), unordered) refl
+    rw (number, unordered) refl
   where
     by_flag : (c : Bool) → c ≡ is_unordered (lane_kind c)
     by_flag true = refl
     by_flag false = refl
 
-pub said_fits : (f : Format) (lanes : List Passed) (at : ℕ) (d : Passed) → at < length lanes
-    → AllByRecursion (IsSkip (skip_form f)) (map (skip_said f no_base) (map passed_meaning lanes)) → IsSkip (skip_form f) (skip_said f no_base (passed_meaning (get_or lanes at d)))
-said_fits f [] at d lt h = absurd (omega arith)
-said_fits f (x ∷ lanes) zero d lt h = h.0
-said_fits f (x ∷ lanes) (suc at) d lt h = said_fits f lanes at d (omega arith) h.1
+pub said_fits : (f : Format) (base : Lane → ℕ) (lanes : List Passed) (at : ℕ) (d : Passed) → at < length lanes
+    → AllByRecursion (IsSkip (skip_form f)) (map (skip_said f base) (map passed_meaning lanes)) → IsSkip (skip_form f) (skip_said f base (passed_meaning (get_or lanes at d)))
+said_fits f base [] at d lt h = absurd (omega arith)
+said_fits f base (x ∷ lanes) zero d lt h = h.0
+said_fits f base (x ∷ lanes) (suc at) d lt h = said_fits f base lanes at d (omega arith) h.1
 
-pub said_more : (f : Format) (lanes : List Passed) (at : ℕ) (d : Passed) (was now : List SkipMeaning) → at < length lanes → now ≡ was ++ skip_said f no_base (passed_meaning (get_or lanes at d)) ∷ []
-    → was ≡ map (skip_said f no_base) (map passed_meaning (take at lanes)) → now ≡ map (skip_said f no_base) (map passed_meaning (take (at + 1) lanes))
-said_more f lanes at d was now lt is so_far =
+pub said_more : (f : Format) (base : Lane → ℕ) (lanes : List Passed) (at : ℕ) (d : Passed) (was now : List SkipMeaning) → at < length lanes → now ≡ was ++ skip_said f base (passed_meaning (get_or lanes at d)) ∷ []
+    → was ≡ map (skip_said f base) (map passed_meaning (take at lanes)) → now ≡ map (skip_said f base) (map passed_meaning (take (at + 1) lanes))
+said_more f base lanes at d was now lt is so_far =
     let x : Passed = get_or lanes at d in
-    is ∙ ap (λ (xs : List SkipMeaning). xs ++ skip_said f no_base (passed_meaning x) ∷ []) so_far
-    ∙ sym (ap (λ (xs : List Passed). map (skip_said f no_base) (map passed_meaning xs)) (take_more lanes at d lt) ∙ ap (map (skip_said f no_base)) (map-append passed_meaning (take at lanes) (x ∷ [])) ∙ map-append (skip_said f no_base) (map passed_meaning (take at lanes)) (passed_meaning x ∷ []))
+    is ∙ ap (λ (xs : List SkipMeaning). xs ++ skip_said f base (passed_meaning x) ∷ []) so_far
+    ∙ sym (ap (λ (xs : List Passed). map (skip_said f base) (map passed_meaning xs)) (take_more lanes at d lt) ∙ ap (map (skip_said f base)) (map-append passed_meaning (take at lanes) (x ∷ [])) ∙ map-append (skip_said f base) (map passed_meaning (take at lanes)) (passed_meaning x ∷ []))
 
-pub said_all : (f : Format) (lanes : List Passed) (at : ℕ) → length lanes ≤ at → map (skip_said f no_base) (map passed_meaning (take at lanes)) ≡ map (skip_said f no_base) (map passed_meaning lanes)
-said_all f lanes at le = ap (λ (xs : List Passed). map (skip_said f no_base) (map passed_meaning xs)) (whole lanes at le)
+pub said_all : (f : Format) (base : Lane → ℕ) (lanes : List Passed) (at : ℕ) → length lanes ≤ at → map (skip_said f base) (map passed_meaning (take at lanes)) ≡ map (skip_said f base) (map passed_meaning lanes)
+said_all f base lanes at le = ap (λ (xs : List Passed). map (skip_said f base) (map passed_meaning xs)) (whole lanes at le)
   where
     whole : (xs : List Passed) (n : ℕ) → length xs ≤ n → take n xs ≡ xs
     whole [] zero lt = refl

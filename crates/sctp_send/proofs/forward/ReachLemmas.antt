@@ -20,11 +20,12 @@ use Rattle.sctp_wire.specs.Skips.{skip_size}
 use Rattle.sctp_framing.specs.SkipForms.{skip_form}
 use Rattle.sctp_send.specs.SenderKept.{Kept}
 use Rattle.sctp_send.specs.SenderStands.{Keeps}
-use Rattle.sctp_send.specs.OutstandingFields.{item_meaning, entries_of, no_base}
+use Rattle.sctp_send.specs.OutstandingFields.{item_meaning, entries_of}
+use Rattle.sctp_send.specs.ResetsKept.{base_of}
 use Rattle.sctp_send.specs.inner.Lanes.{passed_meaning, noted, noted_entry, forward_of_lanes}
 use Rattle.sctp_send.specs.declared.forward.lanes.Passed.{Passed}
 use Rattle.sctp_send.specs.declared.kept.entry.Entry.{Entry as EntryFields}
-use Rattle.sctp_send.proofs.UnresetLemmas.{unreset_skips}
+use Rattle.sctp_send.proofs.ResetLemmas.{based_skips}
 use Rattle.sctp_send.proofs.forward.LaneLemmas.{skips_more}
 use Rattle.sctp_send.proofs.forward.LaneWalks.{skips_longer, none_below}
 use Rattle.sctp_send.proofs.forward.ForwardLemmas.{forward_size, is_passed, first_to}
@@ -148,7 +149,7 @@ walked_far f s v size streams most run n es lanes k items same within is few las
 -- the chunk that names those lanes is that of the view
 pub sent_forward : (f : Format) (s : Kept) (v : SenderView) (size limit n cumulative : ℕ) (es : List EntryFields) (lanes : List Passed) → Keeps f s v → s.items ≡ map (item_meaning size) es
     → forward_end f limit v ≡ v.cum + n → map passed_meaning lanes ≡ skips_below f (entries_of (map (item_meaning size) (take n es))) s.streams → cumulative ≡ tsn s.initial ((s.cum + n) % 2 ^ 64)
-    → forward_of_lanes f cumulative lanes ≡ forward_chunk_of f limit v
+    → forward_of_lanes f (base_of s.resets) cumulative lanes ≡ forward_chunk_of f limit v
 sent_forward f s v size limit n cumulative es lanes k items end is said =
     let p = is_passed f s v k in
     let upto = end_upto f limit v in
@@ -156,8 +157,8 @@ sent_forward f s v size limit n cumulative es lanes k items end is said =
     let there : (s.cum + n) % 2 ^ 64 ≡ v.cum + n = omega (arith, p.point, p.within, upto, end, cum) in
     let first : cumulative ≡ tsn v.initial (v.cum + n) = said ∙ rw (k.holds.initial, there) refl in
     let streams = k.holds.streams in
-    let skips : map (skip_said f no_base) (map passed_meaning lanes) ≡ (forward_said f v (v.cum + n)).skips = ap (map (skip_said f no_base)) (is ∙ rw (first_to f s v size n es k items, streams) refl) ∙ unreset_skips f s v (v.cum + n) k in
-    ap (λ (c : ℕ). forward_of_lanes f c lanes) first
+    let skips : map (skip_said f (base_of s.resets)) (map passed_meaning lanes) ≡ (forward_said f v (v.cum + n)).skips = ap (map (skip_said f (base_of s.resets))) (is ∙ rw (first_to f s v size n es k items, streams) refl) ∙ based_skips f s v (v.cum + n) k in
+    ap (λ (c : ℕ). forward_of_lanes f (base_of s.resets) c lanes) first
     ∙ ap (λ (xs : List SkipMeaning). forward_chunk f (record { cumulative = tsn v.initial (v.cum + n); skips = xs })) skips
     ∙ sym (ap (forward_chunk_to f v) end)
 

@@ -3,7 +3,7 @@ use Rattle.std.proofs.Common.{◌≡◌, ℕ, zero, suc, ◌+◌, ◌-◌, ◌<�
 use Rattle.std.specs.Prelude.{nat_le, if◌then◌else◌, slice_get, option_map}
 use Rattle.std.specs.Option.{option_map_or}
 use Rattle.std.proofs.lemmas.Bool.Decides.{nat_tests}
-use Rattle.sctp_model.specs.messages.Format.{Format, Plain, Interleaved, ordered_lane}
+use Rattle.sctp_model.specs.messages.Format.{Format, Plain, Interleaved, Lane, ordered_lane}
 use Rattle.sctp_model.specs.messages.Plan.{End}
 use Rattle.sctp_model.specs.wire.Chunk.{size_of_chunk}
 use Rattle.sctp_model.specs.sender.SenderView.{SenderView}
@@ -14,6 +14,7 @@ use Rattle.sctp_model.proofs.sender.FillLaws.{goes_is, goes_not, goes_parts}
 use Rattle.sctp_send.specs.SenderKept.{Item, Kept}
 use Rattle.sctp_send.specs.SenderStands.{Keeps}
 use Rattle.sctp_send.specs.inner.Newcomers.{gone_item}
+use Rattle.sctp_send.specs.ResetsKept.{base_of}
 use Rattle.sctp_send.specs.inner.Stocking.{said_chunk}
 use Rattle.sctp_send.specs.inner.Wishing.{first_offset, is_item_marked, is_item_unsent}
 use Rattle.sctp_send.specs.inner.Weighing.{item_room, repeats_room}
@@ -127,12 +128,12 @@ repeats_first f room at (x ∷ xs) d is = by_mark x.marked refl is (λ k there. 
 no_item : Item
 no_item = record { entry = End (ordered_lane 0) 0; message = None; sent = false; marked = false; covered = false; abandoned = false; repeats = 0 }
 
-room_said : (f : Format) (initial i : ℕ) (x : Item) → size_of_chunk (said_chunk f initial i x.entry x.message) ≡ item_room f x
-room_said Plain initial i x = refl
-room_said Interleaved initial i x = refl
+room_said : (f : Format) (base : Lane → ℕ) (initial i : ℕ) (x : Item) → size_of_chunk (said_chunk f base initial i x.entry x.message) ≡ item_room f x
+room_said Plain base initial i x = refl
+room_said Interleaved base initial i x = refl
 
 room_standing : (f : Format) (s : Kept) (v : SenderView) (at : ℕ) → Keeps f s v → at < length s.items → room_of f (standing v (suc (v.cum + at))) ≡ item_room f (get_or s.items at no_item)
-room_standing f s v at k low = ap size_of_chunk (chunk_standing f s v at no_item k low) ∙ room_said f s.initial (suc (s.cum + at)) (get_or s.items at no_item)
+room_standing f s v at k low = ap size_of_chunk (chunk_standing f s v at no_item k low) ∙ room_said f (base_of s.resets) s.initial (suc (s.cum + at)) (get_or s.items at no_item)
 
 -- what isn't a retransmission counts as nothing
 new_counts_nothing : (f : Format) (n room : ℕ) (v : SenderView) → ((w : Wish) → next_wish f v ≡ Some w → w.view.sent w.index ≡ false) → room_of_repeats f (fill_at_most n f room v).wishes ≡ 0

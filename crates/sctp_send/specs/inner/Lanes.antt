@@ -9,7 +9,7 @@ use Rattle.sctp_model.specs.sender.SentChunks.{skip_said}
 use Rattle.sctp_model.specs.wire.Chunk.{ChunkMeaning}
 use Rattle.sctp_wire.specs.Skips.{skips_in}
 use Rattle.sctp_framing.specs.SkipForms.{skip_form}
-use Rattle.sctp_send.specs.OutstandingFields.{lane_of, no_base}
+use Rattle.sctp_send.specs.OutstandingFields.{lane_of}
 use Rattle.sctp_send.specs.declared.forward.lanes.Passed.{Passed}
 
 -- the ordered lane of a stream comes first
@@ -58,6 +58,6 @@ noted_entry f s e xs = if nat_lt (entry_lane e).stream s && is_numbered f (entry
 abbrev pub forward_of_list : Format → (cumulative : ℕ) → List ℕ → ChunkMeaning
 forward_of_list f c bytes = forward_chunk f (record { cumulative = c; skips = skips_in (skip_form f) bytes })
 
--- the same, of lanes
-abbrev pub forward_of_lanes : Format → (cumulative : ℕ) → List Passed → ChunkMeaning
-forward_of_lanes f c xs = forward_chunk f (record { cumulative = c; skips = map (skip_said f no_base) (map passed_meaning xs) })
+-- the same, of lanes, by their bases
+abbrev pub forward_of_lanes : Format → (base : Lane → ℕ) → (cumulative : ℕ) → List Passed → ChunkMeaning
+forward_of_lanes f base c xs = forward_chunk f (record { cumulative = c; skips = map (skip_said f base) (map passed_meaning xs) })

@@ -1,6 +1,6 @@
 -- What a sender's stock keeps, and what each wish makes of it and of the packet.
 use Rattle.std.specs.Prelude.{◌≡◌, ℕ, suc, nat_lt, ◌-◌, ◌<◌, ◌≤◌, Bool, true, false, List, [], ◌∷◌, ◌++◌, ◌+◌, ◌&&◌, ◌%◌, ◌^◌, map, length, slice_set, Option, None, Some, option_map}
-use Rattle.sctp_model.specs.messages.Format.{Format, Kind}
+use Rattle.sctp_model.specs.messages.Format.{Format, Kind, Lane}
 use Rattle.sctp_model.specs.messages.Plan.{Message, Entry, Part}
 use Rattle.sctp_model.specs.sender.Words.{when}
 use Rattle.sctp_model.specs.sender.Queueing.{cut}
@@ -19,7 +19,8 @@ use Rattle.sctp_send.specs.SenderStands.{Keeps}
 use Rattle.sctp_send.specs.PartsKept.{StreamsKept}
 use Rattle.sctp_send.specs.FillAnswers.{sendings_of}
 use Rattle.sctp_send.specs.inner.Walks.{total, one_if_rest}
-use Rattle.sctp_send.specs.OutstandingFields.{was_sent, is_marked, item_meaning, lane_meaning, message_meaning, entry_meaning, no_base}
+use Rattle.sctp_send.specs.OutstandingFields.{was_sent, is_marked, item_meaning, lane_meaning, message_meaning, entry_meaning}
+use Rattle.sctp_send.specs.ResetsKept.{base_of}
 use Rattle.sctp_send.specs.SenderFields.{queued_by, track_meaning}
 use Rattle.sctp_send.specs.inner.Newcomers.{repeats_after, counted_in, IsBegun, IsContinued, IsTurnBegun, IsTurnContinued}
 use Rattle.sctp_send.specs.declared.fill.assigning.Next.{Next}
@@ -75,6 +76,7 @@ bare h = record {
   asleep = h.dues.asleep;
   before = h.before;
   forward = h.forward;
+  resets = h.resets;
 }
 
 -- what a sender keeps, with a stock's parts instead of its own
@@ -94,17 +96,17 @@ ends_of w = total (λ t. one_if_rest t.rest) (map (track_meaning w.size) w.items
 
 -- ---- one wish
 
--- the chunk of a message's entry at an index
-abbrev pub said_chunk : Format → (initial i : ℕ) → Entry → Option Message → ChunkMeaning
-said_chunk f initial i e m = data_chunk f (piece_said f initial no_base i e m)
+-- the chunk of a message's entry at an index, by the bases of lanes
+abbrev pub said_chunk : Format → (base : Lane → ℕ) → (initial i : ℕ) → Entry → Option Message → ChunkMeaning
+said_chunk f base initial i e m = data_chunk f (piece_said f initial base i e m)
 
 -- the same of what is kept of the index
-abbrev pub item_chunk : Format → (initial i : ℕ) → Item → ChunkMeaning
-item_chunk f initial i x = said_chunk f initial i x.entry x.message
+abbrev pub item_chunk : Format → (base : Lane → ℕ) → (initial i : ℕ) → Item → ChunkMeaning
+item_chunk f base initial i x = said_chunk f base initial i x.entry x.message
 
 -- the same of a fragment
-abbrev pub fragment_chunk : Format → (size initial i : ℕ) → MessageFields → (number : ℕ) → Content → ChunkMeaning
-fragment_chunk f size initial i m n content = said_chunk f initial i (entry_meaning (lane_meaning m) n content) (Some (message_meaning size m))
+abbrev pub fragment_chunk : Format → (base : Lane → ℕ) → (size initial i : ℕ) → MessageFields → (number : ℕ) → Content → ChunkMeaning
+fragment_chunk f base size initial i m n content = said_chunk f base initial i (entry_meaning (lane_meaning m) n content) (Some (message_meaning size m))
 
 -- the item of a fragment
 abbrev pub fragment_item : (size : ℕ) → MessageFields → (number fragment : ℕ) → Standing → Item
@@ -176,7 +178,7 @@ NothingStands f v = next_wish f v ≡ option_map (newcomer v) (assigned f v)
 
 -- a message's entry may flow, while so much is in flight, and its chunk at an index fits
 abbrev pub let_in : Format → (flying : ℕ) → Kept → (i : ℕ) → PacketDraft → Entry → Option Message → Bool
-let_in f flying s i p e m = lets_flow flying (length (bytes_in e m)) s.rwnd && has_room p (said_chunk f s.initial i e m)
+let_in f flying s i p e m = lets_flow flying (length (bytes_in e m)) s.rwnd && has_room p (said_chunk f (base_of s.resets) s.initial i e m)
 
 -- A chunk was tried: it is in the packet exactly where it fits.
 pub record IsTried (before after : PacketDraft) (chunk : ChunkMeaning) (put : Bool) : Type 0 where

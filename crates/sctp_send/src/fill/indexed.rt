@@ -7,11 +7,13 @@ ghost use Rattle.sctp_send.specs.SenderKept.{Item};
 ghost use Rattle.sctp_send.specs.SenderStands.{Keeps};
 ghost use Rattle.sctp_send.specs.OutstandingFields.{was_sent, item_meaning};
 ghost use Rattle.sctp_send.specs.PartsKept.{changed};
+ghost use Rattle.sctp_send.specs.ResetsKept.{base_of};
 ghost use Rattle.sctp_send.specs.inner.Newcomers.{repeats_after};
 ghost use Rattle.sctp_send.specs.inner.Undoing.{IsSized, IsBehind};
 ghost use Rattle.sctp_send.specs.inner.Stocking.{bare, stocked, went_out, item_chunk, IsTried, PutAnswer, IsRefused, IsFlying, IsNextEntry, IsNextUnsent};
 
 use crate::kept::entry::{Entry, Standing, State};
+use crate::kept::message::Message;
 use crate::kept::outstanding::Outstanding;
 use crate::kept::pieces::{bytes_of, fits, put_fragment};
 use crate::kept::wishes::may_flow;
@@ -92,19 +94,15 @@ impl Told {
         requires sized { IsSized self.now.fragment stock.now }
         requires within { at < length stock.now.outstanding.items }
         ensures tried { (none : Item)
-            → IfOk result (λ put. IsTried packet.old packet.new (item_chunk F.format self.now.initial (suc (self.now.cum + at)) (slice_index_or (map (item_meaning self.now.fragment) stock.now.outstanding.items) at none)) put) }
+            → IfOk result (λ put. IsTried packet.old packet.new (item_chunk F.format (base_of self.now.resets) self.now.initial (suc (self.now.cum + at)) (slice_index_or (map (item_meaning self.now.fragment) stock.now.outstanding.items) at none)) put) }
         ensures unchanged { OnErr result (packet.new ≡ packet.old) }
     {
         let entry = stock.outstanding.get(at);
+        let message: &Message = &entry.message;
         let tsn = self.tsn_at(at);
-        put_fragment::<F>(
-            &entry.message,
-            entry.number,
-            entry.content,
-            self.fragment,
-            tsn,
-            packet,
-        )
+        let base = self.resets.base(message.stream, message.kind);
+        let number = entry.number.saturating_sub(base);
+        put_fragment::<F>(message, number, entry.content, self.fragment, tsn, packet)
     }
 
     /// The TSN of the entry at this offset.

@@ -28,7 +28,31 @@ use std::sync::Arc;
 
 impl Told {
     /// Puts the next wish into the packet, and counts it if it is sent again; false where there is none that may go.
+    #[inline(always)]
     pub(crate) fn put_next<F: Framing>(
+        &self,
+        stock: &mut Stock,
+        resent: &mut Resent,
+        packet: &mut PacketWriter,
+    ) -> Result<bool, NoMemory>
+        requires { IsSized self.now.fragment stock.old }
+        ensures put { (v : SenderView) → Keeps F.format (stocked (bare self.now) stock.old) v
+            → IfOk result (λ put. PutAnswer F.format (bare self.now) v packet.old packet.new stock.old stock.new put) }
+        ensures refused { (v : SenderView) → Keeps F.format (stocked (bare self.now) stock.old) v
+            → OnErr result (IsRefused F.format v packet.old packet.new) }
+        ensures behind { IsBehind stock.old stock.new }
+        ensures counted { (v : SenderView) → Keeps F.format (stocked (bare self.now) stock.old) v
+            → IfOk result (λ put. resent.new ≡ resent_by put (next_wish F.format v) resent.old) }
+    {
+        if stock.outstanding.is_all_out() {
+            let flying = stock.outstanding.flight();
+            return self.put_new::<F>(stock, flying, packet);
+        }
+        self.put_found::<F>(stock, resent, packet)
+    }
+
+    /// `put_next`, where an entry may be to go out, which is looked for.
+    fn put_found<F: Framing>(
         &self,
         stock: &mut Stock,
         resent: &mut Resent,

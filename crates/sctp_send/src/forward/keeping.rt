@@ -9,11 +9,13 @@ ghost use Rattle.sctp_wire.specs.Skips.{skip_size};
 ghost use Rattle.sctp_framing.specs.SkipForms.{skip_form};
 ghost use Rattle.sctp_send.specs.OutstandingFields.{item_meaning, entries_of};
 ghost use Rattle.sctp_send.specs.ForwardKept.{IsBuilt};
+ghost use Rattle.sctp_send.specs.ResetsKept.{base_of};
 ghost use Rattle.sctp_send.specs.SenderStands.{StandsFor};
 
 use crate::forward::lanes::{PACKET_ALONE, list_of, note_first};
 use crate::kept::last_forward::LastForward;
 use crate::kept::outstanding::Outstanding;
+use crate::kept::resets::OutgoingResets;
 use crate::readers::abandoned_run;
 use crate::sender::Sender;
 use crate::told::Told;
@@ -36,6 +38,7 @@ impl<F: Framing> Sender<F> {
         }
         self.told.forward = built::<F>(
             self.told.alloc,
+            &self.told.resets,
             &self.parts.outstanding,
             self.told.cum,
             run,
@@ -85,6 +88,7 @@ fn serves<F: Framing>(last: &LastForward, cum: u64, run: u32, limit: u16) -> boo
 /// The FORWARD over as many of the first `run` entries after CUM as fit a packet of `limit` bytes. None if no entry fits, or if memory is refused.
 fn built<F: Framing>(
     alloc: Global,
+    resets: &OutgoingResets,
     outstanding: &Outstanding,
     cum: u64,
     run: u32,
@@ -96,7 +100,7 @@ fn built<F: Framing>(
     ensures cum { IfSome result (λ last. last.cum ≡ cum) }
     ensures run { IfSome result (λ last. last.run ≡ run) }
     ensures built { (size : ℕ) → IfSome result (λ last.
-        IsBuilt F.format streams (entries_of (map (item_meaning size) (take run outstanding.now.items))) last) }
+        IsBuilt F.format (base_of resets.now) streams (entries_of (map (item_meaning size) (take run outstanding.now.items))) last) }
 {
     if limit < PACKET_ALONE {
         return None;
@@ -107,7 +111,7 @@ fn built<F: Framing>(
     if passed == 0 {
         return None;
     }
-    match list_of::<F>(alloc, lanes.as_slice()) {
+    match list_of::<F>(alloc, resets, lanes.as_slice()) {
         Ok(list) => Some(LastForward {
             cum,
             run,

@@ -7,11 +7,13 @@ ghost use Rattle.sctp_model.specs.sender.Forwarding.{skips_below};
 ghost use Rattle.sctp_model.specs.sender.SentChunks.{skip_said};
 ghost use Rattle.sctp_wire.specs.Skips.{skip_size, skips_in, IsSkip};
 ghost use Rattle.sctp_framing.specs.SkipForms.{skip_form};
-ghost use Rattle.sctp_send.specs.OutstandingFields.{item_meaning, lane_of, entries_of, no_base};
+ghost use Rattle.sctp_send.specs.OutstandingFields.{item_meaning, lane_of, entries_of};
+ghost use Rattle.sctp_send.specs.ResetsKept.{base_of};
 ghost use Rattle.sctp_send.specs.inner.Lanes.{lane_key, passed_meaning, AreRising, before, noted, noted_entry};
 
 use crate::kept::entry::Entry;
 use crate::kept::outstanding::Outstanding;
+use crate::kept::resets::OutgoingResets;
 use arrayvec::ArrayVec;
 use sctp_framing::Framing;
 use sctp_packet::HEADER;
@@ -163,29 +165,38 @@ fn key_of(lane: Passed) -> u32
 ///
 /// # Errors
 /// `NoMemory`.
-pub(crate) fn list_of<F: Framing>(alloc: Global, lanes: &[Passed]) -> Result<Vec<u8>, NoMemory>
-    requires { AllByRecursion (IsSkip (skip_form F.format)) (map (skip_said F.format no_base) (map passed_meaning lanes.now)) }
+pub(crate) fn list_of<F: Framing>(
+    alloc: Global,
+    resets: &OutgoingResets,
+    lanes: &[Passed],
+) -> Result<Vec<u8>, NoMemory>
+    requires { AllByRecursion (IsSkip (skip_form F.format)) (map (skip_said F.format (base_of resets.now)) (map passed_meaning lanes.now)) }
     ensures count { IfOk result (λ list. length list.items ≡ skip_size (skip_form F.format) * length (skips_in (skip_form F.format) list.items)) }
-    ensures skips { IfOk result (λ list. skips_in (skip_form F.format) list.items ≡ map (skip_said F.format no_base) (map passed_meaning lanes.now)) }
+    ensures skips { IfOk result (λ list. skips_in (skip_form F.format) list.items ≡ map (skip_said F.format (base_of resets.now)) (map passed_meaning lanes.now)) }
 {
     let mut list = Vec::new(alloc);
     for at in 0..lanes.len() {
-        put_lane::<F>(lanes[at], &mut list)?;
+        put_lane::<F>(resets, lanes[at], &mut list)?;
     }
     Ok(list)
 }
 
 /// Puts the entry of a lane behind the others.
-fn put_lane<F: Framing>(lane: Passed, list: &mut Vec<u8>) -> Result<(), NoMemory>
-    requires fits { IsSkip (skip_form F.format) (skip_said F.format no_base (passed_meaning lane)) }
+fn put_lane<F: Framing>(
+    resets: &OutgoingResets,
+    lane: Passed,
+    list: &mut Vec<u8>,
+) -> Result<(), NoMemory>
+    requires fits { IsSkip (skip_form F.format) (skip_said F.format (base_of resets.now) (passed_meaning lane)) }
     requires count { length list.old.items ≡ skip_size (skip_form F.format) * length (skips_in (skip_form F.format) list.old.items) }
     ensures count { OnOk result (length list.new.items ≡ skip_size (skip_form F.format) * length (skips_in (skip_form F.format) list.new.items)) }
-    ensures skips { OnOk result (skips_in (skip_form F.format) list.new.items ≡ skips_in (skip_form F.format) list.old.items ++ skip_said F.format no_base (passed_meaning lane) ∷ []) }
+    ensures skips { OnOk result (skips_in (skip_form F.format) list.new.items ≡ skips_in (skip_form F.format) list.old.items ++ skip_said F.format (base_of resets.now) (passed_meaning lane) ∷ []) }
 {
+    let base = resets.base(lane.stream, lane.kind);
     let skip = Skip {
         stream: lane.stream,
         unordered: lane.kind.flag(),
-        number: F::wire_number(lane.kind, lane.number),
+        number: F::wire_number(lane.kind, lane.number.saturating_sub(base)),
     };
     put_skip(F::skip_form(), skip, list)
 }

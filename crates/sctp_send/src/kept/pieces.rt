@@ -7,7 +7,7 @@ ghost use Rattle.sctp_model.specs.numbers.Limits.{GREATEST_FRAGMENT};
 ghost use Rattle.sctp_model.specs.numbers.Serial as serial;
 ghost use Rattle.sctp_model.specs.sender.Entries.{entry_fragment, bytes_in};
 ghost use Rattle.sctp_packet.specs.Draft.{has_room, after_try};
-ghost use Rattle.sctp_send.specs.OutstandingFields.{message_meaning, entry_meaning};
+ghost use Rattle.sctp_send.specs.OutstandingFields.{message_meaning, entry_meaning, no_base};
 ghost use Rattle.sctp_send.specs.inner.Stocking.{fragment_chunk, said_chunk};
 
 use crate::kept::entry::Content;
@@ -60,12 +60,12 @@ fn payload_of(message: &Message) -> u32
 /// A chunk with so many bytes of data fits into what is left of a packet.
 pub(crate) fn fits<F: Framing>(bytes: usize, packet: &PacketWriter) -> bool
     requires { bytes < 2 ^ 63 }
-    ensures { (initial i : ℕ) (e : Entry) (m : Option Said) → bytes ≡ length (bytes_in e m) → result ≡ has_room packet.now (said_chunk F.format initial i e m) }
+    ensures { (base : Lane → ℕ) (initial i : ℕ) (e : Entry) (m : Option Said) → bytes ≡ length (bytes_in e m) → result ≡ has_room packet.now (said_chunk F.format base initial i e m) }
 {
     padded(F::header() + bytes) <= packet.room()
 }
 
-/// Puts the chunk of a fragment into a packet, if it fits.
+/// Puts the chunk of a fragment into a packet, if it fits. `number` is its message's number since the last reset of its stream.
 ///
 /// # Errors
 /// `NoMemory`; the packet is then as before.
@@ -80,8 +80,8 @@ pub(crate) fn put_fragment<F: Framing>(
 ) -> Result<bool, NoMemory>
     requires some { 0 < size }
     requires short { size ≤ GREATEST_FRAGMENT }
-    ensures answer { (initial i : ℕ) → tsn ≡ serial.tsn initial i → IfOk result (λ put. put ≡ has_room packet.old (fragment_chunk F.format size initial i message.now number content)) }
-    ensures after { (initial i : ℕ) → tsn ≡ serial.tsn initial i → IfOk result (λ put. packet.new ≡ after_try packet.old (fragment_chunk F.format size initial i message.now number content) put) }
+    ensures answer { (initial i : ℕ) → tsn ≡ serial.tsn initial i → IfOk result (λ put. put ≡ has_room packet.old (fragment_chunk F.format no_base size initial i message.now number content)) }
+    ensures after { (initial i : ℕ) → tsn ≡ serial.tsn initial i → IfOk result (λ put. packet.new ≡ after_try packet.old (fragment_chunk F.format no_base size initial i message.now number content) put) }
     ensures unchanged { OnErr result (packet.new ≡ packet.old) }
 {
     let fragment = fragment_of(content);

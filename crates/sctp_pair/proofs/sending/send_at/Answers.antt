@@ -70,6 +70,20 @@ returns-in-Err-Fault-NoSuchStream c = λ w s stands.
       record { end = c.in-Err-Fault-NoSuchStream.ensures.step v stands.end; bag = stands.bag; notes = stands.notes },
     )
 
+pub returns-in-Err-Fault-Resetting : goal.returns-in-Err-Fault-Resetting
+unfolding SideStands
+returns-in-Err-Fault-Resetting c = λ w s stands.
+    let a = c.args in
+    let v = end_of w s in
+    let lane = lane_for a.stream a.ordered in
+    let call = call_with lane a.payload_id c.in_ok-copy.copy.items a.until a.limit in
+    let same : c.in_ok-copy.copy.items ≡ a.bytes.now = grind (arith, common_steps) in
+    let told = rw c.in-Err-Fault-Resetting.field-0-0-is at (rw c.in-Err-Fault-Resetting.field-0-is at (c.in-Err-Fault-Resetting.ensures.answer v stands.end)) in (
+      side_of w s,
+      rw c.refused-in-Err-Fault-Resetting.ensures (same_bytes w s lane a.payload_id _ _ a.until a.limit _ _ same (sends w s call (calls.Refused refusals.Resetting) (is_refused v call refusals.Resetting told.0 told.1))),
+      record { end = c.in-Err-Fault-Resetting.ensures.step v stands.end; bag = stands.bag; notes = stands.notes },
+    )
+
 pub returns-in-Err-Fault-Empty : goal.returns-in-Err-Fault-Empty
 unfolding SideStands
 returns-in-Err-Fault-Empty c = λ w s stands.

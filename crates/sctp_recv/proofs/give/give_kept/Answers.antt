@@ -53,7 +53,7 @@ returns g c = λ start kept counted before.
       due = λ r v. subst (λ (m : ℕ). IsDue f r s start.next h.messages m) (sym next)
           (due_end f kept so.rest s start.next c.args.floor old.next h.messages h.due h.rests (λ n low high. none.0 n low (omega (arith, high, c.max.ensures))) r v);
       left = subst (λ (ps : List Piece). lane.StandsFor f c.drop_below.new.self (ordered_lane s) ps) from (c.drop_below.ensures (ordered_lane s) so.rest none.1 (ordered_numbered f));
-      stream = λ i. record { next = c.max-inbound.result; skip = ap (λ (a : StreamKept). a.skip) h.stream i; largest = ap (λ (a : StreamKept). a.largest) h.stream i; waiting = ap (λ (a : StreamKept). a.waiting) h.stream i };
+      stream = λ i. record { next = c.max-inbound.result; skip = ap (λ (a : StreamKept). a.skip) h.stream i; past = ap (λ (a : StreamKept). a.past) h.stream i; waiting = ap (λ (a : StreamKept). a.waiting) h.stream i };
       others = h.others;
       bytes = h.bytes;
     }

@@ -25,7 +25,7 @@ returns-then-is_resting g c = λ start kept counted so.
       due = λ r v. subst (λ (m : ℕ). IsDue f r s start.next h.messages m) (sym next)
           (due_end f kept so.rest s start.next c.args.floor old.next h.messages h.due h.rests (λ k low high. rests.none k) r v);
       left = subst (λ (ps : List Piece). lane.StandsFor f old.ordered (ordered_lane s) ps) (sym rests.above ∙ from) so.left;
-      stream = λ i. record { next = n; skip = ap (λ (a : StreamKept). a.skip) h.stream i; largest = ap (λ (a : StreamKept). a.largest) h.stream i; waiting = ap (λ (a : StreamKept). a.waiting) h.stream i };
+      stream = λ i. record { next = n; skip = ap (λ (a : StreamKept). a.skip) h.stream i; past = ap (λ (a : StreamKept). a.past) h.stream i; waiting = ap (λ (a : StreamKept). a.waiting) h.stream i };
       others = h.others;
       bytes = h.bytes;
     }

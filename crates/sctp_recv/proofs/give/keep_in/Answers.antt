@@ -1,4 +1,4 @@
-use Rattle.std.proofs.Common.{◌≡◌, Bool, true, false, sym, ap, subst}
+use Rattle.std.proofs.Common.{◌≡◌, Bool, true, false, inl, refl, sym, ap, subst}
 use Rattle.std.specs.Prelude.{IfOk}
 use Rattle.sctp_model.specs.receiver.Reading.{lane_of}
 use Rattle.sctp_wire.specs.ChunkTree.{piece_meaning}
@@ -18,7 +18,7 @@ returns-then-unordered-clause-given g c = λ kept stands new numbers.
     let e : c.args.piece.now.unordered ≡ true = c.if-unordered.true in
     let P = λ (u : Bool). lane.StandsFor f (lane_in old u) (lane_of s u) kept → IsNew f (lane_of s u) kept x →
     IfOk c.keep_unordered.result (λ bytes. GivesBy u f s x kept old c.keep_unordered.new.inbound bytes) in
-    subst P (sym e) (λ st nw. c.keep_unordered.ensures.given kept st nw (ap (lane_of s) e)) stands new
+    subst P (sym e) (λ st nw. c.keep_unordered.ensures.given kept st nw (ap (lane_of s) e) (λ n is. numbers x n (inl refl) is)) stands new
 
 pub returns-clause-given : goal.returns-clause-given
 returns-clause-given g c = λ kept stands new numbers.

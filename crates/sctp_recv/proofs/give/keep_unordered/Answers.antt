@@ -13,7 +13,7 @@ use Rattle.sctp_recv.proofs.ResultLemmas.{if_err}
 use Rattle.sctp_recv.proofs.give.keep_unordered.Goals as goal
 
 pub returns-in-Some-clause-given : goal.returns-in-Some-clause-given
-returns-in-Some-clause-given g c = λ kept stands new kind.
+returns-in-Some-clause-given g c = λ kept stands new kind small.
     let f = g.F.Framing.format in
     let l = unordered_lane c.args.piece.now.stream in
     let x = counted c.args.index (piece_meaning c.args.piece.now) c.args.number in
@@ -26,18 +26,18 @@ returns-in-Some-clause-given g c = λ kept stands new kind.
     ∙ ap (λ (h : Handed). map handed_of start.waiting.items ++ h ∷ []) made in
     let bytes : c.wait_reserved.result ≡ sized (length (text_of (t.head ∷ t.rest))) = c.wait_reserved.ensures.bytes ∙ ap (λ (h : Handed). sized (length h.bytes)) made in
     record {
-      gives = inl (record { head = t.head; rest = t.rest; whole = t.whole; left = t.left; stream = λ i. record (inbound_of start) { largest = c.larger-inbound.ensures i; waiting = waits i }; bytes = bytes });
+      gives = inl (record { head = t.head; rest = t.rest; whole = t.whole; left = t.left; stream = λ i. record (inbound_of start) { past = c.past_after-inbound.ensures small i; waiting = waits i }; bytes = bytes });
       others = λ m ks is. is;
     }
 
 pub returns-in-None-clause-given : goal.returns-in-None-clause-given
-returns-in-None-clause-given g c = λ kept stands new kind.
+returns-in-None-clause-given g c = λ kept stands new kind small.
     let l = unordered_lane c.args.piece.now.stream in
     let x = counted c.args.index (piece_meaning c.args.piece.now) c.args.number in
     let added = c.in_ok-add.ensures.kept l kept stands new in
     let t = c.in-None.ensures.taken l (x ∷ kept) added (inl refl) in
     record {
-      gives = inr (record { none = t.0; left = t.1; stream = λ i. record (inbound_of c.args.inbound.now) { largest = c.larger-inbound.ensures i; waiting = c.make_one.ensures.same i }; bytes = refl });
+      gives = inr (record { none = t.0; left = t.1; stream = λ i. record (inbound_of c.args.inbound.now) { past = c.past_after-inbound.ensures small i; waiting = c.make_one.ensures.same i }; bytes = refl });
       others = λ m ks is. is;
     }
 

@@ -1,4 +1,4 @@
-use Rattle.sctp_recv.proofs.UnresetLemmas.{piece_resets, forward_resets, take_resets}
+use Rattle.sctp_recv.proofs.ResetsStay.{piece_resets, forward_resets, take_resets}
 use Rattle.sctp_recv.proofs.laws.resets_stay.Goals as goal
 
 pub returns : goal.returns

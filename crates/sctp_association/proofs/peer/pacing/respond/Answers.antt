@@ -1,4 +1,4 @@
-use Rattle.std.proofs.Common.{◌≡◌, ◌∙◌, nat_lt, ap, subst}
+use Rattle.std.proofs.Common.{◌≡◌, ◌∙◌, true, nat_lt, sym, ap, subst}
 use Rattle.std.specs.Prelude.{IfSome, ◌||◌, ◌&&◌, nat_le}
 use Rattle.sctp_model.specs.sender.Abandoning.{marking}
 use Rattle.sctp_model.specs.messages.Format.{Format}
@@ -8,7 +8,7 @@ use Rattle.sctp_model.specs.end.Pacing.{Pace, misses_heard}
 use Rattle.sctp_congestion.specs.Weighs.{Weighs}
 use Rattle.sctp_association.specs.TrafficStands.{TrafficStands}
 use Rattle.sctp_association.specs.Weighing.{IsBefore}
-use Rattle.sctp_association.proofs.FollowLemmas.{weighs}
+use Rattle.sctp_association.proofs.FollowLemmas.{covers_acked, weighs}
 use Rattle.sctp_association.proofs.peer.pacing.respond.Goals as goal
 
 -- what the misses are after it
@@ -19,7 +19,7 @@ said : (c : goal.After-hear) (f : Format) (v u : SenderView) (r : ReceiverView) 
     → Weighs v u c.args.pace.now (record {
       moved = c.args.before.weight.moved;
       cum = c.args.before.weight.cum;
-      lost = c.first_missed-lost.result;
+      lost = c.mark_missed-lost.result;
       last_sent = c.last_sent-last_sent.result;
       flight = c.args.before.flight;
       bytes = c.args.before.weight.bytes;
@@ -29,11 +29,13 @@ said : (c : goal.After-hear) (f : Format) (v u : SenderView) (r : ReceiverView) 
     })
 said c f v u r stands before =
     let w : SenderView = marking u (λ i. nat_le c.passed-from.result i && nat_lt i c.third-below.result) in
-    let marked = c.on_missed.ensures f u r stands in
-    weighs v u c.args.pace.now c.args.before c.misses-misses.result c.passed-from.result c.third-below.result c.first_missed-lost.result c.last_sent-last_sent.result c.in_flight.result c.is_over-over.result
+    let marked = c.mark_missed-lost.ensures.marked f u r stands before.weight.cum in
+    weighs v u c.args.pace.now c.args.before c.misses-misses.result c.passed-from.result c.third-below.result c.mark_missed-lost.result c.last_sent-last_sent.result c.in_flight.result c.is_over-over.result
     before (c.misses-misses.ensures ∙ ap (λ (p : Pace). p.misses) (noticed c v u before)) c.passed-from.ensures c.third-below.ensures
-    (c.first_missed-lost.ensures f u r stands) (c.last_sent-last_sent.ensures f u r stands) (c.in_flight.ensures f w r marked)
-    (subst (λ (p : Pace). IfSome p.trips.timed (λ t. c.is_over-over.result ≡ (w.marked t.index || w.covered t.index))) (noticed c v u before) (c.is_over-over.ensures f w r marked))
+    (c.mark_missed-lost.ensures.lost f u r stands before.weight.cum) (c.last_sent-last_sent.ensures f u r stands) (c.in_flight.ensures f w r marked)
+    (subst (λ (p : Pace). IfSome p.trips.timed (λ t. c.is_over-over.result ≡ (w.marked t.index || w.covered t.index))) (noticed c v u before)
+    (c.is_over-over.ensures f w r marked (subst (λ (p : Pace). IfSome p.trips.timed (λ t. c.args.before.weight.acked ≡ true → u.covered t.index ≡ true)) (sym (noticed c v u before))
+    (covers_acked v u c.args.pace.now.trips.timed c.args.before.weight.acked before.weight.acked))))
 
 pub returns-clause-pace : goal.returns-clause-pace
 returns-clause-pace c = λ f v u r stands before. c.hear.ensures.step v u c.args.pace.now (noticed c v u before) (said c f v u r stands before)

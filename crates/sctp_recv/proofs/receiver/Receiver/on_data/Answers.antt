@@ -130,3 +130,9 @@ returns-in_err-keep-in-Taken-clause-refused g c = λ v w.
     if_err c.from_residual-in_err-keep-in-Taken.result
     (c.in_err-keep-in-Taken.ensures.refused v
     (w.0, (w.1.0, (w.1.1.0, (findable_more f v c.args.self.now.lows c.note-in-Taken.new.lows c.note-in-Taken.ensures.count c.note-in-Taken.ensures.more w.1.1.1.0, w.1.1.1.1)))))
+
+pub returns-in-Uncounted-clause-memory : goal.returns-in-Uncounted-clause-memory
+unfolding StandsFor
+returns-in-Uncounted-clause-memory g c = λ v w.
+    let s = c.args.self.now.seen.kept in
+    (s.cumulative, cumulative_is s v w.0.seen, subst (NeedsMemory v s.cumulative (index_at v s.cumulative c.args.piece.now.tsn)) (sym (c.in-Uncounted.ensures v w)) tt)

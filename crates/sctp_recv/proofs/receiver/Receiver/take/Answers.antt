@@ -5,6 +5,7 @@ use Rattle.sctp_model.proofs.receiver.AtRest.{take_at_rest}
 use Rattle.sctp_recv.specs.HandedOf.{handed_of, message_bytes}
 use Rattle.sctp_recv.specs.ReceiverKept.{StreamKept, stream_at}
 use Rattle.sctp_recv.specs.Fields.{stream_of}
+use Rattle.sctp_recv.specs.Resets.{resets_in}
 use Rattle.sctp_recv.specs.KeptOf.{kept_of}
 use Rattle.sctp_recv.specs.StandsFor.{StandsFor}
 use Rattle.std.proofs.lemmas.Option.{slice_get_read}
@@ -39,7 +40,7 @@ returns-in-Some g c = λ v w.
     ap (λ (i : ℕ). stream_at (map stream_of items) i) (sym c.from-at.ensures) ∙ here ∙ c.in-Some.ensures.first in
     let less : c.less-self.result ≡ c.args.self.now.held - length (message_bytes c.in-Some.message) = c.less-self.ensures in
     let n = length-map items stream_of in
-    let done = keeps_taken g.F.Framing.format (kept_of c.args.self.now) v s c.less-self.result (handed_of c.in-Some.message) x.waiting x w.0 (omega (arith, c.from-at.ensures)) there refl less in
+    let done = keeps_taken g.F.Framing.format (kept_of c.args.self.now) v s c.less-self.result (handed_of c.in-Some.message) x.waiting x (resets_in c.count_off.new.resets) w.0 (omega (arith, c.from-at.ensures)) there refl less c.count_off.ensures in
     let got = slice_get_read items (length items) c.from-at.result c.index_mut.result.now refl l c.index_mut.ensures.value in
     let files = filed_same g.F.Framing.format v.kept items c.from-at.result c.index_mut.result.now c.take_first.new.stream w.1.0 l got c.take_first.ensures.chunks in
     let h = handed_of c.in-Some.message in

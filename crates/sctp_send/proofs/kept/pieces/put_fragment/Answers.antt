@@ -2,7 +2,7 @@ use Rattle.std.proofs.Common.{◌≡◌, ◌∙◌, ◌<◌, ◌^◌, length, ap
 use Rattle.sctp_model.specs.numbers.Serial.{tsn}
 use Rattle.sctp_model.specs.sender.Queueing.{cut}
 use Rattle.sctp_wire.specs.ChunkTree.{chunk_meaning}
-use Rattle.sctp_send.specs.OutstandingFields.{lane_meaning}
+use Rattle.sctp_send.specs.OutstandingFields.{lane_meaning, no_base}
 use Rattle.sctp_send.specs.inner.Stocking.{fragment_chunk}
 use Rattle.sctp_send.proofs.fill.ChunkLemmas.{piece_fits}
 use Rattle.sctp_send.proofs.fill.EnterLemmas.{same_chunk}
@@ -14,7 +14,7 @@ try_chunk-requires g c =
     let m = c.args.message.now in
     let own : c.args.tsn ≡ tsn c.args.tsn 1 = omega arith in
     let count = c.fragments_of.ensures ∙ ap (λ b. length (cut c.args.size b)) c.deref.ensures.value in
-    let is : chunk_meaning c.data_chunk.result ≡ fragment_chunk f c.args.size c.args.tsn 1 m c.args.number c.args.content =
+    let is : chunk_meaning c.data_chunk.result ≡ fragment_chunk f no_base c.args.size c.args.tsn 1 m c.args.number c.args.content =
     c.data_chunk.ensures ∙ same_chunk f c.args.size c.args.tsn 1 c.args.number c.args.tsn c.fragment_of-fragment.result c.fragments_of.result c.wire_number.result c.wire_word.result c.stream_of-stream.result c.payload_of-payload_id.result c.flag.result m c.args.content c.bytes_of.result.now
     own c.fragment_of-fragment.ensures count c.wire_number.ensures c.wire_word.ensures c.stream_of-stream.ensures c.payload_of-payload_id.ensures c.flag.ensures c.bytes_of.ensures in
     let few = c.fragment_of-fragment.ensures (lane_meaning m) c.args.number in
@@ -27,7 +27,7 @@ returns-clause-answer g c = λ initial i first.
     let f = g.F.Framing.format in
     let m = c.args.message.now in
     let count = c.fragments_of.ensures ∙ ap (λ b. length (cut c.args.size b)) c.deref.ensures.value in
-    let is : chunk_meaning c.data_chunk.result ≡ fragment_chunk f c.args.size initial i m c.args.number c.args.content =
+    let is : chunk_meaning c.data_chunk.result ≡ fragment_chunk f no_base c.args.size initial i m c.args.number c.args.content =
     c.data_chunk.ensures ∙ same_chunk f c.args.size initial i c.args.number c.args.tsn c.fragment_of-fragment.result c.fragments_of.result c.wire_number.result c.wire_word.result c.stream_of-stream.result c.payload_of-payload_id.result c.flag.result m c.args.content c.bytes_of.result.now
     first c.fragment_of-fragment.ensures count c.wire_number.ensures c.wire_word.ensures c.stream_of-stream.ensures c.payload_of-payload_id.ensures c.flag.ensures c.bytes_of.ensures in
     rw is at c.try_chunk.ensures.answer
@@ -37,7 +37,7 @@ returns-clause-after g c = λ initial i first.
     let f = g.F.Framing.format in
     let m = c.args.message.now in
     let count = c.fragments_of.ensures ∙ ap (λ b. length (cut c.args.size b)) c.deref.ensures.value in
-    let is : chunk_meaning c.data_chunk.result ≡ fragment_chunk f c.args.size initial i m c.args.number c.args.content =
+    let is : chunk_meaning c.data_chunk.result ≡ fragment_chunk f no_base c.args.size initial i m c.args.number c.args.content =
     c.data_chunk.ensures ∙ same_chunk f c.args.size initial i c.args.number c.args.tsn c.fragment_of-fragment.result c.fragments_of.result c.wire_number.result c.wire_word.result c.stream_of-stream.result c.payload_of-payload_id.result c.flag.result m c.args.content c.bytes_of.result.now
     first c.fragment_of-fragment.ensures count c.wire_number.ensures c.wire_word.ensures c.stream_of-stream.ensures c.payload_of-payload_id.ensures c.flag.ensures c.bytes_of.ensures in
     rw is at c.try_chunk.ensures.after

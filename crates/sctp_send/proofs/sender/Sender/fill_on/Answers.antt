@@ -18,7 +18,7 @@ returns-in-Ok-clause-step g c = λ v stands.
     let begun : Keeps g.F.Framing.format (stocked (bare s.told) c.begin_anew.new.stock) v = rw (c.begin_anew.ensures.same, c.begin_anew.ensures.tickets) keeps in
     let all = c.in-Ok.ensures.all v begun in
     let behind = subst (λ ts. AreOpen s.told.fates.ended ts) (sym all.told) (open_newly g.F.Framing.format _ _ v all.view keeps all.keeps refl) in
-    let told : c.deref.result.now ≡ c.put_all.new.stock.tickets.items = rw (c.deref.ensures.value, c.replace-tickets.ensures.value) refl in
+    let told : c.deref.result.now ≡ c.put_all.new.stock.tickets.items = rw (c.deref.ensures.value, c.take_tickets-tickets.ensures) refl in
     let numbered : c.number_all.new.fates.items ≡ all_numbered s.told.fates.items (numbers_of c.put_all.new.stock.tickets.items) =
     c.number_all.ensures.items (subst (λ (ts : List Ticket). AreOpen s.told.fates.ended (numbers_of ts)) (sym told) behind) ∙ ap (λ (ts : List Ticket). all_numbered s.told.fates.items (numbers_of ts)) told in
     record {
@@ -27,7 +27,7 @@ returns-in-Ok-clause-step g c = λ v stands.
       fill = all.fill;
       chunks = all.chunks;
       stands = rw (numbered, c.number_all.ensures.ended, c.number_all.ensures.abandoned) all.keeps;
-      tickets = rw c.replace-tickets.ensures.value all.told;
+      tickets = rw c.take_tickets-tickets.ensures all.told;
     }
 
 pub returns-in-Ok-clause-sendings : goal.returns-in-Ok-clause-sendings

@@ -14,5 +14,5 @@ map-replicate size (suc n) t = ap (Î» (ts : List Track). track_meaning size t âˆ
 pub returns : goal.returns
 unfolding StandsFor
 returns g c =
-    rw (c.new-2.ensures.items, c.new-2.ensures.ended, c.new-2.ensures.abandoned, c.new-3.ensures.passed, c.new-3.ensures.moments, c.new-3.ensures.asleep, c.new-4.ensures.items, c.new-6.ensures.items, c.new-7.ensures.items, c.in_ok-all_streams.ensures.items, map-replicate)
+    rw (c.new-2.ensures.items, c.new-2.ensures.ended, c.new-2.ensures.abandoned, c.none.ensures, c.new-3.ensures.passed, c.new-3.ensures.moments, c.new-3.ensures.asleep, c.new-4.ensures.items, c.new-6.ensures.items, c.new-7.ensures.items, c.in_ok-all_streams.ensures.items, map-replicate)
     (keeps_fresh g.F.Framing.format c.args.initial_tsn c.args.streams c.args.fragment c.args.peer_rwnd c.new-6.result.capacity c.args.partial c.requires.some)

@@ -4,7 +4,8 @@ use Rattle.sctp_model.specs.messages.Forward.{Skip}
 use Rattle.sctp_model.specs.sender.SentChunks.{skip_said}
 use Rattle.sctp_wire.specs.Skips.{IsSkip}
 use Rattle.sctp_framing.specs.SkipForms.{skip_form}
-use Rattle.sctp_send.specs.OutstandingFields.{item_meaning, entries_of, no_base}
+use Rattle.sctp_send.specs.OutstandingFields.{item_meaning, entries_of}
+use Rattle.sctp_send.specs.ResetsKept.{base_of}
 use Rattle.sctp_send.specs.SenderKept.{Kept}
 use Rattle.sctp_send.specs.SenderStands.{StandsFor, Keeps}
 use Rattle.sctp_send.specs.inner.Lanes.{passed_meaning}
@@ -20,8 +21,8 @@ pub put_lanes-requires-clause-fits : goal.put_lanes-requires-clause-fits
 put_lanes-requires-clause-fits g c =
     let f = g.F.Framing.format in
     let lanes = ap (map passed_meaning) c.as_slice.ensures.value ∙ c.note_within-passed.ensures.lanes 1 in
-    subst (λ (xs : List Skip). AllByRecursion (IsSkip (skip_form f)) (map (skip_said f no_base) xs)) (sym lanes)
-    (all_fit f (entries_of (map (item_meaning 1) (take c.note_within-passed.result c.self.inside.parts.outstanding.items))) c.self.inside.told.streams (omega arith))
+    subst (λ (xs : List Skip). AllByRecursion (IsSkip (skip_form f)) (map (skip_said f (base_of c.self.inside.told.resets)) xs)) (sym lanes)
+    (all_fit f (base_of c.self.inside.told.resets) (entries_of (map (item_meaning 1) (take c.note_within-passed.result c.self.inside.parts.outstanding.items))) c.self.inside.told.streams (omega arith))
 
 pub returns-clause-answer : goal.returns-clause-answer
 unfolding StandsFor

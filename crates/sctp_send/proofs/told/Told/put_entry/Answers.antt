@@ -1,6 +1,7 @@
 use Rattle.std.proofs.Common.{suc, ◌+◌, ◌∷◌, [], ◌++◌, List, Some, refl, sym, ap, ◌∙◌, arith}
 use Rattle.sctp_send.specs.PartsKept.{OutstandingKept}
 use Rattle.sctp_send.specs.OutstandingFields.{item_meaning, lane_meaning, message_meaning, entry_meaning}
+use Rattle.sctp_send.specs.ResetsKept.{base_of}
 use Rattle.sctp_send.specs.declared.kept.entry.State.{State}
 use Rattle.sctp_send.specs.declared.stock.Change.{Change}
 use Rattle.sctp_send.specs.declared.stock.Change.TheVariants.{Out}
@@ -17,7 +18,7 @@ returns-then-not-fits-clause-put g c = λ v k premise.
     let m = x.message.value in
     let e = entry_meaning (lane_meaning m) x.number x.content in
     let long = length_read c.args.self.now.fragment s.fragment c.bytes_of-bytes.result.now e c.deref.result.now m refl c.deref.ensures (c.bytes_of-bytes.ensures (lane_meaning m) x.number) in
-    let room = c.fits.ensures s.initial (suc (s.cum + c.args.at)) e (Some (message_meaning s.fragment m)) long in
+    let room = c.fits.ensures (base_of s.resets) s.initial (suc (s.cum + c.args.at)) e (Some (message_meaning s.fragment m)) long in
     entry_stops g.F.Framing.format s v c.args.packet.now c.args.packet.now c.args.stock.now c.args.stock.now c.args.at x k premise c.requires.within c.get-entry.ensures (sym room ∙ c.if-not-fits.true) refl refl refl
 
 pub returns-in_err-map_err-clause-refused : goal.returns-in_err-map_err-clause-refused
@@ -27,7 +28,7 @@ returns-in_err-map_err-clause-refused g c = λ v k premise.
     let m = x.message.value in
     let e = entry_meaning (lane_meaning m) x.number x.content in
     let long = length_read c.args.self.now.fragment s.fragment c.bytes_of-bytes.result.now e c.deref.result.now m refl c.deref.ensures (c.bytes_of-bytes.ensures (lane_meaning m) x.number) in
-    let room = c.fits.ensures s.initial (suc (s.cum + c.args.at)) e (Some (message_meaning s.fragment m)) long in
+    let room = c.fits.ensures (base_of s.resets) s.initial (suc (s.cum + c.args.at)) e (Some (message_meaning s.fragment m)) long in
     on_err (IsRefused g.F.Framing.format v c.args.packet.now c.args.packet.now) _
     (entry_refused g.F.Framing.format s v c.args.packet.now c.args.packet.now c.args.stock.now c.args.at x k premise c.requires.within c.get-entry.ensures (sym room ∙ c.if-not-fits.false) refl)
 
@@ -38,7 +39,7 @@ returns-in_err-put-clause-refused g c = λ v k premise.
     let m = x.message.value in
     let e = entry_meaning (lane_meaning m) x.number x.content in
     let long = length_read c.args.self.now.fragment s.fragment c.bytes_of-bytes.result.now e c.deref.result.now m refl c.deref.ensures (c.bytes_of-bytes.ensures (lane_meaning m) x.number) in
-    let room = c.fits.ensures s.initial (suc (s.cum + c.args.at)) e (Some (message_meaning s.fragment m)) long in
+    let room = c.fits.ensures (base_of s.resets) s.initial (suc (s.cum + c.args.at)) e (Some (message_meaning s.fragment m)) long in
     on_err (IsRefused g.F.Framing.format v c.args.packet.now c.put_at.new.packet) _
     (entry_refused g.F.Framing.format s v c.args.packet.now c.put_at.new.packet c.args.stock.now c.args.at x k premise c.requires.within c.get-entry.ensures (sym room ∙ c.if-not-fits.false) c.in_err-put.ensures.unchanged)
 

@@ -1,0 +1,47 @@
+use Rattle.std.proofs.Common.{◌≡◌, List, ◌∷◌, Some, refl, sym, ◌∙◌, ap, arith}
+use Rattle.std.proofs.lemmas.Grind.{common_steps}
+use Rattle.sctp_model.specs.receiver.ReceiverView.{ReceiverView}
+use Rattle.sctp_reconfig.specs.Reading.{ParameterMeaning}
+use Rattle.sctp_reconfig.specs.Meanings.{parameter_meaning}
+use Rattle.sctp_recv.specs.Requests.{requested, all_requested}
+use Rattle.sctp_recv.specs.Resets.{resets_of}
+use Rattle.sctp_recv.proofs.ResetLemmas.{keeps_resets}
+use Rattle.sctp_recv.proofs.RequestLemmas.{requested_else, kept_before}
+use Rattle.sctp_recv.proofs.requests.on_parameters.Goals as goal
+
+pub loop-parameter-init : goal.loop-parameter-init
+loop-parameter-init g c = record {
+  space = λ had. had;
+  stands = λ k v t before. (
+    v.resets,
+    kept_before g.F.Framing.format c.args.streams.now c.args.cumulative c.args.limit c.args.resets.now k v t before,
+    ap (λ (ps : List ParameterMeaning). all_requested c.args.limit t v ps) c.into_iter-parameter-iterator.ensures.into_iter_gives,
+  );
+}
+
+pub loop-parameter-preserved : goal.loop-parameter-preserved
+loop-parameter-preserved g c =
+    let f = g.F.Framing.format in
+    let limit = c.args.limit in
+    let p = parameter_meaning c.in-Some.parameter in
+    let own = c.loop-parameter.resets in
+    let left = c.next.new.self in
+    let inv = c.loop-parameter.invariant in
+    let rest : c.loop-parameter.parameter-iterator ≡ p ∷ left = grind (arith, common_steps) in
+    record {
+      space = λ had. c.on_parameter.ensures.space (inv.space had);
+      stands = λ k v t before.
+          let m = inv.stands k v t before in
+          let w : ReceiverView = record v { resets = m.0 } in
+          let step = c.on_parameter.ensures.stands (record k { resets = Some (resets_of own) }) w t (record {
+            keeps = keeps_resets f k v (Some (resets_of own)) m.0 before.keeps m.1;
+            resets = refl;
+            streams = before.streams;
+            cumulative = before.cumulative;
+            space = inv.space before.space;
+          }) in (
+            (requested limit t w p).resets,
+            step,
+            ap (λ (u : ReceiverView). all_requested limit t u left) (sym (requested_else limit t w p)) ∙ ap (λ (ps : List ParameterMeaning). all_requested limit t w ps) (sym rest) ∙ m.2,
+          );
+    }

@@ -1,0 +1,43 @@
+-- What handling requests leaves of resets.
+use Rattle.std.specs.Prelude.{◌≡◌, ℕ, ◌==◌, ◌<◌, Bool, List, map, Some}
+use Rattle.std.specs.declared.alloc.Global.{Global}
+use Rattle.std.specs.declared.vec.Vec.{Vec}
+use Rattle.sctp_model.specs.numbers.Lists.{Has}
+use Rattle.sctp_model.specs.numbers.Serial.{tsn}
+use Rattle.sctp_model.specs.messages.Format.{Format}
+use Rattle.sctp_model.specs.receiver.ReceiverView.{ReceiverView}
+use Rattle.sctp_reconfig.specs.Reading.{ParameterMeaning}
+use Rattle.sctp_recv.specs.declared.resets.Resets.{Resets}
+use Rattle.sctp_recv.specs.declared.stream.Stream.{Stream}
+use Rattle.sctp_recv.specs.Fields.{stream_of}
+use Rattle.sctp_recv.specs.ReceiverKept.{ReceiverKept}
+use Rattle.sctp_recv.specs.Requests.{requested, all_requested}
+use Rattle.sctp_recv.specs.Resets.{resets_of, KeepsResets}
+use Rattle.sctp_recv.specs.StandsFor.{KeepsView}
+use Rattle.sctp_recv.specs.inner.Restarting.{HasSpace}
+
+-- the stream is this one
+abbrev pub is_same : (stream : ℕ) → ℕ → Bool
+is_same stream s = stream == s
+
+-- each of these streams exists
+abbrev pub AreLow : (count : ℕ) → List ℕ → Type 0
+AreLow count named = (s : ℕ) → Has named s → s < count
+
+-- What is kept before a step of requests, of a view: all but its resets is kept as k says, and there is space for responses.
+pub record IsBefore {F : Type 0} (f : Format) (all : Vec (Stream F) Global) (wire limit : ℕ) (own : Resets) (k : ReceiverKept) (v : ReceiverView) (c : ℕ) : Type 0 where
+  pub keeps : KeepsView f k v
+  pub resets : k.resets ≡ Some (resets_of own)
+  pub streams : k.streams ≡ map stream_of all.items
+  pub cumulative : wire ≡ tsn v.initial c
+  pub space : HasSpace limit own
+
+-- the resets are those of the view after the parameter
+abbrev pub StandsInPart : {F : Type 0} → Format → Vec (Stream F) Global → (cumulative limit : ℕ) → (old new : Resets) → ParameterMeaning → Type 0
+StandsInPart f streams cumulative limit old new p = (k : ReceiverKept) (v : ReceiverView) (c : ℕ) → IsBefore f streams cumulative limit old k v c →
+    KeepsResets f (Some (resets_of new)) v.initial v.streams v.taken (requested limit c v p).resets
+
+-- the same of all parameters
+abbrev pub StandInPart : {F : Type 0} → Format → Vec (Stream F) Global → (cumulative limit : ℕ) → (old new : Resets) → List ParameterMeaning → Type 0
+StandInPart f streams cumulative limit old new ps = (k : ReceiverKept) (v : ReceiverView) (c : ℕ) → IsBefore f streams cumulative limit old k v c →
+    KeepsResets f (Some (resets_of new)) v.initial v.streams v.taken (all_requested limit c v ps).resets

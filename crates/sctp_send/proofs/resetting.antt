@@ -1,0 +1,4 @@
+pub mod CountedUp
+pub mod StillLemmas
+pub mod ResetTables
+pub mod ResetKept

@@ -1,0 +1,133 @@
+-- What a sender keeps stands for a view with other resets, where what is kept of these is so.
+use Rattle.std.proofs.Common.{◌≡◌, ℕ, zero, suc, ◌+◌, ◌%◌, ◌^◌, ◌<◌, ◌≤◌, List, [], ◌∷◌, length, map, get_or, Bool, true, false, Option, Some, None, refl, sym, ap, ◌∙◌, arith}
+use Rattle.std.specs.Prelude.{◌==◌, ◌&&◌, ◌||◌, is_some, slice_get, option_map}
+use Rattle.std.proofs.lemmas.Bool.Decides.{nat_tests}
+use Rattle.std.proofs.lemmas.List.{length-map}
+use Rattle.std.proofs.lemmas.Option.{get_or_from_slice_get}
+use Rattle.sctp_model.specs.numbers.Serial.{tsn}
+use Rattle.sctp_model.specs.wire.Reconfig.{is_done_code, is_progress_code}
+use Rattle.sctp_model.specs.messages.Format.{Format, Kind, Ordered, Unordered, Lane}
+use Rattle.sctp_model.specs.messages.Plan.{Entry}
+use Rattle.sctp_model.specs.sender.Outgoing.{Outgoing, Request}
+use Rattle.sctp_model.specs.sender.SenderView.{SenderView}
+use Rattle.sctp_model.specs.sender.Resetting.{with_resets, is_open_number, response_taken, reset_answered, reset_done, reset_refused, asked_again}
+use Rattle.sctp_model.specs.sender.Reached.{Rebases}
+use Rattle.sctp_model.proofs.sender.OwedLaws.{is_promised}
+use Rattle.sctp_send.specs.SenderKept.{Item, Track, Kept}
+use Rattle.sctp_send.specs.SenderStands.{item_here, items_from, track_here, Holds, Keeps}
+use Rattle.sctp_send.specs.SenderFields.{track_meaning}
+use Rattle.sctp_send.specs.ForwardKept.{IsForwardKept}
+use Rattle.sctp_send.specs.ResetsKept.{base_by, AreResets}
+use Rattle.sctp_send.specs.inner.Resetting.{begun_anew, number_from}
+use Rattle.sctp_send.specs.declared.kept.track.Track.{Track as TrackFields}
+use Rattle.sctp_send.specs.declared.kept.last_forward.LastForward.{LastForward}
+use Rattle.sctp_send.specs.declared.kept.resets.OutgoingResets.{OutgoingResets}
+use Rattle.sctp_send.proofs.TableLemmas.{length-table}
+use Rattle.sctp_send.proofs.KeepLemmas.{kept_length}
+use Rattle.sctp_send.proofs.fill.AssignLemmas.{track_at}
+
+-- entries say nothing of resets
+same_items : (v : SenderView) (o : Outgoing) (i : ℕ) (es : List Entry) → items_from v i es ≡ items_from (with_resets o v) i es
+same_items v o i [] = refl
+same_items v o i (e ∷ es) = ap (λ (xs : List Item). item_here v i e ∷ xs) (same_items v o (suc i) es)
+
+held_resets : (s : Kept) (v : SenderView) (w : Option LastForward) (y : OutgoingResets) (o : Outgoing) → Holds s v → Holds (record s { forward = w; resets = y }) (with_resets o v)
+held_resets s v w y o h = record {
+  initial = h.initial;
+  streams = h.streams;
+  fragment = h.fragment;
+  partial = h.partial;
+  cum = h.cum;
+  rwnd = h.rwnd;
+  turn = h.turn;
+  items = h.items ∙ same_items v o (suc v.cum) _;
+  queue = h.queue;
+  tracks = h.tracks;
+  fates = h.fates;
+  covered = h.covered;
+  room = h.room;
+}
+
+pub keeps_resets : (f : Format) (s : Kept) (v : SenderView) (w : Option LastForward) (y : OutgoingResets) (o : Outgoing) → Keeps f s v → AreResets v.streams y o → IsForwardKept f o.base v.streams v.plan.entries w
+    → Keeps f (record s { forward = w; resets = y }) (with_resets o v)
+keeps_resets f s v w y o k are forward = record {
+  holds = held_resets s v w y o k.holds;
+  over = record { within = k.over.within; each = λ t le. let x = k.over.each t le in record { queue = x.queue; tracks = x.tracks; items = x.items } };
+  due = record { many = k.due.many; each = λ t now lt. let i = k.due.each t now lt in record { queue = i.queue; items = i.items; tracks = i.tracks } };
+  forward = forward;
+  resets = are;
+  before = k.before;
+  counted = k.counted;
+  reached = Rebases v o k.reached;
+}
+
+-- ---- what streams count
+
+-- how many messages of a lane have a number
+pub track_counts : (f : Format) (s : Kept) (v : SenderView) (size : ℕ) (ts : List TrackFields) (l : Lane) → Keeps f s v → s.tracks ≡ map (track_meaning size) ts → l.stream < v.streams → number_from ts l ≡ length (v.plan.messages l)
+track_counts f s v size ts l k is low =
+    let wide = ap (λ (xs : List Track). length xs) k.holds.tracks ∙ length-table (track_here v) 0 v.streams in
+    let many = ap (λ (xs : List Track). length xs) is ∙ length-map ts (track_meaning size) in
+    let has = there ts l.stream (omega (arith, wide, many, low)) in
+    let here : track_meaning size has.0 ≡ track_here v l.stream =
+    sym (get_or_from_slice_get (map (track_meaning size) ts) l.stream (track_meaning size has.0) (track_here v l.stream) (mapped ts l.stream has.0 has.1))
+    ∙ ap (λ (xs : List Track). get_or xs l.stream (track_here v l.stream)) (sym is) ∙ track_at f s v l.stream (track_here v l.stream) k low in
+    rw has.1 (by_kind l.stream has.0 here l.kind)
+  where
+    there : (xs : List TrackFields) (n : ℕ) → n < length xs → (t : TrackFields) × (slice_get xs n ≡ Some t)
+    there [] n lt = absurd (omega arith)
+    there (x ∷ xs) zero lt = (x, refl)
+    there (x ∷ xs) (suc n) lt = there xs n (omega (arith, lt))
+
+    mapped : (xs : List TrackFields) (n : ℕ) (t : TrackFields) → slice_get xs n ≡ Some t → slice_get (map (track_meaning size) xs) n ≡ Some (track_meaning size t)
+    mapped [] n t got = absurd (cc)
+    mapped (x ∷ xs) zero t got = ap (λ (o : Option TrackFields). option_map (track_meaning size) o) got
+    mapped (x ∷ xs) (suc n) t got = mapped xs n t got
+
+    by_kind : (n : ℕ) (t : TrackFields) → track_meaning size t ≡ track_here v n → (j : Kind) → base_by j (begun_anew (Some t)) ≡ length (v.plan.messages (record { stream = n; kind = j }))
+    by_kind n t here Ordered = ap (λ (x : Track). x.ordered) here
+    by_kind n t here Unordered = ap (λ (x : Track). x.unordered) here
+
+-- ---- the index that was assigned last
+
+pub last_index : (f : Format) (s : Kept) (v : SenderView) (n : ℕ) → Keeps f s v → n ≡ length s.items → (s.cum + n) % 2 ^ 64 ≡ length v.plan.entries
+last_index f s v n k is = let cum = k.holds.cum in let all = kept_length f s v k in let most = is_promised f v k.reached in omega (arith, cum, all, most, is)
+
+-- ---- a response
+
+-- a request waits
+pub open_waits : (v : SenderView) (number : ℕ) → is_open_number v number ≡ true → (q : Request) × (v.resets.pending ≡ Some q)
+open_waits v number on = by_pending v.resets.pending refl on
+  where
+    by_pending : (o : Option Request) → v.resets.pending ≡ o → (is_some o && (number == tsn v.initial v.resets.made)) ≡ true → (q : Request) × (v.resets.pending ≡ Some q)
+    by_pending None is waits = absurd (cc)
+    by_pending (Some q) is waits = (q, is)
+
+-- its response is taken
+pub answered_by : (v : SenderView) (number code : ℕ) (q : Request) → is_open_number v number ≡ true → v.resets.pending ≡ Some q → response_taken v number code ≡ reset_answered v code q
+answered_by v number code q on waits = rw (on, waits) refl
+
+pub not_answered : (v : SenderView) (number code : ℕ) → is_open_number v number ≡ false → response_taken v number code ≡ v
+not_answered v number code off = rw off refl
+
+pub is_done : (v : SenderView) (code : ℕ) (q : Request) → code ≤ 1 → reset_answered v code q ≡ reset_done v q
+is_done v code q low = rw done refl
+  where
+    done : is_done_code code ≡ true
+    done = by_zero (code == 0) refl
+      where
+        by_zero : (b : Bool) → (code == 0) ≡ b → ((code == 0) || (code == 1)) ≡ true
+        by_zero true is = rw is refl
+        by_zero false is = let one : (code == 1) ≡ true = grind (arith, nat_tests) in rw (is, one) refl
+
+not_done : (code : ℕ) → 1 < code → is_done_code code ≡ false
+not_done code high =
+    let zero_off : (code == 0) ≡ false = grind (arith, nat_tests) in
+    let one_off : (code == 1) ≡ false = grind (arith, nat_tests) in
+    rw (zero_off, one_off) refl
+
+pub is_again : (v : SenderView) (code : ℕ) (q : Request) → 1 < code → code ≡ 6 → reset_answered v code q ≡ asked_again v
+is_again v code q high six = let on : is_progress_code code ≡ true = grind (arith, nat_tests) in rw (not_done code high, on) refl
+
+pub is_refused : (v : SenderView) (code : ℕ) (q : Request) → 1 < code → (code ≡ 6 → ⊥) → reset_answered v code q ≡ reset_refused v q
+is_refused v code q high other = let off : is_progress_code code ≡ false = grind (arith, nat_tests) in rw (not_done code high, off) refl

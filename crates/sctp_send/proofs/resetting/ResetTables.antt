@@ -1,0 +1,277 @@
+-- Of which resets a table is, as it is made and as it changes (RFC 6525, 5.1 and 5.2.7).
+use Rattle.std.proofs.Common.{◌≡◌, ℕ, zero, suc, ◌+◌, ◌<◌, ◌≤◌, ◌%◌, ◌^◌, min, List, [], ◌∷◌, ◌++◌, length, filter, get_or, Bool, true, false, Option, Some, None, refl, sym, ap, ◌∙◌, subst, arith}
+use Rattle.std.specs.Prelude.{◌==◌, if◌then◌else◌, slice_get, option_map, replicate, is_some, not}
+use Rattle.std.specs.List.{AllByRecursion}
+use Rattle.std.specs.Vec.{vec_capacity}
+use Rattle.std.specs.declared.alloc.Global.{Global}
+use Rattle.std.specs.declared.boxed.Box.{Box}
+use Rattle.std.proofs.Math.Path.{fun_ext}
+use Rattle.std.proofs.lemmas.List.{length-replicate}
+use Rattle.std.proofs.lemmas.Option.{slice_get_read, slice_get_within}
+use Rattle.std.proofs.lemmas.Bool.Decides.{nat_tests}
+use Rattle.sctp_model.specs.numbers.Limits.{STREAM_LIMIT, REQUEST_LIMIT}
+use Rattle.sctp_model.specs.numbers.Lists.{at}
+use Rattle.sctp_model.specs.messages.Format.{Kind, Ordered, Unordered, Lane}
+use Rattle.sctp_model.specs.sender.Outgoing as model
+use Rattle.sctp_model.specs.sender.Outgoing.{Outgoing, lists}
+use Rattle.sctp_model.specs.sender.Resetting.{set_to}
+use Rattle.sctp_model.specs.sender.Words.{count_up}
+use Rattle.sctp_send.specs.PartsKept.{changed_at}
+use Rattle.sctp_send.specs.ResetsKept.{base_there, base_in, base_under, sending_meaning, sending_there, sending_under, request_meaning, pending_meaning, pending_under, made_under, IsWithin, is_resetting_in, IsTable, AreResets}
+use Rattle.sctp_send.specs.inner.Resetting.{stream_as, begun_anew, restarted_by, refused_by, number_from, all_changed, listed_with, IsFresh}
+use Rattle.sctp_send.specs.declared.kept.track.Track.{Track as TrackFields}
+use Rattle.sctp_send.specs.declared.kept.resets.Sending.{Sending}
+use Rattle.sctp_send.specs.declared.kept.resets.Sending.TheVariants.{Sends, Resets, Refuses}
+use Rattle.sctp_send.specs.declared.kept.resets.StreamReset.{StreamReset}
+use Rattle.sctp_send.specs.declared.kept.resets.Request.{Request}
+use Rattle.sctp_send.specs.declared.kept.resets.ResetTable.{ResetTable}
+use Rattle.sctp_send.proofs.kept.ChangedLemmas.{count_changed}
+use Rattle.sctp_send.proofs.resetting.CountedUp.{filter_off, filter_on, filter_not, get_changed, get_all, length-all, listed_below}
+
+-- ---- a table is made
+
+abbrev unreset : StreamReset
+unreset = record { ordered = 0; unordered = 0; sending = Sends }
+
+base_fresh : (k : Kind) (n s : ℕ) → base_there k (slice_get (replicate n unreset) s) ≡ 0
+base_fresh k zero s = refl
+base_fresh Ordered (suc n) zero = refl
+base_fresh Unordered (suc n) zero = refl
+base_fresh k (suc n) (suc s) = base_fresh k n s
+
+sends_fresh : (n s : ℕ) → sending_there (slice_get (replicate n unreset) s) ≡ model.Sends
+sends_fresh zero s = refl
+sends_fresh (suc n) zero = refl
+sends_fresh (suc n) (suc s) = sends_fresh n s
+
+pub resets_made : (n : ℕ) (t : Option (Box ResetTable Global)) (b : Box ResetTable Global) (o : Outgoing) → t ≡ None → IsFresh n b.value → AreResets n (record { table = t }) o → AreResets n (record { table = Some b }) o
+resets_made n t b o none fresh k = record {
+  base = k.base ∙ fun_ext (λ (l : Lane). ap (λ (u : Option (Box ResetTable Global)). base_under u l) none ∙ sym (ap (λ (rs : List StreamReset). base_in rs l) fresh.streams ∙ base_fresh l.kind n l.stream));
+  sending = λ s low. k.sending s low ∙ ap (λ (u : Option (Box ResetTable Global)). sending_under u s) none ∙ sym (sends s);
+  made = k.made ∙ ap made_under none ∙ sym fresh.made;
+  pending = k.pending ∙ ap pending_under none ∙ sym (ap pending_meaning fresh.pending);
+  table = record {
+    streams = ap (λ (rs : List StreamReset). length rs) fresh.streams ∙ length-replicate n unreset;
+    request = subst (λ (r : Option Request). IsWithin n r) (sym fresh.pending) tt;
+    resetting = fresh.resetting ∙ sym (filter_off (is_resetting_in b.value.streams.items) 0 (min n STREAM_LIMIT) (λ s lo hi. ap model.is_resetting (sends s)));
+    room = fresh.room;
+  };
+}
+  where
+    sends : (s : ℕ) → sending_there (slice_get b.value.streams.items s) ≡ model.Sends
+    sends s = ap (λ (rs : List StreamReset). sending_there (slice_get rs s)) fresh.streams ∙ sends_fresh n s
+
+-- there is none
+pub none_there : (t : Option (Box ResetTable Global)) (b : Bool) → is_some t ≡ not b → b ≡ true → t ≡ None
+none_there None b is on = refl
+none_there (Some x) b is on = absurd (let off : true ≡ false = is ∙ ap not on in cc)
+
+-- ---- a table changes
+
+-- Streams changed, those that wait are listed anew, and this request waits.
+pub record IsListed (t u : ResetTable) (rs : List StreamReset) (r : Option Request) (many : ℕ) : Type 0 where
+  pub streams : u.streams.items ≡ rs
+  pub listed : min (length rs) STREAM_LIMIT ≤ vec_capacity t.resetting → u.resetting.items ≡ filter (is_resetting_in rs) (count_up 0 (min (length rs) STREAM_LIMIT))
+  pub capacity : vec_capacity u.resetting ≡ vec_capacity t.resetting
+  pub pending : u.pending ≡ r
+  pub made : u.made ≡ many
+
+still_table : (n : ℕ) (t u : ResetTable) (rs : List StreamReset) (r : Option Request) (made : ℕ) → IsTable n t → IsListed t u rs r made → length rs ≡ length t.streams.items → IsWithin n r → IsTable n u
+still_table n t u rs r made h i long within = record {
+  streams = ap (λ (xs : List StreamReset). length xs) i.streams ∙ long ∙ h.streams;
+  request = subst (λ (x : Option Request). IsWithin n x) (sym i.pending) within;
+  resetting =
+      let many : length rs ≡ n = long ∙ h.streams in
+      let room : min (length rs) STREAM_LIMIT ≤ vec_capacity t.resetting = rw many h.room in
+      i.listed room ∙ ap (λ (xs : List StreamReset). filter (is_resetting_in xs) (count_up 0 (min (length rs) STREAM_LIMIT))) (sym i.streams) ∙ ap (λ (j : ℕ). filter (is_resetting_in u.streams.items) (count_up 0 (min j STREAM_LIMIT))) many;
+  room = let held = h.room in let same = i.capacity in omega (arith, held, same);
+}
+
+-- it changed so, and the streams that wait were listed anew
+pub listed_from : (t t1 t2 : ResetTable) (rs : List StreamReset) → t1 ≡ record t { streams = t1.streams } → t1.streams.items ≡ rs → t2 ≡ record t1 { resetting = t2.resetting }
+    → (min (length t1.streams.items) STREAM_LIMIT ≤ vec_capacity t1.resetting → t2.resetting.items ≡ filter (is_resetting_in t1.streams.items) (count_up 0 (min (length t1.streams.items) STREAM_LIMIT)))
+    → vec_capacity t2.resetting ≡ vec_capacity t1.resetting → IsListed t t2 rs t.pending t.made
+listed_from t t1 t2 rs one streams two listed capacity = record {
+  streams = ap (λ (u : ResetTable). u.streams.items) two ∙ streams;
+  listed = subst (λ (xs : List StreamReset). min (length xs) STREAM_LIMIT ≤ vec_capacity t.resetting → t2.resetting.items ≡ filter (is_resetting_in xs) (count_up 0 (min (length xs) STREAM_LIMIT))) streams
+      (λ room. let held = ap (λ (u : ResetTable). vec_capacity u.resetting) one in listed (omega (arith, room, held)));
+  capacity = capacity ∙ ap (λ (u : ResetTable). vec_capacity u.resetting) one;
+  pending = ap (λ (u : ResetTable). u.pending) two ∙ ap (λ (u : ResetTable). u.pending) one;
+  made = ap (λ (u : ResetTable). u.made) two ∙ ap (λ (u : ResetTable). u.made) one;
+}
+
+there : (rs : List StreamReset) (s : ℕ) → s < length rs → (r : StreamReset) × (slice_get rs s ≡ Some r)
+there [] s low = absurd (omega arith)
+there (r ∷ rs) zero low = (r, refl)
+there (r ∷ rs) (suc s) low = there rs s (omega (arith, low))
+
+base_kept : (k : Kind) (x : Sending) (o : Option StreamReset) → base_there k (option_map (stream_as x) o) ≡ base_there k o
+base_kept k x None = refl
+base_kept Ordered x (Some r) = refl
+base_kept Unordered x (Some r) = refl
+
+-- a stream takes no further message
+pub resets_shut : (n stream : ℕ) (b c : Box ResetTable Global) (o : Outgoing) → AreResets n (record { table = Some b }) o
+    → IsListed b.value c.value (changed_at (stream_as Resets) stream b.value.streams.items) b.value.pending b.value.made
+    → AreResets n (record { table = Some c }) (record o { sending = at o.sending stream model.Resets })
+resets_shut n stream b c o k i = record {
+  base = k.base ∙ fun_ext (λ (l : Lane). sym (ap (λ (rs : List StreamReset). base_in rs l) i.streams ∙ ap (base_there l.kind) (get_changed (stream_as Resets) stream b.value.streams.items l.stream) ∙ same_base l (stream == l.stream)));
+  sending = λ s low. by_here s low (s == stream) refl;
+  made = k.made ∙ sym i.made;
+  pending = k.pending ∙ sym (ap pending_meaning i.pending);
+  table = still_table n b.value c.value _ b.value.pending b.value.made k.table i (count_changed (stream_as Resets) stream b.value.streams.items) k.table.request;
+}
+  where
+    same_base : (l : Lane) (x : Bool) → base_there l.kind (if x then option_map (stream_as Resets) (slice_get b.value.streams.items l.stream) else slice_get b.value.streams.items l.stream) ≡ base_in b.value.streams.items l
+    same_base l true = base_kept l.kind Resets (slice_get b.value.streams.items l.stream)
+    same_base l false = refl
+
+    now : (s : ℕ) → sending_there (slice_get c.value.streams.items s) ≡ sending_there (if stream == s then option_map (stream_as Resets) (slice_get b.value.streams.items s) else slice_get b.value.streams.items s)
+    now s = ap (λ (rs : List StreamReset). sending_there (slice_get rs s)) i.streams ∙ ap sending_there (get_changed (stream_as Resets) stream b.value.streams.items s)
+
+    by_here : (s : ℕ) → s < n → (x : Bool) → (s == stream) ≡ x → (if s == stream then model.Resets else o.sending s) ≡ sending_there (slice_get c.value.streams.items s)
+    by_here s low true is =
+        let turned : (stream == s) ≡ true = grind (arith, nat_tests) in
+        let long = k.table.streams in
+        let has = there b.value.streams.items s (omega (arith, low, long)) in
+        let set : sending_there (slice_get c.value.streams.items s) ≡ model.Resets = now s ∙ rw (turned, has.1) refl in
+        rw is (sym set)
+    by_here s low false is =
+        let turned : (stream == s) ≡ false = grind (arith, nat_tests) in
+        let same : sending_there (slice_get c.value.streams.items s) ≡ sending_there (slice_get b.value.streams.items s) = now s ∙ rw turned refl in
+        rw is (k.sending s low ∙ sym same)
+
+-- the streams of a request are changed, and none waits
+module _ (n : ℕ) (f : ℕ → StreamReset → StreamReset) (same : (s : ℕ) (r : StreamReset) → f s (f s r) ≡ f s r) (b c : Box ResetTable Global) (o : Outgoing) (q : model.Request) (d : ResetTable) (p : Option Request) (r : Request)
+    (k : AreResets n (record { table = Some b }) o) (asked : o.pending ≡ Some q) (here : d ≡ b.value) (waits : d.pending ≡ Some r) (none : p ≡ None)
+    (i : IsListed (record d { pending = p }) c.value (all_changed f r.streams.items d.streams.items) p d.made) where
+  pub named : r.streams.items ≡ q.streams
+  named =
+      let was : Some q ≡ pending_meaning b.value.pending = sym asked ∙ k.pending in
+      let is : b.value.pending ≡ Some r = ap (λ (t : ResetTable). t.pending) (sym here) ∙ waits in
+      let both : Some q ≡ Some (request_meaning r) = was ∙ ap pending_meaning is in
+      let one : q ≡ request_meaning r = cc in
+      ap (λ (x : model.Request). x.streams) (sym one)
+
+  listed : IsListed (record b.value { pending = None }) c.value (all_changed f q.streams b.value.streams.items) None b.value.made
+  listed =
+      subst (λ (ss : List ℕ). IsListed (record b.value { pending = None }) c.value (all_changed f ss b.value.streams.items) None b.value.made) named
+      (subst (λ (y : Option Request). IsListed (record b.value { pending = y }) c.value (all_changed f r.streams.items b.value.streams.items) y b.value.made) none
+      (subst (λ (t : ResetTable). IsListed (record t { pending = p }) c.value (all_changed f r.streams.items t.streams.items) p t.made) here i))
+
+  within : AllByRecursion (λ (s : ℕ). s < n) q.streams
+  within =
+      let is : b.value.pending ≡ Some r = ap (λ (t : ResetTable). t.pending) (sym here) ∙ waits in
+      subst (λ (ss : List ℕ). AllByRecursion (λ (s : ℕ). s < n) ss) named (subst (λ (x : Option Request). IsWithin n x) is k.table.request)
+
+  -- a stream then
+  pub got : (s : ℕ) → slice_get c.value.streams.items s ≡ (if lists q.streams s then option_map (f s) (slice_get b.value.streams.items s) else slice_get b.value.streams.items s)
+  got s = ap (λ (rs : List StreamReset). slice_get rs s) listed.streams ∙ get_all f same q.streams b.value.streams.items s
+
+  -- it is there
+  pub found : (s : ℕ) → lists q.streams s ≡ true → (x : StreamReset) × (slice_get b.value.streams.items s ≡ Some x)
+  found s on = let low = listed_below q.streams s n within on in let long = k.table.streams in there b.value.streams.items s (omega (arith, low, long))
+
+  pub changed_table : IsTable n c.value
+  changed_table =
+      still_table n (record b.value { pending = None }) c.value (all_changed f q.streams b.value.streams.items) None b.value.made
+      (record { streams = k.table.streams; request = tt; resetting = k.table.resetting; room = k.table.room }) listed (length-all f q.streams b.value.streams.items) tt
+
+  pub changed_made : o.made ≡ c.value.made
+  changed_made = k.made ∙ sym listed.made
+
+  pub changed_pending : None ≡ pending_meaning c.value.pending
+  changed_pending = sym (ap pending_meaning listed.pending)
+
+-- the streams of the request are reset
+pub resets_restarted : (n : ℕ) (ts : List TrackFields) (b c : Box ResetTable Global) (o : Outgoing) (q : model.Request) (d : ResetTable) (p : Option Request) (r : Request) (count : Lane → ℕ)
+    → AreResets n (record { table = Some b }) o → o.pending ≡ Some q → d ≡ b.value → d.pending ≡ Some r → p ≡ None
+    → IsListed (record d { pending = p }) c.value (all_changed (restarted_by ts) r.streams.items d.streams.items) p d.made → ((l : Lane) → l.stream < n → number_from ts l ≡ count l)
+    → AreResets n (record { table = Some c }) (record o { base = λ l. if lists q.streams l.stream then count l else o.base l; sending = set_to model.Sends q o.sending; pending = None })
+resets_restarted n ts b c o q d p r count k asked here waits none i counts = record {
+  base = fun_ext (λ (l : Lane). base_of_lane l (lists q.streams l.stream) refl ∙ sym (ap (base_there l.kind) (now l.stream)));
+  sending = λ s low. sends_of s low (lists q.streams s) refl ∙ sym (ap sending_there (now s));
+  made = changed_made n (restarted_by ts) (λ s x. refl) b c o q d p r k asked here waits none i;
+  pending = changed_pending n (restarted_by ts) (λ s x. refl) b c o q d p r k asked here waits none i;
+  table = changed_table n (restarted_by ts) (λ s x. refl) b c o q d p r k asked here waits none i;
+}
+  where
+    now : (s : ℕ) → slice_get c.value.streams.items s ≡ (if lists q.streams s then option_map (restarted_by ts s) (slice_get b.value.streams.items s) else slice_get b.value.streams.items s)
+    now s = got n (restarted_by ts) (λ s x. refl) b c o q d p r k asked here waits none i s
+
+    base_of_lane : (l : Lane) (y : Bool) → lists q.streams l.stream ≡ y
+        → (if lists q.streams l.stream then count l else o.base l) ≡ base_there l.kind (if lists q.streams l.stream then option_map (restarted_by ts l.stream) (slice_get b.value.streams.items l.stream) else slice_get b.value.streams.items l.stream)
+    base_of_lane l true on =
+        let has = found n (restarted_by ts) (λ s x. refl) b c o q d p r k asked here waits none i l.stream on in
+        let low : l.stream < n = let inside = slice_get_within b.value.streams.items l.stream has.0 has.1 in let long = k.table.streams in omega (arith, inside, long) in
+        rw (on, has.1) (sym (counts l low))
+    base_of_lane l false off = rw off (ap (λ (g : Lane → ℕ). g l) k.base)
+
+    sends_of : (s : ℕ) → s < n → (y : Bool) → lists q.streams s ≡ y
+        → set_to model.Sends q o.sending s ≡ sending_there (if lists q.streams s then option_map (restarted_by ts s) (slice_get b.value.streams.items s) else slice_get b.value.streams.items s)
+    sends_of s low true on =
+        let has = found n (restarted_by ts) (λ s x. refl) b c o q d p r k asked here waits none i s on in
+        rw (on, has.1) (sym (ap sending_meaning (anew (slice_get ts s))))
+      where
+        anew : (t : Option TrackFields) → (begun_anew t).sending ≡ Sends
+        anew None = refl
+        anew (Some t) = refl
+    sends_of s low false off = rw off (k.sending s low)
+
+-- the peer refused
+pub resets_refused : (n : ℕ) (b c : Box ResetTable Global) (o : Outgoing) (q : model.Request) (d : ResetTable) (p : Option Request) (r : Request)
+    → AreResets n (record { table = Some b }) o → o.pending ≡ Some q → d ≡ b.value → d.pending ≡ Some r → p ≡ None
+    → IsListed (record d { pending = p }) c.value (all_changed refused_by r.streams.items d.streams.items) p d.made
+    → AreResets n (record { table = Some c }) (record o { sending = set_to model.Refuses q o.sending; pending = None })
+resets_refused n b c o q d p r k asked here waits none i = record {
+  base = k.base ∙ fun_ext (λ (l : Lane). sym (ap (base_there l.kind) (now l.stream) ∙ same_base l (lists q.streams l.stream)));
+  sending = λ s low. sends_of s low (lists q.streams s) refl ∙ sym (ap sending_there (now s));
+  made = changed_made n refused_by (λ s x. refl) b c o q d p r k asked here waits none i;
+  pending = changed_pending n refused_by (λ s x. refl) b c o q d p r k asked here waits none i;
+  table = changed_table n refused_by (λ s x. refl) b c o q d p r k asked here waits none i;
+}
+  where
+    now : (s : ℕ) → slice_get c.value.streams.items s ≡ (if lists q.streams s then option_map (refused_by s) (slice_get b.value.streams.items s) else slice_get b.value.streams.items s)
+    now s = got n refused_by (λ s x. refl) b c o q d p r k asked here waits none i s
+
+    same_base : (l : Lane) (y : Bool) → base_there l.kind (if y then option_map (refused_by l.stream) (slice_get b.value.streams.items l.stream) else slice_get b.value.streams.items l.stream) ≡ base_in b.value.streams.items l
+    same_base l true = base_kept l.kind Refuses (slice_get b.value.streams.items l.stream)
+    same_base l false = refl
+
+    sends_of : (s : ℕ) → s < n → (y : Bool) → lists q.streams s ≡ y
+        → set_to model.Refuses q o.sending s ≡ sending_there (if lists q.streams s then option_map (refused_by s) (slice_get b.value.streams.items s) else slice_get b.value.streams.items s)
+    sends_of s low true on =
+        let has = found n refused_by (λ s x. refl) b c o q d p r k asked here waits none i s on in
+        rw (on, has.1) refl
+    sends_of s low false off = rw off (k.sending s low)
+
+-- streams are listed, one after the other
+pub list_step : (rs : List StreamReset) (m : ℕ) (r : StreamReset) (old new : List ℕ) → m < length rs → r ≡ get_or rs m r → old ≡ filter (is_resetting_in rs) (count_up 0 m) → new ≡ listed_with r m old
+    → new ≡ filter (is_resetting_in rs) (count_up 0 (m + 1))
+list_step rs m r old new low read so_far is = go (model.is_resetting (sending_meaning r.sending)) refl
+  where
+    here : is_resetting_in rs m ≡ model.is_resetting (sending_meaning r.sending)
+    here = ap (λ (o : Option StreamReset). model.is_resetting (sending_there o)) (slice_get_read rs (length rs) m r refl low read)
+
+    go : (b : Bool) → model.is_resetting (sending_meaning r.sending) ≡ b → new ≡ filter (is_resetting_in rs) (count_up 0 (m + 1))
+    go true on = is ∙ rw on (ap (λ (xs : List ℕ). xs ++ m ∷ []) so_far ∙ sym (filter_on (is_resetting_in rs) m (here ∙ on)))
+    go false off = is ∙ rw off (so_far ∙ sym (filter_not (is_resetting_in rs) m (here ∙ off)))
+
+-- a request is made
+pub resets_asked : (n made last : ℕ) (b c : Box ResetTable Global) (o : Outgoing) (r : Request) → AreResets n (record { table = Some b }) o → b.value.made < REQUEST_LIMIT → made ≡ (b.value.made + 1) % 2 ^ 32
+    → c.value.streams ≡ b.value.streams → c.value.resetting ≡ b.value.resetting → c.value.made ≡ made → c.value.pending ≡ Some r → r.first ≡ made → r.last ≡ last → AllByRecursion (λ (s : ℕ). s < n) r.streams.items
+    → AreResets n (record { table = Some c }) (record o { made = suc o.made; pending = Some (record { first = suc o.made; last = last; streams = r.streams.items }) })
+resets_asked n made last b c o r k few is streams listed count pending first at within =
+    let one : made ≡ suc o.made = let so_far = k.made in omega (arith, is, few, so_far) in
+    record {
+      base = k.base ∙ fun_ext (λ (l : Lane). sym (ap (λ (rs : _). base_in rs.items l) streams));
+      sending = λ s low. k.sending s low ∙ sym (ap (λ (rs : _). sending_there (slice_get rs.items s)) streams);
+      made = sym (count ∙ one);
+      pending = sym (ap pending_meaning pending ∙ rw (first ∙ one, at) refl);
+      table = record {
+        streams = ap (λ (rs : _). length rs.items) streams ∙ k.table.streams;
+        request = subst (λ (x : Option Request). IsWithin n x) (sym pending) within;
+        resetting = ap (λ (xs : _). xs.items) listed ∙ k.table.resetting ∙ ap (λ (rs : _). filter (is_resetting_in rs.items) (count_up 0 (min n STREAM_LIMIT))) (sym streams);
+        room = let held = k.table.room in let same = ap (λ (xs : _). vec_capacity xs) listed in omega (arith, held, same);
+      };
+    }

@@ -1,0 +1,9 @@
+use Rattle.std.proofs.Common.{◌≡◌, drop}
+use Rattle.sctp_send.specs.inner.Resetting.{all_changed, restarted_by}
+use Rattle.sctp_send.proofs.resetting.restarting.restart_all.Given as goal
+
+abbrev pub invariant-loop-at : goal.invariant-loop-at
+invariant-loop-at l = record {
+  same : l.table ≡ record l.initial.table { streams = l.table.streams };
+  done : all_changed (restarted_by l.tracks) l.request l.initial.table.streams.items ≡ all_changed (restarted_by l.tracks) (drop l.at l.request) l.table.streams.items;
+}

@@ -1,0 +1,117 @@
+//! Resets of outgoing streams: asked for by the user, requested of the peer, and done once it has performed them (RFC 6525, 5.1).
+//!
+//! A stream whose reset was asked for takes no further message. It is ready once nothing of it waits in the queue, is in part, or is outstanding. A
+//! request names the lowest 256 streams that are ready, and one request waits at a time.
+
+pub mod answering;
+pub mod restarting;
+pub mod still;
+pub mod table;
+
+ghost use Rattle.std.specs.Prelude.{◌≡◌, ◌&&◌, nat_lt, if◌then◌else◌, OnOk, OnErr, MatchOption, None};
+ghost use Rattle.sctp_model.specs.sender.Outgoing.{is_resetting};
+ghost use Rattle.sctp_model.specs.sender.Resetting.{resetting, may_ask, asked};
+ghost use Rattle.sctp_model.specs.sender.SenderView.{SenderView};
+ghost use Rattle.sctp_send.specs.ResetAnswers.{IsRequest, resetting_streams};
+ghost use Rattle.sctp_send.specs.SenderStands.{StandsFor};
+
+use crate::resetting::still::{any_still, still_of};
+use crate::sender::Sender;
+use sctp_framing::Framing;
+use sctp_serial::tsn_of;
+use sctp_values::NoMemory;
+
+/// What a request to reset streams says, each time that it is sent (Outgoing SSN Reset Request; RFC 6525, 4.1).
+#[derive(Clone, Copy, Debug)]
+pub struct ResetRequest<'a> {
+    /// Its sequence number.
+    pub number: u32,
+    /// The last TSN that was assigned when it was made.
+    pub last: u32,
+    /// Its streams, by rising number: 1 to 256.
+    pub streams: &'a [u16],
+}
+
+#[tactic(auto, unfolding(crate::specs::SenderStands::StandsFor))]
+impl<F: Framing> Sender<F> {
+    /// Whether the reset of a stream was asked for and has no answer yet. Meanwhile the stream takes no messages. False if there is no such stream.
+    pub fn is_resetting(&self, stream: u16) -> bool
+        ensures { (v : SenderView) → StandsFor F.format self.now v → result ≡ (nat_lt stream v.streams && is_resetting (v.resets.sending stream)) }
+    {
+        if stream >= self.told.streams {
+            return false;
+        }
+        self.told.resets.is_resetting(stream)
+    }
+
+    /// How many of the streams below 1,024 wait for their reset: its answer costs no walk.
+    pub fn resetting_streams(&self) -> usize
+        ensures { (v : SenderView) → StandsFor F.format self.now v → result ≡ resetting_streams v }
+    {
+        self.told.resets.resetting().len()
+    }
+
+    /// Whether a request to reset streams may be made now: none waits for its response, a stream is ready, and fewer than 2^31 - 1 sequence numbers
+    /// were used (RFC 6525, 5.1.1).
+    pub fn may_ask(&self) -> bool
+        ensures { (v : SenderView) → StandsFor F.format self.now v → result ≡ may_ask v }
+    {
+        if !self.told.resets.is_free() {
+            return false;
+        }
+        any_still(&self.parts, self.told.resets.resetting())
+    }
+
+    /// The request that waits for its response, if one does (RFC 6525, 4.1).
+    pub fn request(&self) -> Option<ResetRequest<'_>>
+        ensures { (v : SenderView) → StandsFor F.format self.now v
+            → MatchOption result (v.resets.pending ≡ None) (λ request. IsRequest v request.number request.last request.streams.now) }
+    {
+        match self.told.resets.pending() {
+            Some(request) => Some(ResetRequest {
+                number: tsn_of(self.told.initial, u64::from(self.told.resets.made())),
+                last: tsn_of(self.told.initial, request.last),
+                streams: &request.streams,
+            }),
+            None => None,
+        }
+    }
+
+    /// Asks for the reset of a stream: it takes no further message until that is done. What was accepted before is still sent. It changes nothing
+    /// if the stream is being reset already, and may be asked for again if the peer refused (RFC 6525, 5.1). The first call allocates.
+    ///
+    /// # Errors
+    /// `NoMemory` if an allocation fails; the sender's view is then as before.
+    pub fn reset(&mut self, stream: u16) -> Result<(), NoMemory>
+        ensures step { (v : SenderView) → StandsFor F.format self.old v → OnOk result (StandsFor F.format self.new (resetting v stream)) }
+        ensures memory { (v : SenderView) → StandsFor F.format self.old v → OnErr result (StandsFor F.format self.new v) }
+    {
+        let streams = self.told.streams;
+        self.told.resets.make(self.told.alloc, streams)?;
+        self.told.resets.shut(stream);
+        Ok(())
+    }
+
+    /// Makes a request to reset the streams that are ready, if it may be made (`may_ask`); else it changes nothing (RFC 6525, 5.1.2).
+    ///
+    /// # Errors
+    /// `NoMemory` if an allocation fails; the sender's view is then as before.
+    pub fn ask(&mut self) -> Result<(), NoMemory>
+        ensures step { (v : SenderView) → StandsFor F.format self.old v → OnOk result (StandsFor F.format self.new (if may_ask v then asked v else v)) }
+        ensures memory { (v : SenderView) → StandsFor F.format self.old v → OnErr result (StandsFor F.format self.new v) }
+    {
+        if !self.told.resets.is_free() {
+            return Ok(());
+        }
+        let streams = still_of(self.told.alloc, &self.parts, self.told.resets.resetting())?;
+        if streams.is_empty() {
+            return Ok(());
+        }
+        let last = self
+            .told
+            .cum
+            .wrapping_add(self.parts.outstanding.len() as u64);
+        self.told.resets.ask(last, streams);
+        Ok(())
+    }
+}
