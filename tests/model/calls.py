@@ -17,7 +17,7 @@ from sender import Sender
 
 CRATE = os.path.join(os.path.dirname(os.path.abspath(__file__)), '..', '..', 'crates', 'sctp_call_rows')
 GREATEST_PACKET, GREATEST_FRAGMENT = 1_500, 1_400
-QUEUED = {-1: 'no such stream', -2: 'empty', -3: 'too long', -4: 'queue full', -5: 'spent'}
+QUEUED = {-1: 'no such stream', -2: 'empty', -3: 'too long', -4: 'queue full', -5: 'spent', -14: 'resetting'}
 SACKED = {None: 'ok', 1: 'stale', 2: 'beyond', 3: 'bad block'}
 FATES = {1: 'withdrawn', 2: 'abandoned', 3: 'acknowledged', 4: 'unknown', 5: 'reliable'}
 TAKEN = {1: 'taken', 2: 'duplicate', 3: 'ahead', 4: 'no room', 5: 'passed', 6: 'no such stream'}
@@ -25,6 +25,7 @@ FORWARDED = {MOVED: 'moved', OUT_OF_DATE: 'out of date', BAD: 'bad'}
 FLAGS = {'I': 8, 'U': 4, 'B': 2, 'E': 1}
 POLYNOMIAL = 0x11EDC6F41
 SUMS_OF_LINE = 8
+SHOWN_STREAMS = 8
 PIECES, FORWARDS = (wire.DATA, wire.I_DATA), (wire.FORWARD_TSN, wire.I_FORWARD_TSN)
 
 
@@ -93,6 +94,30 @@ def pairs_of(words, limit):
 
 def shown(written):
     return written.hex() if len(written) <= 32 else '%s..%d' % (written[:24].hex(), len(written))
+
+
+def shown_request(sender):
+    """The request that waits for its response, of many streams the first ones."""
+    request = sender.resets.request()
+    if request is None:
+        return 'none'
+    sequence_number, last, streams = request
+    named = ''.join(' %d' % stream for stream in streams[:SHOWN_STREAMS])
+    more = ' ..%d' % len(streams) if len(streams) > SHOWN_STREAMS else ''
+    return 'request %d %d%s%s' % (sequence_number, last, named, more)
+
+
+def shown_answers(receiver):
+    return ' '.join('%d:%d' % answer for answer in receiver.resets.answers) or 'none'
+
+
+def heard(receiver, value, limit):
+    """The value of a RE-CONFIG at a receiver: the responses that wait then."""
+    parameters = wire.read_items(value)
+    if parameters is None:
+        return 'no list'
+    receiver.resets.on_parameters(parameters, limit)
+    return shown_answers(receiver)
 
 
 def read(written):
@@ -172,6 +197,9 @@ class Case:
         named = ', tickets ' + ' '.join(str(ticket) for ticket in tickets[:8]) if tickets else ''
         more = ' ..%d' % len(tickets) if len(tickets) > 8 else ''
         return (self.kept(writer.chunks) if writer.chunks else 'nothing') + named + more
+
+    def on_recycle(self, limit):
+        return self.on_fill(limit)
 
     def on_forward(self, room, limit=str(GREATEST_PACKET)):
         room, limit = number(room, 65535), number(limit, 65535)
@@ -305,6 +333,84 @@ class Case:
         receiver = self.of(self.receiver)
         runs = sum(1 for index in receiver.seen if index - 1 not in receiver.seen)
         return 'cumulative %d held %d runs %d' % (receiver.tsn(receiver.c), receiver.held, runs)
+
+    # ---- Resets of streams: at a sender ----
+
+    def on_reset(self, stream):
+        stream = number(stream, 65535)
+        self.of(self.sender).resets.reset(stream)
+        return 'ok'
+
+    def on_reset_each(self, streams):
+        streams, sender = number(streams, 65535), self.of(self.sender)
+        for stream in range(streams):
+            sender.resets.reset(stream)
+        return 'ok'
+
+    def on_resetting(self, stream=None):
+        if stream is None:
+            resets = self.of(self.sender).resets
+            return 'streams %d%s' % (len(resets.resetting()), ' may ask' if resets.may_ask() else '')
+        stream = number(stream, 65535)
+        return str(self.of(self.sender).resets.is_resetting(stream)).lower()
+
+    def on_ask(self):
+        sender = self.of(self.sender)
+        sender.resets.ask()
+        return shown_request(sender)
+
+    def on_request(self):
+        return shown_request(self.of(self.sender))
+
+    def on_response(self, sequence_number, code):
+        sequence_number, code = number(sequence_number, 2**32 - 1), number(code, 2**32 - 1)
+        sender = self.of(self.sender)
+        sender.resets.on_response(sequence_number, code)
+        return shown_request(sender)
+
+    # ---- Resets of streams: at a receiver ----
+
+    def on_reconfig(self, value, limit=str(GREATEST_PACKET)):
+        limit = number(limit, 65535)
+        if not value:
+            raise NoCall
+        receiver = self.of(self.receiver)
+        return heard(receiver, bytes_of(value), limit)
+
+    def on_responses(self):
+        return shown_answers(self.of(self.receiver))
+
+    def on_responses_sent(self):
+        self.of(self.receiver).resets.answers_sent()
+        return 'ok'
+
+    def on_last_request(self):
+        return str(self.of(self.receiver).resets.last_request())
+
+    def on_take_reset(self):
+        found = self.of(self.receiver).resets.take_reset()
+        return 'nothing' if found is None else 'reset %d %d' % found
+
+    # ---- Resets of streams: from one to the other ----
+
+    def on_carry_request(self):
+        sender, receiver = self.of(self.sender), self.of(self.receiver)
+        request = sender.resets.request()
+        if request is None:
+            return 'nothing'
+        sequence_number, last, streams = request
+        value = wire.item_list([wire.reset_request(sequence_number, 0, last, streams)])
+        return '%s %s' % (shown(value), heard(receiver, value, GREATEST_PACKET))
+
+    def on_carry_responses(self):
+        sender, receiver = self.of(self.sender), self.of(self.receiver)
+        answers = receiver.resets.answers
+        if not answers:
+            return 'nothing'
+        receiver.resets.answers_sent()
+        for answer in answers:
+            sender.resets.on_response(*answer)
+        return '%s %s' % (shown(wire.item_list([wire.reset_response(*answer) for answer in answers])), shown_request(sender))
 
 
 def transcript(name, lines):

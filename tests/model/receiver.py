@@ -2,6 +2,7 @@
 
 import bisect
 
+from resets import Incoming
 from wire import COUNT_END, WIDTHS, near, sack_chunk
 
 TAKEN, DUPLICATE, AHEAD, NO_ROOM, PASSED, NO_SUCH_STREAM = 1, 2, 3, 4, 5, 6
@@ -45,6 +46,7 @@ class Receiver:
         self.handed = []                 # all that was ever handed over
         self.duplicates = []
         self.held = 0
+        self.resets = Incoming(self)
 
     # ---- Numbers ----
 
@@ -56,10 +58,12 @@ class Receiver:
 
     def count(self, stream, unordered, wire):
         """The number with this wire value: near the next one of the stream if ordered, near the
-        largest one recorded or skipped if unordered (RFC 9260 section 6.6, RFC 8260 section 2.2.3)."""
+        largest one recorded or skipped if unordered (RFC 9260 section 6.6, RFC 8260 section 2.2.3);
+        counted from the last reset of the stream (RFC 6525 section 5.2.2)."""
         reference = self.top[stream] if unordered else self.next[stream]
-        number = near(wire, reference, self.width)
-        return None if number == COUNT_END else number
+        base = self.resets.base_of(stream, unordered)
+        number = near(wire, max(reference - base, 0), self.width)
+        return None if number in (None, COUNT_END) else base + number
 
     # ---- DATA and I-DATA (RFC 9260 sections 6.2 and 6.6) ----
 

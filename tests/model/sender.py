@@ -4,6 +4,7 @@ Indexes count the assigned TSNs from 1; index 0 stands for nothing yet.
 """
 
 from counts import sending
+from resets import Outgoing
 from wire import FLAG_B, FLAG_E, FLAG_U, WIDTHS, before, data_chunk, forward_chunk, padded
 
 MESSAGE_LIMIT = 65_536
@@ -12,7 +13,7 @@ OWED_LIMIT = 2**63 - 1
 TICKET_LIMIT = 2**64 - 1
 
 # Refusals of `queue` (NoMemory, 6, doesn't come here).
-NO_SUCH_STREAM, EMPTY, TOO_LONG, QUEUE_FULL, SPENT = 1, 2, 3, 4, 5
+NO_SUCH_STREAM, EMPTY, TOO_LONG, QUEUE_FULL, SPENT, RESETTING = 1, 2, 3, 4, 5, 14
 # Refusals of a SACK or SHUTDOWN.
 STALE, BEYOND, BAD_BLOCK = 1, 2, 3
 # Answers of `abandon`.
@@ -61,6 +62,7 @@ class Sender:
         self.abandon_order = []       # tickets in the order of abandoning
         self.sendings = [0, 0, 0]     # of fragments: counts.FIRST, BY_TIMER, FAST
         self.missed = 0               # what a fill counts as missed three times: the indexes below it
+        self.resets = Outgoing(self)
 
     # ---- Readers ----
 
@@ -131,6 +133,8 @@ class Sender:
         """A ticket, or the first refusal that holds as a negative number."""
         if stream >= self.streams:
             return -NO_SUCH_STREAM
+        if not self.resets.takes_messages(stream):
+            return -RESETTING
         if not data:
             return -EMPTY
         if len(data) > MESSAGE_LIMIT:
@@ -270,13 +274,16 @@ class Sender:
         flags |= (FLAG_B if entry.fragment == 0 else 0) | (FLAG_E if entry.last else 0)
         if self.interleave:
             # The payload id with B, else the fragment number (RFC 8260 section 2.1).
-            number = message.number % 2**WIDTHS.mid
+            number = self.number_said(message) % 2**WIDTHS.mid
             word = message.payload_id if entry.fragment == 0 else entry.fragment
         else:
             # An unordered DATA has SSN 0 here (RFC 9260 section 3.3.1).
-            number = message.number % 2**WIDTHS.ssn if message.ordered else 0
+            number = self.number_said(message) % 2**WIDTHS.ssn if message.ordered else 0
             word = message.payload_id
         return data_chunk(self.interleave, flags, self.tsn(index), message.stream, number, word, entry.data)
+
+    def number_said(self, message):
+        return self.resets.since(message.stream, message.ordered, message.number)
 
     def put(self, writer, index):
         if not writer.put(self.fragment_chunk(index)):
@@ -377,7 +384,7 @@ class Sender:
             if message.number is not None:
                 if kind not in largest and len(largest) == most:
                     break
-                largest[kind] = max(largest.get(kind, 0), message.number)
+                largest[kind] = max(largest.get(kind, 0), self.number_said(message))
             end = index
         if end == self.cum:
             return None

@@ -16,6 +16,10 @@ KNOWN = {DATA, INIT, INIT_ACK, SACK, HEARTBEAT, HEARTBEAT_ACK, ABORT, SHUTDOWN,
          SHUTDOWN_ACK, ERROR, COOKIE_ECHO, COOKIE_ACK, SHUTDOWN_COMPLETE, I_DATA,
          FORWARD_TSN, I_FORWARD_TSN}
 
+# RE-CONFIG (RFC 6525 section 3.1): an unknown type where it wasn't agreed on. Its parameters (sections 4.1 to 4.6).
+RE_CONFIG = 130
+OUTGOING_RESET, INCOMING_RESET, TSN_RESET, RECONFIG_RESPONSE, ADD_OUTGOING, ADD_INCOMING = 13, 14, 15, 16, 17, 18
+
 # Flags of DATA and I-DATA (RFC 9260 section 3.3.1), flag T of ABORT and
 # SHUTDOWN COMPLETE (sections 3.3.7 and 3.3.13).
 FLAG_I, FLAG_U, FLAG_B, FLAG_E, FLAG_T = 8, 4, 2, 1, 1
@@ -165,6 +169,21 @@ def forward_chunk(interleave, cumulative, skips):
         else:
             value += struct.pack('>HH', stream, number)
     return chunk(I_FORWARD_TSN if interleave else FORWARD_TSN, value)
+
+
+def reset_request(number, answered, last, streams):
+    """Outgoing SSN Reset Request (RFC 6525 section 4.1); `answered`: the Response Sequence Number."""
+    return item(OUTGOING_RESET, struct.pack('>III%dH' % len(streams), number, answered, last, *streams))
+
+
+def reset_response(number, result):
+    """Re-configuration Response (RFC 6525 section 4.4), without the TSNs of a TSN reset."""
+    return item(RECONFIG_RESPONSE, struct.pack('>II', number, result))
+
+
+def reconfig_chunk(parameters):
+    """RE-CONFIG (RFC 6525 section 3.1)."""
+    return chunk(RE_CONFIG, item_list(parameters))
 
 
 # ---- Reading ----
@@ -317,6 +336,15 @@ class Forward:
             else:
                 stream, number = struct.unpack('>HH', rest[at:at + 4])
                 self.skips.append((stream, False, number))
+
+
+class ResetRequest:
+    """The value of an Outgoing SSN Reset Request (RFC 6525 section 4.1)."""
+
+    def __init__(self, value):
+        self.number, _, self.last = struct.unpack('>III', value[:12])
+        count = (len(value) - 12) // 2
+        self.streams = list(struct.unpack('>%dH' % count, value[12:12 + 2 * count]))
 
 
 class Opening:

@@ -1,0 +1,211 @@
+"""Resets of streams (RFC 6525): what a sender knows of those of its own streams, a receiver of those of its peer's."""
+
+from wire import (ADD_INCOMING, ADD_OUTGOING, HEADER, INCOMING_RESET, OUTGOING_RESET, TSN_RESET, WIDTHS,
+                  ResetRequest, before, reconfig_chunk, reset_response)
+
+# What a stream does that takes no message: its reset was asked for; the peer refused it.
+RESETS, REFUSES = 1, 2
+# A request names streams below the first number, and at most the second: so it fits each packet.
+STREAM_LIMIT, RESETS_AT_ONCE = 1_024, 256
+# Results of a request (section 4.4); Already in Progress, 4, doesn't come here.
+NOTHING_TO_DO, PERFORMED, DENIED, WRONG_STREAM, BAD_NUMBER, IN_PROGRESS = 0, 1, 2, 3, 5, 6
+# Requests that are always denied, and the least bytes that their values have (sections 4.2, 4.3, 4.5 and 4.6).
+OTHER_REQUESTS = {INCOMING_RESET: 4, TSN_RESET: 4, ADD_OUTGOING: 8, ADD_INCOMING: 8}
+
+
+class Pending:
+    """The request that waits for its response: the last index assigned as it was made, and its streams."""
+
+    def __init__(self, last, streams):
+        self.last, self.streams = last, streams
+
+
+class Outgoing:
+    """The resets of a sender's streams (section 5.1)."""
+
+    def __init__(self, sender):
+        self.sender = sender
+        self.base = {}                # (stream, ordered): the number that is 0 on the wire
+        self.sending = {}             # stream: RESETS or REFUSES; the others take messages
+        self.made = 0                 # how many sequence numbers of requests were used
+        self.pending = None
+
+    # ---- Readers ----
+
+    def since(self, stream, ordered, number):
+        """A message's number, counted from the last reset of its stream (section 5.1.2)."""
+        return number - self.base.get((stream, ordered), 0)
+
+    def takes_messages(self, stream):
+        return stream not in self.sending
+
+    def is_resetting(self, stream):
+        return self.sending.get(stream) == RESETS
+
+    def is_still(self, stream):
+        """No message of the stream waits or is assigned in part, and all its TSNs are acknowledged."""
+        sender = self.sender
+        above = (sender.plan[index].message for index in sender.above_cum())
+        return stream not in sender.parts and all(m.stream != stream for m in [*sender.queue, *above])
+
+    def resetting(self):
+        """The streams that a request may name, now or later."""
+        return [s for s in range(min(self.sender.streams, STREAM_LIMIT)) if self.is_resetting(s)]
+
+    def ready(self):
+        """The streams that the next request names: the lowest of which nothing is left to be acknowledged."""
+        return [s for s in self.resetting() if self.is_still(s)][:RESETS_AT_ONCE]
+
+    def has_number(self):
+        """A sequence number is left: those that are used lie within half of their space."""
+        return self.made < 2**(WIDTHS.tsn - 1) - 1
+
+    def may_ask(self):
+        """One request at a time (section 5.1.1)."""
+        return self.pending is None and self.has_number() and bool(self.ready())
+
+    def number(self):
+        """The sequence number of the last request: the first one's is the initial TSN (section 4.1)."""
+        return self.sender.tsn(self.made)
+
+    def request(self):
+        """What the request says that waits for its response: its number, the last TSN, its streams. None where there is none."""
+        if self.pending is None:
+            return None
+        return self.number(), self.sender.tsn(self.pending.last), self.pending.streams
+
+    # ---- Calls ----
+
+    def reset(self, stream):
+        """From now on the stream takes no message; what was accepted before is still sent."""
+        if stream < self.sender.streams:
+            self.sending[stream] = RESETS
+
+    def ask(self):
+        """A request, if one may be made (section 5.1.2)."""
+        if self.may_ask():
+            self.pending = Pending(self.sender.last(), self.ready())
+            self.made += 1
+
+    def on_response(self, number, result):
+        """One to another request changes nothing (section 5.2.7)."""
+        if self.pending is None or number != self.number():
+            return
+        if result == IN_PROGRESS:
+            self.ask_again()
+            return
+        for stream in self.pending.streams:
+            if result in (NOTHING_TO_DO, PERFORMED):
+                self.begin_anew(stream)
+            else:
+                self.sending[stream] = REFUSES
+        self.pending = None
+
+    def ask_again(self):
+        """With the next number: a request with one that was taken may have the same response (sections 5.2.1 and 5.2.7)."""
+        if self.has_number():
+            self.made += 1
+
+    def begin_anew(self, stream):
+        """The next number of the stream's messages, of either kind, is 0 on the wire."""
+        self.sending.pop(stream, None)
+        for ordered in (True, False):
+            self.base[stream, ordered] = self.sender.numbers.get((stream, ordered), 0)
+
+
+class Incoming:
+    """The resets of a receiver's streams by its peer (section 5.2)."""
+
+    def __init__(self, receiver):
+        self.receiver = receiver
+        self.base = {}                # (stream, unordered): the number that is 0 on the wire
+        self.taken = 0                # how many requests were taken
+        self.result = BAD_NUMBER      # of the last one: the number before the first is no request's
+        self.answers = []             # (number, result): responses that wait for a packet
+        self.told = {}                # stream: how many messages were handed over until its reset, while that isn't reported
+
+    # ---- Readers ----
+
+    def base_of(self, stream, unordered):
+        return self.base.get((stream, unordered), 0)
+
+    def last_request(self):
+        """The sequence number of the last request that was taken."""
+        return self.receiver.tsn(self.taken)
+
+    def is_next(self, number):
+        return number == self.receiver.tsn(self.taken + 1)
+
+    def is_in_turn(self, number):
+        """The next one, or the last one, if that was in progress."""
+        return self.is_next(number) or number == self.last_request() and self.result == IN_PROGRESS
+
+    def result_in_turn(self, request):
+        """The first that holds. It waits for all chunks up to its last TSN (section 5.2.2)."""
+        if any(stream >= self.receiver.streams for stream in request.streams):
+            return WRONG_STREAM
+        if before(self.receiver.tsn(self.receiver.c), request.last, WIDTHS.tsn):
+            return IN_PROGRESS
+        return PERFORMED
+
+    def handed_on(self, stream):
+        return [m for m in self.receiver.handed if m.stream == stream]
+
+    def next_unordered(self, stream):
+        """One past the largest unordered number that was recorded or skipped, 0 where none was."""
+        kept = [key[2] for key in self.receiver.kept if key[:2] == (stream, True)]
+        handed = [m.number for m in self.handed_on(stream) if not m.ordered]
+        return 1 + max([self.receiver.skipped(stream, True)] + [n for n in kept + handed if n is not None])
+
+    # ---- Requests of the peer ----
+
+    def on_parameters(self, parameters, limit):
+        """Those of a RE-CONFIG, one after the other; the limit is of the packet with their responses. Others than requests,
+        and those that are too short, do nothing."""
+        for kind, whole in parameters:
+            value = whole[4:]
+            if kind == OUTGOING_RESET and len(value) >= 12:
+                self.on_request(ResetRequest(value), limit)
+            elif kind in OTHER_REQUESTS and len(value) >= OTHER_REQUESTS[kind]:
+                self.respond(int.from_bytes(value[:4], 'big'), DENIED, limit)
+
+    def on_request(self, request, limit):
+        """An Outgoing SSN Reset Request (section 5.2.2)."""
+        result = self.result_in_turn(request)
+        if result == PERFORMED and self.is_in_turn(request.number):
+            for stream in request.streams or range(self.receiver.streams):
+                self.begin_anew(stream)
+        self.respond(request.number, result, limit)
+
+    def begin_anew(self, stream):
+        """The next number of the stream, of either kind, is 0 on the wire."""
+        self.base[stream, False] = self.receiver.next[stream]
+        self.base[stream, True] = self.next_unordered(stream)
+        self.told[stream] = len(self.handed_on(stream))
+
+    def respond(self, number, result, limit):
+        """With this result, if the request is in its turn; the last one has the same as before (section 5.2.1)."""
+        if self.is_in_turn(number):
+            self.taken, self.result = self.taken + self.is_next(number), result
+        self.add_answer(number, self.result if number == self.last_request() else BAD_NUMBER, limit)
+
+    def add_answer(self, number, result, limit):
+        """Left out if the chunk of all that wait would exceed a packet: then the peer sends its request again."""
+        answers = self.answers + [(number, result)]
+        if HEADER + len(reconfig_chunk([reset_response(*answer) for answer in answers])) <= limit:
+            self.answers = answers
+
+    def answers_sent(self):
+        self.answers = []
+
+    # ---- The user ----
+
+    def take_reset(self):
+        """The lowest stream whose reset isn't reported, and how many of its messages that wait were handed over before; None
+        where there is none."""
+        if not self.told:
+            return None
+        stream = min(self.told)
+        waiting = sum(1 for m in self.receiver.waiting if m.stream == stream)
+        taken = len(self.handed_on(stream)) - waiting
+        return stream, max(self.told.pop(stream) - taken, 0)
