@@ -97,7 +97,7 @@ end='sctp_model sctp_values sctp_terms sctp_safety sctp_outcomes sctp_serial sct
 endpoint() {
     # shellcheck disable=SC2086
     build endpoint $end
-    for over in halves ends interleaved controlled; do
+    for over in halves ends interleaved controlled resetting; do
         each "$over: a message of 64 bytes, 9.5 to a packet" 100 300 19 "$built" "$over" 19 64 1
         each "$over: a message of 64 bytes, one to a packet" 1000 3000 1 "$built" "$over" 1 64 1
         each "$over: a message of 16,384 bytes in 12 fragments, with the making of its bytes" 50 150 1 "$built" "$over" 1 16384 1

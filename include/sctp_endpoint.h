@@ -1,6 +1,6 @@
-/* One endpoint of an SCTP association: RFC 9260, with FORWARD-TSN (RFC 3758) and I-DATA (RFC 8260). The library opens no socket, reads no
- * clock and generates no random numbers: received packets, the current time and random values are arguments, packets to send and received
- * messages are results. docs/C.md has a first program, the loop of a program over UDP, and what to set.
+/* One endpoint of an SCTP association: RFC 9260, with FORWARD-TSN (RFC 3758), I-DATA (RFC 8260) and stream reset (RFC 6525). The library opens
+ * no socket, reads no clock and generates no random numbers: received packets, the current time and random values are arguments, packets to
+ * send and received messages are results. docs/C.md has a first program, the loop of a program over UDP, and what to set.
  *
  * What a caller must observe, since no call can check it:
  *
@@ -73,7 +73,7 @@ enum sctp_endpoint_result {
     SCTP_EP_MISUSE = 11,        /* the handle is empty; a call that makes an endpoint: it isn't empty */
     SCTP_EP_BAD_DRAW = 12,      /* a tag is 0 */
     SCTP_EP_BAD_RESERVED = 13,  /* a reserved number isn't 0, or a flag has no meaning */
-    SCTP_EP_RESETTING = 14,     /* the stream is being reset; no call of this library resets one */
+    SCTP_EP_RESETTING = 14,     /* the stream is being reset, or the peer refused to reset it */
     /* the first thing wrong with a configuration, in this order */
     SCTP_EP_BAD_PORT = 21,
     SCTP_EP_BAD_PACKET_LIMIT = 22,
@@ -98,7 +98,8 @@ struct sctp_endpoint {
 enum sctp_endpoint_flag {
     SCTP_EP_FAST_RETRANSMIT = 1,   /* three miss indications mark a TSN for retransmission without its timer, and the RTO is computed from measured
                                     * round trips (RFC 9260, 7.2.4 and 6.3.1). Alone it limits nothing that is sent, and isn't for the Internet */
-    SCTP_EP_CONGESTION_CONTROL = 2 /* a congestion window limits the bytes in flight (RFC 9260, 7.2). It brings fast retransmission */
+    SCTP_EP_CONGESTION_CONTROL = 2, /* a congestion window limits the bytes in flight (RFC 9260, 7.2). It brings fast retransmission */
+    SCTP_EP_STREAM_RESET = 4       /* offer the reset of streams, either endpoint's (RFC 6525): sctp_endpoint_reset */
 };
 
 struct sctp_endpoint_config {
@@ -111,7 +112,7 @@ struct sctp_endpoint_config {
     bool partial;                 /* offer partial reliability (RFC 3758): messages can be abandoned after they were sent */
     bool delay;                   /* delay SACKs: for a second packet, 200 ms at most (RFC 9260, 6.2) */
     bool standard_closing;        /* close by the timers of RFC 9260, 9.2: a peer that never stops sending can delay closing without limit */
-    uint32_t flags;               /* enum sctp_endpoint_flag, a sum: 0 to 3; others are refused as BAD_RESERVED */
+    uint32_t flags;               /* enum sctp_endpoint_flag, a sum: 0 to 7; others are refused as BAD_RESERVED */
     uint32_t rto_min;             /* milliseconds, the least RTO that is computed from round trips (RFC 9260, 6.3.1); 0 for 1,000 */
     uint32_t reserved[2];         /* 0 */
 };
@@ -264,6 +265,21 @@ uint32_t sctp_endpoint_acknowledged(struct sctp_endpoint *handle, uint64_t ticke
 /* Whether a message was sent, at least in part, and then abandoned. MISUSE. */
 uint32_t sctp_endpoint_abandoned(struct sctp_endpoint *handle, uint64_t ticket, bool *is);
 
+/* ---- resets of streams (RFC 6525) */
+
+/* Asks for the reset of an outgoing stream: from now on send returns RESETTING for it. Once all that was sent on it is acknowledged, the peer is
+ * asked to reset it; once the peer has done so, the stream takes messages again, whose numbers on the wire begin anew at 0. If the peer refuses,
+ * it takes none until this is called again. If the stream is being reset already, nothing changes. MISUSE, BAD_STATE unless the association
+ * is established and both endpoints offered resets, NO_SUCH_STREAM, NO_MEMORY. */
+uint32_t sctp_endpoint_reset(struct sctp_endpoint *handle, uint16_t stream);
+
+/* Whether the reset of an outgoing stream was asked for and isn't done: false also if the peer refused it. MISUSE. */
+uint32_t sctp_endpoint_resetting(struct sctp_endpoint *handle, uint16_t stream, bool *is);
+
+/* Reports a reset by the peer: the lowest stream that it reset and that wasn't reported since, and, as `earlier`, how many of the messages that are
+ * ready on it were sent before the reset: the first ones. The numbers of messages (struct sctp_endpoint_message) count on. MISUSE, NOTHING. */
+uint32_t sctp_endpoint_take_reset(struct sctp_endpoint *handle, uint16_t *stream, uint64_t *earlier);
+
 /* ---- closing */
 
 /* Closes the association gracefully: no more messages are accepted, those that were are still delivered. MISUSE, NOT_OPEN. */
@@ -318,7 +334,8 @@ struct sctp_endpoint_status {
     bool partial;               /* partial reliability was agreed on */
     uint32_t reassembly_bytes;  /* of held_bytes, those that can't be taken yet: of messages of which fragments are missing, and of ordered ones
                                  * after such a message. If they are near the configured buffer, it is too small (SCTP_ENDPOINT_CONFIG) */
-    uint32_t reserved[3];       /* 0 */
+    uint32_t resetting;         /* the outgoing streams whose reset was asked for and isn't done */
+    uint32_t reserved[2];       /* 0 */
 };
 
 /* Returns the status. MISUSE. */

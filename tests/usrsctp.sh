@@ -8,8 +8,11 @@
 #   tests/usrsctp.sh --figures fast-retransmit rto-min 100    1,000 messages without a limit of the rate and over 10 Mbit/s, with these words
 #                                    of sctp-end or none: how long they take, beside usrsctp and what is wanted (figures.py): some minutes
 #   tests/usrsctp.sh --shares congestion-control    two associations through one queue, 120 s (shares.py): some ten minutes
+#   tests/usrsctp.sh --streams       fifty streams, reset again and again by the endpoint, by usrsctp and by both, 10 percent lost,
+#                                    and as channels that either closes (streams.py): a minute; --lost 5 --seeds 8 likewise
 #   tests/usrsctp.sh --figures --model, --program PATH    the model, or this program, in place of sctp-end
-# Without libusrsctp the last three have the model as the receiver. Status of these: 0 if all is as wanted, 1 if not, 3 as below. Of the closings:
+# Without libusrsctp the figures and shares have the model as the receiver. Status of these and of the streams: 0 if all is as wanted, 1 if not,
+# 3 as below. Of the closings:
 # 0: with standard-closing all completed, no message was lost, and the middle run of (1) closed within 15 s. 1: not so, and the last line
 # says what. 2: libusrsctp isn't installed (Debian: libusrsctp-dev), and one line says so. 3: sctp-end isn't built, or something failed.
 # It needs a C compiler and Python.
@@ -23,12 +26,12 @@ echo '#include <usrsctp.h>' >"$room/look.c"
 echo 'int main(void) { return usrsctp_finish(); }' >>"$room/look.c"
 script=exchanges.py
 case ${1-} in
---figures | --shares) script=${1#--}.py; shift ;;
+--figures | --shares | --streams) script=${1#--}.py; shift ;;
 esac
 peer=$room/peer
 if cc -o "$room/look" "$room/look.c" -lusrsctp 2>"$room/said"; then
     cc -std=gnu11 -O2 -Wall -Wextra -o "$peer" "$root/tests/usrsctp/peer.c" -lusrsctp || exit 3
-elif [ $script = exchanges.py ]; then
+elif [ $script = exchanges.py ] || [ $script = streams.py ]; then
     echo "libusrsctp isn't installed: nothing was run"
     exit 2
 else

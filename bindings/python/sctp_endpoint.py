@@ -1,4 +1,5 @@
-"""One endpoint of an SCTP association (RFC 9260, with FORWARD-TSN of RFC 3758 and I-DATA of RFC 8260), by ctypes over libsctp_endpoint.so.
+"""One endpoint of an SCTP association (RFC 9260, with FORWARD-TSN of RFC 3758, I-DATA of RFC 8260 and stream reset of RFC 6525), by ctypes over
+libsctp_endpoint.so.
 
 The library opens no socket, reads no clock and generates no random numbers but those of `Draw()`: received packets and the current time are
 arguments, packets to send and received messages are results. `SCTP_ENDPOINT_LIBRARY` names the library's file; else the loader looks for
@@ -149,6 +150,7 @@ class Config(Structure):
         standard_closing: bool = True,
         fast_retransmit: bool = False,
         congestion_control: bool = False,
+        stream_reset: bool = False,
         rto_min: int = 1000,
     ):
         super().__init__()
@@ -157,7 +159,7 @@ class Config(Structure):
         self.outbound, self.inbound = outbound, inbound
         self.interleave, self.partial = interleave, partial
         self.delay, self.standard_closing = delay, standard_closing
-        self.flags, self.rto_min = bool(fast_retransmit) + 2 * bool(congestion_control), rto_min
+        self.flags, self.rto_min = bool(fast_retransmit) + 2 * bool(congestion_control) + 4 * bool(stream_reset), rto_min
 
     def __setattr__(self, name: str, value) -> None:
         kind = dict(self._fields_).get(name)
@@ -218,7 +220,8 @@ class _Status(Structure):
         ("interleaved", c_bool),
         ("partial", c_bool),
         ("reassembly_bytes", c_uint32),
-        ("_reserved", c_uint32 * 3),
+        ("resetting", c_uint32),
+        ("_reserved", c_uint32 * 2),
     ]
 
 
@@ -292,6 +295,14 @@ class Status(NamedTuple):
     inbound: int
     interleaved: bool
     partial: bool
+    resetting: int
+
+
+class Reset(NamedTuple):
+    """A stream that the peer reset, and how many of the messages that are ready on it were sent before that: the first ones."""
+
+    stream: int
+    earlier: int
 
 
 class Path(NamedTuple):
@@ -356,6 +367,9 @@ _calls = {
     "abandon": (_end, c_uint64, POINTER(c_uint32)),
     "acknowledged": (_end, c_uint64, POINTER(c_bool)),
     "abandoned": (_end, c_uint64, POINTER(c_bool)),
+    "reset": (_end, c_uint16),
+    "resetting": (_end, c_uint16, POINTER(c_bool)),
+    "take_reset": (_end, POINTER(c_uint16), POINTER(c_uint64)),
     "shutdown": (_end,),
     "abort": (_end, c_char_p, c_size_t, _bytes, c_size_t, POINTER(c_size_t)),
     "status": (_end, POINTER(_Status)),
@@ -529,6 +543,25 @@ class Endpoint:
         """Whether a message was sent, at least in part, and then abandoned."""
         return self._asked("abandoned", ticket)
 
+    def reset(self, stream: int) -> None:
+        """Asks for the reset of an outgoing stream: from now on `send` refuses its messages. Once all that was sent on it is acknowledged, the peer
+        is asked to reset it; once the peer has done so, the stream takes messages again, whose numbers on the wire begin anew at 0. If the
+        peer refuses, it takes none until this is called again. Both endpoints must have been configured with `stream_reset`."""
+        self._do("reset", _number(stream, 16, "stream"))
+
+    def resetting(self, stream: int) -> bool:
+        """Whether the reset of an outgoing stream was asked for and isn't done: false also if the peer refused it."""
+        answer = c_bool()
+        self._do("resetting", _number(stream, 16, "stream"), byref(answer))
+        return answer.value
+
+    def take_reset(self) -> Optional[Reset]:
+        """A reset by the peer, of the lowest stream of which one wasn't reported; None if there is none."""
+        stream, earlier = c_uint16(), c_uint64()
+        if _call["take_reset"](byref(self._handle), byref(stream), byref(earlier)) == _NOTHING:
+            return None
+        return Reset(stream.value, earlier.value)
+
     def shutdown(self) -> None:
         """Closes gracefully: no more messages are accepted, those that were are still delivered. Once `ended` is COMPLETED, go on passing in
         received packets and sending the answers for some seconds: the last packet may have been lost."""
@@ -559,6 +592,7 @@ class Endpoint:
             told.inbound,
             told.interleaved,
             told.partial,
+            told.resetting,
         )
 
     def path(self) -> Path:

@@ -71,6 +71,23 @@ class Talk(unittest.TestCase):
         self.assertEqual([caller.status().ended, listener.status().ended], [Ended.ABORTED_HERE, Ended.ABORTED])
         self.refused(Result.NOT_OPEN, caller.send, 0, b"x")
 
+    def test_a_stream_is_reset(self):
+        draws = Draw(7, 100), Draw(9, 500)
+        a = Endpoint.opened(Config(5000, 5001, stream_reset=True), *draws)
+        b = Endpoint.opened(Config(5001, 5000, stream_reset=True), *reversed(draws))
+        a.send(3, b"Hi")
+        self.refused(Result.NO_SUCH_STREAM, a.reset, 64)
+        a.reset(3)
+        self.refused(Result.RESETTING, a.send, 3, b"Ho")
+        self.assertEqual([a.resetting(3), a.resetting(4), a.status().resetting], [True, False, 1])
+        exchange(a, b, 10)
+        self.assertEqual([a.resetting(3), a.status().resetting], [False, 0])
+        self.assertEqual([b.take_reset(), b.take_reset()], [(3, 1), None])
+        a.send(3, b"Ho")
+        exchange(a, b, 10)
+        self.assertEqual([b.take(3).bytes, b.take(3).bytes], [b"Hi", b"Ho"])
+        self.refused(Result.BAD_STATE, opened()[0].reset, 0)
+
     def test_wrong_arguments_raise(self):
         for key in (b"", bytes(31), bytes(33)):
             with self.assertRaises(ValueError):

@@ -20,7 +20,7 @@ int main(void) {
     struct sctp_endpoint_key key = { { 7 }, { 0 } };
     char name[SCTP_EP_LONGEST_NAME];
     uint8_t room[SCTP_EP_LONGEST_PACKET], text[8] = "message";
-    uint64_t tickets[SCTP_EP_MOST_TICKETS], ticket = 0;
+    uint64_t tickets[SCTP_EP_MOST_TICKETS], ticket = 0, earlier = 0;
     IN_BYTES(sctp_endpoint_status) status;
     IN_BYTES(sctp_endpoint_path) path;
     IN_BYTES(sctp_endpoint_counts) counts;
@@ -63,7 +63,7 @@ int main(void) {
     wrong = config; wrong.buffer = 65535; HOLDS(sctp_endpoint_caller(&a, &wrong) == SCTP_EP_BAD_BUFFER);
     wrong = config; wrong.outbound = 0; HOLDS(sctp_endpoint_caller(&a, &wrong) == SCTP_EP_BAD_STREAMS);
     wrong = config; wrong.inbound = 1025; HOLDS(sctp_endpoint_caller(&a, &wrong) == SCTP_EP_BAD_STREAMS);
-    wrong = config; wrong.flags = 4; HOLDS(sctp_endpoint_caller(&a, &wrong) == SCTP_EP_BAD_RESERVED);
+    wrong = config; wrong.flags = 8; HOLDS(sctp_endpoint_caller(&a, &wrong) == SCTP_EP_BAD_RESERVED);
     for (int i = 0; i < 2; i++) { wrong = config; wrong.reserved[i] = 1u << 31; HOLDS(sctp_endpoint_caller(&a, &wrong) == SCTP_EP_BAD_RESERVED); }
     for (int i = 0; i < 4; i++) { key.reserved[i] = 1; HOLDS(sctp_endpoint_listener(&a, &config, &key) == SCTP_EP_BAD_RESERVED); key.reserved[i] = 0; }
     HOLDS(sctp_endpoint_opened(&a, &config, &none, &peer) == SCTP_EP_BAD_DRAW && sctp_endpoint_opened(&a, &config, &own, &none) == SCTP_EP_BAD_DRAW);
@@ -120,7 +120,7 @@ int main(void) {
     memset(&status, BEFORE, sizeof status);
     HOLDS(sctp_endpoint_status(&b, &status.it) == SCTP_EP_OK && status.it.held_bytes == 13 && status.it.state == SCTP_EP_ESTABLISHED);
     HOLDS(status.it.ended == SCTP_EP_NOT_ENDED && status.it.outbound == 64 && status.it.inbound == 64 && status.it.interleaved && status.it.partial);
-    HOLDS(status.it.reassembly_bytes == 0 && status.it.reserved[2] == 0);
+    HOLDS(status.it.reassembly_bytes == 0 && status.it.resetting == 0 && status.it.reserved[1] == 0);
     HOLDS(status.it.tickets == 0 && status.it.outstanding == 0 && status.it.next_moment == SCTP_EP_NEVER && status.it.reserved[0] == 0);
     HOLDS(is_kept(status.bytes, sizeof status.it, sizeof status.bytes));
     HOLDS(sctp_endpoint_status(&a, &status.it) == SCTP_EP_OK && status.it.outstanding == 2 && status.it.tickets == 2 && status.it.next_moment == 1000);
@@ -148,6 +148,17 @@ int main(void) {
     HOLDS(message.it.stream == 3 && !message.it.ordered && message.it.payload_id == 51 && message.it.length == 7);
     HOLDS(message.it.reserved[0] == 0 && message.it.reserved[3] == 0 && is_kept(message.bytes, sizeof message.it, sizeof message.bytes));
     HOLDS(sctp_endpoint_peek(&b, 3, &message.it) == SCTP_EP_NOTHING);
+
+    /* Resets, which weren't asked for. */
+    HOLDS(sctp_endpoint_reset(&a, 3) == SCTP_EP_BAD_STATE && sctp_endpoint_reset(&other, 3) == SCTP_EP_MISUSE);
+    HOLDS(sctp_endpoint_resetting(&a, 3, &is) == SCTP_EP_OK && !is && sctp_endpoint_resetting(&other, 3, &is) == SCTP_EP_MISUSE);
+    HOLDS(sctp_endpoint_take_reset(&b, &stream, &earlier) == SCTP_EP_NOTHING && sctp_endpoint_take_reset(&other, &stream, &earlier) == SCTP_EP_MISUSE);
+    HOLDS(stream == 4 && earlier == 0);
+    config.flags = SCTP_EP_STREAM_RESET, config.own_port = 5000, config.peer_port = 5001;
+    HOLDS(sctp_endpoint_opened(&other, &config, &own, &peer) == SCTP_EP_OK && sctp_endpoint_reset(&other, 64) == SCTP_EP_NO_SUCH_STREAM);
+    HOLDS(sctp_endpoint_reset(&other, 3) == SCTP_EP_OK && sctp_endpoint_resetting(&other, 3, &is) == SCTP_EP_OK && is);
+    HOLDS(sctp_endpoint_send(&other, 3, true, 0, text, 7, SCTP_EP_NEVER, &ticket) == SCTP_EP_RESETTING);
+    HOLDS(sctp_endpoint_status(&other, &status.it) == SCTP_EP_OK && status.it.resetting == 1 && is_kept(status.bytes, sizeof status.it, sizeof status.bytes));
 
     HOLDS(sctp_endpoint_abandon(&a, 1, &fate) == SCTP_EP_OK && fate == SCTP_EP_ABANDONED);
     HOLDS(sctp_endpoint_abandon(&a, 9, &fate) == SCTP_EP_OK && fate == SCTP_EP_UNKNOWN);

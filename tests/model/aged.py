@@ -9,8 +9,10 @@ assigned fewer than 64 TSNs more than when it was built. The least age at which 
 
 aged.py N [SEED]: N schedules by chance with all deliveries within the limit, of which none may break a
 promise, or end an association for a fault that nobody has; and N with packets kept beyond it. In half of
-them the two ends differ.
+them the two ends differ; in half, streams are reset (RFC 6525).
 aged.py --age K N [SEED]: the first N with another limit. aged.py --stored: the schedules in aged/.
+aged.py --wide N [SEED]: N schedules with the RFCs' widths, in each of which streams are reset; at the end, when
+nothing is lost any more, each of these resets is done.
 """
 
 import argparse
@@ -22,6 +24,7 @@ from collections import Counter
 
 import model
 from dated import BROKEN, ENDED, KEPT, DatedPair, Run, played
+from endpoint import ESTABLISHED
 from wire import WIDTHS
 
 FOLDER = os.path.join(os.path.dirname(os.path.abspath(__file__)), 'aged')
@@ -32,10 +35,11 @@ STORED = {63: KEPT, 96: KEPT, 97: ENDED, 194: KEPT, 195: BROKEN, 255: BROKEN}
 class Schedule(Run):
     """A schedule by chance, written beside its run."""
 
-    def __init__(self, seed, ages):
-        """`ages` are those of the packets that come once more."""
+    def __init__(self, seed, ages, resets=0.5):
+        """`ages` are those of the packets that come once more; `resets` is the share of those in which streams are reset."""
         super().__init__()
         self.random, self.apart, self.ages = random.Random(seed), random.Random('options %d' % seed), ages
+        self.has_resets = random.Random('resets %d' % seed).random() < resets
         self.limit = min(ages.stop, WIDTHS.age)
         self.fresh = {'A': [], 'B': []}       # packets that were neither delivered nor lost
         self.loss = self.pick((0, 0.05, 0.2, 0.4))
@@ -45,6 +49,8 @@ class Schedule(Run):
             self.streams, self.kinds, self.bursts, self.sizes = 1, self.pick(('o', 'u')), (40,), (1,)
         acts = (self.send, self.exchange, self.repeat, self.abandon, self.pass_time, self.take)
         self.acts, self.weights = acts, [weight * self.pick((0.3, 1, 1, 3)) for weight in (8, 16, 3, 0.7, 1, 0.4)]
+        if self.has_resets:
+            self.acts, self.weights = (*acts, self.reset, self.tell), [*self.weights, self.pick((1, 3, 6)), self.pick((0.5, 2))]
         self.goal = self.random.randint(300, 600)
 
     def pick(self, things):
@@ -62,6 +68,21 @@ class Schedule(Run):
         for _ in range(40):
             if not self.is_over():
                 self.pick((self.exchange, self.exchange, self.pass_time, self.repeat))()
+        if self.has_resets and not self.is_over() and all(end.state == ESTABLISHED for end in self.pair.ends.values()):
+            self.calm()
+
+    def calm(self):
+        """Nothing is lost any more, and all is taken: each reset that was asked for is done."""
+        for turn in range(200):
+            for x in 'AB':
+                while not self.is_over() and self.line('build', x).startswith('sent'):
+                    self.line('deliver', x, len(self.pair.bags[x]))
+                self.take(x)
+            if turn % 2 and not self.is_over():
+                self.line('at', self.pair.clock + 60_000)
+        waits = [x for x, end in self.pair.ends.items() if end.sender.resets.pending or end.sender.resets.resetting()]
+        if waits and not self.is_over():
+            self.fault, self.faulty_line = 'a stream of end %s is reset for ever' % waits[0], len(self.lines)
 
     def is_over(self):
         return self.fault is not None or all(end.ended for end in self.pair.ends.values())
@@ -86,6 +107,8 @@ class Schedule(Run):
                          ('streams', self.pick((1, 2, 3)), self.pick((1, 2, 3))), ('mode', self.pick(('data', 'data-pr', 'idata', 'idata-pr'))),
                          ('delay',), ('standard-closing',)]
                 self.line('options', x, *[word for option in self.random.sample(words, self.pick((1, 3, 5))) for word in option])
+        if self.has_resets:
+            self.line('options', 'both', 'reset')
         self.random = plain
 
     # ---- Acts ----
@@ -129,24 +152,35 @@ class Schedule(Run):
     def pass_time(self):
         self.line('at', self.pair.clock + self.pick((10, 200, 1_000, 1_000, 3_000)))
 
-    def take(self):
-        x = self.pick('AB')
+    def take(self, x=None):
+        x = x or self.pick('AB')
         for stream in range(self.streams):
             self.line('take', x, stream)
+
+    def reset(self):
+        """Some streams are reset; in another act what is sent on them is refused until that is done."""
+        x = self.pick('AB')
+        for stream in {self.random.randrange(self.streams) for _ in range(self.pick((1, 1, 2)))}:
+            self.line('reset', x, stream)
+
+    def tell(self):
+        x = self.pick('AB')
+        for _ in range(self.pick((1, 3))):
+            self.line('resets', x)
 
 
 # ---- The command ----
 
-def told(seed, ages):
+def told(seed, ages, resets=0.5):
     """What is told of a schedule with packets of these ages, which come once more."""
-    schedule = Schedule(seed, ages)
+    schedule = Schedule(seed, ages, resets)
     schedule.make()
     return schedule.told()
 
 
-def within(limit, seeds):
+def within(limit, seeds, resets=0.5):
     """Schedules with all deliveries within this limit; whether none has a fault."""
-    runs = [told(seed, range(limit)) for seed in seeds]
+    runs = [told(seed, range(limit), resets) for seed in seeds]
     faulty = [(seed, run.line, run.fault) for seed, run in zip(seeds, runs) if run.fault is not None]
     for found in faulty[:5]:
         print('schedule %d, line %d: %s' % found)
@@ -189,15 +223,19 @@ def main():
     parser = argparse.ArgumentParser()
     parser.add_argument('--stored', action='store_true')
     parser.add_argument('--age', type=int)
+    parser.add_argument('--wide', action='store_true')
     parser.add_argument('count', type=int, nargs='?', default=0)
     parser.add_argument('seed', type=int, nargs='?', default=1)
     asked = parser.parse_args()
     if not asked.stored and asked.count < 1:
         parser.error('how many schedules?')
-    WIDTHS.set(8, 6, 8)
+    if not asked.wide:
+        WIDTHS.set(8, 6, 8)
     model.Pair = DatedPair
     seeds = range(asked.seed, asked.seed + asked.count)
-    if asked.stored:
+    if asked.wide:
+        good = [within(WIDTHS.age, seeds, 1)]
+    elif asked.stored:
         good = [stored(age) for age in STORED]
     elif asked.age is not None:
         good = [within(asked.age, seeds)]

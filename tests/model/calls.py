@@ -17,7 +17,7 @@ from sender import Sender
 
 CRATE = os.path.join(os.path.dirname(os.path.abspath(__file__)), '..', '..', 'crates', 'sctp_call_rows')
 GREATEST_PACKET, GREATEST_FRAGMENT = 1_500, 1_400
-QUEUED = {-1: 'no such stream', -2: 'empty', -3: 'too long', -4: 'queue full', -5: 'spent', -14: 'resetting'}
+QUEUED = {-1: 'no such stream', -2: 'empty', -3: 'too long', -4: 'queue full', -5: 'spent', -8: 'resetting'}
 SACKED = {None: 'ok', 1: 'stale', 2: 'beyond', 3: 'bad block'}
 FATES = {1: 'withdrawn', 2: 'abandoned', 3: 'acknowledged', 4: 'unknown', 5: 'reliable'}
 TAKEN = {1: 'taken', 2: 'duplicate', 3: 'ahead', 4: 'no room', 5: 'passed', 6: 'no such stream'}
@@ -116,7 +116,8 @@ def heard(receiver, value, limit):
     parameters = wire.read_items(value)
     if parameters is None:
         return 'no list'
-    receiver.resets.on_parameters(parameters, limit)
+    for kind, whole in parameters:
+        receiver.resets.on_parameter(kind, whole[4:], limit)
     return shown_answers(receiver)
 
 

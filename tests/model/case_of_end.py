@@ -14,9 +14,11 @@ LOOK = ('path', 'next')
 class Case:
     """A caller with these options, called at the time `begins`, whose COOKIE ACK arrives `trip` ms later; `rwnd` is the peer's."""
 
+    streams, peer_resets = 1, False          # both ways; whether the peer lists RE-CONFIG
+
     def __init__(self, name, options, mode='data-pr', limit=1500, fragment=4, trip=100, rwnd=65536, opens=True, begins=0):
         self.name, self.mode, self.parts = name, mode, []
-        self.words = ' '.join(('caller %d %d 65536 1 %s %s 5000 5001' % (limit, fragment, mode, options)).split())
+        self.words = ' '.join(('caller %d %d 65536 %d %s %s 5000 5001' % (limit, fragment, self.streams, mode, options)).split())
         self.lines, self.common, self.said = [], None, []
         self.start()
         if begins:
@@ -86,8 +88,9 @@ class Case:
         self.line('connect %d %d' % (OWN_TAG, OWN_TSN)).build()
         parameters = [item(wire.STATE_COOKIE, bytes(4))]
         parameters += [item(wire.FORWARD_SUPPORTED)] if wire.FORWARD_TSN in OPTIONS[self.mode] else []
-        parameters += [item(wire.SUPPORTED_EXTENSIONS, bytes(OPTIONS[self.mode]))] if OPTIONS[self.mode] else []
-        value = wire.init_value(PEER_TAG, rwnd, 1, 1, PEER_TSN, parameters)
+        extensions = OPTIONS[self.mode] + (wire.RE_CONFIG,) * self.peer_resets
+        parameters += [item(wire.SUPPORTED_EXTENSIONS, bytes(extensions))] if extensions else []
+        value = wire.init_value(PEER_TAG, rwnd, self.streams, self.streams, PEER_TSN, parameters)
         self.comes('INIT ACK rwnd %d' % rwnd, chunk(wire.INIT_ACK, value)).build()
 
     def cookie_ack(self):

@@ -1,15 +1,16 @@
 #!/usr/bin/env python3
 """Compares `sctp-trace run` with the model on random scripts, or on given ones.
 
-compare.py [--program P] [--keep FOLDER] [--shrink] [--odd | --edges | --forwards | --words | --limited | --paced | --options] N [SEED]
+compare.py [--program P] [--keep FOLDER] [--shrink] [--odd | --edges | --forwards | --words | --limited | --paced | --options | --resets] N [SEED]
 compare.py [--program P] [--shrink] FILE ..
 
 --odd takes scripts of odd bytes (odd.py), --edges those with every limit at an edge (edges.py), --forwards
 those with abandoned windows (forwards.py), --words those with the words of lines `options` and no such line
 (words.py): the model is then one without these lines, --limited those with limits of retransmissions
 (limited.py), --paced those of fast retransmit and congestion control too (paced.py), --options those with every
-option of each end chosen at random (mixed.py). What differs is kept in FOLDER (found/ beside this file);
---shrink also writes the smallest script found that still differs, by leaving out lines.
+option of each end chosen at random (mixed.py), --resets those in which streams are reset too (resetting.py). What
+differs is kept in FOLDER (found/ beside this file); --shrink also writes the smallest script found that still
+differs, by leaving out lines.
 """
 
 import argparse
@@ -24,6 +25,7 @@ import mixed
 import model
 import odd
 import paced
+import resetting
 import scripts
 import words
 
@@ -73,7 +75,7 @@ def smaller(program, data, options=True):
 
 
 KINDS = {'seed': lambda n: scripts.script(n).encode(), 'odd': odd.script, 'edges': edges.script, 'forwards': forwards.script,
-         'words': words.script, 'limited': limited.script, 'paced': paced.script, 'options': mixed.script}
+         'words': words.script, 'limited': limited.script, 'paced': paced.script, 'options': mixed.script, 'resets': resetting.script}
 
 
 def cases(asked, kind):
@@ -94,7 +96,7 @@ def main():
     parser.add_argument('--keep', default=os.path.join(HERE, 'found'))
     parser.add_argument('--shrink', action='store_true')
     parser.set_defaults(kind='seed')
-    for kind in ('odd', 'edges', 'forwards', 'words', 'limited', 'paced', 'options'):
+    for kind in ('odd', 'edges', 'forwards', 'words', 'limited', 'paced', 'options', 'resets'):
         parser.add_argument('--' + kind, dest='kind', action='store_const', const=kind)
     parser.add_argument('words', nargs='+')
     asked = parser.parse_args()

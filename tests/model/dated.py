@@ -26,6 +26,7 @@ class DatedPair(model.Pair):
         self.dates = {'A': [], 'B': []}
         self.ages = []                        # of each delivery
         self.promises = Promises()
+        self.wrongly_told = None              # the first report of a reset that is wrong
 
     def assigned(self):
         """How many TSNs each end has assigned."""
@@ -49,6 +50,20 @@ class DatedPair(model.Pair):
         outcome = super().send(x, stream, kind, payload_id, limits, data)
         if outcome.startswith('ticket'):
             self.promises.of[x].accept(int(outcome.split(' ')[2]), stream, kind == 'o', payload_id, data)
+        return outcome
+
+    def reset(self, x, stream):
+        outcome = super().reset(x, stream)
+        if outcome == 'ok':
+            self.promises.of[x].reset(stream)
+        return outcome
+
+    def resets(self, x):
+        outcome = super().resets(x)
+        if outcome.startswith('reset'):
+            stream, count = (int(word) for word in outcome.split(' ')[2:])
+            wrong = self.promises.of[model.OTHER[x]].told(stream, count, self.ends[x].receiver.waiting)
+            self.wrongly_told = self.wrongly_told or wrong
         return outcome
 
     def build(self, x):
@@ -81,7 +96,7 @@ class Run:
         if self.pair is not None:
             self.dated += [(age, len(self.lines)) for age in self.pair.ages[len(self.dated):]]
             if self.fault is None:
-                self.fault = self.pair.promises.broken(self.pair.ends) or self.wrongly_ended()
+                self.fault = self.pair.promises.broken(self.pair.ends) or self.pair.wrongly_told or self.wrongly_ended()
                 self.faulty_line = len(self.lines) if self.fault is not None else None
         return self.outcome
 

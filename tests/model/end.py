@@ -2,8 +2,8 @@
 """A model of `sctp-end`: one end, its user's calls and the packets that come, line by line.
 
 end.py caller LIMIT FRAGMENT BUFFER STREAMS MODE PORT PEER < LINES, or listener .. KEY, prints the
-answers; behind MODE may stand `delay`, `standard-closing`, `fast-retransmit`, `congestion-control` and `rto-min MS`, in
-this order. Status 1 for words that are no form.
+answers; behind MODE may stand `delay`, `standard-closing`, `fast-retransmit`, `congestion-control`, `reset` and
+`rto-min MS`, in this order. Status 1 for words that are no form.
 """
 
 import sys
@@ -24,6 +24,8 @@ COMMANDS = {
     b'acknowledged': (N64,),
     b'abandoned': (N64,),
     b'take': (N16,),
+    b'reset': (N16,),
+    b'resets': (),
     b'shutdown': (),
     b'abort': (hex_bytes,),
     b'next': (),
@@ -52,17 +54,17 @@ def key(word):
 
 SETTINGS = (N32, N32, N32, N32, MODE, port, port)
 ROLES = {b'caller': SETTINGS, b'listener': SETTINGS + (key,)}
-OPTIONS = (b'delay', b'standard-closing', b'fast-retransmit', b'congestion-control')      # behind MODE, in this order
-RTO_MIN = b'rto-min'                                                                       # and then this one with a word
+# Behind MODE, in this order; and then RTO_MIN with a word.
+OPTIONS, RTO_MIN = (b'delay', b'standard-closing', b'fast-retransmit', b'congestion-control', b'reset'), b'rto-min'
 
 
 def end_of(words):
     """The endpoint that these words set up, or None."""
     role, *words = words or [b'']
-    options = []
+    options = {}
     for option in OPTIONS:
-        options.append(words[5:6] == [option])
-        del words[5:5 + options[-1]]
+        is_set = options[option.decode().replace('-', '_')] = words[5:6] == [option]
+        del words[5:5 + is_set]
     rto_min = words[6:7] if words[5:6] == [RTO_MIN] else []
     del words[5:5 + 2 * len(rto_min)]
     if len(words) != len(ROLES.get(role, ())) or not words:
@@ -70,12 +72,12 @@ def end_of(words):
     try:
         limit, fragment, buffer, streams, mode, own_port, peer_port, *keys = [
             read(word) for read, word in zip(ROLES[role], words)]
-        options += [N32(word) for word in rto_min]
+        options.update(('rto_min', N32(word)) for word in rto_min)
     except LineFault:
         return None
     if not in_range(limit, fragment, buffer, streams):
         return None
-    config = Config(own_port, peer_port, limit, fragment, buffer, streams, *MODES[mode.encode()], *options)
+    config = Config(own_port, peer_port, limit, fragment, buffer, streams, *MODES[mode.encode()], **options)
     return Endpoint(config, *keys)
 
 
@@ -190,6 +192,14 @@ class Session:
         named = '-' if message.number is None else message.number
         return 'message %d %s %s %d %s' % (stream, 'o' if message.ordered else 'u', named, message.payload_id,
                                            hex_text(message.data))
+
+    def reset(self, stream):
+        refusal = self.endpoint.reset(stream)
+        return 'refused %d' % refusal if refusal else 'ok'
+
+    def resets(self):
+        found = self.endpoint.take_reset()
+        return 'no-reset' if found is None else 'reset %d %d' % found
 
     def shutdown(self):
         return 'ok' if self.endpoint.shutdown() else 'refused 1'

@@ -28,14 +28,16 @@ SACK_DELAY = 200
 
 class Config:
     def __init__(self, own_port, peer_port, limit, fragment, buffer, streams, partial, interleave,
-                 delay=False, standard_closing=False, fast_retransmit=False, congestion_control=False, rto_min=LEAST_WAIT):
+                 delay=False, standard_closing=False, fast_retransmit=False, congestion_control=False, rto_min=LEAST_WAIT,
+                 reset=False):
         """`outbound`: the streams that it asks for; `inbound`: those that it accepts. `delay`: a SACK may
         wait (RFC 9260 section 6.2). `standard_closing`: the timers of a closing go by RFC 9260 sections
         6.3.2, 8.1 and 9.2, not by the profile. `fast_retransmit`: round trips are measured, and what three
-        SACKs missed goes again (6.3.1, 7.2.4); `congestion_control`: this too, and a window (7.2)."""
+        SACKs missed goes again (6.3.1, 7.2.4); `congestion_control`: this too, and a window (7.2). `reset`:
+        streams may be reset (RFC 6525)."""
         self.own_port, self.peer_port, self.limit, self.fragment = own_port, peer_port, limit, fragment
         self.buffer, self.outbound, self.inbound = buffer, streams, streams
-        self.partial, self.interleave = partial, interleave
+        self.partial, self.interleave, self.reset = partial, interleave, reset
         self.delay, self.standard_closing = delay, standard_closing
         self.fast_retransmit = fast_retransmit or congestion_control
         self.congestion_control, self.rto_min = congestion_control, rto_min
@@ -47,23 +49,23 @@ class Config:
 
     def would_agree(self, other):
         """Whether two ends that take each other to be configured alike are right in what both must know."""
-        return ((self.streams_alone, self.partial, self.interleave)
-                == (other.streams_alone, other.partial, other.interleave))
+        return ((self.streams_alone, self.partial, self.interleave, self.reset)
+                == (other.streams_alone, other.partial, other.interleave, other.reset))
 
     def options(self):
-        """The option parameters of INIT and INIT ACK (RFC 3758 3.3, RFC 8260 2.2.1)."""
-        types = bytes([wire.I_DATA] * self.interleave + [wire.FORWARD_TSN] * self.partial
+        """The option parameters of INIT and INIT ACK (RFC 3758 3.3, RFC 6525 5.1.1, RFC 8260 2.2.1)."""
+        types = bytes([wire.I_DATA] * self.interleave + [wire.RE_CONFIG] * self.reset + [wire.FORWARD_TSN] * self.partial
                       + [wire.I_FORWARD_TSN] * (self.partial and self.interleave))
         return (([item(wire.FORWARD_SUPPORTED)] if self.partial else [])
                 + ([item(wire.SUPPORTED_EXTENSIONS, types)] if types else []))
 
     def agreed(self, opening):
-        """(partial reliability, I-DATA) with a peer that sent this INIT or INIT ACK."""
+        """(partial reliability, I-DATA, stream reset) with a peer that sent this INIT or INIT ACK."""
         interleave = self.interleave and opening.lists(wire.I_DATA)
         partial = self.partial and opening.partial
         if interleave:
             partial = partial and opening.lists(wire.I_FORWARD_TSN)
-        return partial, interleave
+        return partial, interleave, self.reset and opening.lists(wire.RE_CONFIG)
 
 
 class Writer:
@@ -140,6 +142,7 @@ class Endpoint:
         self.now = 0
         self.own_tag = self.own_tsn = self.peer_tag = None
         self.sender = self.receiver = None
+        self.may_reset = False               # both ends may reset their streams
         self.due = set()
         self.sack_wait = None                # when a SACK that may wait is due
         self.pace, self.counts = None, Counts()
@@ -147,7 +150,7 @@ class Endpoint:
         self.causes = []                     # of the ERROR that is due
         self.timers = {'init': Timer(OPENING_REPEATS), 'cookie echo': Timer(OPENING_REPEATS),
                        'data': Timer(OTHER_REPEATS), 'shutdown': Timer(OTHER_REPEATS),
-                       'shutdown ack': Timer(OTHER_REPEATS)}
+                       'shutdown ack': Timer(OTHER_REPEATS), 'request': Timer(OTHER_REPEATS)}
 
     @classmethod
     def opened(cls, config, own, peer):
@@ -155,13 +158,13 @@ class Endpoint:
         end = cls(config)
         end.own_tag, end.own_tsn = own
         end.associate(peer[0], peer[1], config.buffer, config.streams_alone, config.streams_alone,
-                      config.partial, config.interleave)
+                      config.partial, config.interleave, config.reset)
         end.state = ESTABLISHED
         return end
 
-    def associate(self, peer_tag, peer_tsn, peer_rwnd, outbound, inbound, partial, interleave):
+    def associate(self, peer_tag, peer_tsn, peer_rwnd, outbound, inbound, partial, interleave, may_reset):
         self.fresh, self.peer_tag = False, peer_tag
-        self.partial, self.interleave = partial, interleave
+        self.partial, self.interleave, self.may_reset = partial, interleave, may_reset
         self.sender = Sender(interleave, self.own_tsn, outbound, self.config.fragment, peer_rwnd, partial)
         self.receiver = Receiver(interleave, peer_tsn, inbound, self.config.buffer)
         if self.config.fast_retransmit:
@@ -175,6 +178,9 @@ class Endpoint:
         if packet is not None and state != self.state:
             self.timers[packet].stop()
             self.due.discard(packet)
+        if state != ESTABLISHED:             # a request goes out there alone (RFC 6525 section 5.1)
+            self.timers['request'].stop()
+            self.due.discard('request')
         self.state = state
         if state in STATE_PACKETS:
             self.due.add(STATE_PACKETS[state])
@@ -230,12 +236,21 @@ class Endpoint:
             return self.receiver.sack()
         if name == 'forward':
             return self.sender.forward(self.body_limit())
+        if name == 'answers':
+            return self.receiver.resets.answers_said()
+        if name == 'request':
+            number, last, streams = self.sender.resets.request()
+            return wire.reconfig_chunk([wire.reset_request(number, self.receiver.resets.last_request(), last, streams)])
         if name == 'shutdown':
             return chunk(wire.SHUTDOWN, struct.pack('>I', self.receiver.tsn(self.receiver.c)))
         return chunk(wire.SHUTDOWN_ACK)
 
     def is_due(self, name):
-        return bool(self.causes) if name == 'error' else name in self.due
+        if name == 'error':
+            return bool(self.causes)
+        if name == 'answers':
+            return self.receiver is not None and bool(self.receiver.resets.answers)
+        return name in self.due
 
     def built(self, name):
         """A chunk of this name stands in a packet that goes out."""
@@ -248,6 +263,8 @@ class Endpoint:
             self.sack_wait = None
         elif name == 'forward':
             self.timers['data'].start(self.now)
+        elif name == 'answers':
+            self.receiver.resets.answers_sent()
         elif name in self.timers:
             self.timers[name].start(self.now)
 
@@ -259,10 +276,11 @@ class Endpoint:
         if 'init' in self.due:
             self.built('init')
             return self.packet(0, [self.opening_chunk(wire.INIT, [])]), []
+        self.ask()
         writer, tickets = Writer(self.config.limit), []
         if 'cookie echo' in self.due:
             self.put_due(writer, ('cookie echo', 'error'))
-        elif self.put_due(writer, ('cookie ack', 'heartbeat ack', 'error', 'sack', 'forward',
+        elif self.put_due(writer, ('cookie ack', 'heartbeat ack', 'error', 'sack', 'forward', 'answers', 'request',
                                    'shutdown', 'shutdown ack')) and self.sender is not None:
             before, last = len(writer.chunks), self.sender.last_sent()
             if self.pace is not None:
@@ -277,6 +295,11 @@ class Endpoint:
             return None, []
         self.settle()
         return self.packet(self.peer_tag, writer.chunks), tickets
+
+    def ask(self):
+        """A request to reset streams is made as soon as it may be (RFC 6525 section 5.1.2)."""
+        if self.may_reset and self.state == ESTABLISHED and self.sender.resets.ask():
+            self.due.add('request')
 
     def put_due(self, writer, names):
         """False where one didn't fit: it stays due and ends the packet."""
@@ -381,6 +404,19 @@ class Endpoint:
     def take(self, stream):
         return self.receiver.take(stream) if self.receiver is not None else None
 
+    def reset(self, stream):
+        """0, or the refusal as a number (RFC 6525 section 5.1)."""
+        if not self.may_reset or self.state != ESTABLISHED:
+            return 1
+        if stream >= self.sender.streams:
+            return 2
+        self.sender.resets.reset(stream)
+        return 0
+
+    def take_reset(self):
+        """(stream, count) of the lowest stream that the peer has reset and that isn't reported yet, or None."""
+        return self.receiver.resets.take_reset() if self.receiver is not None else None
+
     def shutdown(self):
         if self.state != ESTABLISHED and self.state not in SHUTDOWN_STATES:
             return False
@@ -463,27 +499,32 @@ class Endpoint:
         if opening.no_streams:
             self.answer(opening.tag, chunk(wire.ABORT, item(wire.INVALID_PARAMETER)))
         config = self.config
-        partial, interleave = config.agreed(opening)
+        partial, interleave, may_reset = config.agreed(opening)
         cookie = Cookie(self.now, config.own_port, config.peer_port, draw[0], opening.tag, draw[1],
                         opening.tsn, opening.rwnd, min(config.outbound, opening.inbound),
-                        min(opening.outbound, config.inbound), partial + 2 * interleave)
+                        min(opening.outbound, config.inbound),
+                        wire.PARTIAL * partial + wire.INTERLEAVE * interleave + wire.RESET * may_reset)
         reports = [item(wire.UNRECOGNIZED, whole) for whole in opening.reports]
         self.answer(opening.tag, self.opening_chunk(
             wire.INIT_ACK, [item(wire.STATE_COOKIE, cookie.seal(self.key))], draw, reports))
 
-    def open_cookie(self, packet, value):
+    def open_cookie(self, value, tag):
+        """An end that isn't set up for stream reset made no cookie that says so."""
         ports = (self.config.own_port, self.config.peer_port)
-        return wire.open_cookie(self.key, value, self.now, ports, packet.tag)
+        cookie, fault, stale = wire.open_cookie(self.key, value, self.now, ports, tag)
+        if cookie is not None and cookie.options & wire.RESET and not self.config.reset:
+            return None, wire.FORM, 0
+        return cookie, fault, stale
 
     def listen_cookie(self, packet, value):
-        cookie, fault, stale = self.open_cookie(packet, value)
+        cookie, fault, stale = self.open_cookie(value, packet.tag)
         if fault == wire.STALE:
             self.answer(cookie.peer_tag, chunk(wire.ERROR, item(wire.STALE_COOKIE, struct.pack('>I', stale))))
         if fault:
             raise PacketEnds('dropped', BAD_COOKIE)
         self.own_tag, self.own_tsn = cookie.own_tag, cookie.own_tsn
         self.associate(cookie.peer_tag, cookie.peer_tsn, cookie.peer_rwnd, cookie.outbound, cookie.inbound,
-                       bool(cookie.options & 1), bool(cookie.options & 2))
+                       *(bool(cookie.options & option) for option in (wire.PARTIAL, wire.INTERLEAVE, wire.RESET)))
         self.measured(min(max(self.now - cookie.made, 0), LONGEST_WAIT), FIRST_WAIT)
         self.state = ESTABLISHED
         self.due.add('cookie ack')
@@ -495,8 +536,7 @@ class Endpoint:
         passed = self.passed()
         try:
             for found in chunks:
-                known = found.kind in wire.KNOWN
-                row = self.row(found) if known else self.unknown
+                row = self.row(found) if found.kind in wire.KNOWN else self.other_row(found)
                 if row is not None:
                     acted = True
                     if row(found) == 'stop':
@@ -571,6 +611,11 @@ class Endpoint:
             return lambda found: self.close(COMPLETED)
         return None
 
+    def other_row(self, found):
+        """A RE-CONFIG is of an unknown type where it wasn't agreed on, and where no data is taken any more."""
+        takes = self.may_reset and self.state in (ESTABLISHED, PENDING, SENT)
+        return self.reconfig if takes and found.kind == wire.RE_CONFIG else self.unknown
+
     def unknown(self, found):
         """Section 3.2, the two highest bits."""
         stop, report = wire.unknown_rule(found.kind >> 6)
@@ -597,9 +642,8 @@ class Endpoint:
             self.abort_with(item(wire.MISSING_PARAMETER, struct.pack('>IH', 1, wire.STATE_COOKIE)), opening.tag)
         if padded(4 + len(opening.cookie)) > self.body_limit():
             self.abort_with(item(wire.OUT_OF_RESOURCE), opening.tag)
-        partial, interleave = self.config.agreed(opening)
         self.associate(opening.tag, opening.tsn, opening.rwnd, min(self.config.outbound, opening.inbound),
-                       min(opening.outbound, self.config.inbound), partial, interleave)
+                       min(opening.outbound, self.config.inbound), *self.config.agreed(opening))
         self.cookie = opening.cookie
         self.enter(COOKIE_ECHOED)
         self.report_parameters(opening.reports)
@@ -616,8 +660,7 @@ class Endpoint:
 
     def cookie_again(self, found):
         """A cookie that comes again, stale or not, with both tags (section 5.2.4, case D)."""
-        cookie, fault, _ = wire.open_cookie(
-            self.key, found.value, self.now, (self.config.own_port, self.config.peer_port), self.own_tag)
+        cookie, fault, _ = self.open_cookie(found.value, self.own_tag)
         if fault not in (0, wire.STALE) or cookie.peer_tag != self.peer_tag:
             raise PacketEnds('dropped', BAD_COOKIE)
         self.due.add('cookie ack')
@@ -691,6 +734,24 @@ class Endpoint:
                 timer.restart(self.now)
         self.acknowledged(before)
         self.want_forward()
+
+    def reconfig(self, found):
+        """RFC 6525 section 5.2: its parameters act one after the other; a value that isn't a list of them has none."""
+        for kind, whole in wire.read_items(found.value) or ():
+            value = whole[4:]
+            if kind != wire.RECONFIG_RESPONSE:
+                self.receiver.resets.on_parameter(kind, value, self.config.limit)
+            elif len(value) >= 8:
+                self.response(*struct.unpack('>II', value[:8]))
+
+    def response(self, number, result):
+        """RFC 6525 section 5.2.7: the timer of a request that is in progress begins anew, without its count; that of one that
+        is answered is as it was at first."""
+        if self.sender.resets.on_response(number, result):
+            self.timers['request'].renew(self.now)
+        if self.sender.resets.pending is None:
+            self.due.discard('request')
+            self.timers['request'] = Timer(OTHER_REPEATS)
 
     def heartbeat_came(self, found):
         """Section 8.3; the latest one alone is answered."""

@@ -6,8 +6,8 @@ in the model's run. After each line the state, the next moment, the held bytes, 
 the status are asked too. The ends of every third script close by the RFC's timers. In half of the scripts
 the two ends differ; with --unlike in all. With --limited they are those of limited.py: limits of
 retransmissions; with --paced those of paced.py: fast retransmit and congestion control too; with --options
-those of mixed.py: every option of each end is chosen at random; with the last two the line `path` is asked,
-with --counts the line `counts`.
+those of mixed.py: every option of each end is chosen at random; with --resets those of resetting.py: streams are
+reset; with the last three the line `path` is asked, with --counts the line `counts`.
 ends.py --write FILE N [SEED] writes the lines of each end and the answers wanted, and runs nothing.
 """
 
@@ -20,6 +20,7 @@ import limited
 import mixed
 import model
 import paced
+import resetting
 import scripts
 from end import counts_of, path_of, reassembly_of, status_of
 from pace import LEAST_WAIT
@@ -57,7 +58,7 @@ class RecordedPair(model.Pair):
         values = [str(value) for value in (config.limit, config.fragment, config.buffer, config.outbound)] + [mode]
         values += ['delay'] * config.delay + ['standard-closing'] * config.standard_closing
         both = config.fast_retransmit and (x == 'B' or not config.congestion_control)      # the latter sets the former
-        values += ['fast-retransmit'] * both + ['congestion-control'] * config.congestion_control
+        values += ['fast-retransmit'] * both + ['congestion-control'] * config.congestion_control + ['reset'] * config.reset
         values += ['rto-min', str(config.rto_min)] * (config.rto_min != LEAST_WAIT)
         return {'A': ['caller', *values, '5000', '5001'], 'B': ['listener', *values, '5001', '5000', model.KEY.hex()]}[x]
 
@@ -132,6 +133,16 @@ class RecordedPair(model.Pair):
         self.note(x, 'take %d' % stream, self.without_side(outcome))
         return outcome
 
+    def reset(self, x, stream):
+        outcome = super().reset(x, stream)
+        self.note(x, 'reset %d' % stream, outcome)
+        return outcome
+
+    def resets(self, x):
+        outcome = super().resets(x)
+        self.note(x, 'resets', self.without_side(outcome))
+        return outcome
+
     def shutdown(self, x):
         outcome = super().shutdown(x)
         self.note(x, 'shutdown', outcome)
@@ -174,6 +185,10 @@ class MixedByPackets(OneEnd, mixed.Mixed):
     """Such a script of mixed.py."""
 
 
+class ResettingByPackets(OneEnd, resetting.Resetting):
+    """Such a script of resetting.py."""
+
+
 def recorders(seed, share, maker=OpensByPackets):
     """The words of each end of this random script, the lines and the answers."""
     script, plain = maker(seed, share).make().encode(), model.Pair
@@ -212,12 +227,13 @@ def main():
     parser.add_argument('--limited', dest='maker', action='store_const', const=LimitedByPackets)
     parser.add_argument('--paced', dest='maker', action='store_const', const=PacedByPackets)
     parser.add_argument('--options', dest='maker', action='store_const', const=MixedByPackets)
+    parser.add_argument('--resets', dest='maker', action='store_const', const=ResettingByPackets)
     parser.add_argument('--counts', action='store_true')
     parser.add_argument('count', type=int)
     parser.add_argument('seed', type=int, nargs='?', default=1)
     asked = parser.parse_args()
     share, maker = 1 if asked.unlike or asked.maker else 0.5, asked.maker or OpensByPackets
-    RecordedPair.more = (('path', path_of),) * (asked.maker in (PacedByPackets, MixedByPackets)) + (('counts', counts_of),) * asked.counts
+    RecordedPair.more = (('path', path_of),) * (asked.maker in (PacedByPackets, MixedByPackets, ResettingByPackets)) + (('counts', counts_of),) * asked.counts
     count = lines = differing = 0
     file = open(asked.write, 'w', encoding='ascii') if asked.write else None
     for seed in range(asked.seed, asked.seed + asked.count):

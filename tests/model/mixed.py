@@ -14,7 +14,7 @@ import scripts
 
 # How often an option is chosen.
 SHARES = {b'limit': 0.15, b'fragment': 0.15, b'buffer': 0.1, b'streams': 0.15, b'mode': 0.15, b'delay': 0.35, b'standard-closing': 0.35,
-          b'fast-retransmit': 0.35, b'congestion-control': 0.4, b'rto-min': 0.4}
+          b'fast-retransmit': 0.35, b'congestion-control': 0.4, b'rto-min': 0.4, b'reset': 0.35}
 # The ends that the lines name, one by one.
 NAMED = ((), ('both',), ('both',), ('A',), ('B',), ('A', 'B'), ('A', 'B'), ('A', 'B'), ('both', 'A'), ('both', 'B'))
 

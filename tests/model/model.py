@@ -94,6 +94,11 @@ COMMANDS = {
     b'abort': (SIDE, hex_bytes),
 }
 MAY_BE_LEFT_OUT = (DELAY,)
+# Behind a line `options` these are commands too.
+RESET_COMMANDS = {
+    b'reset': (SIDE, N16),
+    b'resets': (SIDE,),
+}
 
 # What a line `options` may set at the ends that it names, with the words of each.
 NAMED_ENDS = {b'A': 'A', b'B': 'B', b'both': 'AB'}
@@ -108,6 +113,7 @@ OPTIONS = {
     b'fast-retransmit': (),
     b'congestion-control': (),
     b'rto-min': (N32,),
+    b'reset': (),
 }
 PACED = (b'fast-retransmit', b'congestion-control', b'rto-min')
 
@@ -237,6 +243,14 @@ class Pair:
         return 'message %s %d %s %s %d %s' % (x, stream, 'o' if message.ordered else 'u', named,
                                               message.payload_id, hex_text(message.data))
 
+    def reset(self, x, stream):
+        refusal = self.ends[x].reset(stream)
+        return 'refused %d' % refusal if refusal else 'ok'
+
+    def resets(self, x):
+        found = self.ends[x].take_reset()
+        return 'no-reset %s' % x if found is None else 'reset %s %d %d' % (x, *found)
+
     def shutdown(self, x):
         return 'ok' if self.ends[x].shutdown() else 'refused 1'
 
@@ -290,9 +304,10 @@ class Script:
             self.pair.set_options(*options)
             self.has_options = True
             return
-        if command not in COMMANDS:
+        commands = {**COMMANDS, **RESET_COMMANDS} if self.has_options else COMMANDS
+        if command not in commands:
             raise LineFault(UNKNOWN_COMMAND)
-        readers = COMMANDS[command]
+        readers = commands[command]
         if len(words) not in (len(readers), len(readers) - (readers[-1:] == MAY_BE_LEFT_OUT)):
             raise LineFault(WORD_COUNT)
         if self.has_options:

@@ -26,6 +26,7 @@ class Direction:
         self.handed, self.read = set(), 0     # tickets; how many the receiver had handed over
         self.last = {}                        # stream: the number and the ticket that were handed over last
         self.passed = {}                      # stream: all below was looked at
+        self.resets = {}                      # stream: how many messages were accepted before each of its resets
 
     def accept(self, ticket, *call):
         sent = self.sent[ticket] = Sent(*call)
@@ -41,6 +42,25 @@ class Direction:
                 self.numbers[sent.stream] = sent.number + 1
                 self.ordered[sent.stream, sent.number] = ticket
             self.open.append(ticket)
+
+    def reset(self, stream):
+        """The stream is reset: from now on it takes no message until that is done."""
+        bounds = self.resets.setdefault(stream, [])
+        if bounds[-1:] != [len(self.sent)]:
+            bounds.append(len(self.sent))
+
+    def told(self, stream, count, waiting):
+        """What is wrong with a report that the peer reset this stream, behind `count` of its messages that wait: those were
+        accepted before one of its resets, the others behind it."""
+        if stream not in self.resets:
+            return 'stream %d is told as reset, and was never' % stream
+        tickets = [self.by_what[m.stream, m.ordered, m.payload_id, m.data] for m in waiting if m.stream == stream]
+        if count > len(tickets):
+            return 'stream %d: %d messages are to wait, and %d do' % (stream, count, len(tickets))
+        for bound in self.resets[stream]:
+            if all(ticket <= bound for ticket in tickets[:count]) and all(ticket > bound for ticket in tickets[count:]):
+                return None
+        return 'stream %d: %d messages before its reset, of %s' % (stream, count, tickets)
 
     # ---- The promises ----
 

@@ -13,6 +13,11 @@ NOTHING_TO_DO, PERFORMED, DENIED, WRONG_STREAM, BAD_NUMBER, IN_PROGRESS = 0, 1, 
 OTHER_REQUESTS = {INCOMING_RESET: 4, TSN_RESET: 4, ADD_OUTGOING: 8, ADD_INCOMING: 8}
 
 
+def responses(answers):
+    """The RE-CONFIG with these responses."""
+    return reconfig_chunk([reset_response(*answer) for answer in answers])
+
+
 class Pending:
     """The request that waits for its response: the last index assigned as it was made, and its streams."""
 
@@ -82,24 +87,27 @@ class Outgoing:
             self.sending[stream] = RESETS
 
     def ask(self):
-        """A request, if one may be made (section 5.1.2)."""
-        if self.may_ask():
-            self.pending = Pending(self.sender.last(), self.ready())
-            self.made += 1
+        """A request, if one may be made (section 5.1.2); whether it was."""
+        if not self.may_ask():
+            return False
+        self.pending = Pending(self.sender.last(), self.ready())
+        self.made += 1
+        return True
 
     def on_response(self, number, result):
-        """One to another request changes nothing (section 5.2.7)."""
+        """One to another request changes nothing (section 5.2.7). True where the one that waits is in progress."""
         if self.pending is None or number != self.number():
-            return
+            return False
         if result == IN_PROGRESS:
             self.ask_again()
-            return
+            return True
         for stream in self.pending.streams:
             if result in (NOTHING_TO_DO, PERFORMED):
                 self.begin_anew(stream)
             else:
                 self.sending[stream] = REFUSES
         self.pending = None
+        return False
 
     def ask_again(self):
         """With the next number: a request with one that was taken may have the same response (sections 5.2.1 and 5.2.7)."""
@@ -159,15 +167,13 @@ class Incoming:
 
     # ---- Requests of the peer ----
 
-    def on_parameters(self, parameters, limit):
-        """Those of a RE-CONFIG, one after the other; the limit is of the packet with their responses. Others than requests,
-        and those that are too short, do nothing."""
-        for kind, whole in parameters:
-            value = whole[4:]
-            if kind == OUTGOING_RESET and len(value) >= 12:
-                self.on_request(ResetRequest(value), limit)
-            elif kind in OTHER_REQUESTS and len(value) >= OTHER_REQUESTS[kind]:
-                self.respond(int.from_bytes(value[:4], 'big'), DENIED, limit)
+    def on_parameter(self, kind, value, limit):
+        """One of a RE-CONFIG; the limit is of the packet with its response. Others than requests, and those that are too
+        short, do nothing."""
+        if kind == OUTGOING_RESET and len(value) >= 12:
+            self.on_request(ResetRequest(value), limit)
+        elif kind in OTHER_REQUESTS and len(value) >= OTHER_REQUESTS[kind]:
+            self.respond(int.from_bytes(value[:4], 'big'), DENIED, limit)
 
     def on_request(self, request, limit):
         """An Outgoing SSN Reset Request (section 5.2.2)."""
@@ -192,8 +198,11 @@ class Incoming:
     def add_answer(self, number, result, limit):
         """Left out if the chunk of all that wait would exceed a packet: then the peer sends its request again."""
         answers = self.answers + [(number, result)]
-        if HEADER + len(reconfig_chunk([reset_response(*answer) for answer in answers])) <= limit:
+        if HEADER + len(responses(answers)) <= limit:
             self.answers = answers
+
+    def answers_said(self):
+        return responses(self.answers)
 
     def answers_sent(self):
         self.answers = []

@@ -477,9 +477,7 @@ class Maker:
     def foreign_made(self):
         """A packet made here: chunks of every type, mostly under the right tag."""
         y = self.side()
-        makers = [self.data, self.data, self.data, self.sack, self.sack, self.forward, self.forward,
-                  self.shutdown_chunk, self.heartbeat, self.error, self.abort_chunk, self.unknown_chunk,
-                  self.plain, self.cookie_echo, self.init, self.init]
+        makers = self.makers()
         if self.chance(0.5):
             makers = makers[:8]
         chunks = [self.pick(makers)(y) for _ in range(self.pick((1, 1, 1, 2, 3, 6)))]
@@ -493,6 +491,12 @@ class Maker:
         if chunks[0][:1] in (b'\x06', b'\x0e') and chunks[0][1] & 1 and self.chance(0.7):
             tag = self.end(y).peer_tag or tag
         self.foreign(y, wire.packet(*self.ports(y), tag, chunks))
+
+    def makers(self):
+        """What makes a chunk for an end; in half of the packets the first eight alone."""
+        return [self.data, self.data, self.data, self.sack, self.sack, self.forward, self.forward,
+                self.shutdown_chunk, self.heartbeat, self.error, self.abort_chunk, self.unknown_chunk,
+                self.plain, self.cookie_echo, self.init, self.init]
 
     def interleaved(self, y):
         on = self.end(y).receiver is not None and self.end(y).receiver.interleave
@@ -596,7 +600,7 @@ class Maker:
         for _ in range(self.pick((0, 1, 2, 3, 5))):
             made.append(self.pick((
                 lambda: item(wire.FORWARD_SUPPORTED, self.bytes(self.pick((0, 0, 3)))),
-                lambda: item(wire.SUPPORTED_EXTENSIONS, bytes(self.pick(((64,), (64, 192, 194), (192,), (194,), ())))),
+                lambda: item(wire.SUPPORTED_EXTENSIONS, bytes(self.pick(((64,), (64, 192, 194), (192,), (194,), (130,), (64, 130, 192, 194), ())))),
                 lambda: item(self.pick(UNKNOWN_PARAMETERS), self.bytes(self.pick((0, 1, 4, 10, limit - 150, limit - 28)))),
                 lambda: item(self.pick(SILENT), self.bytes(4)),
                 lambda: item(wire.UNRECOGNIZED, self.bytes(4)),
@@ -635,7 +639,7 @@ class Maker:
         made = wire.Cookie(self.pick((0, clock, clock, max(0, clock - 60000), max(0, clock - 60001), min(clock + 5, 2**64 - 1))),
                            self.pick((5001, 5001, 5001, 5000)), self.pick((5000, 5000, 5000, 5001)),
                            own_tag, peer_tag, self.tsn(), self.tsn(), self.pick((0, 65536, 2**32 - 1)),
-                           self.pick((1, 2, 32, 1024)), self.pick((1, 2, 32, 1024)), self.pick((0, 1, 2, 3, 3, 4)))
+                           self.pick((1, 2, 32, 1024)), self.pick((1, 2, 32, 1024)), self.pick((0, 1, 2, 3, 3, 4, 7, 8)))
         return chunk(wire.COOKIE_ECHO, made.seal(model.KEY))
 
     # ---- Faulty lines ----
@@ -650,7 +654,8 @@ class Maker:
             ('send', x, 0, 'o', 2**32, '-', '61'), ('send', x, 0, 'o', 0, 2**64, '61'), ('send', x, 0, 'o', 0, '-', '6'),
             ('send', x, 0, 'o', 0, '-', '6A'), ('send', x, 0, 'o', 0, '-', ''), ('send', x, 0, 'o', 0, '-'),
             ('send', x, 0, 'o', 0, '-', '61', ''), ('abandon', x, 2**32), ('abandon', x), ('take', x, 65536),
-            ('take', x, '+1'), ('shutdown',), ('shutdown', 'AB'), ('abort', x, '0g'), ('abort', x), ('foreign', x, '0'),
+            ('take', x, '+1'), ('shutdown',), ('shutdown', 'AB'), ('abort', x, '0g'), ('abort', x), ('reset', x), ('reset', x, 65536), ('reset', 'C', 0),
+            ('reset', x, 0, 0), ('resets',), ('resets', x, 0), ('resets', 'a'), ('foreign', x, '0'),
             ('foreign', x, 'AB'), ('foreign', x, ''), ('pair', 1500, 1400, 65536, 1, 'data'),
             ('pair', 575, 500, 65536, 1, 'data'), ('pair', 1501, 500, 65536, 1, 'data'), ('pair', 576, 545, 65536, 1, 'data'),
             ('pair', 576, 3, 65536, 1, 'data'), ('pair', 1500, 1401, 65536, 1, 'data'), ('pair', 576, 500, 65535, 1, 'data'),

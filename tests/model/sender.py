@@ -12,8 +12,8 @@ QUEUE_LIMIT = 1_024
 OWED_LIMIT = 2**63 - 1
 TICKET_LIMIT = 2**64 - 1
 
-# Refusals of `queue` (NoMemory, 6, doesn't come here).
-NO_SUCH_STREAM, EMPTY, TOO_LONG, QUEUE_FULL, SPENT, RESETTING = 1, 2, 3, 4, 5, 14
+# Refusals of `queue` (NoMemory, 6, doesn't come here; 7 is the endpoint's).
+NO_SUCH_STREAM, EMPTY, TOO_LONG, QUEUE_FULL, SPENT, RESETTING = 1, 2, 3, 4, 5, 8
 # Refusals of a SACK or SHUTDOWN.
 STALE, BEYOND, BAD_BLOCK = 1, 2, 3
 # Answers of `abandon`.

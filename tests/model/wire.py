@@ -385,6 +385,8 @@ def unknown_rule(two_bits):
 FORM, MAC, PORTS, TAG, STALE = 1, 2, 3, 4, 5
 COOKIE_LIFE = 60_000
 COOKIE_LAYOUT = '>QHHIIIIIHHB3s'
+# Its options.
+PARTIAL, INTERLEAVE, RESET = 1, 2, 4
 
 
 class Cookie:
@@ -405,7 +407,7 @@ class Cookie:
 
 def open_cookie(key, data, now, ports, tag):
     """The cookie, its fault (0 for none) and its staleness in microseconds, in the order of 5.1.5."""
-    if len(data) != 72 or data[36] > 3 or data[37:40] != bytes(3):
+    if len(data) != 72 or data[36] > PARTIAL | INTERLEAVE | RESET or data[37:40] != bytes(3):
         return None, FORM, 0
     if hmac.new(key, data[:40], hashlib.sha256).digest() != data[40:]:
         return None, MAC, 0

@@ -104,7 +104,8 @@ class Words:
 
     def alone(self):
         """A line of such words, the first of which is no command."""
-        self.put(self.somewhere(), self.pick((self.option(), [self.word(), self.word()], [self.word()], [self.pick('AB'), *self.option()])))
+        self.put(self.somewhere(), self.pick((self.option(), [self.word(), self.word()], [self.word()], [self.pick('AB'), *self.option()],
+                                              ['reset', self.pick('AB'), self.pick('01')], ['resets', self.pick('AB')])))
 
     def wrong(self):
         """A line `options` behind the pair, not of its form."""

@@ -6,9 +6,15 @@
  * connect            it calls
  * send COUNT LENGTH  its user sends so many messages of this length on stream 0, which must fit its buffer
  * offer COUNT LENGTH so many more, now and behind each line as its buffer takes them
+ * streams COUNT      before it calls, or is called: so many streams each way, which may be reset (RFC 6525), and of which it tells
+ * say STREAM TEXT    its user sends this message on that stream
+ * reset STREAM       its user resets its outgoing stream
  * shut               its user has no more to send
  *
  * Each line is answered by `out HEX` for each packet that is sent now, and then by `done N`: N messages came until now, in their order.
+ * Behind `streams` there are more lines before that one: `message STREAM SSN TEXT` for each message that comes, `reset in STREAM ..` for
+ * streams that the other end has reset, `reset out STREAM ..` for those that it has reset itself, `reset failed STREAM ..`; and `said` or
+ * `not said` for `say`.
  * Status 1: the words or a line are wrong, or usrsctp refuses a call; standard error says which.
  *
  * Its timers go when they are told to, in steps of at most 10 ms, as its own thread would have them; its one thread, for ends that change
@@ -32,6 +38,7 @@ static uint64_t moment, chance;
 static struct socket *listening, *association;
 static unsigned long received, offered;
 static size_t offered_length;
+static int tells;
 static char path; /* its address names the path to usrsctp */
 
 int gettimeofday(struct timeval *time, void *zone) {
@@ -72,11 +79,22 @@ static int leaves(void *address, void *packet, size_t length, uint8_t tos, uint8
     return 0;
 }
 
+/* Tells which streams were reset, and by whom. */
+static void tell_resets(const struct sctp_stream_reset_event *event) {
+    if (event->strreset_type != SCTP_STREAM_RESET_EVENT) return;
+    int failed = event->strreset_flags & (SCTP_STREAM_RESET_DENIED | SCTP_STREAM_RESET_FAILED);
+    printf("reset %s", failed ? "failed" : event->strreset_flags & SCTP_STREAM_RESET_INCOMING_SSN ? "in" : "out");
+    for (size_t at = 0; at < (event->strreset_length - sizeof *event) / sizeof(uint16_t); at++) printf(" %u", event->strreset_stream_list[at]);
+    putchar('\n');
+}
+
 /* usrsctp has something for its user, who takes it: a message counts where its number is the next one. */
 static int comes(struct socket *socket, union sctp_sockstore from, void *data, size_t length, struct sctp_rcvinfo about, int flags, void *known) {
-    (void)socket, (void)from, (void)length, (void)known;
+    (void)socket, (void)from, (void)known;
     int is_message = data != NULL && !(flags & MSG_NOTIFICATION) && flags & MSG_EOR;
     if (is_message && about.rcv_ssn == (uint16_t)received) received++;
+    if (is_message && tells) printf("message %u %u %.*s\n", about.rcv_sid, about.rcv_ssn, (int)length, (const char *)data);
+    if (data != NULL && flags & MSG_NOTIFICATION && tells) tell_resets(data);
     free(data);
     return 1;
 }
@@ -152,10 +170,33 @@ static void call(const char *port) {
     need(usrsctp_connect(association, (struct sockaddr *)&name, sizeof name) == 0 || errno == EINPROGRESS, "connect: refused");
 }
 
+/* So many streams each way, which may be reset. */
+static void set_streams(unsigned count) {
+    struct sctp_initmsg opening = {.sinit_num_ostreams = (uint16_t)count, .sinit_max_instreams = (uint16_t)count};
+    struct sctp_assoc_value resets = {.assoc_id = SCTP_ALL_ASSOC, .assoc_value = SCTP_ENABLE_RESET_STREAM_REQ};
+    struct sctp_event event = {.se_assoc_id = SCTP_ALL_ASSOC, .se_type = SCTP_STREAM_RESET_EVENT, .se_on = 1};
+    need(usrsctp_setsockopt(listening, IPPROTO_SCTP, SCTP_INITMSG, &opening, sizeof opening) == 0, "streams: not so many");
+    need(usrsctp_setsockopt(listening, IPPROTO_SCTP, SCTP_ENABLE_STREAM_RESET, &resets, sizeof resets) == 0, "streams: no resets");
+    need(usrsctp_setsockopt(listening, IPPROTO_SCTP, SCTP_EVENT, &event, sizeof event) == 0, "streams: no reports");
+    tells = 1;
+}
+
+static void say(unsigned stream, const char *text) {
+    struct sctp_sndinfo about = {.snd_sid = (uint16_t)stream};
+    int is_said = usrsctp_sendv(association, text, strlen(text), NULL, 0, &about, sizeof about, SCTP_SENDV_SNDINFO, 0) >= 0;
+    puts(is_said ? "said" : "not said");
+}
+
+static void reset(unsigned stream) {
+    struct { struct sctp_reset_streams asked; uint16_t list[1]; } words = {{.srs_flags = SCTP_STREAM_RESET_OUTGOING, .srs_number_streams = 1}, {(uint16_t)stream}};
+    need(usrsctp_setsockopt(association, IPPROTO_SCTP, SCTP_RESET_STREAMS, &words, sizeof words.asked + sizeof words.list) == 0, "reset: refused");
+}
+
 static void perform(const char *line, const char *peer) {
     unsigned long long number;
     unsigned count;
     size_t length;
+    char text[64];
     if (sscanf(line, "at %llu", &number) == 1) {
         at(number);
     } else if (strncmp(line, "packet ", 7) == 0) {
@@ -166,6 +207,12 @@ static void perform(const char *line, const char *peer) {
         need(association != NULL && length <= LONGEST_MESSAGE, "offer: no association, or too long");
         offered += count;
         offered_length = length;
+    } else if (sscanf(line, "streams %u", &count) == 1) {
+        set_streams(count);
+    } else if (sscanf(line, "say %u %63s", &count, text) == 2) {
+        say(count, text);
+    } else if (sscanf(line, "reset %u", &count) == 1) {
+        reset(count);
     } else if (strcmp(line, "connect\n") == 0) {
         call(peer);
     } else if (strcmp(line, "shut\n") == 0) {

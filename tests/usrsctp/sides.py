@@ -63,9 +63,9 @@ class Model:
 class Ours:
     """An endpoint of this project; without a program the model runs it."""
 
-    def __init__(self, program, options=(), listens=False, tag=7):
+    def __init__(self, program, options=(), listens=False, tag=7, streams=1):
         ports = [RECEIVING, SENDING] if listens else [SENDING, RECEIVING]
-        words = ['listener' if listens else 'caller', PACKET, FRAGMENT, BUFFER, 1, 'data', *options, *ports, *[KEY] * listens]
+        words = ['listener' if listens else 'caller', PACKET, FRAGMENT, BUFFER, streams, 'data', *options, *ports, *[KEY] * listens]
         words = [str(word) for word in words]
         self.program = Model(words) if program is None else Program([program, *words], lambda answer: False)
         self.listens, self.tag, self.came, self.moment, self.is_endless, self.built_since = listens, tag, 0, None, False, 0
@@ -137,7 +137,7 @@ class Usrsctp:
     def __init__(self, program, seed, listens=False):
         ports = [RECEIVING] if listens else [SENDING]
         words = [program, ports[0], BUFFER, seed, PACKET, *[RECEIVING] * (not listens)]
-        self.program = Program([str(word) for word in words], lambda answer: answer.startswith('out'))
+        self.program = Program([str(word) for word in words], lambda answer: not answer.startswith('done'))
         self.came, self.moment = 0, TICK
 
     def next(self):

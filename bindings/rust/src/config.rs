@@ -28,6 +28,8 @@ pub struct Config {
     pub fast_retransmit: bool,
     /// Congestion control (RFC 9260, 7.2), which brings fast retransmission.
     pub congestion_control: bool,
+    /// Offer the reset of streams (RFC 6525), either endpoint's: `Endpoint::reset`.
+    pub stream_reset: bool,
     /// The least RTO that is computed from round trips, in milliseconds; 0 for 1,000.
     pub rto_min: u32,
 }
@@ -49,6 +51,7 @@ impl Config {
             standard_closing: true,
             fast_retransmit: false,
             congestion_control: false,
+            stream_reset: false,
             rto_min: 1_000,
         }
     }
@@ -66,7 +69,9 @@ impl Config {
             partial: self.partial,
             delay: self.delay,
             standard_closing: self.standard_closing,
-            flags: u32::from(self.fast_retransmit) + 2 * u32::from(self.congestion_control),
+            flags: u32::from(self.fast_retransmit)
+                + 2 * u32::from(self.congestion_control)
+                + 4 * u32::from(self.stream_reset),
             rto_min: self.rto_min,
             reserved: [0; 2],
         }

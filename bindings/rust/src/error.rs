@@ -25,7 +25,7 @@ pub enum Error {
     NotOpen,
     /// The call isn't allowed in this state.
     BadState,
-    /// The stream is being reset; no call of this library resets one.
+    /// The stream is being reset, or the peer refused to reset it.
     Resetting,
     /// The buffer is too small: so many bytes are needed. Nothing is lost.
     NeedsRoom(usize),

@@ -1,6 +1,7 @@
-//! One endpoint of an SCTP association: RFC 9260, with FORWARD-TSN (RFC 3758) and I-DATA (RFC 8260). It is a formally verified library, called
-//! by its C header `sctp_endpoint.h`: it opens no socket, reads no clock and generates no random numbers. Received packets, the current time and
-//! random values are arguments, packets to send and received messages are results. Times are milliseconds on any clock that doesn't go back.
+//! One endpoint of an SCTP association: RFC 9260, with FORWARD-TSN (RFC 3758), I-DATA (RFC 8260) and stream reset (RFC 6525). It is a formally
+//! verified library, called by its C header `sctp_endpoint.h`: it opens no socket, reads no clock and generates no random numbers. Received
+//! packets, the current time and random values are arguments, packets to send and received messages are results. Times are milliseconds on any
+//! clock that doesn't go back.
 //!
 //! An [`Endpoint`] may be moved to another thread.
 
@@ -9,14 +10,15 @@ mod error;
 mod messages;
 mod packets;
 mod raw;
+mod resets;
 mod values;
 
 pub use config::{Config, Draw};
 pub use error::Error;
 pub use packets::{abort_cause, peek_packet, version};
 pub use values::{
-    AbortCause, Counts, Dropped, Ended, Fate, Head, Message, PacketHeader, Path, Reason, Sent, SentInto, State, Status,
-    Verdict, VerdictInto,
+    AbortCause, Counts, Dropped, Ended, Fate, Head, Message, PacketHeader, Path, Reason, Reset, Sent, SentInto, State,
+    Status, Verdict, VerdictInto,
 };
 
 use error::{checked, checked_at};
@@ -203,6 +205,7 @@ impl Endpoint {
             inbound: told.inbound,
             interleaved: told.interleaved,
             partial: told.partial,
+            resetting: told.resetting,
         }
     }
 

@@ -87,7 +87,8 @@ pub struct Status {
     pub interleaved: bool,
     pub partial: bool,
     pub reassembly_bytes: u32,
-    pub reserved: [u32; 3],
+    pub resetting: u32,
+    pub reserved: [u32; 2],
 }
 
 #[repr(C)]
@@ -186,6 +187,9 @@ extern "C" {
     pub fn sctp_endpoint_abandon(handle: *mut Handle, ticket: u64, fate: *mut u32) -> u32;
     pub fn sctp_endpoint_acknowledged(handle: *mut Handle, ticket: u64, is: *mut bool) -> u32;
     pub fn sctp_endpoint_abandoned(handle: *mut Handle, ticket: u64, is: *mut bool) -> u32;
+    pub fn sctp_endpoint_reset(handle: *mut Handle, stream: u16) -> u32;
+    pub fn sctp_endpoint_resetting(handle: *mut Handle, stream: u16, is: *mut bool) -> u32;
+    pub fn sctp_endpoint_take_reset(handle: *mut Handle, stream: *mut u16, earlier: *mut u64) -> u32;
     pub fn sctp_endpoint_shutdown(handle: *mut Handle) -> u32;
     pub fn sctp_endpoint_abort(
         handle: *mut Handle,

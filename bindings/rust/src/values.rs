@@ -94,6 +94,14 @@ pub struct AbortCause {
     pub info: Vec<u8>,
 }
 
+/// A stream that the peer reset.
+#[derive(Clone, Copy, Debug, PartialEq, Eq)]
+pub struct Reset {
+    pub stream: u16,
+    /// How many of the messages that are ready on it were sent before the reset: the first ones.
+    pub earlier: u64,
+}
+
 /// What has become of a message that is abandoned.
 #[derive(Clone, Copy, Debug, PartialEq, Eq)]
 pub enum Fate {
@@ -164,6 +172,8 @@ pub struct Status {
     pub inbound: u16,
     pub interleaved: bool,
     pub partial: bool,
+    /// The outgoing streams whose reset was asked for and isn't done.
+    pub resetting: u32,
 }
 
 /// What an endpoint knows of the path to its peer: times in milliseconds, sizes in bytes of user data.

@@ -1,4 +1,4 @@
-use sctp_endpoint::{abort_cause, peek_packet, version, AbortCause, Config, Draw, Dropped, Ended, Endpoint, Error, Fate, Reason, State, Verdict, VerdictInto, LONGEST_PACKET, MOST_TICKETS};
+use sctp_endpoint::{abort_cause, peek_packet, version, AbortCause, Config, Draw, Dropped, Ended, Endpoint, Error, Fate, Reason, Reset, State, Verdict, VerdictInto, LONGEST_PACKET, MOST_TICKETS};
 use std::num::NonZeroU32;
 
 fn draw(tag: u32) -> Draw {
@@ -130,6 +130,29 @@ fn buffers_of_the_caller_are_enough() {
     let head = listener.take_into(3, &mut answer).unwrap().unwrap();
     assert_eq!((head.length, head.ordered, head.payload_id, &answer[..5]), (5, false, 51, &b"Hello"[..]));
     assert_eq!(listener.take_into(3, &mut answer), Ok(None));
+}
+
+#[test]
+fn a_stream_is_reset() {
+    let ends = [(5_000, 5_001, 7, 9), (5_001, 5_000, 9, 7)].map(|(own_port, peer_port, own, peer)| {
+        let config = Config { stream_reset: true, ..Config::new(own_port, peer_port) };
+        Endpoint::opened(&config, draw(own), draw(peer)).unwrap()
+    });
+    let [mut a, mut b] = ends;
+    a.send(3, true, 0, b"Hi", None).unwrap();
+    assert_eq!(a.reset(64), Err(Error::NoSuchStream));
+    assert_eq!(a.reset(3), Ok(()));
+    assert_eq!(a.send(3, true, 0, b"Ho", None), Err(Error::Resetting));
+    assert!(a.resetting(3) && !a.resetting(4) && a.status().resetting == 1);
+    exchange(&mut a, &mut b, 10);
+    assert!(!a.resetting(3) && a.status().resetting == 0);
+    assert_eq!(b.take_reset(), Some(Reset { stream: 3, earlier: 1 }));
+    assert_eq!(b.take_reset(), None);
+    a.send(3, true, 0, b"Ho", None).unwrap();
+    exchange(&mut a, &mut b, 10);
+    assert_eq!([b.take(3).unwrap().bytes, b.take(3).unwrap().bytes], [b"Hi", b"Ho"]);
+    let (mut without, _) = opened();
+    assert_eq!(without.reset(0), Err(Error::BadState));
 }
 
 #[test]

@@ -1,6 +1,6 @@
 -- `build`: a packet that is begun empty, filled by the slots that are due and then with user data, is the specification's next packet, and leaves its view.
 use Rattle.std.proofs.Common.{◌≡◌, ◌∙◌, ℕ, ◌≤◌, Bool, true, false, not, List, [], ◌∷◌, ◌++◌, map, Option, Some, None, Result, Ok, Err, IfOk, OnErr, IfSome, MatchOption, length, refl, ap, sym, subst, arith}
-use Rattle.std.specs.Prelude.{◌&&◌, unwrap_or, OnOk}
+use Rattle.std.specs.Prelude.{unwrap_or, OnOk}
 use Rattle.std.proofs.Math.Seq.{drop-length}
 use Rattle.std.specs.declared.vec.Vec.{Vec}
 use Rattle.std.specs.declared.alloc.Global.{Global}
@@ -11,11 +11,10 @@ use Rattle.sctp_model.specs.sender.Filling.{newly_numbered, begun_tickets}
 use Rattle.sctp_model.specs.receiver.ReceiverView.{ReceiverView, fresh_receiver}
 use Rattle.sctp_model.specs.receiver.SackMade.{sack_sent}
 use Rattle.sctp_model.specs.end.EndView as model
-use Rattle.sctp_model.specs.end.EndView.{EndView, Configuration, Draw, Alarm, InitAlarm, ResetAlarm, Timer, has_association, format_of, format_for}
-use Rattle.sctp_model.specs.end.Clock.{started, is_home}
+use Rattle.sctp_model.specs.end.EndView.{EndView, Configuration, Draw, Alarm, InitAlarm, Timer, has_association, format_of, format_for}
+use Rattle.sctp_model.specs.end.Clock.{started}
 use Rattle.sctp_model.specs.end.Pacing.{Pace}
-use Rattle.sctp_model.specs.end.Reconfiguring.{asking_now, asking}
-use Rattle.sctp_model.specs.sender.Resetting.{may_ask}
+use Rattle.sctp_model.specs.end.Reconfiguring.{asking}
 use Rattle.sctp_model.specs.end.Closing.{with_due}
 use Rattle.sctp_model.specs.end.Opening.{own_init}
 use Rattle.sctp_model.specs.end.UserCalls.{peer_tag}
@@ -25,11 +24,12 @@ use Rattle.sctp_packet.specs.Draft.{Draft, packet_of, after_try, with_chunks}
 use Rattle.sctp_packet.specs.PacketBytes.{WritesPacket}
 use Rattle.sctp_values.specs.declared.ticket.Ticket.{Ticket}
 use Rattle.sctp_send.specs.declared.fill.Filled.{Filled}
+use Rattle.sctp_association.specs.Asks.{asks}
 use Rattle.sctp_association.specs.StartsMean.{starts_at, with_start}
 use Rattle.sctp_association.specs.PhaseMeans.{phase_unjoined, phase_of}
 use Rattle.sctp_association.specs.TrafficStands.{TrafficStands}
 use Rattle.sctp_association.specs.MachineStands.{KeepsMachine, MachineStands}
-use Rattle.sctp_association.specs.Drafted.{drafted, IsOf, IsOwn, IsEmpty, PutsAt, IsPacked, IsQuiet}
+use Rattle.sctp_association.specs.Drafted.{drafted, IsOf, IsOwn, IsEmpty, PutsAt, IsPacked}
 use Rattle.sctp_association.specs.Sends.{Sends, FillsNone}
 use Rattle.sctp_association.specs.FillsBehind.{FillsBehind}
 use Rattle.sctp_association.specs.BuildAnswers.{BuildAnswer}
@@ -45,6 +45,7 @@ use Rattle.sctp_association.specs.declared.build.Built.{Built}
 use Rattle.sctp_association.specs.declared.machine.Machine.{Machine}
 use Rattle.sctp_association.proofs.MachineLemmas.{with_traffic, with_pace}
 use Rattle.sctp_association.proofs.PutLemmas.{started_left}
+use Rattle.sctp_association.proofs.AskLemmas.{unasked}
 use Rattle.sctp_association.proofs.SendsLemmas.{one_control, puts_from_none, sends_none, sends_nothing, sends_behind}
 
 -- the tag of its packets is that of the peer, where one is known
@@ -123,32 +124,28 @@ echoes_packet e t cookie old new room filled phase empty puts none = record {
   sendings = sends_none e new.writer.chunks filled (puts_from_none _ _ _ _ _ (from_empty e old new.writer.chunks (not room) (drafted new.marks e) echoing_slots empty puts.puts)) none;
 }
 
--- no request to reset streams is made
-unasked : (e : EndView) → IsQuiet e → asking e ≡ e
-unasked e quiet = ap (λ (b : Bool). asking_now (b && (is_home ResetAlarm e.phase && may_ask e.sender)) e) quiet.reset
-
-from_quiet : (e : EndView) (old : Packing) (zs : List ChunkMeaning) (full : Bool) (x : EndView) → IsQuiet e → IsEmpty e old → Puts open_slots (drafted old.marks e) old.writer.chunks zs full x
+from_unasked : (e : EndView) (old : Packing) (zs : List ChunkMeaning) (full : Bool) (x : EndView) → asks e ≡ false → IsEmpty e old → Puts open_slots (drafted old.marks e) old.writer.chunks zs full x
     → Puts open_slots (asking e) [] zs full x
-from_quiet e old zs full x quiet empty puts = subst (λ (y : EndView). Puts open_slots y [] zs full x) (sym (unasked e quiet)) (from_empty e old zs full x open_slots empty puts)
+from_unasked e old zs full x off empty puts = subst (λ (y : EndView). Puts open_slots y [] zs full x) (sym (unasked e off)) (from_empty e old zs full x open_slots empty puts)
 
-pub full_packet : (e : EndView) (t : model.Tags) (g : model.Stage) (old new : Packing) (room : Bool) (filled : Filled) → e.phase ≡ model.Open t g → IsQuiet e → IsEmpty e old
+pub full_packet : (e : EndView) (t : model.Tags) (g : model.Stage) (old new : Packing) (room : Bool) (filled : Filled) → e.phase ≡ model.Open t g → asks e ≡ false → IsEmpty e old
     → room ≡ false → PutsAt open_slots e old new room → FillsNone filled → IsPacked e e.sender e.pace new filled
-full_packet e t g old new room filled phase quiet empty is puts none =
+full_packet e t g old new room filled phase off empty is puts none =
     let full = subst (PutsAt open_slots e old new) is puts in record {
-      builds = EndsFull t g new.writer.chunks (drafted new.marks e) phase (from_quiet e old new.writer.chunks true (drafted new.marks e) quiet empty full.puts);
+      builds = EndsFull t g new.writer.chunks (drafted new.marks e) phase (from_unasked e old new.writer.chunks true (drafted new.marks e) off empty full.puts);
       packet = own_of e new full.packet;
       tickets_are = none_numbered filled.tickets e.sender none.tickets;
-      sendings = sends_none e new.writer.chunks filled (puts_from_none _ _ _ _ _ (from_quiet e old new.writer.chunks true (drafted new.marks e) quiet empty full.puts)) none;
+      sendings = sends_none e new.writer.chunks filled (puts_from_none _ _ _ _ _ (from_unasked e old new.writer.chunks true (drafted new.marks e) off empty full.puts)) none;
     }
 
-filled_packet : (e : EndView) (t : model.Tags) (g : model.Stage) (old mid new : Packing) (traffic : Traffic) (o : Option Pace) (filled : Filled) → e.phase ≡ model.Open t g → IsQuiet e → IsEmpty e old
+filled_packet : (e : EndView) (t : model.Tags) (g : model.Stage) (old mid new : Packing) (traffic : Traffic) (o : Option Pace) (filled : Filled) → e.phase ≡ model.Open t g → asks e ≡ false → IsEmpty e old
     → PutsAt open_slots e old mid true → FillsBehind e mid new traffic filled → o ≡ (sent (drafted mid.marks e) mid.writer.chunks).pace
     → IsPacked e (filled_behind (drafted mid.marks e) mid.writer.chunks).view o new filled
-filled_packet e t g old mid new traffic o filled phase quiet empty puts fills paced =
+filled_packet e t g old mid new traffic o filled phase off empty puts fills paced =
     let x = drafted mid.marks e in
     let zs = mid.writer.chunks in
     let v = (filled_behind x zs).view in
-    let built = Fills t g zs x phase (from_quiet e old zs false x quiet empty puts.puts) in
+    let built = Fills t g zs x phase (from_unasked e old zs false x off empty puts.puts) in
     let leaves : sent x zs ≡ record (drafted new.marks e) { sender = v; pace = o } =
     ap (λ (q : Option Pace). record (sent x zs) { pace = q }) (sym paced)
     ∙ sym (ap (λ (m : Marks). record (drafted m e) { sender = v; pace = o }) fills.marks ∙ ap (λ (f : Alarm → Timer). record x { sender = v; pace = o; timers = f }) fills.timers) in
@@ -156,15 +153,15 @@ filled_packet e t g old mid new traffic o filled phase quiet empty puts fills pa
       builds = subst (λ (cs : List ChunkMeaning). Builds e cs (record (drafted new.marks e) { sender = v; pace = o })) (sym fills.chunks) (subst (λ (y : EndView). Builds e (zs ++ fragments x zs) y) leaves built);
       packet = fills.packet;
       tickets_are = fills.tickets_are;
-      sendings = sends_behind e zs new.writer.chunks filled.sendings (puts_from_none _ _ _ _ _ (from_quiet e old zs false x quiet empty puts.puts)) fills.chunks fills.sendings_are;
+      sendings = sends_behind e zs new.writer.chunks filled.sendings (unasked e off) (puts_from_none _ _ _ _ _ (from_unasked e old zs false x off empty puts.puts)) fills.chunks fills.sendings_are;
     }
 
 pub fills_packet : {E : Type 0} (r : Result Filled E) (e : EndView) (t : model.Tags) (g : model.Stage) (old mid new : Packing) (room : Bool) (traffic : Traffic) (o : Option Pace)
-    → e.phase ≡ model.Open t g → IsQuiet e → IsEmpty e old → room ≡ true → PutsAt open_slots e old mid room → IfOk r (λ filled. FillsBehind e mid new traffic filled)
+    → e.phase ≡ model.Open t g → asks e ≡ false → IsEmpty e old → room ≡ true → PutsAt open_slots e old mid room → IfOk r (λ filled. FillsBehind e mid new traffic filled)
     → OnOk r (o ≡ (sent (drafted mid.marks e) mid.writer.chunks).pace) → IfOk r (λ filled. (s : SenderView) × IsPacked e s o new filled × TrafficStands traffic (format_of e) s e.receiver)
-fills_packet (Ok filled) e t g old mid new room traffic o phase quiet empty is puts fills paced =
-    (_, filled_packet e t g old mid new traffic o filled phase quiet empty (subst (PutsAt open_slots e old mid) is puts) fills paced, fills.traffic_stands)
-fills_packet (Err failed) e t g old mid new room traffic o phase quiet empty is puts fills paced = fills
+fills_packet (Ok filled) e t g old mid new room traffic o phase off empty is puts fills paced =
+    (_, filled_packet e t g old mid new traffic o filled phase off empty (subst (PutsAt open_slots e old mid) is puts) fills paced, fills.traffic_stands)
+fills_packet (Err failed) e t g old mid new room traffic o phase off empty is puts fills paced = fills
 
 -- what is so anyway is so where there is a result
 pub on_ok : {A E : Type 0} (P : Type 0) (r : Result A E) → P → OnOk r P

@@ -12,7 +12,7 @@ use Rattle.sctp_model.specs.sender.Abandoning.{abandon_answer, abandon_after, Un
 use Rattle.sctp_model.specs.receiver.ReceiverView.{ReceiverView, fresh_receiver}
 use Rattle.sctp_model.specs.world.Calls.{Call}
 use Rattle.sctp_model.specs.end.EndView as model
-use Rattle.sctp_model.specs.end.EndView.{EndView, Alarm, Timer, unused_timer}
+use Rattle.sctp_model.specs.end.EndView.{EndView, Alarm, Timer}
 use Rattle.sctp_model.specs.end.Clock.{turned, stopped, replaced, timers_in}
 use Rattle.sctp_model.specs.end.Closing.{hears, rested}
 use Rattle.sctp_model.specs.end.Moments.{after_abandoning}
@@ -135,19 +135,19 @@ called_stands m v draw d s k idle due timers = record {
 abbrev pub stop_at : Alarm → (Alarm → Timer) → Alarm → Timer
 stop_at a f = replaced a (stopped (f a)) f
 
-called_at : (d : model.Draw) (f : Alarm → Timer) (a : Alarm) → f model.ResetAlarm ≡ unused_timer
-    → stop_at model.AckAlarm (stop_at model.ShutdownAlarm (stop_at model.DataAlarm (stop_at model.CookieAlarm f))) a ≡ timers_in (model.Calling d) f a
-called_at d f model.InitAlarm unused = refl
-called_at d f model.CookieAlarm unused = refl
-called_at d f model.DataAlarm unused = refl
-called_at d f model.ShutdownAlarm unused = refl
-called_at d f model.AckAlarm unused = refl
-called_at d f model.ResetAlarm unused = unused ∙ sym (ap stopped unused)
+called_at : (d : model.Draw) (f : Alarm → Timer) (a : Alarm)
+    → stop_at model.ResetAlarm (stop_at model.AckAlarm (stop_at model.ShutdownAlarm (stop_at model.DataAlarm (stop_at model.CookieAlarm f)))) a ≡ timers_in (model.Calling d) f a
+called_at d f model.InitAlarm = refl
+called_at d f model.CookieAlarm = refl
+called_at d f model.DataAlarm = refl
+called_at d f model.ShutdownAlarm = refl
+called_at d f model.AckAlarm = refl
+called_at d f model.ResetAlarm = refl
 
-pub called_timers : (d : model.Draw) (f g h k n : Alarm → Timer) → f model.ResetAlarm ≡ unused_timer → g ≡ stop_at model.CookieAlarm f → h ≡ stop_at model.DataAlarm g → k ≡ stop_at model.ShutdownAlarm h → n ≡ stop_at model.AckAlarm k
-    → n ≡ timers_in (model.Calling d) f
-called_timers d f g h k n unused one two three four =
-    four ∙ ap (stop_at model.AckAlarm) (three ∙ ap (stop_at model.ShutdownAlarm) (two ∙ ap (stop_at model.DataAlarm) one)) ∙ (λ i a. called_at d f a unused i)
+pub called_timers : (d : model.Draw) (f g h k l n : Alarm → Timer) → g ≡ stop_at model.CookieAlarm f → h ≡ stop_at model.DataAlarm g → k ≡ stop_at model.ShutdownAlarm h → l ≡ stop_at model.AckAlarm k
+    → n ≡ stop_at model.ResetAlarm l → n ≡ timers_in (model.Calling d) f
+called_timers d f g h k l n one two three four five =
+    five ∙ ap (stop_at model.ResetAlarm) (four ∙ ap (stop_at model.AckAlarm) (three ∙ ap (stop_at model.ShutdownAlarm) (two ∙ ap (stop_at model.DataAlarm) one))) ∙ (λ i a. called_at d f a i)
 
 -- ---- send
 

@@ -3,7 +3,7 @@ use Rattle.std.proofs.Common.{◌≡◌, ◌∙◌, ℕ, false, List, refl, sym,
 use Rattle.std.specs.Prelude.{Bool, Option, None, ◌-◌, []}
 use Rattle.sctp_model.specs.sender.SenderView.{fresh_sender}
 use Rattle.sctp_model.specs.receiver.ReceiverView.{fresh_receiver}
-use Rattle.sctp_model.specs.end.EndView.{Alarm, Configuration, EndView, format_for, unused_timer}
+use Rattle.sctp_model.specs.end.EndView.{Alarm, Configuration, EndView, format_for}
 use Rattle.sctp_model.specs.end.EndView as model
 use Rattle.sctp_model.specs.end.Clock.{stopped, timers_in, turned}
 use Rattle.sctp_model.specs.wire.Packet.{size_of_packet}
@@ -45,22 +45,21 @@ joined_there m v a d s p x rwnd h y k paced terms phase due timers begins =
       timers = timers ∙ ap (timers_in h) k.timers;
       delayed = k.delayed;
       phase = phase;
-      life = record { terms = refl; traffic = subst (λ (c : Configuration). Begins a c rwnd) k.configuration begins; buffer = refl; answers = refl };
+      life = record { terms = refl; traffic = subst (λ (c : Configuration). Begins a c rwnd) k.configuration begins; buffer = refl; answers = λ off. refl };
       room = k.room;
       pace = paced ∙ ap (λ (c : Configuration). pace_for c rwnd) k.configuration;
       unpaced = unpaced v.configuration rwnd;
     })
 
-echoed_at : (t : model.Tags) (xs : List ℕ) (f : Alarm → model.Timer) (a : Alarm) → f model.ResetAlarm ≡ unused_timer
-    → stop_at model.AckAlarm (stop_at model.ShutdownAlarm (stop_at model.DataAlarm (stop_at model.InitAlarm f))) a ≡ timers_in (model.Echoing t xs) f a
-echoed_at t xs f model.InitAlarm unused = refl
-echoed_at t xs f model.CookieAlarm unused = refl
-echoed_at t xs f model.DataAlarm unused = refl
-echoed_at t xs f model.ShutdownAlarm unused = refl
-echoed_at t xs f model.AckAlarm unused = refl
-echoed_at t xs f model.ResetAlarm unused = unused ∙ sym (ap stopped unused)
+echoed_at : (t : model.Tags) (xs : List ℕ) (f : Alarm → model.Timer) (a : Alarm) → stop_at model.ResetAlarm (stop_at model.AckAlarm (stop_at model.ShutdownAlarm (stop_at model.DataAlarm (stop_at model.InitAlarm f)))) a ≡ timers_in (model.Echoing t xs) f a
+echoed_at t xs f model.InitAlarm = refl
+echoed_at t xs f model.CookieAlarm = refl
+echoed_at t xs f model.DataAlarm = refl
+echoed_at t xs f model.ShutdownAlarm = refl
+echoed_at t xs f model.AckAlarm = refl
+echoed_at t xs f model.ResetAlarm = refl
 
-pub echoed_timers : (t : model.Tags) (xs : List ℕ) (f g h k n : Alarm → model.Timer) → f model.ResetAlarm ≡ unused_timer → g ≡ stop_at model.InitAlarm f → h ≡ stop_at model.DataAlarm g
-    → k ≡ stop_at model.ShutdownAlarm h → n ≡ stop_at model.AckAlarm k → n ≡ timers_in (model.Echoing t xs) f
-echoed_timers t xs f g h k n unused one two three four =
-    four ∙ ap (stop_at model.AckAlarm) (three ∙ ap (stop_at model.ShutdownAlarm) (two ∙ ap (stop_at model.DataAlarm) one)) ∙ (λ i a. echoed_at t xs f a unused i)
+pub echoed_timers : (t : model.Tags) (xs : List ℕ) (f g h k l n : Alarm → model.Timer) → g ≡ stop_at model.InitAlarm f → h ≡ stop_at model.DataAlarm g
+    → k ≡ stop_at model.ShutdownAlarm h → l ≡ stop_at model.AckAlarm k → n ≡ stop_at model.ResetAlarm l → n ≡ timers_in (model.Echoing t xs) f
+echoed_timers t xs f g h k l n one two three four five =
+    five ∙ ap (stop_at model.ResetAlarm) (four ∙ ap (stop_at model.AckAlarm) (three ∙ ap (stop_at model.ShutdownAlarm) (two ∙ ap (stop_at model.DataAlarm) one))) ∙ (λ i a. echoed_at t xs f a i)

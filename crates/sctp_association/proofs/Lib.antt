@@ -1,4 +1,6 @@
 pub mod MachineLemmas
+pub mod ReconfigLemmas
+pub mod ResetLemmas
 pub mod RestLemmas
 pub mod MomentLemmas
 pub mod CallLemmas
@@ -18,6 +20,8 @@ pub mod PutLemmas
 pub mod InitLemmas
 pub mod SameLemmas
 pub mod SendsLemmas
+pub mod AskLemmas
+pub mod RequestLemmas
 pub mod BuildLemmas
 pub mod DrainedLemmas
 pub mod PaceLemmas

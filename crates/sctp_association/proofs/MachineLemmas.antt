@@ -1,16 +1,13 @@
 -- An endpoint and a view that it stands for, with the same part of both changed, stand for each other again: clock, due chunks, timers, buffer, traffic, phase.
 use Rattle.std.proofs.Common.{◌≡◌, ◌≤◌, ◌∙◌, ℕ, Bool, true, false, refl, sym, ap, subst}
-use Rattle.std.specs.Prelude.{◌&&◌, ◌==◌, max, zero, suc, Option, None, vec_capacity}
+use Rattle.std.specs.Prelude.{max, zero, suc, [], Option, None, vec_capacity}
 use Rattle.std.specs.declared.vec.Vec.{Vec}
 use Rattle.std.specs.declared.alloc.Global.{Global}
 use Rattle.sctp_model.specs.sender.SenderView.{SenderView, fresh_sender}
 use Rattle.sctp_model.specs.receiver.Incoming.{Incoming}
 use Rattle.sctp_model.specs.receiver.ReceiverView.{ReceiverView}
 use Rattle.sctp_model.specs.sender.Abandoning.{expired, worn, timed_out}
-use Rattle.sctp_model.specs.wire.Reconfig.{RECONFIG}
-use Rattle.sctp_model.specs.end.Closing.{hears, takes_data}
 use Rattle.sctp_model.specs.end.Pacing.{Pace}
-use Rattle.sctp_model.specs.end.Reconfiguring.{takes_reconfig}
 use Rattle.sctp_model.specs.end.EndView.{EndView, Configuration, Alarm, format_for, nothing_due}
 use Rattle.sctp_model.specs.end.EndView as model
 use Rattle.sctp_model.specs.end.Clock.{at_moment, is_home, timers_in, turned, closed}
@@ -21,7 +18,6 @@ use Rattle.sctp_association.specs.StageMeans.{tags_meaning, stage_meaning}
 use Rattle.sctp_association.specs.PhaseMeans.{phase_in, phase_of, phase_unjoined}
 use Rattle.sctp_association.specs.DueStands.{DueStands}
 use Rattle.sctp_association.specs.TrafficStands.{TrafficStands}
-use Rattle.sctp_association.specs.Drafted.{IsQuiet}
 use Rattle.sctp_association.specs.MachineStands.{IsUnjoined, IsJoined, LifeStands, KeepsMachine}
 use Rattle.sctp_association.specs.declared.state.stage.Tags.{Tags}
 use Rattle.sctp_association.specs.declared.state.stage.Stage.{Stage}
@@ -83,10 +79,11 @@ phase_unjoined_at m x v is k = subst (λ h. phase_of h ≡ v.phase) is k.phase
 pub phase_joined : (m : Machine) (a : Association) (v : EndView) → m.life ≡ life.Joined a → KeepsMachine m v → phase_in a.tags a.progress ≡ v.phase
 phase_joined m a v is k = subst (λ h. phase_of h ≡ v.phase) is k.phase
 
-pub with_traffic : (m : Machine) (a : Association) (s : Traffic) (v : EndView) (x : SenderView) (y : ReceiverView) → m.life ≡ life.Joined a → KeepsMachine m v
-    → TrafficStands s (format_for v.terms.interleave) x y → y.buffer ≡ v.receiver.buffer → y.resets ≡ v.receiver.resets
+-- other traffic, in which responses wait only where streams may be reset
+pub with_resets : (m : Machine) (a : Association) (s : Traffic) (v : EndView) (x : SenderView) (y : ReceiverView) → m.life ≡ life.Joined a → KeepsMachine m v
+    → TrafficStands s (format_for v.terms.interleave) x y → y.buffer ≡ v.receiver.buffer → (v.terms.reset ≡ false → y.resets.answers ≡ [])
     → KeepsMachine (record m { life = life.Joined (record a { traffic = s }) }) (record v { sender = x; receiver = y })
-with_traffic m a s v x y is k stands same unreset = record {
+with_resets m a s v x y is k stands same unasked = record {
   configuration = k.configuration;
   role = k.role;
   clock = k.clock;
@@ -94,11 +91,16 @@ with_traffic m a s v x y is k stands same unreset = record {
   timers = k.timers;
   delayed = k.delayed;
   phase = phase_joined m a v is k;
-  life = record { terms = (joined m a v is k).terms; traffic = stands; buffer = same ∙ (joined m a v is k).buffer; answers = ap (λ (x : Incoming). x.answers) unreset ∙ (joined m a v is k).answers };
+  life = record { terms = (joined m a v is k).terms; traffic = stands; buffer = same ∙ (joined m a v is k).buffer; answers = unasked };
   room = k.room;
   pace = k.pace;
   unpaced = k.unpaced;
 }
+
+pub with_traffic : (m : Machine) (a : Association) (s : Traffic) (v : EndView) (x : SenderView) (y : ReceiverView) → m.life ≡ life.Joined a → KeepsMachine m v
+    → TrafficStands s (format_for v.terms.interleave) x y → y.buffer ≡ v.receiver.buffer → y.resets ≡ v.receiver.resets
+    → KeepsMachine (record m { life = life.Joined (record a { traffic = s }) }) (record v { sender = x; receiver = y })
+with_traffic m a s v x y is k stands same unreset = with_resets m a s v x y is k stands same (λ off. ap (λ (z : Incoming). z.answers) unreset ∙ (joined m a v is k).answers off)
 
 pub with_expired : (m : Machine) (a : Association) (s : Traffic) (v : EndView) (now : ℕ) → m.life ≡ life.Joined a → KeepsMachine m v → now ≡ v.moment
     → TrafficStands s (format_for v.terms.interleave) (expired v.sender now) v.receiver
@@ -122,26 +124,6 @@ none_marked f (suc i) = refl
 
 pub timed_out_fresh : (s : SenderView) (f : ℕ) → s ≡ fresh_sender 0 0 f 0 false → timed_out s ≡ s
 timed_out_fresh s f is = ap (λ (x : SenderView). timed_out x) is ∙ ap (λ (m : ℕ → Bool). record (fresh_sender 0 0 f 0 false) { marked = m }) (λ j i. none_marked f i j) ∙ sym is
-
--- it agreed on no resets, so it takes no RE-CONFIG
-unreset : (h : Life) (c : Configuration) (t : model.Terms) (s : SenderView) (r : ReceiverView) → LifeStands h c t s r → t.reset ≡ false
-unreset (life.Unjoined x) c t s r u = ap (λ (y : model.Terms). y.reset) u.terms
-unreset (life.Joined a) c t s r j = ap (λ (y : model.Terms). y.reset) (sym j.terms)
-
-takes_not : (b c r : Bool) → r ≡ false → (b && (r && c)) ≡ false
-takes_not true c r off = ap (λ (x : Bool). x && c) off
-takes_not false c r off = refl
-
-pub takes_none : (m : Machine) (v : EndView) (kind : ℕ) → KeepsMachine m v → takes_reconfig v kind ≡ false
-takes_none m v kind k = takes_not (kind == RECONFIG) (hears takes_data v.phase) v.terms.reset (unreset m.life v.configuration v.terms v.sender v.receiver k.life)
-
--- it resets no stream, whatever its moment
-pub quiet_at : (m : Machine) (a : Association) (v : EndView) (n : ℕ) → m.life ≡ life.Joined a → KeepsMachine m v → IsQuiet (record v { moment = n })
-quiet_at m a v n is k = record {
-  reset = ap (λ (t : model.Terms). t.reset) (sym (joined m a v is k).terms);
-  request = k.due.request;
-  answers = (joined m a v is k).answers;
-}
 
 -- ---- the phase
 
@@ -190,11 +172,12 @@ open_at t g f model.ShutdownAlarm = refl
 open_at t g f model.AckAlarm = refl
 open_at t g f model.ResetAlarm = refl
 
-pub open_in : (t : model.Tags) (g : model.Stage) (n f : Alarm → model.Timer) (b c : Bool) → ((d : Bool) → n ≡ open_timers b c d f) → b ≡ is_home model.ShutdownAlarm (model.Open t g)
-    → c ≡ is_home model.AckAlarm (model.Open t g) → n ≡ timers_in (model.Open t g) f
-open_in t g n f b c is sent acked =
-    let d = is_home model.ResetAlarm (model.Open t g) in
-    is d ∙ ap (λ (x : Bool). open_timers x c d f) sent ∙ ap (λ (x : Bool). open_timers (is_home model.ShutdownAlarm (model.Open t g)) x d f) acked ∙ (λ i a. open_at t g f a i)
+pub open_in : (t : model.Tags) (g : model.Stage) (n f : Alarm → model.Timer) (b c d : Bool) → n ≡ open_timers b c d f → b ≡ is_home model.ShutdownAlarm (model.Open t g)
+    → c ≡ is_home model.AckAlarm (model.Open t g) → d ≡ is_home model.ResetAlarm (model.Open t g) → n ≡ timers_in (model.Open t g) f
+open_in t g n f b c d is sent acked asked =
+    let first = is_home model.ShutdownAlarm (model.Open t g) in
+    let second = is_home model.AckAlarm (model.Open t g) in
+    is ∙ ap (λ (x : Bool). open_timers x c d f) sent ∙ ap (λ (x : Bool). open_timers first x d f) acked ∙ ap (λ (x : Bool). open_timers first second x f) asked ∙ (λ i a. open_at t g f a i)
 
 pub closed_joined : (m : Machine) (a : Association) (v : EndView) (why : End) (d : Due) (s : Timers) → m.life ≡ life.Joined a → KeepsMachine m v → DueStands d nothing_due
     → timers_meaning s ≡ resting (timers_meaning m.timers)

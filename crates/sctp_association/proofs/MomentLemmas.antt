@@ -1,14 +1,12 @@
 -- `on_moment`: a timer that expires, repeats or gives up, and messages that are abandoned, are the specification's steps of time.
 use Rattle.std.proofs.Common.{◌≡◌, ◌∙◌, ℕ, nat_lt, Bool, true, false, ap, sym, subst}
 use Rattle.std.specs.Prelude.{if◌then◌else◌, ◌&&◌, ◌||◌}
-use Rattle.sctp_model.specs.end.EndView.{TimedOut, Alarm, DataAlarm, ResetAlarm, Timer, EndView}
+use Rattle.sctp_model.specs.end.EndView.{TimedOut, Alarm, DataAlarm, Timer, EndView}
 use Rattle.sctp_model.specs.end.EndView as model
 use Rattle.sctp_model.specs.end.Clock.{expired_timer, repeats_of, is_over_at, replaced, with_timer, closed}
 use Rattle.sctp_model.specs.end.Moments.{due_again, ring, rung, is_data_due, given_up}
 use Rattle.sctp_association.specs.TimersMean.{kept_if}
 use Rattle.sctp_association.specs.DueStands.{DueStands}
-use Rattle.sctp_association.specs.MachineStands.{KeepsMachine}
-use Rattle.sctp_association.specs.declared.machine.Machine.{Machine}
 use Rattle.sctp_association.specs.declared.state.due.Due.{Due}
 
 -- ---- a timer; the moment and the timer are those of the code
@@ -25,10 +23,6 @@ ring_goes a v m t b clock at is more =
     ap (λ (c : Bool). rung c a v) (over_same a v m t clock at ∙ is)
     ∙ ap (λ (c : Bool). if c then due_again a (with_timer a (expired_timer (v.timers a)) v) else closed TimedOut v)
     (sym (ap (λ (x : Timer). nat_lt x.repeats (repeats_of a)) at) ∙ more)
-
--- the timer of a request to reset streams never expires
-pub ring_rests : (m : Machine) (v : EndView) → KeepsMachine m v → ring ResetAlarm v ≡ v
-ring_rests m v k = ap (λ (t : Timer). rung (is_over_at v.moment t.expiry) ResetAlarm v) (ap (λ (f : Alarm → Timer). f ResetAlarm) (sym k.timers))
 
 -- ---- what is given up
 

@@ -14,9 +14,9 @@ use Rattle.sctp_association.specs.DueStands.{DueStands}
 use Rattle.sctp_association.specs.PhaseMeans.{phase_unjoined}
 use Rattle.sctp_association.specs.TrafficStands.{TrafficStands}
 use Rattle.sctp_association.specs.MachineStands.{KeepsMachine}
-use Rattle.sctp_association.specs.Drafted.{due_left, drafted, IsFresh, IsOf, IsEmpty, PutsAt, IsPacked, IsQuiet}
+use Rattle.sctp_association.specs.Drafted.{due_left, drafted, IsFresh, IsOf, IsEmpty, PutsAt, IsPacked}
 use Rattle.sctp_association.specs.FillsBehind.{FillsBehind}
-use Rattle.sctp_association.specs.PlainPacket.{IsPlain, fragments_alone, plain_marks}
+use Rattle.sctp_association.specs.PlainPacket.{IsPlain, IsCalm, fragments_alone, plain_marks}
 use Rattle.sctp_association.specs.declared.state.due.Due.{Due}
 use Rattle.sctp_association.specs.declared.state.life.Unjoined.{Unjoined}
 use Rattle.sctp_association.specs.declared.state.life.Unjoined.TheVariants.{Idle, Listening, Calling, Failed}
@@ -26,7 +26,8 @@ use Rattle.sctp_association.specs.declared.traffic.Traffic.{Traffic}
 use Rattle.sctp_association.specs.declared.build.plain.Plain.{Plain}
 use Rattle.sctp_association.specs.declared.build.packing.Packing.{Packing}
 use Rattle.sctp_association.specs.declared.machine.Machine.{Machine}
-use Rattle.sctp_association.proofs.PutLemmas.{not_due, joined, cut, then_quiet}
+use Rattle.sctp_association.proofs.PutLemmas.{not_due, joined, cut}
+use Rattle.sctp_association.proofs.RequestLemmas.{unanswered, unrequested}
 use Rattle.sctp_association.proofs.SameLemmas.{due_same, drafted_same}
 use Rattle.sctp_association.proofs.BuildLemmas.{fills_packet, with_traffic_and_pace}
 
@@ -36,7 +37,7 @@ plain_at d w sack fragments = record { writer = w; marks = plain_marks d sack fr
 
 -- ---- the places
 
-module _ (e : EndView) (d : Due) (plain : IsPlain d e.due) (quiet : IsQuiet e) where
+module _ (e : EndView) (d : Due) (plain : IsPlain d e.due) (calm : IsCalm e) where
   front : (w : Draft) (s : Bool) → IsOf e (plain_at d w s false)
       → PutsAt (CookieAckSlot ∷ HeartbeatSlot ∷ ErrorSlot ∷ []) e (plain_at d w s false) (plain_at d w s false) true
   front w s packet =
@@ -49,7 +50,8 @@ module _ (e : EndView) (d : Due) (plain : IsPlain d e.due) (quiet : IsQuiet e) w
   back w s packet =
       let p = plain_at d w s false in
       joined (ForwardSlot ∷ AnswerSlot ∷ RequestSlot ∷ []) (ShutdownSlot ∷ ShutdownAckSlot ∷ []) e p p p true true refl
-      (then_quiet ForwardSlot e p p true quiet (not_due ForwardSlot e p (ap (λ (b : Bool). b && is_point_past e.sender) plain.forward) packet))
+      (joined (ForwardSlot ∷ []) (AnswerSlot ∷ RequestSlot ∷ []) e p p p true true refl (not_due ForwardSlot e p (ap (λ (b : Bool). b && is_point_past e.sender) plain.forward) packet)
+      (joined (AnswerSlot ∷ []) (RequestSlot ∷ []) e p p p true true refl (unanswered e p calm.answers packet) (unrequested e p plain.request packet)))
       (joined (ShutdownSlot ∷ []) (ShutdownAckSlot ∷ []) e p p p true true refl (not_due ShutdownSlot e p plain.shutdown packet) (not_due ShutdownAckSlot e p plain.shutdown_ack packet))
 
   -- what goes in at all places is what goes in at that of the SACK
@@ -68,11 +70,11 @@ module _ (e : EndView) (d : Due) (plain : IsPlain d e.due) (quiet : IsQuiet e) w
 
 -- fragments behind the SACK
 pub plain_fills : (e : EndView) (t : model.Tags) (g : model.Stage) (d : Due) (old mid new : Draft) (s some : Bool) (traffic : Traffic) (filled : Filled) → e.phase ≡ model.Open t g
-    → (o : Option Pace) → IsQuiet e → IsEmpty e (plain_at d old s false) → PutsAt open_slots e (plain_at d old s false) (plain_at d mid false false) true
+    → (o : Option Pace) → IsCalm e → IsEmpty e (plain_at d old s false) → PutsAt open_slots e (plain_at d old s false) (plain_at d mid false false) true
     → FillsBehind e (plain_at d mid false false) (plain_at d new false some) traffic filled → o ≡ (sent (drafted (plain_marks d false false) e) mid.chunks).pace
     → (x : SenderView) × IsPacked e x o (plain_at d new false some) filled × TrafficStands traffic (format_of e) x e.receiver
-plain_fills e t g d old mid new s some traffic filled phase o quiet empty puts fills paced =
-    fills_packet {E = NoMemory} (Ok filled) e t g (plain_at d old s false) (plain_at d mid false false) (plain_at d new false some) true traffic o phase quiet empty refl puts fills paced
+plain_fills e t g d old mid new s some traffic filled phase o calm empty puts fills paced =
+    fills_packet {E = NoMemory} (Ok filled) e t g (plain_at d old s false) (plain_at d mid false false) (plain_at d new false some) true traffic o phase calm.unasked empty refl puts fills paced
 
 -- no timer but that of fragments starts
 starts_alone_at : (b : Bool) (a : Alarm) → starts_at (fragments_alone b) a ≡ with_fragments b (starts_at (fragments_alone false)) a
@@ -124,7 +126,7 @@ due_plain d n x s f was now = record {
   causes = now.causes;
   sack = now.sack;
   forward = now.forward ∙ sym was.forward;
-  request = now.request;
+  request = now.request ∙ sym was.request;
   shutdown = now.shutdown ∙ sym was.shutdown;
   shutdown_ack = now.shutdown_ack ∙ sym was.shutdown_ack;
 }
@@ -137,7 +139,7 @@ plain_empty v moment d w fresh due =
       packet = record { limit = fresh.limit; source = fresh.source; destination = fresh.destination; tag = fresh.tag; sack = λ still. sym due.sack ∙ still };
       chunks = fresh.chunks;
       same = drafted_same m (record v { moment = moment })
-          (due_same m v.due due.init due.cookie_echo due.cookie_ack refl refl due.sack due.forward due.shutdown due.shutdown_ack) due.sack none_start;
+          (due_same m v.due due.init due.cookie_echo due.cookie_ack refl refl due.sack due.forward due.request due.shutdown due.shutdown_ack) due.sack refl none_start;
     }
 
 pub still_plain : (d n : Due) (x : model.Due) → n ≡ d → IsPlain d x → IsPlain n x

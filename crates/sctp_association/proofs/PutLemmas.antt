@@ -1,20 +1,21 @@
 -- A chunk that is put in, doesn't fit or isn't due is a step of the specification's filling order, and so are several one after the other.
-use Rattle.std.proofs.Common.{Result, Ok, Err, IfOk, ◌≡◌, ◌∙◌, ℕ, ◌<◌, nat_le, replicate, length-append, Bool, true, false, not, ◌&&◌, List, [], ◌∷◌, ◌++◌, Option, None, length, refl, ap, sym, subst, arith}
-use Rattle.std.specs.Prelude.{is_some}
+use Rattle.std.proofs.Common.{Result, Ok, Err, IfOk, ◌≡◌, ◌∙◌, ℕ, ◌<◌, nat_le, replicate, length-append, Bool, true, false, not, List, [], ◌∷◌, ◌++◌, Option, None, length, refl, ap, sym, subst, arith}
 use Rattle.sctp_model.specs.wire.Typed.{Typed, typed_bytes, filled, written_typed}
-use Rattle.sctp_model.specs.wire.Chunk.{ChunkMeaning, SackMeaning, Sack, Shutdown, padding_after}
+use Rattle.sctp_model.specs.wire.Chunk.{ChunkMeaning, BlockMeaning, SackMeaning, Sack, Shutdown, padding_after}
+use Rattle.sctp_model.specs.messages.Acknowledgement.{IsRun}
 use Rattle.sctp_model.specs.wire.Packet.{size_of_packet}
 use Rattle.sctp_model.specs.numbers.Serial.{tsn}
 use Rattle.sctp_model.specs.receiver.ReceiverView.{ReceiverView, IsCumulative}
 use Rattle.sctp_model.specs.receiver.SackMade.{IsSack, sack_sent}
+use Rattle.sctp_model.specs.receiver.ResetTaken.{with_answers}
 use Rattle.sctp_model.specs.end.EndView.{EndView, Alarm, Timer}
 use Rattle.sctp_model.specs.end.Clock.{started}
 use Rattle.sctp_model.specs.end.Reports.{written}
-use Rattle.sctp_model.specs.end.Building.{Slot, SackSlot, AnswerSlot, RequestSlot, ShutdownSlot, is_due, has_some, has_causes, Wants, Acknowledge, SayShutdown, once_built, Puts, NoMore, NotDue, Put, IsFull}
+use Rattle.sctp_model.specs.end.Building.{Slot, SackSlot, ShutdownSlot, is_due, has_some, has_causes, Wants, Acknowledge, SayShutdown, once_built, Puts, NoMore, NotDue, Put, IsFull}
 use Rattle.sctp_model.proofs.TypedLemmas.{length-item}
 use Rattle.sctp_packet.specs.Draft.{Draft, has_room, after_try, with_chunks}
 use Rattle.sctp_association.specs.StartsMean.{starts_at, with_start, started_from}
-use Rattle.sctp_association.specs.Drafted.{value_left, causes_left, receiver_left, delayed_left, drafted, IsOf, PutsAt, IsQuiet}
+use Rattle.sctp_association.specs.Drafted.{value_left, causes_left, receiver_left, answers_left, delayed_left, drafted, IsOf, PutsAt}
 use Rattle.sctp_association.specs.declared.time.starts.Starts.{Starts}
 use Rattle.sctp_association.specs.declared.build.packing.Marks.{Marks}
 use Rattle.sctp_association.specs.declared.build.packing.Packing.{Packing}
@@ -98,23 +99,6 @@ pub behind : {E : Type 0} (r : Result Bool E) (ss tt : List Slot) (e : EndView) 
 behind (Ok room) ss tt e a b c full is one other = joined ss tt e a b c full room is one other
 behind (Err failed) ss tt e a b c full is one other = other
 
--- no answer to a request to reset streams goes in, and no request
-quiet_places : (e : EndView) (p : Packing) → IsQuiet e → IsOf e p → PutsAt (AnswerSlot ∷ RequestSlot ∷ []) e p p true
-quiet_places e p quiet packet =
-    joined (AnswerSlot ∷ []) (RequestSlot ∷ []) e p p p true true refl
-    (not_due AnswerSlot e p (ap has_causes (answers_left e.due.sack p.marks.sack e.receiver ∙ quiet.answers)) packet)
-    (not_due RequestSlot e p (ap (λ (b : Bool). b && is_some e.sender.resets.pending) quiet.request) packet)
-  where
-    answers_left : (was is : Bool) (r : ReceiverView) → (receiver_left was is r).resets.answers ≡ r.resets.answers
-    answers_left true false r = refl
-    answers_left true true r = refl
-    answers_left false is r = refl
-
--- what goes in at one place goes in there and at those two
-pub then_quiet : (s : Slot) (e : EndView) (a b : Packing) (room : Bool) → IsQuiet e → PutsAt (s ∷ []) e a b room → PutsAt (s ∷ AnswerSlot ∷ RequestSlot ∷ []) e a b room
-then_quiet s e a b true quiet one = joined (s ∷ []) (AnswerSlot ∷ RequestSlot ∷ []) e a b b true true refl one (quiet_places e b quiet one.packet)
-then_quiet s e a b false quiet one = cut (s ∷ []) (AnswerSlot ∷ RequestSlot ∷ []) e a b false refl one
-
 -- ---- what a chunk leaves
 
 -- a timer that starts
@@ -153,11 +137,41 @@ still_initial true false r = refl
 still_initial true true r = refl
 still_initial false is r = refl
 
+-- the same once responses went out
+told_cumulative : (b : Bool) (r : ReceiverView) (c : ℕ) → IsCumulative r c → IsCumulative (answers_left b r) c
+told_cumulative true r c k = k
+told_cumulative false r c k = record { reached = k.reached; open_end = k.open_end }
+
+told_initial : (b : Bool) (r : ReceiverView) → (answers_left b r).initial ≡ r.initial
+told_initial true r = refl
+told_initial false r = refl
+
+told_run : (r : ReceiverView) (c : ℕ) (b : BlockMeaning) → IsRun r c b → IsRun (with_answers r []) c b
+told_run r c b k = record { above = k.above; some = k.some; seen = k.seen; before = k.before; after = k.after }
+
+run_told : (r : ReceiverView) (c : ℕ) (b : BlockMeaning) → IsRun (with_answers r []) c b → IsRun r c b
+run_told r c b k = record { above = k.above; some = k.some; seen = k.seen; before = k.before; after = k.after }
+
+told_sack : (b : Bool) (r : ReceiverView) (s : SackMeaning) → IsSack r s → IsSack (answers_left b r) s
+told_sack true r s k = k
+told_sack false r s k = record {
+  c = k.c;
+  runs = k.runs;
+  cumulative = record { reached = k.cumulative.reached; open_end = k.cumulative.open_end };
+  all = record {
+    rising = k.all.rising;
+    runs = λ b has. told_run r k.c b (k.all.runs b has);
+    all = λ b is. k.all.all b (run_told r k.c b is);
+  };
+  is = k.is;
+}
+
 -- SHUTDOWN with the cumulative TSN
 pub says_cumulative : (e : EndView) (m : Marks) (x : ℕ) → ((c : ℕ) × IsCumulative e.receiver c × (x ≡ tsn e.receiver.initial c)) → Wants (drafted m e) ShutdownSlot (Shutdown x)
 says_cumulative e m x (c, at, is) =
-    let same : tsn (receiver_left e.due.sack m.sack e.receiver).initial c ≡ x = ap (λ (i : ℕ). tsn i c) (still_initial e.due.sack m.sack e.receiver) ∙ sym is in
-    subst (λ (y : ℕ). Wants (drafted m e) ShutdownSlot (Shutdown y)) same (SayShutdown c (still_cumulative e.due.sack m.sack e.receiver c at))
+    let r = receiver_left e.due.sack m.sack e.receiver in
+    let same : tsn (answers_left m.answers r).initial c ≡ x = ap (λ (i : ℕ). tsn i c) (told_initial m.answers r ∙ still_initial e.due.sack m.sack e.receiver) ∙ sym is in
+    subst (λ (y : ℕ). Wants (drafted m e) ShutdownSlot (Shutdown y)) same (SayShutdown c (told_cumulative m.answers r c (still_cumulative e.due.sack m.sack e.receiver c at)))
 
 -- a SACK that is still due
 before_sack : (was is : Bool) (r : ReceiverView) → is ≡ true → receiver_left was is r ≡ r
@@ -167,14 +181,19 @@ before_sack false is r due = refl
 
 -- the SACK of the receiver goes out
 pub acknowledges : (e : EndView) (m : Marks) (s : SackMeaning) → m.sack ≡ true → IsSack e.receiver s → Wants (drafted m e) SackSlot (Sack s)
-acknowledges e m s due is = Acknowledge s (subst (λ (r : ReceiverView). IsSack r s) (sym (before_sack e.due.sack m.sack e.receiver due)) is)
+acknowledges e m s due is = Acknowledge s (told_sack m.answers _ s (subst (λ (r : ReceiverView). IsSack r s) (sym (before_sack e.due.sack m.sack e.receiver due)) is))
+
+-- in either order
+sent_told : (b : Bool) (r : ReceiverView) → sack_sent (answers_left b r) ≡ answers_left b (sack_sent r)
+sent_told true r = refl
+sent_told false r = refl
 
 -- and the receiver has told its duplicates, and no SACK waits
 pub sack_left : (e : EndView) (m : Marks) → m.sack ≡ true → e.due.sack ≡ true → once_built SackSlot (drafted m e) ≡ drafted (record m { sack = false }) e
 sack_left e m due was =
     let same : receiver_left e.due.sack m.sack e.receiver ≡ e.receiver = before_sack e.due.sack m.sack e.receiver due in
-    let after : sack_sent (receiver_left e.due.sack m.sack e.receiver) ≡ receiver_left e.due.sack false e.receiver =
-    ap sack_sent same ∙ sym (ap (λ (b : Bool). receiver_left b false e.receiver) was) in
+    let after : sack_sent (answers_left m.answers (receiver_left e.due.sack m.sack e.receiver)) ≡ answers_left m.answers (receiver_left e.due.sack false e.receiver) =
+    ap (λ (r : ReceiverView). sack_sent (answers_left m.answers r)) same ∙ (sent_told m.answers e.receiver ∙ sym (ap (λ (b : Bool). answers_left m.answers (receiver_left b false e.receiver)) was)) in
     let gone : None ≡ delayed_left e.due.sack false e.delayed = sym (ap (λ (b : Bool). delayed_left b false e.delayed) was) in
     ap (λ (r : ReceiverView). record (drafted (record m { sack = false }) e) { delayed = None; receiver = r }) after
     ∙ ap (λ (n : Option ℕ). record (drafted (record m { sack = false }) e) { delayed = n }) gone

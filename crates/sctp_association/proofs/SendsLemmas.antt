@@ -9,6 +9,7 @@ use Rattle.sctp_model.specs.messages.Framing.{forward_chunk}
 use Rattle.sctp_model.specs.sender.SentChunks.{forward_said, forward_end}
 use Rattle.sctp_model.specs.end.EndView.{EndView, format_of}
 use Rattle.sctp_model.specs.end.Building.{Slot, Wants, EchoCookie, AckCookie, AckHeartbeat, ReportCauses, Acknowledge, PassOn, AnswerReset, AskReset, SayShutdown, AnswerShutdown, once_built, Puts, NoMore, NotDue, Put, IsFull, filled_behind, fragments}
+use Rattle.sctp_model.specs.end.Reconfiguring.{asking}
 use Rattle.sctp_model.specs.end.Wearing.{missed_below}
 use Rattle.sctp_send.specs.FillAnswers.{sendings_of}
 use Rattle.sctp_send.specs.declared.fill.Filled.{Filled}
@@ -55,5 +56,8 @@ sends_none e zs x control none = subst (Sends e zs) (sym none.sendings) (SendsNo
 pub sends_nothing : (e : EndView) (zs : List ChunkMeaning) (x : Filled) → zs ≡ [] → FillsNone x → Sends e zs x.sendings
 sends_nothing e zs x empty none = subst (λ (ys : List ChunkMeaning). Sends e ys x.sendings) (sym empty) (sends_none e [] x (All-nil IsControl) none)
 
-pub sends_behind : (e : EndView) (zs cs : List ChunkMeaning) (x : Sendings) → All IsControl zs → cs ≡ zs ++ fragments e zs → x ≡ sendings_of (missed_below e.pace) (filled_behind e zs).wishes → Sends e cs x
-sends_behind e zs cs x control chunks is = subst (λ (ys : List ChunkMeaning). Sends e ys x) (sym chunks) (subst (Sends e (zs ++ fragments e zs)) (sym is) (SendsBehind zs control))
+pub sends_behind : (e : EndView) (zs cs : List ChunkMeaning) (x : Sendings) → asking e ≡ e → All IsControl zs → cs ≡ zs ++ fragments e zs → x ≡ sendings_of (missed_below e.pace) (filled_behind e zs).wishes → Sends e cs x
+sends_behind e zs cs x asked control chunks is =
+    let here : Sends e (zs ++ fragments e zs) (sendings_of (missed_below e.pace) (filled_behind e zs).wishes) =
+    subst (λ (y : EndView). Sends e (zs ++ fragments y zs) (sendings_of (missed_below e.pace) (filled_behind y zs).wishes)) asked (SendsBehind zs control) in
+    subst (λ (ys : List ChunkMeaning). Sends e ys x) (sym chunks) (subst (Sends e (zs ++ fragments e zs)) (sym is) here)

@@ -5,6 +5,7 @@ use Rattle.sctp_model.specs.sender.SenderView.{SenderView}
 use Rattle.sctp_model.specs.sender.Filling.{newly_numbered}
 use Rattle.sctp_model.specs.receiver.ReceiverView.{ReceiverView}
 use Rattle.sctp_model.specs.receiver.SackMade.{sack_sent}
+use Rattle.sctp_model.specs.receiver.ResetTaken.{with_answers}
 use Rattle.sctp_model.specs.end.EndView.{Configuration, EndView, format_of}
 use Rattle.sctp_model.specs.end.EndView as model
 use Rattle.sctp_model.specs.end.Pacing.{Pace}
@@ -12,6 +13,7 @@ use Rattle.sctp_model.specs.end.Building.{Slot, Puts, Builds, tag_to}
 use Rattle.sctp_packet.specs.Draft.{Draft}
 use Rattle.sctp_send.specs.declared.fill.Filled.{Filled}
 use Rattle.sctp_association.specs.StartsMean.{starts_at, started_from}
+use Rattle.sctp_association.specs.Asks.{asks}
 use Rattle.sctp_association.specs.DueStands.{DueStands}
 use Rattle.sctp_association.specs.TrafficStands.{TrafficStands}
 use Rattle.sctp_association.specs.Sends.{Sends}
@@ -38,6 +40,11 @@ receiver_left true false r = sack_sent r
 receiver_left true true r = r
 receiver_left false is_due r = r
 
+-- the receiver, unless its responses went out
+abbrev pub answers_left : Bool → ReceiverView → ReceiverView
+answers_left true r = r
+answers_left false r = with_answers r []
+
 -- the moment at which a SACK that waits is due: behind a SACK none waits
 abbrev pub delayed_left : (was_due is_due : Bool) → Option ℕ → Option ℕ
 delayed_left true false m = None
@@ -54,6 +61,7 @@ due_left m d = record d {
   causes = causes_left m.causes d.causes;
   sack = m.sack;
   forward = m.forward;
+  request = m.request;
   shutdown = m.shutdown;
   shutdown_ack = m.shutdown_ack;
 }
@@ -64,7 +72,7 @@ drafted m e = record e {
   due = due_left m e.due;
   timers = started_from (starts_at m.starts) e.moment e.timers;
   delayed = delayed_left e.due.sack m.sack e.delayed;
-  receiver = receiver_left e.due.sack m.sack e.receiver;
+  receiver = answers_left m.answers (receiver_left e.due.sack m.sack e.receiver);
 }
 
 -- ---- the packet
@@ -112,19 +120,11 @@ pub record IsPacked (e : EndView) (s : SenderView) (o : Option Pace) (p : Packin
   pub tickets_are : map (λ t. t.0) filled.tickets.items ≡ newly_numbered e.sender s
   pub sendings : Sends e p.writer.chunks filled.sendings
 
--- ---- what this crate leaves out
-
--- No stream is reset: nothing is due for that.
-pub record IsQuiet (e : EndView) : Type 0 where
-  pub reset : e.terms.reset ≡ false
-  pub request : e.due.request ≡ false
-  pub answers : e.receiver.resets.answers ≡ []
-
 -- ---- where the chunks come from
 
--- All that a packet is made of while the association is open stands for its part of the end.
+-- All that a packet is made of while the association is open stands for its part of the end, which makes no request any more.
 pub record IsPartOf (config : Configuration) (traffic : Traffic) (due : Due) (e : EndView) : Type 0 where
   pub configured : config ≡ e.configuration
   pub due_stands : DueStands due e.due
   pub traffic_stands : TrafficStands traffic (format_of e) e.sender e.receiver
-  pub quiet : IsQuiet e
+  pub unasked : asks e ≡ false

@@ -1,5 +1,5 @@
 -- What is due, as an end's view says it (RFC 9260, 6.10).
-use Rattle.std.specs.Prelude.{◌≡◌, ℕ, false, List, option_map}
+use Rattle.std.specs.Prelude.{◌≡◌, ℕ, List, option_map}
 use Rattle.sctp_model.specs.wire.Typed.{WritesTyped}
 use Rattle.sctp_model.specs.end.EndView as model
 use Rattle.sctp_association.specs.declared.state.carried.HeartbeatInfo.{HeartbeatInfo}
@@ -9,7 +9,7 @@ use Rattle.sctp_association.specs.declared.state.due.Due.{Due}
 abbrev pub info_bytes : HeartbeatInfo → List ℕ
 info_bytes h = h.bytes.items
 
--- Each flag is the view's; the causes are kept as they are written in an ERROR (3.3.10). No request to reset streams is due.
+-- Each flag is the view's; the causes are kept as they are written in an ERROR (3.3.10).
 pub record DueStands (d : Due) (m : model.Due) : Type 0 where
   pub init : d.init ≡ m.init
   pub cookie_echo : d.cookie_echo ≡ m.cookie_echo
@@ -18,6 +18,6 @@ pub record DueStands (d : Due) (m : model.Due) : Type 0 where
   pub causes : WritesTyped d.causes.bytes.items m.causes
   pub sack : d.sack ≡ m.sack
   pub forward : d.forward ≡ m.forward
-  pub request : m.request ≡ false
+  pub request : d.request ≡ m.request
   pub shutdown : d.shutdown ≡ m.shutdown
   pub shutdown_ack : d.shutdown_ack ≡ m.shutdown_ack

@@ -30,12 +30,12 @@ pub record IsUnjoined (c : Configuration) (t : Terms) (s : SenderView) (r : Rece
   pub sender : s ≡ fresh_sender 0 0 c.fragment 0 false
   pub receiver : r ≡ fresh_receiver 0 0 c.buffer
 
--- An association has its terms, and its traffic goes on in the format agreed on, with the receive buffer that the end is set up with. No answer to a request to reset streams waits.
+-- An association has its terms, and its traffic goes on in the format agreed on, with the receive buffer that the end is set up with. Without stream reset no response waits.
 pub record IsJoined (a : Association) (c : Configuration) (t : Terms) (s : SenderView) (r : ReceiverView) : Type 0 where
   pub terms : terms_meaning a.terms ≡ t
   pub traffic : TrafficStands a.traffic (format_for t.interleave) s r
   pub buffer : r.buffer ≡ c.buffer
-  pub answers : r.resets.answers ≡ []
+  pub answers : t.reset ≡ false → r.resets.answers ≡ []
 
 -- What stands for terms, sender and receiver: a relation of these parts, so that a change of the others leaves it as it is.
 abbrev pub LifeStands : Life → Configuration → Terms → SenderView → ReceiverView → Type 0

@@ -4,6 +4,7 @@ use Rattle.std.specs.List.{All}
 use Rattle.sctp_model.specs.wire.Chunk.{ChunkMeaning, Data, IData, Init, InitAck, Sack, Heartbeat, HeartbeatAck, Abort, Shutdown, ShutdownAck, Error, CookieEcho, CookieAck, ShutdownComplete, ForwardTsn, IForwardTsn, Unknown}
 use Rattle.sctp_model.specs.end.EndView.{EndView}
 use Rattle.sctp_model.specs.end.Building.{filled_behind, fragments}
+use Rattle.sctp_model.specs.end.Reconfiguring.{asking}
 use Rattle.sctp_model.specs.end.Wearing.{missed_below}
 use Rattle.sctp_send.specs.FillAnswers.{sendings_of}
 use Rattle.sctp_send.specs.declared.fill.Filled.{Filled}
@@ -43,7 +44,9 @@ pub record FillsNone (x : Filled) : Type 0 where
   pub sendings : x.sendings ≡ none_sent
 
 -- The sendings of these chunks, which are built by this end: none where they are control chunks alone; else those of what fills the packet behind its
--- control chunks. What has an index below that below which all was missed three times is fast retransmitted (RFC 9260, 7.2.4).
+-- control chunks, once it has made its request to reset streams. What has an index below that below which all was missed three times is fast retransmitted
+-- (RFC 9260, 7.2.4).
 pub data Sends (e : EndView) : List ChunkMeaning → Sendings → Type 0 where
   SendsNone : (zs : List ChunkMeaning) → All IsControl zs → Sends e zs none_sent
-  SendsBehind : (zs : List ChunkMeaning) → All IsControl zs → Sends e (zs ++ fragments e zs) (sendings_of (missed_below e.pace) (filled_behind e zs).wishes)
+  SendsBehind : (zs : List ChunkMeaning) → All IsControl zs
+      → Sends e (zs ++ fragments (asking e) zs) (sendings_of (missed_below e.pace) (filled_behind (asking e) zs).wishes)

@@ -11,7 +11,7 @@ starts_at s model.CookieAlarm = s.cookie
 starts_at s model.DataAlarm = s.fragments
 starts_at s model.ShutdownAlarm = s.shutdown
 starts_at s model.AckAlarm = s.shutdown_ack
-starts_at s model.ResetAlarm = false
+starts_at s model.ResetAlarm = s.reset
 
 -- this timer starts too
 abbrev pub with_start : model.Alarm → (model.Alarm → Bool) → model.Alarm → Bool

@@ -1,10 +1,9 @@
 -- What the timers of an end mean (RFC 9260, 6.3).
 use Rattle.std.specs.Prelude.{Bool, if◌then◌else◌}
 use Rattle.sctp_model.specs.end.EndView as model
-use Rattle.sctp_model.specs.end.EndView.{unused_timer}
 use Rattle.sctp_model.specs.end.Clock.{stopped}
 use Rattle.sctp_association.specs.declared.time.timer.Alarm.{Alarm}
-use Rattle.sctp_association.specs.declared.time.timer.Alarm.TheVariants.{Init, Cookie, Fragments, Shutdown, ShutdownAck}
+use Rattle.sctp_association.specs.declared.time.timer.Alarm.TheVariants.{Init, Cookie, Fragments, Shutdown, ShutdownAck, Reset}
 use Rattle.sctp_association.specs.declared.time.timer.Timer.{Timer}
 use Rattle.sctp_association.specs.declared.time.timers.Timers.{Timers}
 
@@ -15,19 +14,20 @@ alarm_meaning Cookie = model.CookieAlarm
 alarm_meaning Fragments = model.DataAlarm
 alarm_meaning Shutdown = model.ShutdownAlarm
 alarm_meaning ShutdownAck = model.AckAlarm
+alarm_meaning Reset = model.ResetAlarm
 
 -- one timer
 abbrev pub timer_meaning : Timer → model.Timer
 timer_meaning t = record { wait = t.wait; repeats = t.repeats; expiry = t.expiry }
 
--- all five, as a function of which; that of a request to reset streams never ran
+-- all six, as a function of which
 abbrev pub timers_meaning : Timers → model.Alarm → model.Timer
 timers_meaning t model.InitAlarm = timer_meaning t.init
 timers_meaning t model.CookieAlarm = timer_meaning t.cookie
 timers_meaning t model.DataAlarm = timer_meaning t.fragments
 timers_meaning t model.ShutdownAlarm = timer_meaning t.shutdown
 timers_meaning t model.AckAlarm = timer_meaning t.shutdown_ack
-timers_meaning t model.ResetAlarm = unused_timer
+timers_meaning t model.ResetAlarm = timer_meaning t.reset
 
 -- a timer that is wanted goes on, another rests (6.3.2)
 abbrev pub kept_if : Bool → model.Timer → model.Timer

@@ -1,28 +1,28 @@
 //! The next packet of an endpoint (RFC 9260, 5.1, 6.10 and 9.2): first all its chunks are put in, which alone may allocate; then the state of the
 //! endpoint changes as these chunks say.
 
+pub mod asking;
 pub mod filling;
 pub mod pacing;
 pub mod packing;
 pub mod plain;
 pub mod putting;
+pub mod reconfiguring;
 pub mod replying;
 
-ghost use Rattle.std.specs.Prelude.{◌≡◌, ◌≤◌, ℕ, [], length, None, IfOk, OnErr, IfSome, MatchOption};
+ghost use Rattle.std.specs.Prelude.{◌≡◌, false, None, IfOk, OnErr};
 ghost use Rattle.sctp_model.specs.messages.Format.{Format};
 ghost use Rattle.sctp_model.specs.sender.SenderView.{SenderView};
 ghost use Rattle.sctp_model.specs.receiver.ReceiverView.{ReceiverView};
-ghost use Rattle.sctp_model.specs.wire.Packet.{size_of_packet};
 ghost use Rattle.sctp_model.specs.end.EndView.{EndView, format_of};
 ghost use Rattle.sctp_model.specs.end.EndView as model;
 ghost use Rattle.sctp_model.specs.end.Clock.{at_moment};
-ghost use Rattle.sctp_packet.specs.Draft.{packet_of};
-ghost use Rattle.sctp_packet.specs.PacketBytes.{WritesPacket};
 ghost use Rattle.sctp_association.specs.PhaseMeans.{phase_in, phase_unjoined};
+ghost use Rattle.sctp_association.specs.Asks.{asks};
 ghost use Rattle.sctp_association.specs.DueStands.{DueStands};
 ghost use Rattle.sctp_association.specs.TrafficStands.{TrafficStands};
 ghost use Rattle.sctp_association.specs.MachineStands.{MachineStands};
-ghost use Rattle.sctp_association.specs.Drafted.{drafted, IsEmpty, IsPacked, IsPartOf};
+ghost use Rattle.sctp_association.specs.Drafted.{IsEmpty, IsPacked, IsPartOf};
 ghost use Rattle.sctp_association.specs.BuildAnswers.{BuildAnswer};
 
 use crate::build::filling::{fill_behind, filled_none};
@@ -77,6 +77,25 @@ impl Machine {
         ensures built { (v : EndView) → MachineStands self.old v → IfOk result (λ built. BuildAnswer (record v { moment = moment }) built self.new) }
         ensures memory { (v : EndView) → MachineStands self.old v → OnErr result (MachineStands self.new v) }
     {
+        let was_due = self.due.request;
+        let asked = self.ask()?;
+        match self.build_asked(moment) {
+            Ok(built) => Ok(built),
+            Err(failed) => {
+                self.take_back(asked, was_due);
+                Err(failed)
+            }
+        }
+    }
+
+    /// The next packet at this time, which isn't before the latest one, of an endpoint that makes no request to reset streams any more.
+    ///
+    /// # Errors
+    /// `NoMemory` if an allocation was refused; nothing changed then.
+    fn build_asked(&mut self, moment: u64) -> Result<Option<Built>, NoMemory>
+        ensures built { (v : EndView) → MachineStands self.old v → asks v ≡ false → IfOk result (λ built. BuildAnswer (record v { moment = moment }) built self.new) }
+        ensures memory { (v : EndView) → MachineStands self.old v → OnErr result (MachineStands self.new v) }
+    {
         self.keep_forward();
         let mut packing = self.packing();
         let filled = self.pack(moment, &mut packing)?;
@@ -89,7 +108,7 @@ impl Machine {
     /// # Errors
     /// `NoMemory` if an allocation was refused.
     fn pack(&mut self, moment: u64, packing: &mut Packing) -> Result<Filled, NoMemory>
-        ensures packed { (v : EndView) → MachineStands self.old v → IsEmpty (record v { moment = moment }) packing.old
+        ensures packed { (v : EndView) → MachineStands self.old v → asks v ≡ false → IsEmpty (record v { moment = moment }) packing.old
             → IfOk result (λ filled. (s : SenderView) × IsPacked (record v { moment = moment }) s self.new.pace packing.new filled
             × MachineStands self.new (record v { sender = s; pace = self.new.pace })) }
         ensures memory { (v : EndView) → MachineStands self.old v → OnErr result (MachineStands self.new v) }
@@ -110,22 +129,6 @@ impl Machine {
                 )
             }
         }
-    }
-
-    /// The packet goes out, if it has a chunk: its chunks are no longer due, and their timers start.
-    fn sent(&mut self, moment: u64, packing: Packing, filled: Filled) -> Option<Built>
-        ensures stands { (v : EndView) → MachineStands self.old v → MachineStands self.new (drafted packing.marks (record v { moment = moment })) }
-        ensures packet { MatchOption result (packing.writer.chunks ≡ []) (λ b. WritesPacket b.packet.items (packet_of packing.writer)) }
-        ensures size { IfSome result (λ b. length b.packet.items ≡ size_of_packet packing.writer.chunks) }
-        ensures within { IfSome result (λ b. length b.packet.items ≤ packing.writer.limit) }
-        ensures tickets { IfSome result (λ b. b.tickets ≡ filled.tickets) }
-        ensures sendings { IfSome result (λ b. b.sendings ≡ filled.sendings) }
-    {
-        self.moment = moment;
-        self.when_sack_sent(self.due.sack, packing.marks.sack);
-        self.timers.start_all(packing.marks.starts, moment);
-        self.due.leave(self.alloc, packing.marks);
-        self.finished(packing.writer, filled)
     }
 }
 
@@ -229,7 +232,7 @@ fn pack_open(
     ensures unchanged { OnErr result (pace.new ≡ pace.old) }
     ensures unpaced { pace.old ≡ None → pace.new ≡ None }
 {
-    if !put_open(config, traffic, due, packing)? {
+    if !put_open(alloc, config, traffic, due, packing)? {
         return Ok(filled_none(alloc));
     }
     fill_behind(alloc, traffic, pace, moment, packing)

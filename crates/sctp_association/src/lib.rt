@@ -18,9 +18,11 @@
 //! - **Received chunks.** User data and FORWARD-TSN are processed as the receiver's contract says, an invalid stream is reported (`hear_piece`,
 //!   `hear_forward`). A SACK and the cumulative TSN of a SHUTDOWN are refused for their first fault, or acknowledge, with what that does to the data
 //!   timer and to a FORWARD-TSN that is due (`hear_sack`, `hear_shutdown`). A HEARTBEAT whose value fits a packet, and a SHUTDOWN, are answered (`hear_heartbeat`,
-//!   `answer_shutdown`, `repeat_shutdown_ack`); `abort_with` and `complete` close the endpoint with an ABORT or a SHUTDOWN COMPLETE. A RE-CONFIG acts if
-//!   stream reset was agreed on (`takes_reconfig`, `hear_reconfig`); no endpoint agrees on resets yet: these calls have their final contracts, and change
-//!   nothing.
+//!   `answer_shutdown`, `repeat_shutdown_ack`); `abort_with` and `complete` close the endpoint with an ABORT or a SHUTDOWN COMPLETE.
+//! - **Stream reset** (RFC 6525, 5). An endpoint that agreed on it resets its outgoing streams (`reset`), makes a request as soon as one is ready, and
+//!   retransmits it until its response arrives (`build`, `on_moment`). A RE-CONFIG acts where stream reset was agreed on and user data is taken: its
+//!   requests at the receiver, its responses at the sender, as one after the other would (`takes_reconfig`, `hear_reconfig`). Each stream that
+//!   the peer reset is reported to the user once (`take_reset`).
 //! - **Pace** (RFC 9260, 6.3.1 and 7.2). An endpoint that is set up for fast retransmit measures round trips, that of
 //!   the handshake first (`begin`, `establish`), and computes the RTO of the data timer from them; what an acknowledgement misses for the third time is
 //!   marked for retransmission (`hear_sack`, `hear_shutdown`), and at a packet's end what was missed and may not be retransmitted again is given up
@@ -41,15 +43,17 @@
 //!   data after them. There is a packet exactly if the specification's has a chunk; its bytes are that packet, within the packet limit, and its tickets
 //!   those of the messages that were assigned TSNs, by first TSN; how many of its DATA and I-DATA chunks are sent for the first time, after an expiry of the
 //!   data timer, and by fast retransmission, it says too (`Sends`). Chunks that went in are no longer due, their timers run, and a SACK's duplicates are
-//!   forgotten. What doesn't fit stays due, and nothing goes out after it. User data goes out at one place: `fill_rest`.
+//!   forgotten, as are the responses of a RE-CONFIG. What doesn't fit stays due, and nothing goes out after it. User data goes out at one place:
+//!   `fill_rest`. A request to reset streams is made first, once it may be, and is undone if the packet can't be built.
 //! - **The parts.** What the sender and the receiver do in the format agreed on is the step of both views (`Traffic`: every call); what is due changes as
 //!   the view's does (`Due`: every call, `DueStands`).
 //! - **Every packet** that an endpoint returns is within its packet limit (clauses `within`; `build`).
-//! - **The user's calls** are refused exactly as specified: `connect`, `send`, `send_with_max_retransmits`, `abandon`, `shutdown`, `abort`, `take`.
+//! - **The user's calls** are refused exactly as specified: `connect`, `send`, `send_with_max_retransmits`, `abandon`, `shutdown`, `reset`,
+//!   `abort`, `take`.
 //! - **Readers** return what the view says, before, in and after an association: `state`, `ended`, `config`, `agreed` (None exactly if no stream is agreed
 //!   on), `tickets`, `waiting`, `readable`, `inbound`, `outbound`, `is_interleaved`, `is_partial`, `has_late`, `next_late`, `next_to_give_up`,
 //!   `next_at_limit`, `acknowledged`, `abandoned`, `abandoned_messages`, `owes_sack`, `queued`, `queued_bytes`, `peer_window`, `held_bytes`,
-//!   `outstanding`.
+//!   `outstanding`, `is_resetting`, `resetting_streams`.
 //! - **Bounds.** Received bytes that aren't taken never exceed the receive buffer (`held_bytes`, `bound`); at most 32,767 TSNs and partly sent messages are
 //!   outstanding (`outstanding`, `bound`).
 //! - **Laws of every view** that an endpoint stands for (their functions do nothing): it is sound (`sound`), its sender's view is one that a

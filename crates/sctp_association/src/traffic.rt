@@ -4,6 +4,7 @@ pub mod acknowledging;
 pub mod pacing;
 pub mod parts;
 pub mod receiving;
+pub mod resetting;
 pub mod sending;
 
 ghost use Rattle.std.specs.Prelude.{◌≡◌, ◌<◌, ◌≤◌, true, false, Some, None, IfOk, MatchOption, slice_get};

@@ -5,5 +5,6 @@ pub mod agreed;
 pub mod calls;
 pub mod path;
 pub mod readers;
+pub mod resetting;
 pub mod rooms;
 pub mod status;

@@ -1,5 +1,5 @@
 -- What C passes in, in the words of the definitions.
-use Rattle.std.specs.Prelude.{◌≡◌, ℕ, ◌<◌, ◌⊎◌, ◌+◌, ◌==◌, ◌&&◌, ◌||◌, if◌then◌else◌, Bool, true, false, List, [], ◌∷◌, Option, Some, None}
+use Rattle.std.specs.Prelude.{◌≡◌, ℕ, ◌<◌, ◌⊎◌, ◌+◌, ◌==◌, nat_le, bit_and, not, ◌&&◌, ◌||◌, if◌then◌else◌, Bool, true, false, List, [], ◌∷◌, Option, Some, None}
 use Rattle.sctp_model.specs.end.EndView.{Configuration, Draw}
 use Rattle.sctp_model.specs.end.Configured.{ConfigurationFault, configuration_fault}
 use Rattle.sctp_model.specs.numbers.Limits.{LEAST_WAIT}
@@ -8,17 +8,25 @@ use Rattle.sctp_c.specs.declared.codes.TheConstants.{OK, NO_MEMORY, MISUSE, BAD_
 use Rattle.sctp_c.specs.declared.crossing.SctpConfig.{SctpConfig}
 use Rattle.sctp_c.specs.declared.crossing.SctpDraw.{SctpDraw}
 
--- of the flags, 1 is fast retransmission, and 2 congestion control, which brings it
+-- of the flags, 1 is fast retransmission, 2 congestion control, which brings it, and 4 stream reset
+abbrev pub has_flag : (flag flags : ℕ) → Bool
+has_flag flag flags = not (bit_and flags flag == 0)
+
+-- congestion control is asked for
 abbrev pub has_control : ℕ → Bool
-has_control flags = (flags == 2) || (flags == 3)
+has_control flags = has_flag 2 flags
 
 -- fast retransmission is asked for, by its own flag or by congestion control's
 abbrev pub has_fast : ℕ → Bool
-has_fast flags = has_control flags || (flags == 1)
+has_fast flags = has_control flags || has_flag 1 flags
+
+-- stream reset is asked for
+abbrev pub has_reset : ℕ → Bool
+has_reset flags = has_flag 4 flags
 
 -- no other flag is set
 abbrev pub are_flags : ℕ → Bool
-are_flags flags = has_fast flags || (flags == 0)
+are_flags flags = nat_le flags 7
 
 -- RTO.Min in milliseconds
 abbrev pub least_of : ℕ → ℕ
@@ -41,7 +49,7 @@ asked_by c = record {
   fast_retransmit = has_fast c.flags;
   least_wait = least_of c.rto_min;
   congestion_control = has_control c.flags;
-  reset = false;
+  reset = has_reset c.flags;
 }
 
 -- the draw of these numbers: a tag and a first TSN

@@ -1,11 +1,13 @@
 -- The numbers that C gets: results of calls, fates, states, ends.
-use Rattle.std.specs.Prelude.{◌≡◌, ℕ, ◌⊎◌, ◌-◌, ◌^◌, ◌==◌, if◌then◌else◌, Option, Some, None}
+use Rattle.std.specs.Prelude.{◌≡◌, ℕ, ◌⊎◌, ◌-◌, ◌^◌, ◌==◌, if◌then◌else◌, Option, Some, None, Result, Ok, Err}
 use Rattle.sctp_model.specs.sender.Queueing as queueing
 use Rattle.sctp_model.specs.sender.Abandoning as abandoning
 use Rattle.sctp_model.specs.end.EndView as view
 use Rattle.sctp_model.specs.end.UserCalls as calls
 use Rattle.sctp_association.specs.declared.user.calls.Refused.{Refused}
 use Rattle.sctp_association.specs.declared.user.calls.Refused.TheVariants.{NotOpen, Fault}
+use Rattle.sctp_terms.specs.declared.calls.ResetFault.{ResetFault}
+use Rattle.sctp_terms.specs.declared.calls.ResetFault.TheVariants as reset
 use Rattle.sctp_send.specs.declared.queueing.SendFault.{SendFault}
 use Rattle.sctp_send.specs.declared.queueing.SendFault.TheVariants as fault
 use Rattle.sctp_c.specs.declared.codes.TheConstants.{OK, NO_SUCH_STREAM, EMPTY, TOO_LONG, QUEUE_FULL, RESETTING, SPENT, NO_MEMORY, NOT_OPEN, BAD_STATE}
@@ -36,6 +38,13 @@ connect_code calls.NotIdle = BAD_STATE
 abbrev pub shutdown_code : calls.ShutdownAnswer → ℕ
 shutdown_code calls.Shut = OK
 shutdown_code calls.NotShut = NOT_OPEN
+
+-- the result of reset
+abbrev pub reset_code : Result (Unit {0}) ResetFault → ℕ
+reset_code (Ok done) = OK
+reset_code (Err reset.State) = BAD_STATE
+reset_code (Err reset.NoSuchStream) = NO_SUCH_STREAM
+reset_code (Err reset.NoMemory) = NO_MEMORY
 
 -- why a message is refused
 abbrev pub refusal_code : queueing.Refusal → ℕ

@@ -6,6 +6,7 @@ use Rattle.sctp_model.specs.receiver.ReceiverView.{held_bytes, size_of_pieces}
 use Rattle.sctp_model.specs.end.EndView.{EndView, state_of, ended_of}
 use Rattle.sctp_model.specs.end.Moments.{next_moment}
 use Rattle.sctp_send.specs.Waiting.{queued_bytes}
+use Rattle.sctp_send.specs.ResetAnswers.{resetting_streams}
 use Rattle.sctp_c.specs.Codes.{moment_code, state_number, ended_number}
 use Rattle.sctp_c.specs.declared.status.SctpStatus.{SctpStatus}
 
@@ -25,7 +26,8 @@ pub record IsStatus (s : SctpStatus) (v : EndView) : Type 0 where
   pub interleaved : s.interleaved ≡ v.terms.interleave
   pub partial : s.partial ≡ v.terms.partial
   pub reassembly : s.reassembly_bytes ≡ size_of_pieces v.receiver.kept
-  pub reserved : s.reserved ≡ 0 ∷ 0 ∷ 0 ∷ []
+  pub resetting : s.resetting ≡ resetting_streams v.sender
+  pub reserved : s.reserved ≡ 0 ∷ 0 ∷ []
 
 -- and none of these is larger: TSNs outstanding, messages queued and their bytes, and bytes received and not taken
 pub record IsWithin (s : SctpStatus) (v : EndView) : Type 0 where

@@ -15,8 +15,11 @@ use Rattle.sctp_values.specs.declared.ticket.Ticket.{Ticket}
 use Rattle.sctp_terms.specs.Meanings.{reason_code}
 use Rattle.sctp_terms.specs.declared.calls.AbortFault.{AbortFault}
 use Rattle.sctp_terms.specs.declared.calls.AbortFault.TheVariants as abort
+use Rattle.sctp_terms.specs.declared.calls.ResetFault.{ResetFault}
+use Rattle.sctp_recv.specs.declared.restart.Reset.{Reset}
 use Rattle.sctp_association.specs.AbortAnswers.{AbortAnswers, aborted_view}
 use Rattle.sctp_association.specs.CallAnswers.{SendAnswers, sent_view}
+use Rattle.sctp_association.specs.ResetAnswers.{ResetAnswers, reset_view, ToldAnswers, told_view}
 use Rattle.sctp_association.specs.declared.user.calls.Refused.{Refused}
 use Rattle.sctp_endpoint.specs.Counted.{Counted, heard_counts, sacks_read, aborted_counts}
 use Rattle.sctp_endpoint.specs.Logs.{TellsAnew}
@@ -24,7 +27,7 @@ use Rattle.sctp_endpoint.specs.declared.after.Verdict.{Verdict}
 use Rattle.sctp_endpoint.specs.declared.after.Verdict.TheVariants.{Taken, Dropped, Answer}
 use Rattle.sctp_endpoint.specs.declared.transmit.Sent.{Sent}
 use Rattle.sctp_endpoint.specs.declared.endpoint.Endpoint.{Endpoint}
-use Rattle.sctp_c.specs.Codes.{refused_code}
+use Rattle.sctp_c.specs.Codes.{refused_code, reset_code}
 use Rattle.sctp_c.specs.Counts.{counted_in, CountsIn}
 use Rattle.sctp_c.specs.Holds.{Holds, TransmitsIn, HandledIn, SendsNotes, GivesNotes, TakesNote}
 use Rattle.sctp_c.specs.declared.codes.TheConstants.{OK, TOO_LONG, NO_MEMORY, BAD_STATE, NOTHING, NEEDS_ROOM}
@@ -126,6 +129,27 @@ pub record Sends (v : EndView) (c : Call) (e : Option Endpoint) (code ticket : �
   pub step : Holds e (sent_view v c answer)
   pub notes : GivesNotes v answer e
   pub told : SendTold answer code ticket
+
+-- ---- resets
+
+-- The endpoint returned this to a request for a reset, C gets it, and the endpoint is left so.
+pub record Resets (v : EndView) (stream : ℕ) (e : Option Endpoint) (code : ℕ) : Type 0 where
+  pub answer : Result (Unit {0}) ResetFault
+  pub answers : ResetAnswers v stream answer
+  pub step : Holds e (reset_view v stream answer)
+  pub told : code ≡ reset_code answer
+
+-- what C gets of a reset by the peer: if there is none, both numbers are as they were
+abbrev pub ResetTold : Option Reset → (code stream_old stream earlier_old earlier : ℕ) → Type 0
+ResetTold None n stream_old stream earlier_old earlier = (n ≡ NOTHING) × (stream ≡ stream_old) × (earlier ≡ earlier_old)
+ResetTold (Some r) n stream_old stream earlier_old earlier = (n ≡ OK) × (stream ≡ r.stream) × (earlier ≡ r.count)
+
+-- The endpoint returned this reset by the peer, or that there is none, C gets it, and the endpoint is left so.
+pub record TakesReset (v : EndView) (e : Option Endpoint) (code stream_old stream earlier_old earlier : ℕ) : Type 0 where
+  pub answer : Option Reset
+  pub answers : ToldAnswers v answer
+  pub step : Holds e (told_view v answer)
+  pub told : ResetTold answer code stream_old stream earlier_old earlier
 
 -- ---- a message that is ready or was taken
 

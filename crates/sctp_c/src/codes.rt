@@ -30,7 +30,7 @@ pub(crate) const MISUSE: u32 = 11;
 pub(crate) const BAD_DRAW: u32 = 12;
 /// A reserved number isn't 0.
 pub(crate) const BAD_RESERVED: u32 = 13;
-/// The stream is being reset (RFC 6525, 5.1.2). No call resets one.
+/// The stream is being reset (RFC 6525, 5.1.2), or the peer refused that.
 pub(crate) const RESETTING: u32 = 14;
 /// What the first fault of a configuration is counted from: 21 to 25.
 pub(crate) const BAD_CONFIG: u32 = 20;
@@ -46,6 +46,9 @@ pub(crate) const DROPPED: u32 = 2;
 pub(crate) const FAST_RETRANSMIT: u32 = 1;
 /// Flag of a configuration: congestion control, which brings fast retransmission (RFC 9260, 7.2).
 pub(crate) const CONGESTION_CONTROL: u32 = 2;
+
+/// Flag of a configuration: stream reset (RFC 6525).
+pub(crate) const STREAM_RESET: u32 = 4;
 
 /// Flag of a path: it has an RTO.
 pub(crate) const PATH_RTO: u32 = 1;
@@ -88,6 +91,7 @@ pub fn verdict_numbers()
 pub fn flag_numbers()
     ensures fast { FAST_RETRANSMIT ≡ 1 }
     ensures control { CONGESTION_CONTROL ≡ 2 }
+    ensures reset { STREAM_RESET ≡ 4 }
     ensures rto { PATH_RTO ≡ 1 }
     ensures trip { PATH_TRIP ≡ 2 }
     ensures window { PATH_WINDOW ≡ 4 }

@@ -4,9 +4,9 @@ ghost use Rattle.std.specs.Prelude.{◌≡◌, ◌+◌, ◌==◌, ◌&&◌, Some
 ghost use Rattle.sctp_model.specs.end.Configured.{configuration_fault};
 ghost use Rattle.sctp_model.specs.numbers.Limits.{LEAST_WAIT};
 ghost use Rattle.sctp_terms.specs.Meanings.{config_fault_meaning, config_code};
-ghost use Rattle.sctp_c.specs.Asked.{asked_by, is_zeroed, has_control, has_fast, are_flags, is_free, least_of};
+ghost use Rattle.sctp_c.specs.Asked.{asked_by, is_zeroed, has_control, has_fast, has_reset, are_flags, is_free, least_of};
 
-use crate::codes::{BAD_CONFIG, CONGESTION_CONTROL, FAST_RETRANSMIT};
+use crate::codes::{BAD_CONFIG, CONGESTION_CONTROL, FAST_RETRANSMIT, STREAM_RESET};
 use crate::crossing::SctpConfig;
 use sctp_endpoint::{Config, ConfigFault};
 
@@ -22,21 +22,28 @@ pub(crate) fn is_zeroed(reserved: &[u32; 4]) -> bool
 fn has_control(flags: u32) -> bool
     ensures { result ≡ has_control flags }
 {
-    flags == CONGESTION_CONTROL || flags == CONGESTION_CONTROL + FAST_RETRANSMIT
+    flags & CONGESTION_CONTROL != 0
 }
 
 /// Whether flags have fast retransmit (RFC 9260, 7.2.4), which congestion control brings.
 fn has_fast(flags: u32) -> bool
     ensures { result ≡ has_fast flags }
 {
-    has_control(flags) || flags == FAST_RETRANSMIT
+    has_control(flags) || flags & FAST_RETRANSMIT != 0
+}
+
+/// Whether flags have stream reset (RFC 6525).
+fn has_reset(flags: u32) -> bool
+    ensures { result ≡ has_reset flags }
+{
+    flags & STREAM_RESET != 0
 }
 
 /// Whether each flag has a meaning.
 fn are_flags(flags: u32) -> bool
     ensures { result ≡ are_flags flags }
 {
-    has_fast(flags) || flags == 0
+    flags <= FAST_RETRANSMIT + CONGESTION_CONTROL + STREAM_RESET
 }
 
 /// Whether each flag of a configuration has a meaning, and its reserved numbers are 0.
@@ -67,6 +74,7 @@ pub(crate) fn config_of(asked: &SctpConfig) -> Result<Config, ConfigFault>
     let config = extended(config, asked.interleave, asked.partial);
     let config = closing(config, asked.delay, asked.standard_closing);
     let config = paced(config, asked.flags);
+    let config = resetting(config, asked.flags);
     Ok(waiting(config, asked.rto_min))
 }
 
@@ -109,6 +117,18 @@ fn paced(config: Config, flags: u32) -> Config
     }
     if has_fast(flags) {
         config.with_fast_retransmit()
+    } else {
+        config
+    }
+}
+
+/// The configuration that asks for stream reset if these flags do.
+fn resetting(config: Config, flags: u32) -> Config
+    requires { config.reset ≡ false }
+    ensures { result ≡ record config { reset = has_reset flags } }
+{
+    if has_reset(flags) {
+        config.with_reset()
     } else {
         config
     }

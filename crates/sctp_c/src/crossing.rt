@@ -26,7 +26,8 @@ pub struct SctpConfig {
     pub delay: bool,
     /// It closes by the RFC's timers (RFC 9260, 9.2).
     pub standard_closing: bool,
-    /// The sum of 1 for fast retransmit (RFC 9260, 7.2.4) and 2 for congestion control, which brings fast retransmit (RFC 9260, 7.2).
+    /// The sum of 1 for fast retransmit (RFC 9260, 7.2.4), 2 for congestion control, which brings fast retransmit (RFC 9260, 7.2), and 4 for stream
+    /// reset (RFC 6525).
     pub flags: u32,
     /// RTO.Min in milliseconds (RFC 9260, 6.3.1); 0 for 1,000.
     pub rto_min: u32,

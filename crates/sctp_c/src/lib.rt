@@ -26,6 +26,7 @@ mod names;
 mod packets;
 mod path;
 mod reading;
+mod resets;
 mod sending;
 mod slot;
 mod status;

@@ -4,6 +4,7 @@ ghost use Rattle.std.specs.Prelude.{◌≡◌, None, option_map};
 ghost use Rattle.sctp_model.specs.sender.Readers as sender;
 ghost use Rattle.sctp_model.specs.end.EndView.{EndView};
 ghost use Rattle.sctp_terms.specs.Meanings.{end_meaning, state_meaning};
+ghost use Rattle.sctp_send.specs.ResetAnswers.{resetting_streams};
 ghost use Rattle.sctp_endpoint.specs.EndpointStands.{EndpointStands};
 ghost use Rattle.sctp_c.specs.Holds.{Holds};
 ghost use Rattle.sctp_c.specs.Codes.{moment_code, state_number, ended_number};
@@ -12,6 +13,7 @@ ghost use Rattle.sctp_c.specs.Status.{IsStatus, IsWithin};
 use crate::codes::{MISUSE, OK};
 use crate::handle::SctpEndpoint;
 use sctp_endpoint::{End, Endpoint, State, Ticket};
+use sctp_values::small_len;
 
 /// The state of an endpoint, its counts and its next time.
 #[repr(C)]
@@ -46,8 +48,10 @@ pub struct SctpStatus {
     pub partial: bool,
     /// Of `held_bytes`, those that can't be taken yet: of messages of which fragments are missing, and of ordered ones after them.
     pub reassembly_bytes: u32,
+    /// The outgoing streams whose reset was asked for and isn't done.
+    pub resetting: u32,
     /// 0.
-    pub reserved: [u32; 3],
+    pub reserved: [u32; 2],
 }
 
 /// The number of a state.
@@ -91,6 +95,13 @@ fn moment_told(moment: Option<u64>) -> u64
     }
 }
 
+/// How many streams wait for their reset: at most 1,024.
+fn resetting_of(end: &Endpoint) -> u32
+    ensures { (v : EndView) → EndpointStands end.now v → result ≡ resetting_streams v.sender }
+{
+    small_len(end.resetting_streams())
+}
+
 /// The status of an endpoint.
 fn status_of(end: &Endpoint) -> SctpStatus
     ensures told { (v : EndView) → EndpointStands end.now v → IsStatus result v }
@@ -111,7 +122,8 @@ fn status_of(end: &Endpoint) -> SctpStatus
         interleaved: end.is_interleaved(),
         partial: end.is_partial(),
         reassembly_bytes: end.reassembly_bytes(),
-        reserved: [0; 3],
+        resetting: resetting_of(end),
+        reserved: [0; 2],
     }
 }
 

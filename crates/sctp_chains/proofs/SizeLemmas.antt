@@ -1,5 +1,5 @@
 -- The bytes of parts, one part more at a time.
-use Rattle.std.proofs.Common.{◌≡◌, ℕ, zero, suc, ◌+◌, ◌-◌, ◌<◌, List, [], ◌∷◌, ◌++◌, length, get_or, take, drop, map, refl, ap, ◌∙◌, add-one, arith}
+use Rattle.std.proofs.Common.{◌≡◌, ℕ, zero, suc, ◌+◌, ◌<◌, List, [], ◌∷◌, length, get_or, take, drop, map, refl, ap, add-one, arith}
 use Rattle.std.specs.declared.vec.Vec.{Vec}
 use Rattle.std.specs.declared.alloc.Global.{Global}
 use Rattle.sctp_chains.specs.Links.{bytes_of}
@@ -17,17 +17,10 @@ pub ruleset sizes = (size_more)
 
 -- ---- the front of parts, and those behind it
 
-all : (rs qs : List (Vec ℕ Global)) → map bytes_of (take (length rs) (rs ++ qs)) ≡ map bytes_of rs
-all [] qs = refl
-all (r ∷ rs) qs = ap (λ (xs : List (List ℕ)). r.items ∷ xs) (all rs qs)
-
-behind : (ps : List (Vec ℕ Global)) (n k : ℕ) (qs : List (Vec ℕ Global)) → n ≡ length ps - k → map bytes_of (take n (drop k ps ++ qs)) ≡ drop k (map bytes_of ps)
-behind ps n zero qs is = let whole : n ≡ length ps = omega (arith, is) in ap (λ (m : ℕ). map bytes_of (take m (ps ++ qs))) whole ∙ all ps qs
-behind [] n (suc k) qs is = let none : n ≡ 0 = omega (arith, is) in ap (λ (m : ℕ). map bytes_of (take m qs)) none
-behind (p ∷ ps) n (suc k) qs is = behind ps n k qs (omega (arith, is))
-
-pub kept_behind : (ps : List (Vec ℕ Global)) (n k : ℕ) (qs rs : List (Vec ℕ Global)) → n ≡ length ps → rs ≡ drop k ps ++ qs → map bytes_of (take (n - k) rs) ≡ drop k (map bytes_of ps)
-kept_behind ps n k qs rs all is = ap (λ (xs : List (Vec ℕ Global)). map bytes_of (take (n - k) xs)) is ∙ behind ps (n - k) k qs (ap (λ (m : ℕ). m - k) all)
+pub kept_behind : (ps : List (Vec ℕ Global)) (k : ℕ) → map bytes_of (drop k ps) ≡ drop k (map bytes_of ps)
+kept_behind ps zero = refl
+kept_behind [] (suc k) = refl
+kept_behind (p ∷ ps) (suc k) = kept_behind ps k
 
 pub kept_front : (ps : List (Vec ℕ Global)) (k : ℕ) → map bytes_of (take k ps) ≡ take k (map bytes_of ps)
 kept_front ps zero = refl

@@ -8,6 +8,8 @@ use Rattle.sctp_chains.specs.Cells.{Cell}
 use Rattle.sctp_chains.specs.declared.chain.Head.{Head}
 use Rattle.sctp_chains.specs.declared.chain.Chain.{Chain}
 use Rattle.sctp_chains.specs.declared.chain.Part.{Part}
+use Rattle.sctp_chains.specs.declared.parts.Parts.{Parts}
+use Rattle.sctp_chains.specs.declared.parts.Parts.TheVariants.{One, Many}
 use Rattle.sctp_chains.specs.declared.rank.Rank.{Rank}
 
 -- The ranks of its first and its last fragment, what it says of a message where one begins with it, whether one ends with it, and the data
@@ -22,6 +24,11 @@ pub record ChainKept : Type 0 where
 -- the data of one fragment
 abbrev pub bytes_of : Vec ℕ Global → List ℕ
 bytes_of v = v.items
+
+-- the data of a chain's fragments, as a list
+abbrev pub parts_in : Parts → List (Vec ℕ Global)
+parts_in (One part) = part ∷ []
+parts_in (Many list) = list.items
 
 -- a rank that is kept as two numbers
 abbrev pub rank_in : Rank → ℕ
@@ -39,10 +46,10 @@ head_if begins i p = if begins then Some (record { index = i; payload_id = p }) 
 abbrev pub chain_of : Chain → ChainKept
 chain_of c = record {
   first = rank_in c.first;
-  last = last_of (rank_in c.first) (length c.parts.items);
+  last = last_of (rank_in c.first) (length (parts_in c.parts));
   head = head_if c.begins c.index c.payload_id;
   ends = c.ends;
-  parts = map bytes_of c.parts.items;
+  parts = map bytes_of (parts_in c.parts);
 }
 
 -- a fragment as a chain of its own

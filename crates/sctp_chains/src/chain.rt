@@ -1,16 +1,14 @@
-//! A chain: fragments that follow one another. Numbers of messages and formats are unknown here; a fragment has a rank. A chain has 72 bytes, and
-//! 24 more for each fragment that it has capacity for: one for a chunk between two gaps.
+//! A chain: fragments that follow one another. Numbers of messages and formats are unknown here; a fragment has a rank. A chain has 80 bytes, and,
+//! from its second fragment on, 24 more for each that it has capacity for.
 
-ghost use Rattle.std.specs.Prelude.{◌≡◌, ◌≤◌, ◌+◌, ◌<◌, ◌&&◌, true, if◌then◌else◌, OnOk, OnErr, IfOk};
-ghost use Rattle.std.specs.VecDeque.{deque_len, deque_capacity};
-ghost use Rattle.sctp_chains.specs.Links.{chain_of, one_of, is_linked, one_if_whole, join, IsChain};
-ghost use Rattle.sctp_chains.specs.inner.Filing.{HasJointRoom, IsOneOf};
+ghost use Rattle.std.specs.Prelude.{◌≡◌, ◌&&◌, true, if◌then◌else◌, OnOk, OnErr};
+ghost use Rattle.sctp_chains.specs.Links.{parts_in, chain_of, one_of, is_linked, one_if_whole, join, IsChain};
+ghost use Rattle.sctp_chains.specs.inner.Filing.{HasRoom, HasJointRoom, IsOneOf};
 
-use crate::parts::{put_before, put_behind};
+use crate::parts::{Parts, put_before, put_behind};
 use crate::rank::Rank;
 use sctp_values::NoMemory;
 use std::alloc::Global;
-use std::collections::VecDeque;
 use std::mem::replace;
 
 /// What the first chunk of a message says of it: its own index, and the payload protocol identifier.
@@ -31,7 +29,7 @@ pub(crate) struct Chain {
     pub(crate) payload_id: u32,
     pub(crate) begins: bool,
     pub(crate) ends: bool,
-    pub(crate) parts: VecDeque<Vec<u8>>,
+    pub(crate) parts: Parts,
 }
 
 /// One fragment, to be filed.
@@ -95,8 +93,7 @@ impl Chain {
         ensures joined { IsChain (chain_of self.old) → is_linked (chain_of self.old) (one_of part) ≡ true → OnOk result (chain_of self.new ≡ join (chain_of self.old) (one_of part)) }
         ensures refused { OnErr result (chain_of self.new ≡ chain_of self.old) }
     {
-        self.parts.reserve(1).map_err(|_| NoMemory)?;
-        self.parts.push_back_reserved(part.data);
+        self.parts.push_back(part.data)?;
         self.ends = part.end;
         Ok(())
     }
@@ -109,7 +106,7 @@ impl Chain {
         ensures joined { IsChain (chain_of self.old) → is_linked (one_of part) (chain_of self.old) ≡ true → OnOk result (chain_of self.new ≡ join (one_of part) (chain_of self.old)) }
         ensures refused { OnErr result (chain_of self.new ≡ chain_of self.old) }
     {
-        self.parts.push_front(part.data).map_err(|_| NoMemory)?;
+        self.parts.push_front(part.data)?;
         self.first = Rank::of(part.rank);
         self.begin(part.head);
         Ok(())
@@ -121,10 +118,10 @@ impl Chain {
     /// Allocation failed.
     pub(crate) fn reserve(&mut self, more: usize) -> Result<(), NoMemory>
         ensures same { chain_of self.new ≡ chain_of self.old }
-        ensures length { deque_len self.new.parts ≡ deque_len self.old.parts }
-        ensures room { OnOk result (deque_len self.new.parts + more ≤ deque_capacity self.new.parts) }
+        ensures parts { parts_in self.new.parts ≡ parts_in self.old.parts }
+        ensures room { OnOk result (HasRoom self.new.parts more) }
     {
-        self.parts.reserve(more).map_err(|_| NoMemory)
+        self.parts.reserve(more)
     }
 
     /// Appends a fragment, and another chain after that. The longer of the two has capacity for all of them.
@@ -177,27 +174,22 @@ pub(crate) fn nothing(alloc: Global) -> Chain {
         payload_id: 0,
         begins: false,
         ends: false,
-        parts: VecDeque::new(alloc),
+        parts: Parts::none(alloc),
     }
 }
 
-/// A chain of one fragment.
-///
-/// # Errors
-/// Allocation failed.
-pub(crate) fn alone(alloc: Global, part: Part) -> Result<Chain, NoMemory>
-    ensures { IfOk result (λ c. chain_of c ≡ one_of part) }
+/// A chain of one fragment. Nothing is allocated.
+pub(crate) fn alone(part: Part) -> Chain
+    ensures { chain_of result ≡ one_of part }
 {
-    let mut parts = VecDeque::with_capacity(alloc, 1).map_err(|_| NoMemory)?;
-    parts.push_back_reserved(part.data);
     let mut chain = Chain {
         first: Rank::of(part.rank),
         index: 0,
         payload_id: 0,
         begins: false,
         ends: part.end,
-        parts,
+        parts: Parts::One(part.data),
     };
     chain.begin(part.head);
-    Ok(chain)
+    chain
 }

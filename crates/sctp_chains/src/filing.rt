@@ -143,7 +143,7 @@ fn file_among(alloc: Global, chains: &mut Sequence<Chain>, part: Part) -> Result
             Ok(FiledIn { at: right, whole })
         }
         (None, None) => {
-            let chain = alone(alloc, part)?;
+            let chain = alone(part);
             let whole = chain.whole();
             chains.insert(at, chain)?;
             Ok(FiledIn { at, whole })

@@ -2,13 +2,14 @@
 //!
 //! Only the chains that are dropped are looked at, or, if all of them are, the last one alone: then no byte is held, and they are dropped at once.
 
-ghost use Rattle.std.specs.Prelude.{◌≡◌, ℕ, ◌≤◌, ◌+◌, ◌-◌, suc, length, map, take, MatchOption, IfNone, IfSome, OnSome};
-ghost use Rattle.sctp_chains.specs.Links.{chain_of, bytes_of, one_if_whole, whole_in};
+ghost use Rattle.std.specs.Prelude.{◌≡◌, ℕ, ◌<◌, ◌≤◌, ◌+◌, ◌-◌, suc, length, map, take, MatchOption, IfNone, IfSome, OnSome};
+ghost use Rattle.sctp_chains.specs.Links.{parts_in, chain_of, bytes_of, one_if_whole, whole_in};
 ghost use Rattle.sctp_chains.specs.inner.Finding.{AreOpen};
 ghost use Rattle.sctp_chains.specs.inner.LettingGo.{size_of_parts, LetsGo, Removes, Trims};
 
 use crate::chain::{Chain, nothing};
 use crate::ends::remove_at;
+use crate::parts::Parts;
 use crate::rank::Rank;
 use sctp_sequence::Sequence;
 use std::collections::VecDeque;
@@ -23,9 +24,20 @@ fn less_one(held: u32, part: &Vec<u8>) -> u32
     }
 }
 
-/// A number less the bytes of the first `count` of these parts, 0 if they have more.
+/// A number less the bytes of the first `count` of these parts, but not of all, 0 if they have more.
+fn less(held: u32, parts: &Parts, count: usize) -> u32
+    requires { count < length (parts_in parts.now) }
+    ensures { result ≡ held - size_of_parts (map bytes_of (take count (parts_in parts.now))) }
+{
+    match parts {
+        Parts::One(_) => held,
+        Parts::Many(list) => less_listed(held, list, count),
+    }
+}
+
+/// A number less the bytes of the first `count` parts of a list, 0 if they have more.
 #[tactic(auto, using(crate::proofs::SizeLemmas::size_more))]
-fn less(held: u32, parts: &VecDeque<Vec<u8>>, count: usize) -> u32
+fn less_listed(held: u32, parts: &VecDeque<Vec<u8>>, count: usize) -> u32
     ensures { result ≡ held - size_of_parts (map bytes_of (take count parts.now.items)) }
 {
     let mut left = held;
@@ -36,10 +48,20 @@ fn less(held: u32, parts: &VecDeque<Vec<u8>>, count: usize) -> u32
 }
 
 /// A number less the bytes of all of these parts, 0 if they have more.
-fn less_all(held: u32, parts: &VecDeque<Vec<u8>>) -> u32
-    ensures { result ≡ held - size_of_parts (map bytes_of parts.now.items) }
+fn less_all(held: u32, parts: &Parts) -> u32
+    ensures { result ≡ held - size_of_parts (map bytes_of (parts_in parts.now)) }
 {
-    less(held, parts, parts.len())
+    match parts {
+        Parts::One(part) => less_one(held, part),
+        Parts::Many(list) => less_listed(held, list, list.len()),
+    }
+}
+
+/// Drops a chain; a number less the bytes of its parts, 0 if they have more.
+fn forget(held: u32, chain: Chain) -> u32
+    ensures { result ≡ held - size_of_parts (map bytes_of (parts_in chain.parts)) }
+{
+    less_all(held, &chain.parts)
 }
 
 /// Removes the chain at a position.
@@ -81,11 +103,11 @@ fn drop_each(chains: &mut Sequence<Chain>, held: u32, at: usize, upto: u128) -> 
     let mut left = held;
     while at < chains.len() && chains.get(at).last() <= upto {
         if let Some(chain) = remove_at(chains, at) {
-            left = less_all(left, &chain.parts);
+            left = forget(left, chain);
         }
     }
     if at < chains.len() && chains.get(at).first() <= upto {
-        let blank = nothing(*chains.get(at).parts.allocator());
+        let blank = nothing(chains.get(at).parts.allocator());
         let mut chain = chains.replace(at, blank);
         left = trim(&mut chain, left, upto);
         let _ = chains.replace(at, chain);
@@ -107,10 +129,8 @@ fn trim(chain: &mut Chain, held: u32, upto: u128) -> u32
         return held;
     }
     let gone = count as usize;
-    let stay = chain.parts.len() - gone;
     let left = less(held, &chain.parts, gone);
-    chain.parts.rotate_left(gone);
-    chain.parts.truncate(stay);
+    chain.parts.drop_front(gone);
     let next = upto.saturating_add(1);
     chain.first = Rank::of(next);
     chain.begins = false;

@@ -23,11 +23,17 @@ pub(crate) struct Looked {
     pub(crate) passed: usize,
 }
 
-/// How many chains begin below a rank.
+/// How many chains begin below a rank: none as long as messages are taken from the front on, which needs no search.
 fn start(chains: &Sequence<Chain>, rank: u128) -> usize
     ensures bound { result ≤ length chains.now.items }
     ensures place { AreChains (map chain_of chains.now.items) → IsStart rank (map chain_of chains.now.items) result }
 {
+    if chains.is_empty() {
+        return 0;
+    }
+    if chains.get(0).first() >= rank {
+        return 0;
+    }
     chains.partition_point(
         |chain: &Chain| -> bool
             ensures { result ≡ nat_lt (chain_of chain.now).first rank }

@@ -1,12 +1,12 @@
 //! A message whose fragments have all been received.
 
 ghost use Rattle.std.specs.Prelude.{◌≡◌};
-ghost use Rattle.sctp_chains.specs.Links.{chain_of};
+ghost use Rattle.sctp_chains.specs.Links.{parts_in, chain_of};
 ghost use Rattle.sctp_chains.specs.Fragments.{fragments_in};
 ghost use Rattle.sctp_chains.specs.WholeOf.{IsWholeOf};
 
 use crate::chain::{Chain, Head};
-use std::collections::VecDeque;
+use crate::parts::Parts;
 
 /// The data of a message's fragments. That of a single one is here itself, without a list.
 #[derive(Debug, PartialEq, Drop)]
@@ -43,17 +43,15 @@ pub struct Whole {
     pub parts: Fragments,
 }
 
-/// The parts of a chain as those of a message: a list only if there are several.
+/// The parts of a chain as those of a message.
 #[inline(always)]
-fn fragments_of(mut parts: VecDeque<Vec<u8>>) -> Fragments
-    ensures { fragments_in result ≡ parts.items }
+fn fragments_of(parts: Parts) -> Fragments
+    ensures { fragments_in result ≡ parts_in parts }
 {
-    if parts.len() == 1 {
-        if let Some(part) = parts.pop_front() {
-            return Fragments::One([part]);
-        }
+    match parts {
+        Parts::One(part) => Fragments::One([part]),
+        Parts::Many(list) => Fragments::Many(list.into_vec()),
     }
-    Fragments::Many(parts.into_vec())
 }
 
 /// A chain as the complete message that it is.

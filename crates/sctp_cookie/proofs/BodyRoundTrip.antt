@@ -8,7 +8,9 @@ use Rattle.byteorder.specs.Numbers.{big_from-lt, big_number-reads_back}
 use Rattle.sctp_model.specs.numbers.Numbers.{AreBytes}
 use Rattle.sctp_model.specs.end.Sealing.{Body, IsInRange, IsPartyInRange}
 use Rattle.sctp_cookie.specs.CookieBody.{body_bytes, body_of, has_form, options_byte}
+use Rattle.sctp_cookie.specs.CookieTree.{body_meaning, content_meaning}
 use Rattle.sctp_cookie.specs.Opens.{is_made}
+use Rattle.sctp_cookie.specs.declared.body.CookieContent.{CookieContent}
 use Rattle.sctp_cookie.proofs.Numbers.{AreBytes-drop, big_bytes-number_2, big_bytes-number_4, big_bytes-number_8}
 
 pub length-body_bytes : (body : Body) → length (body_bytes body) ≡ 40
@@ -154,11 +156,11 @@ pub body_of-is_made : (resets : Bool) (bytes : List ℕ) → FormFacts resets by
 unfolding body_of
 body_of-is_made resets bytes facts = made_by resets (get_or bytes 36 0) facts.options
 
--- the options of a form without stream reset
-pub unreset : (bytes : List ℕ) → has_form false bytes ≡ true → not (nat_eq (bit_and (get_or bytes 36 0) 4) 0) ≡ false
-unreset bytes form = off (not (nat_eq (bit_and (get_or bytes 36 0) 4) 0)) (made_by false (get_or bytes 36 0) (form_facts false bytes form).options)
+-- a content without stream reset is its body
+pub without_reset : (c : CookieContent) → is_made false (content_meaning c) ≡ true → body_meaning c.body ≡ content_meaning c
+without_reset c made = ap (λ (b : Bool). record (body_meaning c.body) { reset = b }) (off c.reset made)
   where
-    off : (b : Bool) → not b ≡ true → b ≡ false
+    off : (b : Bool) → not b ≡ true → false ≡ b
     off true on = absurd (cc)
     off false on = refl
 

@@ -2,6 +2,7 @@
 use Rattle.std.specs.Prelude.{false, Result, Ok, Err}
 use Rattle.sctp_model.specs.end.Sealing.{Body}
 use Rattle.sctp_cookie.specs.declared.body.CookieBody.{CookieBody}
+use Rattle.sctp_cookie.specs.declared.body.CookieContent.{CookieContent}
 use Rattle.sctp_cookie.specs.declared.sealing.CookieFault.{CookieFault}
 
 -- a cookie's body: one without stream reset
@@ -18,7 +19,16 @@ body_meaning b = record {
   reset = false;
 }
 
+-- a cookie's content: a body, with stream reset or without it
+abbrev pub content_meaning : CookieContent → Body
+content_meaning c = record (body_meaning c.body) { reset = c.reset }
+
 -- what opening a cookie answers
 abbrev pub opened_meaning : Result CookieBody CookieFault → Result Body CookieFault
 opened_meaning (Ok body) = Ok (body_meaning body)
 opened_meaning (Err fault) = Err fault
+
+-- .. with its content
+abbrev pub content_opened : Result CookieContent CookieFault → Result Body CookieFault
+content_opened (Ok content) = Ok (content_meaning content)
+content_opened (Err fault) = Err fault

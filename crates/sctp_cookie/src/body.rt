@@ -12,15 +12,15 @@
 //! | 28 | 4 | caller's a_rwnd |
 //! | 32 | 2 | streams to the caller |
 //! | 34 | 2 | streams from the caller |
-//! | 36 | 1 | options: 1 partial reliability, 2 I-DATA, 4 stream reset, which no [`CookieBody`] says |
+//! | 36 | 1 | options: 1 partial reliability, 2 I-DATA, 4 stream reset, which only a [`CookieContent`] says |
 //! | 37 | 3 | zero |
 //!
 //! Numbers are in network byte order.
 
-ghost use Rattle.std.specs.Prelude.{◌≡◌, true, false, length, MatchOption};
+ghost use Rattle.std.specs.Prelude.{◌≡◌, true, false, length, MatchOption, if◌then◌else◌};
 ghost use Rattle.sctp_model.specs.end.Sealing.{IsInRange};
 ghost use Rattle.sctp_cookie.specs.CookieBody.{body_bytes, body_of, has_form, options_byte};
-ghost use Rattle.sctp_cookie.specs.CookieTree.{body_meaning};
+ghost use Rattle.sctp_cookie.specs.CookieTree.{content_meaning};
 
 use byteorder::{BigEndian, ByteOrder};
 
@@ -38,6 +38,9 @@ const PARTIAL_RELIABILITY: u8 = 1;
 
 /// The option of I-DATA (RFC 8260), in the options' byte.
 const INTERLEAVING: u8 = 2;
+
+/// The option of stream reset (RFC 6525), in the options' byte.
+const STREAM_RESET: u8 = 4;
 
 /// The two ports of an association.
 #[derive(Clone, Copy, PartialEq, Eq)]
@@ -77,11 +80,21 @@ pub struct CookieBody {
     pub interleaving: bool,
 }
 
+/// What a listener with stream reset must remember from an INIT (RFC 9260, 5.1.3; RFC 6525, 5.1).
+#[derive(Clone, Copy, Debug, PartialEq, Eq)]
+pub struct CookieContent {
+    /// What a listener without it must remember too.
+    pub body: CookieBody,
+    /// Whether both endpoints use stream reset (RFC 6525).
+    pub reset: bool,
+}
+
 /// The 40 bytes of a body.
-pub(crate) fn body_bytes(body: CookieBody) -> [u8; BODY_LENGTH]
-    ensures layout { result ≡ body_bytes (body_meaning body) }
-    ensures in_range { IsInRange (body_meaning body) }
+pub(crate) fn body_bytes(content: CookieContent) -> [u8; BODY_LENGTH]
+    ensures layout { result ≡ body_bytes (content_meaning content) }
+    ensures in_range { IsInRange (content_meaning content) }
 {
+    let body = content.body;
     let mut bytes = [0; BODY_LENGTH];
     BigEndian::write_u64(&mut bytes, body.made);
     BigEndian::write_u16(&mut bytes[8..], body.listener_port);
@@ -93,57 +106,70 @@ pub(crate) fn body_bytes(body: CookieBody) -> [u8; BODY_LENGTH]
     BigEndian::write_u32(&mut bytes[28..], body.caller_rwnd);
     BigEndian::write_u16(&mut bytes[32..], body.streams_to_caller);
     BigEndian::write_u16(&mut bytes[34..], body.streams_from_caller);
-    bytes[OPTIONS_AT] = options_byte(&body);
+    bytes[OPTIONS_AT] = options_byte(&content);
     bytes
 }
 
 // The options of a body in one byte.
-fn options_byte(body: &CookieBody) -> u8
-    ensures { result ≡ options_byte (body_meaning body.now) }
+fn options_byte(content: &CookieContent) -> u8
+    ensures { result ≡ options_byte (content_meaning content.now) }
 {
-    let partial_reliability = if body.partial_reliability {
-        PARTIAL_RELIABILITY
-    } else {
-        0
-    };
-    let interleaving = if body.interleaving { INTERLEAVING } else { 0 };
-    partial_reliability + interleaving
+    option(content.body.partial_reliability, PARTIAL_RELIABILITY)
+        + option(content.body.interleaving, INTERLEAVING)
+        + option(content.reset, STREAM_RESET)
 }
 
-/// The body in the first 40 bytes of a cookie. None if these aren't 72 bytes of the layout without
-/// stream reset: the options are above 3, or a byte that must be zero isn't.
-#[tactic(auto, unfolding(crate::specs::CookieBody::has_form))]
-pub(crate) fn read_body(bytes: &[u8]) -> Option<CookieBody>
-    ensures { MatchOption result (has_form false bytes.now ≡ false) (λ body. (has_form false bytes.now ≡ true) × (body_meaning body ≡ body_of bytes.now)) }
+// An option's bit if it is used.
+fn option(used: bool, bit: u8) -> u8
+    ensures { result ≡ (if used then bit else 0) }
 {
-    if has_form(bytes) {
+    if used { bit } else { 0 }
+}
+
+/// The body in the first 40 bytes of a cookie. None if these aren't 72 bytes of the layout, with
+/// stream reset or without it: the options are above 7 or 3, or a byte that must be zero isn't.
+#[tactic(auto, unfolding(crate::specs::CookieBody::has_form))]
+pub(crate) fn read_body(bytes: &[u8], resets: bool) -> Option<CookieContent>
+    ensures { MatchOption result (has_form resets bytes.now ≡ false) (λ content. (has_form resets bytes.now ≡ true) × (content_meaning content ≡ body_of bytes.now)) }
+{
+    if has_form(bytes, resets) {
         Some(body_of(bytes))
     } else {
         None
     }
 }
 
-// Whether these are 72 bytes whose options and zeros are as the layout has them without stream reset.
+// Whether these are 72 bytes whose options and zeros are as the layout has them.
 #[tactic(auto, unfolding(crate::specs::CookieBody::has_form))]
-fn has_form(bytes: &[u8]) -> bool
-    ensures { result ≡ has_form false bytes.now }
+fn has_form(bytes: &[u8], resets: bool) -> bool
+    ensures { result ≡ has_form resets bytes.now }
 {
     bytes.len() == COOKIE_LENGTH
-        && bytes[OPTIONS_AT] <= PARTIAL_RELIABILITY + INTERLEAVING
+        && bytes[OPTIONS_AT] <= most_options(resets)
         && bytes[37] == 0
         && bytes[38] == 0
         && bytes[39] == 0
 }
 
+// All options of the layout, with stream reset or without it.
+fn most_options(resets: bool) -> u8
+    ensures { result ≡ (if resets then 7 else 3) }
+{
+    if resets {
+        PARTIAL_RELIABILITY + INTERLEAVING + STREAM_RESET
+    } else {
+        PARTIAL_RELIABILITY + INTERLEAVING
+    }
+}
+
 // The body whose fields are in these bytes.
 #[tactic(auto, unfolding(crate::specs::CookieBody::body_of))]
-fn body_of(bytes: &[u8]) -> CookieBody
-    requires size { length bytes.now ≡ 72 }
-    requires form { has_form false bytes.now ≡ true }
-    ensures { body_meaning result ≡ body_of bytes.now }
+fn body_of(bytes: &[u8]) -> CookieContent
+    requires { length bytes.now ≡ 72 }
+    ensures { content_meaning result ≡ body_of bytes.now }
 {
     let options = bytes[OPTIONS_AT];
-    CookieBody {
+    let body = CookieBody {
         made: BigEndian::read_u64(bytes),
         listener_port: BigEndian::read_u16(&bytes[8..]),
         caller_port: BigEndian::read_u16(&bytes[10..]),
@@ -156,5 +182,9 @@ fn body_of(bytes: &[u8]) -> CookieBody
         streams_from_caller: BigEndian::read_u16(&bytes[34..]),
         partial_reliability: options & PARTIAL_RELIABILITY != 0,
         interleaving: options & INTERLEAVING != 0,
+    };
+    CookieContent {
+        body,
+        reset: options & STREAM_RESET != 0,
     }
 }

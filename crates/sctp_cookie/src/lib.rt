@@ -26,6 +26,7 @@
 //! | | `meaning` | the result is the one that the layout gives (`Opened`): Ok if the bytes are the body's bytes and their MAC, the ports and the tag are the body's and the age is at most 60,000 ms; Form if no body without stream reset has this layout; Mac if one has, and the bytes aren't its cookie; Ports, Tag and Stale if they are its cookie and the checks before pass |
 //! | | `only` | each answer that the layout gives is this result; so there is exactly one, and each fault is returned if and only if its condition holds |
 //! | | `stale` | if the answer is Stale, the same call at time 0 returns the body in the bytes |
+//! | [`seal_content`], [`open_content`] | the same clauses | the same for a [`CookieContent`], at a listener with stream reset and at one without; one without it opens no content with it |
 //! | [`cookies_are_sealed`] (law) | the only one | for any key and body: the cookie has 72 bytes, the form of a cookie and the right MAC, and contains the body if its numbers are in range |
 //! | [`keys_have_seals`] (law) | `some` | every key has a seal in the sense of the state machine (`IsUnder`) |
 //! | | `exact` | under each such seal those bytes open that are the key's cookie of a body in range, no others |
@@ -33,8 +34,8 @@
 //! | [`cookie_has_its_size`] (law) | the only one | the 72 bytes are those of the state machine |
 //! | `Debug` of [`Key`] | `debug_output` | it prints `Key(..)`, whatever the key is |
 //!
-//! The layout has a bit for stream reset (RFC 6525), which no [`CookieBody`] says: [`open`] is for listeners without it, to which a cookie that
-//! says it has the wrong form.
+//! The layout has a bit for stream reset (RFC 6525), which a [`CookieContent`] says and no [`CookieBody`]: [`open`] is for listeners without it, to
+//! which a cookie that says it has the wrong form.
 //!
 //! The definitions: `specs/Hmac`, `specs/CookieTree` (what a body and an answer mean in the state machine), `specs/CookieBody` (the layout
 //! as a printer, `body_bytes`, beside the reader, `body_of`), `specs/Opens` (the answer, once computed and once in the words of the layout),
@@ -51,7 +52,7 @@ mod hmac;
 mod laws;
 mod sealing;
 
-pub use body::{COOKIE_LENGTH, CookieBody, Ports};
+pub use body::{COOKIE_LENGTH, CookieBody, CookieContent, Ports};
 pub use hmac::{Key, hmac_sha256};
 pub use laws::{cookie_has_its_size, cookies_are_read, cookies_are_sealed, keys_have_seals};
-pub use sealing::{CookieFault, open, seal};
+pub use sealing::{CookieFault, open, open_content, seal, seal_content};

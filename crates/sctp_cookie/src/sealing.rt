@@ -1,16 +1,18 @@
 //! Cookies: a body and its MAC, made by [`seal`] and checked by [`open`].
 
-ghost use Rattle.std.specs.Prelude.{◌≡◌, ◌+◌, ◌≤◌, ℕ, Bool, false, Result, Some, None, Ok, length, nat_lt, if◌then◌else◌};
+ghost use Rattle.std.specs.Prelude.{◌≡◌, ◌+◌, ◌≤◌, ℕ, Bool, true, false, Result, Some, None, Ok, length, nat_lt, if◌then◌else◌};
 ghost use Rattle.std.specs.Str.{bytes_eq};
 ghost use Rattle.sctp_model.specs.numbers.Limits.{COOKIE_LIFE};
 ghost use Rattle.sctp_model.specs.end.Sealing.{Body, IsInRange};
 ghost use Rattle.sctp_model.specs.end.Opening.{age, staleness};
 ghost use Rattle.sctp_cookie.specs.declared.sealing.CookieFault.{CookieFault};
 ghost use Rattle.sctp_cookie.specs.CookieBody.{body_of};
-ghost use Rattle.sctp_cookie.specs.CookieTree.{body_meaning, opened_meaning};
-ghost use Rattle.sctp_cookie.specs.Opens.{Opened, has_mac, open_answer, ports_of, sealed};
+ghost use Rattle.sctp_cookie.specs.CookieTree.{body_meaning, content_meaning, content_opened, opened_meaning};
+ghost use Rattle.sctp_cookie.specs.Opens.{Opened, has_mac, is_made, open_answer, ports_of, sealed};
 
-use crate::body::{BODY_LENGTH, COOKIE_LENGTH, CookieBody, Ports, body_bytes, read_body};
+use crate::body::{
+    BODY_LENGTH, COOKIE_LENGTH, CookieBody, CookieContent, Ports, body_bytes, read_body,
+};
 use crate::hmac::{Key, hmac_sha256};
 use sctp_values::COOKIE_LIFE;
 use thiserror::Error;
@@ -18,8 +20,8 @@ use thiserror::Error;
 /// Why a cookie isn't valid: the first check that fails, in this order.
 #[derive(Clone, Copy, Debug, PartialEq, Eq, Error)]
 pub enum CookieFault {
-    /// These aren't 72 bytes of the layout without stream reset: the options are above 3, or a byte
-    /// that must be zero isn't.
+    /// These aren't 72 bytes of the layout, with stream reset or without it: the options are above 7
+    /// or 3, or a byte that must be zero isn't.
     #[error("these bytes don't have the layout of a cookie")]
     Form,
     /// The last 32 bytes aren't the MAC of the first 40 under the key.
@@ -49,7 +51,27 @@ pub fn seal(key: &Key, body: &CookieBody) -> [u8; COOKIE_LENGTH]
     // No other body has this sealing.
     ensures one { (other : Body) → IsInRange other → result ≡ sealed key.now other → other ≡ body_meaning body.now }
 {
-    let body = body_bytes(*body);
+    let content = CookieContent {
+        body: *body,
+        reset: false,
+    };
+    seal_content(key, &content)
+}
+
+/// The cookie of a listener with stream reset: the content's 40 bytes under `key` and their MAC (RFC
+/// 9260, 5.1.3). For a content without it these are the bytes of [`seal`].
+pub fn seal_content(key: &Key, content: &CookieContent) -> [u8; COOKIE_LENGTH]
+    ensures sealed { result ≡ sealed key.now (content_meaning content.now) }
+
+    // It opens to this content until its lifetime ends, at a listener with stream reset, and without
+    // it if the content is.
+    ensures opens { (resets : Bool) (now : ℕ) → is_made resets (content_meaning content.now) ≡ true → now ≤ content.now.body.made + COOKIE_LIFE
+        → open_answer resets key.now result now (ports_of (content_meaning content.now)) content.now.body.listener_tag ≡ Ok (content_meaning content.now) }
+
+    // No other content has this sealing.
+    ensures one { (other : Body) → IsInRange other → result ≡ sealed key.now other → other ≡ content_meaning content.now }
+{
+    let body = body_bytes(*content);
     let mut cookie = [0; COOKIE_LENGTH];
     cookie[..BODY_LENGTH].copy_from_slice(&body);
     cookie[BODY_LENGTH..].copy_from_slice(&hmac_sha256(key.as_bytes(), &body));
@@ -86,23 +108,58 @@ pub fn open(
     ensures stale { (microseconds : ℕ) → result ≡ Err (CookieFault.Stale microseconds)
         → open_answer false key.now bytes.now 0 ports tag ≡ Ok (body_of bytes.now) }
 {
-    checked_body(key, bytes, now, ports, tag)
+    let content = open_content(key, bytes, now, ports, tag, false)?;
+    Ok(content.body)
 }
 
-// The checks of `open`, in their order.
-#[tactic(auto, unfolding(crate::specs::CookieBody::has_form, crate::specs::Opens::has_ports, crate::specs::Opens::open_answer))]
-fn checked_body(
+/// The content of a cookie, as [`open`] has it, at a listener that is set up with stream reset if
+/// `resets`, and without it otherwise.
+///
+/// # Errors
+///
+/// The first of the checks of [`CookieFault`] that fails, in its order.
+pub fn open_content(
     key: &Key,
     bytes: &[u8],
     now: u64,
     ports: Ports,
     tag: u32,
-) -> Result<CookieBody, CookieFault>
-    ensures { opened_meaning result ≡ open_answer false key.now bytes.now now ports tag }
+    resets: bool,
+) -> Result<CookieContent, CookieFault>
+    // The first check that fails, or the content.
+    ensures answer { content_opened result ≡ open_answer resets key.now bytes.now now ports tag }
+
+    // It opens if the bytes are a body of the layout and its MAC, and the packet and the time
+    // are right; each fault is returned if its check fails and those before it pass.
+    ensures meaning { Opened resets key.now bytes.now now ports tag (content_opened result) }
+
+    // There is no other answer with that meaning.
+    ensures only { (outcome : Result Body CookieFault) → Opened resets key.now bytes.now now ports tag outcome
+        → content_opened result ≡ outcome }
+
+    // A stale cookie's content is what is returned at time 0.
+    ensures stale { (microseconds : ℕ) → result ≡ Err (CookieFault.Stale microseconds)
+        → open_answer resets key.now bytes.now 0 ports tag ≡ Ok (body_of bytes.now) }
 {
-    let Some(body) = read_body(bytes) else {
+    checked_content(key, bytes, now, ports, tag, resets)
+}
+
+// The checks of `open`, in their order.
+#[tactic(auto, unfolding(crate::specs::CookieBody::has_form, crate::specs::Opens::has_ports, crate::specs::Opens::open_answer))]
+fn checked_content(
+    key: &Key,
+    bytes: &[u8],
+    now: u64,
+    ports: Ports,
+    tag: u32,
+    resets: bool,
+) -> Result<CookieContent, CookieFault>
+    ensures { content_opened result ≡ open_answer resets key.now bytes.now now ports tag }
+{
+    let Some(content) = read_body(bytes, resets) else {
         return Err(CookieFault::Form);
     };
+    let body = content.body;
     if !has_mac(key, bytes) {
         return Err(CookieFault::Mac);
     }
@@ -115,7 +172,7 @@ fn checked_body(
     if let Some(microseconds) = staleness(now, &body) {
         return Err(CookieFault::Stale(microseconds));
     }
-    Ok(body)
+    Ok(content)
 }
 
 // Whether the last 32 bytes of a cookie are the MAC of the first 40.

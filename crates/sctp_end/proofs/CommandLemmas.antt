@@ -2,7 +2,7 @@
 use Rattle.std.proofs.Common.{◌≡◌, List, [], ◌∷◌, ℕ, length, Some, refl, sym, ap, ◌∙◌, arith}
 use Rattle.sctp_end.specs.Commands.{name_of, command_named}
 use Rattle.sctp_end.specs.declared.command.Command.{Command}
-use Rattle.sctp_end.specs.declared.command.Command.TheVariants.{Connect, Draw, At, Packet, Build, Send, Abandon, Acknowledged, Abandoned, Take, Shutdown, Abort, Next, State, Held, Reassembly, Status, Path, Counts}
+use Rattle.sctp_end.specs.declared.command.Command.TheVariants.{Connect, Draw, At, Packet, Build, Send, Abandon, Acknowledged, Abandoned, Take, Reset, Resets, Shutdown, Abort, Next, State, Held, Reassembly, Status, Path, Counts}
 
 -- a row for each command: by its name it is found again
 named_again : (c : Command) → command_named (name_of c) ≡ Some c
@@ -16,6 +16,8 @@ named_again Abandon = refl
 named_again Acknowledged = refl
 named_again Abandoned = refl
 named_again Take = refl
+named_again Reset = refl
+named_again Resets = refl
 named_again Shutdown = refl
 named_again Abort = refl
 named_again Next = refl

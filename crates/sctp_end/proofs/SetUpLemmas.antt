@@ -16,7 +16,7 @@ use Rattle.sctp_end.specs.Fields.{Field, ANumber, AMode, Value, IsValue}
 use Rattle.sctp_end.specs.SetUpWords.{setting_fields, plain_of, word_if, rto_min_words, option_words, with_options, SaysLeast, Settles, Configures, IsKey, SetsUpCaller, SetsUpListener, SetsUp}
 use Rattle.sctp_end.specs.declared.options.Options.{Options}
 use Rattle.sctp_end.specs.inner.SettingUp.{IsSplit, AreSplit, IsLeastSplit, HasNoOptions, SetsListener}
-use Rattle.sctp_words.specs.Fields.{IsNumber, mode_word, delay_word, standard_closing_word, fast_retransmit_word, congestion_control_word, rto_min_word, Values, AreValues}
+use Rattle.sctp_words.specs.Fields.{IsNumber, mode_word, delay_word, standard_closing_word, fast_retransmit_word, congestion_control_word, reset_word, rto_min_word, Values, AreValues}
 use Rattle.sctp_end.proofs.FieldLemmas.{first_of, others_of, first_value, other_values}
 
 -- ---- settings
@@ -136,6 +136,7 @@ plain_has_none own peer limit fragment buffer outbound inbound config is = (
   ap (λ (k : Configuration). k.standard_closing) is,
   ap (λ (k : Configuration). k.fast_retransmit) is,
   ap (λ (k : Configuration). k.congestion_control) is,
+  ap (λ (k : Configuration). k.reset) is,
 )
 
 -- ---- the words behind the mode
@@ -196,7 +197,7 @@ pub record Parts (a b c d m : List ℕ) (o : Options) (number : Option (List ℕ
   pub settles : Settles (seven a b c d m own peer) plain
   pub least : ℕ
   pub says : SaysLeast number least
-  pub whole : config ≡ with_options o.delay o.standard_closing o.fast_retransmit o.congestion_control least plain
+  pub whole : config ≡ with_options o.delay o.standard_closing o.fast_retransmit o.congestion_control o.reset least plain
 
 five_in_front : (front more : List (List ℕ)) (a b c d m : List ℕ) (rest : List (List ℕ)) → length front ≡ 5 → a ∷ b ∷ c ∷ d ∷ m ∷ rest ≡ front ++ more
     → (front ≡ a ∷ b ∷ c ∷ d ∷ m ∷ []) × (rest ≡ more)
@@ -226,32 +227,40 @@ no_option word back p q n is number none more other =
     none n (subst (λ (w : List ℕ). IsNumber 16 w n) (ap first_of (sym is ∙ other)) number)
 
 -- behind each option none of those before it stands
-pub record Behind (standard fast control : Bool) (number : Option (List ℕ)) (back : List (List ℕ)) : Type 0 where
+pub record Behind (standard fast control reset : Bool) (number : Option (List ℕ)) (back : List (List ℕ)) : Type 0 where
   pub no_delay : Lacks delay_word (word_if standard standard_closing_word
-      ++ (word_if fast fast_retransmit_word ++ (word_if control congestion_control_word ++ (rto_min_words number ++ back))))
-  pub no_standard : Lacks standard_closing_word (word_if fast fast_retransmit_word ++ (word_if control congestion_control_word ++ (rto_min_words number ++ back)))
-  pub no_fast : Lacks fast_retransmit_word (word_if control congestion_control_word ++ (rto_min_words number ++ back))
-  pub no_control : Lacks congestion_control_word (rto_min_words number ++ back)
+      ++ (word_if fast fast_retransmit_word ++ (word_if control congestion_control_word ++ (word_if reset reset_word ++ (rto_min_words number ++ back)))))
+  pub no_standard : Lacks standard_closing_word (word_if fast fast_retransmit_word
+      ++ (word_if control congestion_control_word ++ (word_if reset reset_word ++ (rto_min_words number ++ back))))
+  pub no_fast : Lacks fast_retransmit_word (word_if control congestion_control_word ++ (word_if reset reset_word ++ (rto_min_words number ++ back)))
+  pub no_control : Lacks congestion_control_word (word_if reset reset_word ++ (rto_min_words number ++ back))
+  pub no_reset : Lacks reset_word (rto_min_words number ++ back)
   pub no_least : Lacks rto_min_word back
 
-in_turn : (standard fast control : Bool) (number : Option (List ℕ)) (back : List (List ℕ)) (p q : List ℕ) (n : ℕ) → back ≡ p ∷ q ∷ [] → IsNumber 16 p n
-    → Behind standard fast control number back
-in_turn standard fast control number back p q n is at =
+in_turn : (standard fast control reset : Bool) (number : Option (List ℕ)) (back : List (List ℕ)) (p q : List ℕ) (n : ℕ) → back ≡ p ∷ q ∷ [] → IsNumber 16 p n
+    → Behind standard fast control reset number back
+in_turn standard fast control reset number back p q n is at =
     let nd : Lacks delay_word back = no_option delay_word back p q n is at (λ k w. omega (arith, w.0.digits.1.0)) in
     let ns : Lacks standard_closing_word back = no_option standard_closing_word back p q n is at (λ k w. omega (arith, w.0.digits.1.0)) in
     let nf : Lacks fast_retransmit_word back = no_option fast_retransmit_word back p q n is at (λ k w. omega (arith, w.0.digits.1.0)) in
     let nc : Lacks congestion_control_word back = no_option congestion_control_word back p q n is at (λ k w. omega (arith, w.0.digits.1.0)) in
+    let nr : Lacks reset_word back = no_option reset_word back p q n is at (λ k w. omega (arith, w.0.digits.1.0)) in
     record {
       no_delay = lacks_if delay_word standard_closing_word standard _ (λ e. omega (arith, ap length e))
           (lacks_if delay_word fast_retransmit_word fast _ (λ e. omega (arith, ap length e))
           (lacks_if delay_word congestion_control_word control _ (λ e. omega (arith, ap length e))
-          (lacks_least delay_word number back (λ e. omega (arith, ap length e)) nd)));
+          (lacks_if delay_word reset_word reset _ (λ e. omega (arith, ap (λ (w : List ℕ). slice_index w 0) e))
+          (lacks_least delay_word number back (λ e. omega (arith, ap length e)) nd))));
       no_standard = lacks_if standard_closing_word fast_retransmit_word fast _ (λ e. omega (arith, ap length e))
           (lacks_if standard_closing_word congestion_control_word control _ (λ e. omega (arith, ap length e))
-          (lacks_least standard_closing_word number back (λ e. omega (arith, ap length e)) ns));
+          (lacks_if standard_closing_word reset_word reset _ (λ e. omega (arith, ap length e))
+          (lacks_least standard_closing_word number back (λ e. omega (arith, ap length e)) ns)));
       no_fast = lacks_if fast_retransmit_word congestion_control_word control _ (λ e. omega (arith, ap length e))
-          (lacks_least fast_retransmit_word number back (λ e. omega (arith, ap length e)) nf);
-      no_control = lacks_least congestion_control_word number back (λ e. omega (arith, ap length e)) nc;
+          (lacks_if fast_retransmit_word reset_word reset _ (λ e. omega (arith, ap length e))
+          (lacks_least fast_retransmit_word number back (λ e. omega (arith, ap length e)) nf));
+      no_control = lacks_if congestion_control_word reset_word reset _ (λ e. omega (arith, ap length e))
+          (lacks_least congestion_control_word number back (λ e. omega (arith, ap length e)) nc);
+      no_reset = lacks_least reset_word number back (λ e. omega (arith, ap length e)) nr;
       no_least = no_option rto_min_word back p q n is at (λ k w. omega (arith, w.0.digits.1.0));
     }
 
@@ -260,42 +269,45 @@ pub parts_of : (words : List (List ℕ)) (a b c d m : List ℕ) (rest behind lef
     → words ≡ a ∷ b ∷ c ∷ d ∷ m ∷ rest → AreSplit rest o behind → IsLeastSplit behind number left
     → Configures words config → Parts a b c d m o number left config
 parts_of words a b c d m rest behind left o number config is split last
-    (front, back, delay, standard, fast, control, asked_number, least, plain, whole, size, settled, said, made) =
+    (front, back, delay, standard, fast, control, reset, asked_number, least, plain, whole, size, settled, said, made) =
     let (fronts, rests) = five_in_front front _ a b c d m rest size (sym is ∙ whole) in
     let settles : Settles (a ∷ b ∷ c ∷ d ∷ m ∷ back) plain = subst (λ (ws : List (List ℕ)). Settles (ws ++ back) plain) fronts settled in
     let (p, q, two, n, at) = two_behind a b c d m back plain settles in
-    let none = in_turn standard fast control asked_number back p q n two at in
+    let none = in_turn standard fast control reset asked_number back p q n two at in
     let one = one_split delay_word rest _ split.behind_delay delay o.delay rests none.no_delay split.delay in
     let next = one_split standard_closing_word split.behind_delay _ split.behind_standard standard o.standard_closing (sym one.1) none.no_standard split.standard in
     let third = one_split fast_retransmit_word split.behind_standard _ split.behind_fast fast o.fast_retransmit (sym next.1) none.no_fast split.fast in
-    let fourth = one_split congestion_control_word split.behind_fast _ behind control o.congestion_control (sym third.1) none.no_control split.control in
-    let fifth = least_split behind back left asked_number number (sym fourth.1) none.no_least last in
+    let fourth = one_split congestion_control_word split.behind_fast _ split.behind_control control o.congestion_control (sym third.1) none.no_control split.control in
+    let fifth = one_split reset_word split.behind_control _ behind reset o.reset (sym fourth.1) none.no_reset split.reset in
+    let sixth = least_split behind back left asked_number number (sym fifth.1) none.no_least last in
     record {
       own = p;
       peer = q;
-      left_is = sym fifth.1 ∙ two;
+      left_is = sym sixth.1 ∙ two;
       plain = plain;
       settles = subst (λ (ws : List (List ℕ)). Settles (a ∷ b ∷ c ∷ d ∷ m ∷ ws) plain) two settles;
       least = least;
-      says = subst (λ (x : Option (List ℕ)). SaysLeast x least) fifth.0 said;
-      whole = made ∙ (λ i. with_options (one.0 i) (next.0 i) (third.0 i) (fourth.0 i) least plain);
+      says = subst (λ (x : Option (List ℕ)). SaysLeast x least) sixth.0 said;
+      whole = made ∙ (λ i. with_options (one.0 i) (next.0 i) (third.0 i) (fourth.0 i) (fifth.0 i) least plain);
     }
 
 -- fewer than five words
 pub too_few_settings : (words : List (List ℕ)) → length words < 5 → (x : Configuration) → Configures words x → ⊥
-too_few_settings words few x (front, back, delay, standard, fast, control, number, least, plain, whole, size, settled, said, made) =
-    omega (arith, few, size, ap length whole, length-append front (option_words delay standard fast control number back))
+too_few_settings words few x (front, back, delay, standard, fast, control, reset, number, least, plain, whole, size, settled, said, made) =
+    omega (arith, few, size, ap length whole, length-append front (option_words delay standard fast control reset number back))
 
 -- five words, options and two ports configure what they say
 pub configured : (words : List (List ℕ)) (a b c d m p q : List ℕ) (rest behind left : List (List ℕ)) (o : Options) (number : Option (List ℕ)) (least : ℕ)
     (plain config : Configuration)
     → words ≡ a ∷ b ∷ c ∷ d ∷ m ∷ rest → AreSplit rest o behind → IsLeastSplit behind number left → left ≡ p ∷ q ∷ []
     → Settles (seven a b c d m p q) plain → SaysLeast number least
-    → config ≡ with_options o.delay o.standard_closing o.fast_retransmit o.congestion_control least plain → Configures words config
+    → config ≡ with_options o.delay o.standard_closing o.fast_retransmit o.congestion_control o.reset least plain → Configures words config
 configured words a b c d m p q rest behind left o number least plain config is split last two settled said made =
     let last_is = least_again behind left number last ∙ ap (λ (ws : List (List ℕ)). rto_min_words number ++ ws) two in
-    let control_is = joined_again congestion_control_word split.behind_fast behind o.congestion_control split.control
-    ∙ ap (λ (ws : List (List ℕ)). word_if o.congestion_control congestion_control_word ++ ws) last_is in
+    let reset_is = joined_again reset_word split.behind_control behind o.reset split.reset
+    ∙ ap (λ (ws : List (List ℕ)). word_if o.reset reset_word ++ ws) last_is in
+    let control_is = joined_again congestion_control_word split.behind_fast split.behind_control o.congestion_control split.control
+    ∙ ap (λ (ws : List (List ℕ)). word_if o.congestion_control congestion_control_word ++ ws) reset_is in
     let fast_is = joined_again fast_retransmit_word split.behind_standard split.behind_fast o.fast_retransmit split.fast
     ∙ ap (λ (ws : List (List ℕ)). word_if o.fast_retransmit fast_retransmit_word ++ ws) control_is in
     let standard_is = joined_again standard_closing_word split.behind_delay split.behind_standard o.standard_closing split.standard
@@ -308,6 +320,7 @@ configured words a b c d m p q rest behind left o number least plain config is s
       o.standard_closing,
       o.fast_retransmit,
       o.congestion_control,
+      o.reset,
       number,
       least,
       plain,

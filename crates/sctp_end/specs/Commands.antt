@@ -2,7 +2,7 @@
 use Rattle.std.specs.Prelude.{ℕ, if◌then◌else◌, List, [], ◌∷◌, length, Option, None, Some, codes, bytes_eq}
 use Rattle.sctp_end.specs.Fields.{Field, ANumber, ATag, AKind, AnUntil, SomeBytes, Value}
 use Rattle.sctp_end.specs.declared.command.Command.{Command}
-use Rattle.sctp_end.specs.declared.command.Command.TheVariants.{Connect, Draw, At, Packet, Build, Send, Abandon, Acknowledged, Abandoned, Take, Shutdown, Abort, Next, State, Held, Reassembly, Status, Path, Counts}
+use Rattle.sctp_end.specs.declared.command.Command.TheVariants.{Connect, Draw, At, Packet, Build, Send, Abandon, Acknowledged, Abandoned, Take, Reset, Resets, Shutdown, Abort, Next, State, Held, Reassembly, Status, Path, Counts}
 use Rattle.sctp_end.specs.declared.call.Call.{Call}
 use Rattle.sctp_end.specs.declared.call.Call.TheVariants as call
 use Rattle.sctp_values.specs.declared.kind.Kind.{Kind}
@@ -11,8 +11,8 @@ use Rattle.sctp_words.specs.Fields.{Values}
 -- all commands
 abbrev pub commands : List Command
 commands =
-    Connect ∷ Draw ∷ At ∷ Packet ∷ Build ∷ Send ∷ Abandon ∷ Acknowledged ∷ Abandoned ∷ Take ∷ Shutdown ∷ Abort ∷ Next ∷ State ∷ Held ∷ Reassembly ∷ Status
-    ∷ Path ∷ Counts ∷ []
+    Connect ∷ Draw ∷ At ∷ Packet ∷ Build ∷ Send ∷ Abandon ∷ Acknowledged ∷ Abandoned ∷ Take ∷ Reset ∷ Resets ∷ Shutdown ∷ Abort ∷ Next ∷ State ∷ Held ∷ Reassembly
+    ∷ Status ∷ Path ∷ Counts ∷ []
 
 -- the word that a command is
 abbrev pub name_of : Command → List ℕ
@@ -26,6 +26,8 @@ name_of Abandon = codes "abandon"
 name_of Acknowledged = codes "acknowledged"
 name_of Abandoned = codes "abandoned"
 name_of Take = codes "take"
+name_of Reset = codes "reset"
+name_of Resets = codes "resets"
 name_of Shutdown = codes "shutdown"
 name_of Abort = codes "abort"
 name_of Next = codes "next"
@@ -45,7 +47,7 @@ abbrev pub ticket_fields : List Field
 ticket_fields = ANumber 64 ∷ []
 
 -- connect TAG TSN; draw TAG TSN; at T; packet HEX; build; send STREAM KIND ID UNTIL HEX; abandon K; acknowledged K; abandoned K; take STREAM;
--- shutdown; abort HEX; next; state; held; reassembly; status; path; counts
+-- reset STREAM; resets; shutdown; abort HEX; next; state; held; reassembly; status; path; counts
 abbrev pub fields_of : Command → List Field
 fields_of Connect = draw_fields
 fields_of Draw = draw_fields
@@ -57,6 +59,8 @@ fields_of Abandon = ticket_fields
 fields_of Acknowledged = ticket_fields
 fields_of Abandoned = ticket_fields
 fields_of Take = ANumber 16 ∷ []
+fields_of Reset = ANumber 16 ∷ []
+fields_of Resets = []
 fields_of Shutdown = []
 fields_of Abort = SomeBytes ∷ []
 fields_of Next = []
@@ -88,6 +92,8 @@ meaning_of Abandon (ticket, rest) = call.Abandon ticket
 meaning_of Acknowledged (ticket, rest) = call.Acknowledged ticket
 meaning_of Abandoned (ticket, rest) = call.Abandoned ticket
 meaning_of Take (stream, rest) = call.Take stream
+meaning_of Reset (stream, rest) = call.Reset stream
+meaning_of Resets rest = call.Resets
 meaning_of Shutdown rest = call.Shutdown
 meaning_of Abort (bytes, rest) = call.Abort bytes
 meaning_of Next rest = call.Next

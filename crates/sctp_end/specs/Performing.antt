@@ -4,6 +4,7 @@ use Rattle.sctp_model.specs.wire.Chunk.{ChunkMeaning}
 use Rattle.sctp_model.specs.wire.Packet.{Packet}
 use Rattle.sctp_model.specs.world.Calls.{Call as Message}
 use Rattle.sctp_model.specs.receiver.ReceiverView.{Handed, held_bytes, size_of_pieces}
+use Rattle.sctp_model.specs.receiver.ResetTaken.{old_waiting}
 use Rattle.sctp_model.specs.sender.Entries.{in_flight}
 use Rattle.sctp_model.specs.sender.Queueing as queueing
 use Rattle.sctp_model.specs.sender.Readers.{acknowledged, abandoned}
@@ -14,7 +15,7 @@ use Rattle.sctp_model.specs.end.Arriving.{Receives, IsCutShort, WantsNoMemory}
 use Rattle.sctp_model.specs.end.Building.{Builds, packet_of}
 use Rattle.sctp_model.specs.end.Moments.{ticked, next_moment}
 use Rattle.sctp_model.specs.end.UserCalls as model
-use Rattle.sctp_model.specs.end.UserCalls.{connect_answer, called, send_answer, send_leaves, abandons, abandoned_at, UserTakes, shutdown_answer, shut, abort_answer, abort_leaves}
+use Rattle.sctp_model.specs.end.UserCalls.{connect_answer, called, send_answer, send_leaves, abandons, abandoned_at, UserTakes, reset_call, reset_leaves, reset_there, told_leaves, shutdown_answer, shut, abort_answer, abort_leaves}
 use Rattle.sctp_values.specs.declared.kind.Kind.{Kind}
 use Rattle.sctp_values.specs.Meanings.{kind_meaning}
 use Rattle.sctp_terms.specs.declared.life.End.{End}
@@ -36,7 +37,7 @@ use Rattle.sctp_end.specs.Telling.{IsStatus}
 use Rattle.sctp_end.specs.declared.status.Status.{Status}
 use Rattle.sctp_end.specs.declared.call.Call.{Call}
 use Rattle.sctp_end.specs.declared.call.Call.TheVariants as call
-use Rattle.sctp_end.specs.declared.reply.Refusal.TheVariants.{NotIdle, NoSuchStream, Empty, TooLong, QueueFull, Spent, Resetting, NotEstablished, NotOpen, NoPeer, ReasonTooLong}
+use Rattle.sctp_end.specs.declared.reply.Refusal.TheVariants.{NotIdle, NoSuchStream, Empty, TooLong, QueueFull, Spent, Resetting, NotEstablished, NotAgreed, NoSuchReset, NotOpen, NoPeer, ReasonTooLong}
 use Rattle.sctp_end.specs.declared.reply.Reply.{Reply}
 use Rattle.sctp_end.specs.declared.reply.Reply.TheVariants as reply
 
@@ -86,6 +87,12 @@ message_of stream kind payload until limit bytes =
 abbrev pub TellsMessage : (stream : ℕ) → Handed → Reply → Type 0
 TellsMessage stream h r = (kind : Kind) × (kind_meaning kind ≡ h.lane.kind) × (r ≡ reply.Message stream kind h.number h.payload h.bytes)
 
+-- of the reset of a stream
+abbrev pub reset_reply : model.ResetCall → Reply
+reset_reply model.Begun = reply.Done
+reset_reply model.NotAgreed = reply.Refused NotAgreed
+reset_reply model.NoStream = reply.Refused NoSuchReset
+
 -- of shutdown
 abbrev pub shutdown_reply : model.ShutdownAnswer → Reply
 shutdown_reply model.Shut = reply.Done
@@ -103,6 +110,7 @@ may_want call.Build = true
 may_want (call.Send stream kind payload until bytes) = true
 may_want (call.SendWithMaxRetransmits stream kind payload until limit bytes) = true
 may_want (call.Take stream) = true
+may_want (call.Reset stream) = true
 may_want (call.Abort reason) = true
 may_want _ = false
 
@@ -138,6 +146,11 @@ pub data Performs (s : Standing) : Call → Reply → Standing → Type 0 where
   TakesOne : (stream : ℕ) (h : Handed) (r : Reply) (t : EndView) → UserTakes s.view stream (Some h) t → TellsMessage stream h r →
       Performs s (call.Take stream) r (record s { view = t })
   TakesNone : (stream : ℕ) (t : EndView) → UserTakes s.view stream None t → Performs s (call.Take stream) (reply.Empty stream) (record s { view = t })
+  ResetsOne : (stream : ℕ) (a : model.ResetCall) → reset_call s.view stream ≡ a →
+      Performs s (call.Reset stream) (reset_reply a) (record s { view = reset_leaves a s.view stream })
+  TellsReset : (stream n : ℕ) → reset_there s.view ≡ Some stream → n ≡ old_waiting s.view.receiver stream →
+      Performs s call.Resets (reply.ResetThere stream n) (record s { view = told_leaves (Some stream) s.view })
+  TellsNoReset : reset_there s.view ≡ None → Performs s call.Resets reply.NoReset s
   ShutsDown : (a : model.ShutdownAnswer) → shutdown_answer s.view.phase ≡ a →
       Performs s call.Shutdown (shutdown_reply a) (record s { view = shut s.view })
   AbortsIt : (reason : List ℕ) (a : model.AbortAnswer) (r : Reply) → abort_answer s.view reason ≡ a → TellsAbort a r →

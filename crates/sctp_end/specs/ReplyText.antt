@@ -4,7 +4,7 @@ use Rattle.sctp_send.specs.SenderAnswers.{answer_code}
 use Rattle.sctp_terms.specs.Meanings.{reason_code, state_meaning, end_meaning}
 use Rattle.sctp_values.specs.Meanings.{kind_meaning}
 use Rattle.sctp_end.specs.declared.reply.Refusal.{Refusal}
-use Rattle.sctp_end.specs.declared.reply.Refusal.TheVariants.{NotIdle, NoSuchStream, Empty, TooLong, QueueFull, Spent, Resetting, NotEstablished, NotOpen, NoPeer, ReasonTooLong}
+use Rattle.sctp_end.specs.declared.reply.Refusal.TheVariants.{NotIdle, NoSuchStream, Empty, TooLong, QueueFull, Spent, Resetting, NotEstablished, NotAgreed, NoSuchReset, NotOpen, NoPeer, ReasonTooLong}
 use Rattle.sctp_end.specs.CountsText.{counts_words}
 use Rattle.sctp_end.specs.PathText.{path_words}
 use Rattle.sctp_end.specs.StatusText.{status_words}
@@ -26,6 +26,8 @@ refusal_code QueueFull = 4
 refusal_code Spent = 5
 refusal_code Resetting = 8
 refusal_code NotEstablished = 7
+refusal_code NotAgreed = 1
+refusal_code NoSuchReset = 2
 refusal_code NotOpen = 1
 refusal_code NoPeer = 1
 refusal_code ReasonTooLong = 2
@@ -49,6 +51,8 @@ reply_words (reply.Holds b) = truth_word b ∷ []
 reply_words (reply.Message stream kind number payload bytes) =
     codes "message" ∷ decimal stream ∷ kind_word (kind_meaning kind) ∷ number_word number ∷ decimal payload ∷ hex_word bytes ∷ []
 reply_words (reply.Empty stream) = codes "empty" ∷ decimal stream ∷ []
+reply_words (reply.ResetThere stream count) = codes "reset" ∷ decimal stream ∷ decimal count ∷ []
+reply_words reply.NoReset = codes "no-reset" ∷ []
 reply_words (reply.Next moment) = codes "next" ∷ number_word moment ∷ []
 reply_words (reply.Stands state ended) = codes "state" ∷ state_word (state_meaning state) ∷ end_word (option_map end_meaning ended) ∷ []
 reply_words (reply.Held n) = codes "held" ∷ decimal n ∷ []

@@ -11,7 +11,7 @@ use Rattle.sctp_endpoint.specs.Counted.{none_counted}
 use Rattle.sctp_end.specs.Fields.{Field, ANumber, AMode, Value, IsValue}
 use Rattle.sctp_end.specs.Performing.{Standing}
 use Rattle.sctp_text.specs.Numerals.{IsHex}
-use Rattle.sctp_words.specs.Fields.{IsNumber, delay_word, standard_closing_word, fast_retransmit_word, congestion_control_word, rto_min_word, Values, AreValues}
+use Rattle.sctp_words.specs.Fields.{IsNumber, delay_word, standard_closing_word, fast_retransmit_word, congestion_control_word, reset_word, rto_min_word, Values, AreValues}
 
 -- LIMIT FRAGMENT BUFFER STREAMS MODE PORT PEER
 abbrev pub setting_fields : List Field
@@ -47,35 +47,35 @@ SaysLeast None least = least ≡ LEAST_WAIT
 SaysLeast (Some number) least = IsNumber 32 number least
 
 -- the options in their order, and the words after them
-abbrev pub option_words : (delay standard fast control : Bool) (number : Option (List ℕ)) → List (List ℕ) → List (List ℕ)
-option_words delay standard fast control number back =
+abbrev pub option_words : (delay standard fast control reset : Bool) (number : Option (List ℕ)) → List (List ℕ) → List (List ℕ)
+option_words delay standard fast control reset number back =
     word_if delay delay_word ++ (word_if standard standard_closing_word
-    ++ (word_if fast fast_retransmit_word ++ (word_if control congestion_control_word ++ (rto_min_words number ++ back))))
+    ++ (word_if fast fast_retransmit_word ++ (word_if control congestion_control_word ++ (word_if reset reset_word ++ (rto_min_words number ++ back)))))
 
 -- a configuration with these options: congestion control brings fast retransmission
-abbrev pub with_options : (delay standard fast control : Bool) (least : ℕ) → Configuration → Configuration
-with_options delay standard fast control least c =
-    record c { delay = delay; standard_closing = standard; fast_retransmit = control || fast; congestion_control = control; least_wait = least }
+abbrev pub with_options : (delay standard fast control reset : Bool) (least : ℕ) → Configuration → Configuration
+with_options delay standard fast control reset least c =
+    record c { delay = delay; standard_closing = standard; fast_retransmit = control || fast; congestion_control = control; reset = reset; least_wait = least }
 
--- The words say this configuration: after MODE, the fifth, may be `delay`, `standard-closing`, `fast-retransmit`, `congestion-control`, and `rto-min` with its
--- number, in this order.
+-- The words say this configuration: after MODE, the fifth, may be `delay`, `standard-closing`, `fast-retransmit`, `congestion-control`, `reset`, and `rto-min`
+-- with its number, in this order.
 abbrev pub Configures : List (List ℕ) → Configuration → Type 0
 Configures words c =
-    (front back : List (List ℕ)) × (delay standard fast control : Bool) × (number : Option (List ℕ)) × (least : ℕ) × (plain : Configuration)
-    × (words ≡ front ++ option_words delay standard fast control number back) × (length front ≡ 5)
-    × Settles (front ++ back) plain × SaysLeast number least × (c ≡ with_options delay standard fast control least plain)
+    (front back : List (List ℕ)) × (delay standard fast control reset : Bool) × (number : Option (List ℕ)) × (least : ℕ) × (plain : Configuration)
+    × (words ≡ front ++ option_words delay standard fast control reset number back) × (length front ≡ 5)
+    × Settles (front ++ back) plain × SaysLeast number least × (c ≡ with_options delay standard fast control reset least plain)
 
 -- the word says a key: 32 bytes in hexadecimal
 abbrev pub IsKey : List ℕ → List ℕ → Type 0
 IsKey word key = IsHex word key × (length key ≡ 32)
 
--- NAME caller LIMIT FRAGMENT BUFFER STREAMS MODE [delay] [standard-closing] [fast-retransmit] [congestion-control] [rto-min MS] PORT PEER
+-- NAME caller LIMIT FRAGMENT BUFFER STREAMS MODE [delay] [standard-closing] [fast-retransmit] [congestion-control] [reset] [rto-min MS] PORT PEER
 abbrev pub SetsUpCaller : List (List ℕ) → EndView → Type 0
 SetsUpCaller words v =
     (name : List ℕ) × (settings : List (List ℕ)) × (c : Configuration) × (words ≡ name ∷ codes "caller" ∷ settings) × Configures settings c
     × (v ≡ fresh_end c Caller Idle)
 
--- NAME listener LIMIT FRAGMENT BUFFER STREAMS MODE [delay] [standard-closing] [fast-retransmit] [congestion-control] [rto-min MS] PORT PEER KEY:
+-- NAME listener LIMIT FRAGMENT BUFFER STREAMS MODE [delay] [standard-closing] [fast-retransmit] [congestion-control] [reset] [rto-min MS] PORT PEER KEY:
 -- it has a seal under this key
 abbrev pub SetsUpListener : List (List ℕ) → EndView → Type 0
 SetsUpListener words v =

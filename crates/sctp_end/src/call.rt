@@ -51,6 +51,12 @@ pub enum Call {
     Take {
         stream: u16,
     },
+    /// `reset`: its user asks for the reset of an outgoing stream (RFC 6525, 5.1).
+    Reset {
+        stream: u16,
+    },
+    /// `resets`: its user asks which stream the peer has reset, the lowest that wasn't reported.
+    Resets,
     /// `shutdown`: its user closes the association gracefully.
     Shutdown,
     /// `abort`: its user aborts the association, for this reason.

@@ -161,6 +161,17 @@ pub(crate) fn read_take(mut words: Words<'_>) -> Option<Call>
     Some(Call::Take { stream })
 }
 
+/// `reset STREAM`
+pub(crate) fn read_reset(mut words: Words<'_>) -> Option<Call>
+    requires { length words ≡ arguments_of Command.Reset }
+    ensures { MatchOption result
+        ((call : Call) → Spells Command.Reset words.entry call → ⊥)
+        (λ call. Spells Command.Reset words.entry call) }
+{
+    let stream = read_u16(words.next_word())?;
+    Some(Call::Reset { stream })
+}
+
 /// `abort HEX`
 ///
 /// # Errors

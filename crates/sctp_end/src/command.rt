@@ -16,6 +16,8 @@ pub enum Command {
     Acknowledged,
     Abandoned,
     Take,
+    Reset,
+    Resets,
     Shutdown,
     Abort,
     Next,
@@ -43,6 +45,8 @@ impl Command {
             b"acknowledged" => Some(Command::Acknowledged),
             b"abandoned" => Some(Command::Abandoned),
             b"take" => Some(Command::Take),
+            b"reset" => Some(Command::Reset),
+            b"resets" => Some(Command::Resets),
             b"shutdown" => Some(Command::Shutdown),
             b"abort" => Some(Command::Abort),
             b"next" => Some(Command::Next),
@@ -69,8 +73,10 @@ impl Command {
             | Command::Acknowledged
             | Command::Abandoned
             | Command::Take
+            | Command::Reset
             | Command::Abort => 1,
             Command::Build
+            | Command::Resets
             | Command::Shutdown
             | Command::Next
             | Command::State

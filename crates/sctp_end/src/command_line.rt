@@ -18,7 +18,7 @@ use std::alloc::Global;
 pub const USAGE: &str = "usage:
   sctp-end caller LIMIT FRAGMENT BUFFER STREAMS MODE [OPTIONS] PORT PEER        an end that calls; lines on standard input, answers on standard output
   sctp-end listener LIMIT FRAGMENT BUFFER STREAMS MODE [OPTIONS] PORT PEER KEY  an end that listens
-OPTIONS, in this order: [delay] [standard-closing] [fast-retransmit] [congestion-control] [rto-min MS]
+OPTIONS, in this order: [delay] [standard-closing] [fast-retransmit] [congestion-control] [reset] [rto-min MS]
 ";
 /// The exit status if the input was answered to its end.
 pub const DONE: u8 = 0;

@@ -19,7 +19,7 @@
 //!   `specs/SetUpWords`), and a line leaves those before it with what it adds (`specs/Counting`, by the rows of `specs/Performing`).
 //! - `put_reply` writes a reply as its line.
 //! - **`run_words` is the program.** Either its words set up an endpoint (`specs/SetUpWords`; the options `delay`, `standard-closing`,
-//!   `fast-retransmit`, `congestion-control` and `rto-min` with its number of milliseconds may be after MODE, in this order) or they are wrong, and the status says which. From the endpoint that they set up, the answers to all lines of
+//!   `fast-retransmit`, `congestion-control`, `reset` and `rto-min` with its number of milliseconds may be after MODE, in this order) or they are wrong, and the status says which. From the endpoint that they set up, the answers to all lines of
 //!   the input are written, each from the state that the line before it left (`specs/Answering`), with status 0 after all input was read; or a
 //!   prefix of them, with status 3. For wrong words nothing is read and the usage text is written to standard error, with status 1, or a prefix
 //!   of it with status 3. A line of more than 140,000 bytes is like any other: it has its fault, changes nothing, and the next line is
@@ -33,7 +33,7 @@
 //!
 //! # What the contracts leave open
 //!
-//! No contract says when memory is available. So the answer `memory` is allowed for `build`, `send`, `take`, `abort` and a packet that
+//! No contract says when memory is available. So the answer `memory` is allowed for `build`, `send`, `take`, `reset`, `abort` and a packet that
 //! allocates, and, as `read_line` doesn't say which lines have bytes, for any line of a command with its number of words; and status 3 for
 //! words that set up an endpoint. The rows show that neither happens while there is memory. Status 3 is also that of an input of more than
 //! 2^40 bytes. Of a listener's seal `ends` says that there is one under its key; the endpoint of the program stands for the machine with each
@@ -59,9 +59,11 @@ mod counts_line;
 mod line;
 mod options;
 mod path_line;
+mod readers;
 mod replies;
 mod reply;
 mod reply_line;
+mod resets;
 mod run;
 mod sending;
 mod session;

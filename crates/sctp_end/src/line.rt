@@ -7,7 +7,7 @@ ghost use Rattle.sctp_end.specs.Grammar.{Spells, Finds, Refuses};
 use crate::call::Call;
 use crate::call_words::{
     read_abandon, read_abandoned, read_abort, read_acknowledged, read_at, read_connect,
-    read_new_draw, read_packet, read_send, read_take,
+    read_new_draw, read_packet, read_reset, read_send, read_take,
 };
 use crate::command::Command;
 use sctp_text::{LONGEST_LINE, Words};
@@ -59,6 +59,8 @@ fn read_call(alloc: Global, command: Command, words: Words<'_>) -> Result<Option
         Command::Acknowledged => Ok(read_acknowledged(words)),
         Command::Abandoned => Ok(read_abandoned(words)),
         Command::Take => Ok(read_take(words)),
+        Command::Reset => Ok(read_reset(words)),
+        Command::Resets => Ok(Some(Call::Resets)),
         Command::Shutdown => Ok(Some(Call::Shutdown)),
         Command::Abort => read_abort(alloc, words),
         Command::Next => Ok(Some(Call::Next)),

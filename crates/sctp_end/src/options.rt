@@ -3,11 +3,12 @@
 ghost use Rattle.std.specs.Prelude.{◌≡◌, ℕ, false, ◌||◌, map, option_map, string_bytes, MatchOption};
 ghost use Rattle.sctp_end.specs.SetUpWords.{SaysLeast, with_options};
 ghost use Rattle.sctp_end.specs.inner.SettingUp.{IsSplit, AreSplit, IsLeastSplit, HasNoOptions};
-ghost use Rattle.sctp_words.specs.Fields.{delay_word, standard_closing_word, fast_retransmit_word, congestion_control_word};
+ghost use Rattle.sctp_words.specs.Fields.{delay_word, standard_closing_word, fast_retransmit_word, congestion_control_word, reset_word};
 
 use sctp_endpoint::Config;
 use sctp_words::{
-    is_congestion_control, is_delay, is_fast_retransmit, is_rto_min, is_standard_closing, read_u32,
+    is_congestion_control, is_delay, is_fast_retransmit, is_reset, is_rto_min, is_standard_closing,
+    read_u32,
 };
 
 /// RTO.Min in milliseconds, if it is left out (RFC 9260, 16).
@@ -24,6 +25,8 @@ pub(crate) struct Options {
     pub(crate) fast_retransmit: bool,
     /// `congestion-control`
     pub(crate) congestion_control: bool,
+    /// `reset`
+    pub(crate) reset: bool,
 }
 
 /// Which options of one word these words begin with, and the words after them.
@@ -34,11 +37,13 @@ pub(crate) fn split_options(words: &[String]) -> (Options, &[String])
     let (standard_closing, rest) = split_standard_closing(rest);
     let (fast_retransmit, rest) = split_fast_retransmit(rest);
     let (congestion_control, rest) = split_congestion_control(rest);
+    let (reset, rest) = split_reset(rest);
     let options = Options {
         delay,
         standard_closing,
         fast_retransmit,
         congestion_control,
+        reset,
     };
     (options, rest)
 }
@@ -83,6 +88,16 @@ fn split_congestion_control(words: &[String]) -> (bool, &[String])
     }
 }
 
+/// Whether the first of these words is `reset`, and the words after it; else all of them.
+fn split_reset(words: &[String]) -> (bool, &[String])
+    ensures { IsSplit reset_word (map string_bytes words.now) result.0 (map string_bytes result.1.now) }
+{
+    match words {
+        [first, rest @ ..] if is_reset(first.as_bytes()) => (true, rest),
+        _ => (false, words),
+    }
+}
+
 /// The word after `rto-min`, if that is the first of these words, and the words after both; else all of them.
 pub(crate) fn split_rto_min(words: &[String]) -> (Option<&[u8]>, &[String])
     ensures { IsLeastSplit (map string_bytes words.now) (option_map (λ w. w.now) result.0) (map string_bytes result.1.now) }
@@ -111,11 +126,20 @@ pub(crate) fn read_rto_min(word: Option<&[u8]>) -> Option<u32>
 pub(crate) fn with_options(config: Config, options: Options, rto_min: u32) -> Config
     requires plain { HasNoOptions config }
     ensures { result
-        ≡ with_options options.delay options.standard_closing options.fast_retransmit options.congestion_control rto_min config }
+        ≡ with_options options.delay options.standard_closing options.fast_retransmit options.congestion_control options.reset rto_min config }
 {
     let config = with_closing(config, options.delay, options.standard_closing);
     let config = with_pace(config, options.fast_retransmit, options.congestion_control);
+    let config = with_resets(config, options.reset);
     config.with_rto_min(rto_min)
+}
+
+/// The configuration that asks for the reset of streams, or doesn't.
+fn with_resets(config: Config, reset: bool) -> Config
+    requires { config.reset ≡ false }
+    ensures { result ≡ record config { reset = reset } }
+{
+    if reset { config.with_reset() } else { config }
 }
 
 /// The configuration that delays its SACKs so, and that closes so.

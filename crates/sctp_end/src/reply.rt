@@ -23,10 +23,14 @@ pub enum Refusal {
     QueueFull,
     /// 5 of `send`: no ticket or TSN is left in this association.
     Spent,
-    /// 8 of `send`: the stream is being reset. No call resets one yet.
+    /// 8 of `send`: the stream is being reset.
     Resetting,
     /// 7 of `send`: the association isn't established.
     NotEstablished,
+    /// 1 of `reset`: the association isn't established, or the reset of streams wasn't agreed on.
+    NotAgreed,
+    /// 2 of `reset`: there is no such stream.
+    NoSuchReset,
     /// 1 of `shutdown`: no association is open.
     NotOpen,
     /// 1 of `abort`: there is no peer to notify.
@@ -70,6 +74,13 @@ pub enum Reply {
     Empty {
         stream: u16,
     },
+    /// `reset STREAM COUNT`: the peer has reset this stream. Of its messages that wait for `take` the first COUNT were delivered before.
+    ResetThere {
+        stream: u16,
+        count: usize,
+    },
+    /// `no-reset`: no reset by the peer is left to report.
+    NoReset,
     /// `next T` or `next -`
     Next(Option<u64>),
     /// `state STATE WHY`
@@ -101,7 +112,7 @@ impl Refusal {
     ghost use Rattle.std.specs.Prelude.{◌≡◌};
     ghost use Rattle.sctp_end.specs.ReplyText.{refusal_code};
 
-    /// The code C of `refused`, 1 to 7.
+    /// The code C of `refused`, 1 to 8.
     pub fn code(self) -> u8
         ensures { result ≡ refusal_code self }
     {
@@ -114,6 +125,8 @@ impl Refusal {
             Refusal::Spent => 5,
             Refusal::Resetting => 8,
             Refusal::NotEstablished => 7,
+            Refusal::NotAgreed => 1,
+            Refusal::NoSuchReset => 2,
             Refusal::NotOpen => 1,
             Refusal::NoPeer => 1,
             Refusal::ReasonTooLong => 2,

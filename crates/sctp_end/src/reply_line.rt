@@ -44,6 +44,8 @@ pub fn put_reply(reply: &Reply, out: &mut Vec<u8>) -> Result<(), NoMemory>
             bytes,
         } => put_message(*stream, *kind, *number, *payload_id, bytes, out),
         Reply::Empty { stream } => put_number(b"empty", u64::from(*stream), out),
+        Reply::ResetThere { stream, count } => put_reset(*stream, *count, out),
+        Reply::NoReset => put_words(b"no-reset", &[], out),
         Reply::Next(moment) => put_words(b"next", &[number_word(*moment)], out),
         Reply::Stands { state, ended } => {
             put_words(b"state", &[state_word(*state), end_word(*ended)], out)
@@ -95,6 +97,15 @@ fn put_message(
         Word::Hex(bytes.as_slice()),
     ];
     put_words(b"message", &words, out)
+}
+
+/// Appends `reset STREAM COUNT`; nothing if an allocation fails.
+fn put_reset(stream: u16, count: usize, out: &mut Vec<u8>) -> Result<(), NoMemory>
+    ensures put { OnOk result (out.new.items ≡ out.old.items ++ line_of (codes "reset" ∷ decimal stream ∷ decimal count ∷ [])) }
+    ensures refused { OnErr result (out.new.items ≡ out.old.items) }
+{
+    let words = [Word::Number(u64::from(stream)), Word::Number(count as u64)];
+    put_words(b"reset", &words, out)
 }
 
 /// `yes` or `no`.

@@ -13,7 +13,6 @@ ghost use Rattle.sctp_end.specs.SessionStands.{Performed};
 use crate::call::Call;
 use crate::replies::abort_refused;
 use crate::reply::{Refusal, Reply};
-use crate::status::Status;
 use sctp_endpoint::{
     ConnectFault, Draw, Endpoint, Sent, ShutdownFault, Ticket, Verdict, one_packet,
 };
@@ -67,6 +66,8 @@ impl Session {
             Call::Acknowledged { ticket } => self.acknowledged(ticket),
             Call::Abandoned { ticket } => self.abandoned(ticket),
             Call::Take { stream } => self.take(stream),
+            Call::Reset { stream } => self.reset(stream),
+            Call::Resets => self.resets(),
             Call::Shutdown => self.shutdown(),
             Call::Abort(reason) => self.abort(&reason),
             Call::Next => Reply::Next(self.endpoint.next_moment()),
@@ -190,34 +191,6 @@ impl Session {
             payload_id: message.payload_id,
             bytes: Bytes::new(bytes),
         }))
-    }
-
-    /// `status`
-    fn status(&self) -> Reply
-        ensures { Performed self.now call.Status result self.now }
-    {
-        Reply::Status(Status {
-            state: self.endpoint.state(),
-            ended: self.endpoint.ended(),
-            next: self.endpoint.next_moment(),
-            agreed: self.endpoint.agreed(),
-            outstanding: self.endpoint.outstanding(),
-            queued: self.endpoint.queued(),
-            queued_bytes: self.endpoint.queued_bytes(),
-            held: self.endpoint.held_bytes(),
-            window: self.endpoint.peer_window(),
-            readable: self.endpoint.readable(0),
-        })
-    }
-
-    /// `path`
-    fn path(&self) -> Reply
-        ensures { Performed self.now call.Path result self.now }
-    {
-        Reply::Path {
-            flight: self.endpoint.in_flight(),
-            path: self.endpoint.path(),
-        }
     }
 
     /// `shutdown`

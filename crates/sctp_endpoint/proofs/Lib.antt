@@ -1,3 +1,4 @@
+pub mod ResetLemmas
 pub mod RowLemmas
 pub mod OpeningLemmas
 pub mod ClosingLemmas

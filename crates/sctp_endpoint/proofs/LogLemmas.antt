@@ -10,20 +10,23 @@ use Rattle.sctp_model.specs.world.Calls.{Call}
 use Rattle.sctp_model.specs.end.EndView.{Draw, EndView}
 use Rattle.sctp_model.specs.end.Clock.{at_moment}
 use Rattle.sctp_model.specs.end.UserCalls as model
-use Rattle.sctp_model.specs.end.UserCalls.{connect_answer, called, SendAnswer, send_answer, send_leaves, abort_answer, abort_leaves, UserTakes}
+use Rattle.sctp_model.specs.end.UserCalls.{connect_answer, called, SendAnswer, send_answer, send_leaves, abort_answer, abort_leaves, UserTakes, ResetCall, Begun, reset_leaves, told_leaves}
 use Rattle.sctp_values.specs.declared.no_memory.NoMemory.{NoMemory}
 use Rattle.sctp_values.specs.declared.ticket.Ticket.{Ticket}
 use Rattle.sctp_terms.specs.declared.calls.ConnectFault.{ConnectFault}
 use Rattle.sctp_terms.specs.declared.calls.AbortFault.{AbortFault}
+use Rattle.sctp_terms.specs.declared.calls.ResetFault.{ResetFault}
 use Rattle.sctp_recv.specs.HandedOf.{handed_of}
 use Rattle.sctp_recv.specs.declared.message.Message.{Message}
+use Rattle.sctp_recv.specs.declared.restart.Reset.{Reset}
 use Rattle.sctp_association.specs.AbortAnswers.{aborted_view}
+use Rattle.sctp_association.specs.ResetAnswers.{ResetAnswers, reset_view, ToldAnswers, told_view}
 use Rattle.sctp_association.specs.CallAnswers.{connect_meaning, connected, SendAnswers, sent_view}
 use Rattle.sctp_association.specs.declared.user.calls.Refused.{Refused}
-use Rattle.sctp_outcomes.specs.Kept.{IsSound, SendNotes}
+use Rattle.sctp_outcomes.specs.Kept.{IsSound, KeepsLogs, SendNotes}
 use Rattle.sctp_outcomes.proofs.logs.Ends.{keeps_itself}
 use Rattle.sctp_outcomes.proofs.logs.Heard.{moment_keeps, packets_keep_logs, cut_packets_keep_logs}
-use Rattle.sctp_outcomes.proofs.logs.Called.{connect_keeps_logs, abort_keeps_logs, send_gives_tickets, take_takes_one}
+use Rattle.sctp_outcomes.proofs.logs.Called.{connect_keeps_logs, abort_keeps_logs, reset_keeps_logs, send_gives_tickets, take_takes_one, told_keeps_logs}
 use Rattle.sctp_outcomes.proofs.logs.Built.{empty_builds_keep_logs}
 use Rattle.sctp_endpoint.specs.EndpointStands.{EndpointStands}
 use Rattle.sctp_endpoint.specs.Handled.{Handled}
@@ -55,6 +58,16 @@ pub send_logs : (r : Result Ticket Refused) (v : EndView) (c : Call) (e : Endpoi
 send_logs (Ok ticket) v c e s answer stands =
     (send_leaves (model.Ticket ticket.0) v c, subst (λ (a : SendAnswer). SendNotes a v (send_leaves a v c)) answer (send_gives_tickets v c s), stands)
 send_logs (Err why) v c e s answer stands = same_logs v e s stands
+
+pub reset_logs : (r : Result (Unit {0}) ResetFault) (v : EndView) (stream : ℕ) (e : Endpoint) → IsSound v → ResetAnswers v stream r → EndpointStands e (reset_view v stream r) → LeavesLogs v e
+reset_logs (Ok done) v stream e s answer stands =
+    (reset_leaves Begun v stream, subst (λ (a : ResetCall). KeepsLogs v (reset_leaves a v stream)) answer (reset_keeps_logs v stream s), stands)
+reset_logs (Err why) v stream e s answer stands = same_logs v e s stands
+
+pub told_logs : (r : Option Reset) (v : EndView) (e : Endpoint) → IsSound v → ToldAnswers v r → EndpointStands e (told_view v r) → LeavesLogs v e
+told_logs None v e s answer stands = same_logs v e s stands
+told_logs (Some r) v e s answer stands =
+    (told_leaves (Some r.stream) v, subst (λ (o : Option ℕ). KeepsLogs v (told_leaves o v)) answer.0 (told_keeps_logs v s), stands)
 
 pub take_logs : (m : Option Message) (v : EndView) (stream : ℕ) (t : EndView) (e : Endpoint) → IsSound v → UserTakes v stream (option_map handed_of m) t → EndpointStands e t → TakesLogs v stream m e
 take_logs None v stream t e s takes stands = (t, take_takes_one v stream None t s takes, stands)

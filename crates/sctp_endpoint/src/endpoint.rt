@@ -23,7 +23,8 @@ use std::alloc::Global;
 /// - Input: [`handle_packet`](Endpoint::handle_packet) for a received packet, [`on_moment`](Endpoint::on_moment) for the time, no later than
 ///   [`next_moment`](Endpoint::next_moment) says.
 /// - Requests of the user: [`connect`](Endpoint::connect), [`send`](Endpoint::send), [`take`](Endpoint::take),
-///   [`abandon`](Endpoint::abandon), [`shutdown`](Endpoint::shutdown) and [`abort`](Endpoint::abort).
+///   [`abandon`](Endpoint::abandon), [`reset`](Endpoint::reset), [`take_reset`](Endpoint::take_reset), [`shutdown`](Endpoint::shutdown) and
+///   [`abort`](Endpoint::abort).
 /// - Output: after each of these calls [`poll_transmit`](Endpoint::poll_transmit), until it returns no further packet. An answer to a packet and the
 ///   packet of `abort` are returned by these calls themselves.
 /// - Buffers that may be reused: [`recycle`](Endpoint::recycle) for a packet that was sent, [`recycle_tickets`](Endpoint::recycle_tickets) for its

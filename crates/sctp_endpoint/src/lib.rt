@@ -20,7 +20,10 @@
 //! - The user's calls and [`Endpoint::on_moment`]: each returns what the state machine says, an error exactly if its condition is the first that applies
 //!   (`answer`), and leaves its next state (`step`). [`Endpoint::recycle`], [`Endpoint::recycle_tickets`] and
 //!   [`Endpoint::give_back`] leave the state as it is.
-//! - Readers return what the state says. At most `Config::buffer` bytes are held, at most 32,767 TSNs are outstanding (`bound`).
+//! - Resets of streams: [`Endpoint::reset`] begins exactly where the state machine's does (`answer`), and [`Endpoint::take_reset`] reports the
+//!   lowest stream that the peer reset, once (RFC 6525, 5).
+//! - Readers return what the state says. At most `Config::buffer` bytes are held, at most 32,767 TSNs are outstanding, at most 1,024 streams wait
+//!   for their reset (`bound`).
 //! - Each call also says what it leaves of the tickets returned, the messages numbered and the messages taken (clause `logs`), of which the theorem on
 //!   two endpoints is made.
 //! - Each call also says what it counts of packets, bytes, chunks and reasons (clause `counts`); [`Endpoint::counts`] returns these numbers, modulo 2^64.
@@ -46,6 +49,7 @@ mod packets;
 mod passing;
 mod pieces;
 mod readers;
+mod resets;
 mod rooms;
 mod sacks;
 mod shutdowns;
@@ -60,10 +64,11 @@ pub use laws::{chunk_types, one_packet, written_packet_reads};
 pub use packets::{AbortCause, PacketHeader, abort_cause, peek_packet};
 pub use sctp_association::{Agreed, Path, Refused};
 pub use sctp_cookie::Key;
-pub use sctp_recv::Message;
+pub use sctp_recv::{Message, Reset};
 pub use sctp_send::{Abandoned, SendFault};
 pub use sctp_terms::{
-    AbortFault, Config, ConfigFault, ConnectFault, Draw, End, Reason, ShutdownFault, State,
+    AbortFault, Config, ConfigFault, ConnectFault, Draw, End, Reason, ResetFault, ShutdownFault,
+    State,
 };
 pub use sctp_values::{Kind, NoMemory, Ticket};
 pub use transmit::Sent;

@@ -28,8 +28,8 @@ pub(crate) fn on_stray(
     ensures untaken { IfOk result IsUntaken }
 {
     match machine.hear_outside(draw, tag, chunks)? {
-        Stray::Begins(body) => {
-            machine.begin(&body)?;
+        Stray::Begins(content) => {
+            machine.begin(&content)?;
             Ok(Strayed::Begun)
         }
         Stray::Dropped(reason) => Ok(Strayed::Told(Verdict::Dropped(reason))),

@@ -11,7 +11,7 @@ use Rattle.sctp_recv.specs.HandedOf.{handed_of}
 use Rattle.sctp_events.specs.declared.event.Side.{Side}
 use Rattle.sctp_events.specs.declared.event.Side.TheVariants as side
 use Rattle.sctp_events.specs.declared.event.Event.{Event}
-use Rattle.sctp_events.specs.declared.event.Event.TheVariants.{Open, At, Drawing, Connect, Build, Deliver, Foreign, Send, SendWithMaxRetransmits, Abandon, Take, Shutdown, Abort}
+use Rattle.sctp_events.specs.declared.event.Event.TheVariants.{Open, At, Drawing, Connect, Build, Deliver, Foreign, Send, SendWithMaxRetransmits, Abandon, Take, Reset, WasReset, Shutdown, Abort}
 use Rattle.sctp_events.specs.declared.outcome.Refusal.{Refusal}
 use Rattle.sctp_events.specs.declared.outcome.Refusal.TheVariants as refusal
 use Rattle.sctp_events.specs.declared.outcome.Outcome.{Outcome}
@@ -44,6 +44,8 @@ event_meaning (SendWithMaxRetransmits x stream ordered payload bytes until limit
     Happens (meaning.Send (side_meaning x) (record { lane = lane_for stream ordered; payload = payload; bytes = bytes.items; until = until; limit = Some limit }))
 event_meaning (Abandon x ticket) = Happens (meaning.Abandon (side_meaning x) ticket.0)
 event_meaning (Take x stream) = Happens (meaning.Take (side_meaning x) stream)
+event_meaning (Reset x stream) = Happens (meaning.Reset (side_meaning x) stream)
+event_meaning (WasReset x) = Happens (meaning.WasReset (side_meaning x))
 event_meaning (Shutdown x) = Happens (meaning.Shutdown (side_meaning x))
 event_meaning (Abort x reason) = Happens (meaning.Abort (side_meaning x) reason.items)
 
@@ -53,6 +55,7 @@ event_meaning (Abort x reason) = Happens (meaning.Abort (side_meaning x) reason.
 abbrev pub refusal_meaning : Refusal → meaning.Outcome
 refusal_meaning refusal.State = meaning.RefusedState
 refusal_meaning refusal.ReasonTooLong = meaning.AbortTooLong
+refusal_meaning refusal.NoSuchReset = meaning.NoSuchReset
 refusal_meaning refusal.NotOpen = meaning.Told calls.NotOpen
 refusal_meaning refusal.NoSuchStream = meaning.Told (calls.Refused refusals.NoSuchStream)
 refusal_meaning refusal.Resetting = meaning.Told (calls.Refused refusals.Resetting)
@@ -75,6 +78,8 @@ outcome_meaning (outcome.Ticket ticket) = meaning.Told (calls.Ticket ticket.0)
 outcome_meaning (outcome.Fate fate) = meaning.Fate (answer_meaning fate)
 outcome_meaning (outcome.Message message) = meaning.Message (handed_of message)
 outcome_meaning outcome.Empty = meaning.NoMessage
+outcome_meaning (outcome.ResetThere stream count) = meaning.ResetThere stream count
+outcome_meaning outcome.NoReset = meaning.NoReset
 
 -- the answer of a result; a failed allocation is no answer
 abbrev pub answer_of : Result Outcome NoMemory → Option meaning.Outcome

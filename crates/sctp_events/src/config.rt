@@ -106,6 +106,16 @@ impl PairConfig {
         }
     }
 
+    /// This configuration, asking for the reset of streams at both endpoints (RFC 6525).
+    pub fn with_reset(self) -> PairConfig
+        ensures { result.a ≡ record self.a { reset = true } }
+    {
+        PairConfig {
+            a: self.a.with_reset(),
+            b: self.b.with_reset(),
+        }
+    }
+
     /// The configuration of endpoint A, the caller.
     pub fn caller(&self) -> Config
         ensures { result ≡ self.now.a }

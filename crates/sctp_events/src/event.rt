@@ -91,6 +91,16 @@ pub enum Event {
         side: Side,
         stream: u16,
     },
+    /// `reset`: an endpoint's user asks for the reset of an outgoing stream, which takes no further message until the peer has performed it
+    /// (RFC 6525, 5.1).
+    Reset {
+        side: Side,
+        stream: u16,
+    },
+    /// `resets`: an endpoint's user asks which stream the peer has reset, the lowest that wasn't reported (RFC 6525, 5.2.2).
+    WasReset {
+        side: Side,
+    },
     /// `shutdown`: an endpoint's user closes the association gracefully: it has no more to send.
     Shutdown {
         side: Side,

@@ -12,7 +12,7 @@
 //!   extensions of the mode, exactly if an endpoint's configuration of these values has no fault; else it returns the first fault.
 //! - `PairConfig::with_delay` and `with_standard_closing` set the option of both endpoints, and nothing else: delayed SACKs (RFC 9260, 6.2),
 //!   and closing by the RFC's timers (RFC 9260, 9.2). So do `with_fast_retransmit` (6.3.1 and 7.2.4), `with_congestion_control` (7.2), which sets both,
-//!   and `with_rto_min`.
+//!   `with_rto_min` and `with_reset` (RFC 6525).
 //! - `PairConfig::caller` is A's configuration, `listener` the same with the two ports exchanged.
 //! - `TwoConfigs::of` takes the configurations of two endpoints that need not be alike, exactly if the port of each is the port of the other's
 //!   peer; `TwoConfigs::alike` those of a pair. `caller` and `listener` are its two.

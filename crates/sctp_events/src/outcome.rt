@@ -8,10 +8,12 @@ use sctp_values::Ticket;
 /// Why a call was refused. It has changed nothing.
 #[derive(Clone, Copy, Debug, PartialEq, Eq)]
 pub enum Refusal {
-    /// Not allowed in this state. Only `open`, `connect`, `shutdown` and `abort` are refused so.
+    /// Not allowed in this state, or, of `reset`, not agreed on. Only `open`, `connect`, `reset`, `shutdown` and `abort` are refused so.
     State,
     /// The reason of `abort` doesn't fit one packet.
     ReasonTooLong,
+    /// `reset`: there is no such stream.
+    NoSuchReset,
     /// `send`: the association isn't established. This is checked first; of this and those below the first that applies is returned.
     NotOpen,
     /// `send`: there is no such stream.
@@ -56,4 +58,8 @@ pub enum Outcome {
     Message { message: Message },
     /// `empty X STREAM`: no message is waiting on this stream.
     Empty,
+    /// `reset X STREAM COUNT`: the peer has reset this stream. Of its messages that wait for `take` the first COUNT were delivered before.
+    ResetThere { stream: u16, count: usize },
+    /// `no-reset X`: no reset by the peer is left to report.
+    NoReset,
 }

@@ -3,7 +3,7 @@
 //!
 //! Events of a pair leave rows (`recording`, `rows`, `lives`, and `waits` for delayed SACKs), which are drawn as text (`ladder`), as SVG
 //! (`svg`) and as a hex dump (`capture`). The crate depends on public calls alone: `sctp_script::read_line_at`; `Pair::of_two`, `step`, `end`,
-//! `packet` and `clock`; an endpoint's `state` and `ended`; `sctp_packet::read_packet`; and the words for states of sctp_words.
+//! `packet` and `clock`; an endpoint's `state` and `ended`; `sctp_packet::read_packet`; `sctp_reconfig::read_parameters`; and the words for states of sctp_words.
 //!
 //! # Promises
 //!
@@ -35,6 +35,7 @@ mod ladder;
 mod lives;
 mod notes;
 mod packet_words;
+mod reconfig_words;
 mod recording;
 mod request;
 mod row;

@@ -101,6 +101,7 @@ fn put_deed(deed: &Deed, words: &mut String) -> Result<(), AllocError> {
             write!(words, "abandon #{ticket}: {fate}")
         }
         Deed::Taken { stream, message } => put_taken(*stream, message, words),
+        Deed::Resets { there } => put_resets(*there, words),
     }
 }
 
@@ -111,6 +112,10 @@ fn put_call(call: &Call, words: &mut String) -> Result<(), AllocError> {
         Call::Connect => words.push_str("connect"),
         Call::Shutdown => words.push_str("shutdown"),
         Call::Abort => words.push_str("abort"),
+        Call::Reset { stream } => {
+            let stream = *stream;
+            write!(words, "reset {stream}")
+        }
         Call::Send {
             stream,
             ordered,
@@ -157,13 +162,22 @@ fn put_taken(stream: u16, message: &Option<Taken>, words: &mut String) -> Result
     write!(words, " {length}B")
 }
 
+/// Appends the stream that the peer has reset, and how many messages wait that were delivered before.
+fn put_resets(there: Option<(u16, usize)>, words: &mut String) -> Result<(), AllocError> {
+    match there {
+        Some((stream, 0)) => write!(words, "resets: {stream}"),
+        Some((stream, count)) => write!(words, "resets: {stream} after {count}"),
+        None => words.push_str("resets: none"),
+    }
+}
+
 /// Why a call was refused.
 fn refusal_word(refusal: Refusal) -> &'static str {
     match refusal {
         Refusal::State => "state",
         Refusal::ReasonTooLong | Refusal::TooLong => "too long",
         Refusal::NotOpen => "not open",
-        Refusal::NoSuchStream => "no such stream",
+        Refusal::NoSuchStream | Refusal::NoSuchReset => "no such stream",
         Refusal::Resetting => "resetting",
         Refusal::Empty => "empty",
         Refusal::QueueFull => "queue full",

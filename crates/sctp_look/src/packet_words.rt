@@ -1,6 +1,8 @@
 //! A packet's chunks in short words. No byte of a message is shown, and no numbers but those of the chunks' fields.
 
+use crate::reconfig_words::put_reconfig;
 use sctp_packet::read_packet;
+use sctp_reconfig::RECONFIG;
 use sctp_wire::{Blocks, Causes, Chunk, Piece, Sack, Tsns};
 use std::alloc::{AllocError, Global};
 
@@ -54,6 +56,7 @@ fn put_chunk(chunk: &Chunk<'_>, words: &mut String) -> Result<(), AllocError> {
         Chunk::IData(piece) => put_piece("I-DATA", piece, words),
         Chunk::ForwardTsn(forward) => put_numbered("FORWARD", forward.cumulative, words),
         Chunk::IForwardTsn(forward) => put_numbered("I-FORWARD", forward.cumulative, words),
+        Chunk::Unknown { kind, value, .. } if *kind == RECONFIG => put_reconfig(value, words),
         Chunk::Unknown { kind, .. } => {
             let kind = *kind;
             write!(words, "type {kind}")

@@ -93,6 +93,10 @@ impl Recording {
             }
             Event::Abandon { side, ticket } => self.abandon(*side, *ticket, &outcome),
             Event::Take { side, stream } => self.take(*side, *stream, &outcome),
+            Event::Reset { side, stream } => {
+                self.call(*side, Call::Reset { stream: *stream }, &outcome)
+            }
+            Event::WasReset { side } => self.tell_reset(*side, &outcome),
             Event::Shutdown { side } => self.call(*side, Call::Shutdown, &outcome),
             Event::Abort { side, .. } => self.abort(*side, &outcome),
         }
@@ -140,6 +144,15 @@ impl Recording {
             _ => None,
         };
         self.show(side, Some(Deed::Taken { stream, message }), None)
+    }
+
+    /// Shows which stream an endpoint's user is told that the peer has reset.
+    fn tell_reset(&mut self, side: Side, outcome: &Outcome) -> Result<(), AllocError> {
+        let there = match outcome {
+            Outcome::ResetThere { stream, count } => Some((*stream, *count)),
+            _ => None,
+        };
+        self.show(side, Some(Deed::Resets { there }), None)
     }
 
     /// Shows that a packet of an endpoint leaves, or that it has none.

@@ -45,6 +45,8 @@ pub(crate) enum Deed {
     Dropped { reason: Reason },
     Abandoned { ticket: u64, fate: Abandoned },
     Taken { stream: u16, message: Option<Taken> },
+    /// The stream that the peer has reset, and how many messages wait that were delivered before, if there is one to report.
+    Resets { there: Option<(u16, usize)> },
 }
 
 impl Deed {
@@ -75,6 +77,9 @@ pub(crate) enum Call {
     Connect,
     Shutdown,
     Abort,
+    Reset {
+        stream: u16,
+    },
     Send {
         stream: u16,
         ordered: bool,

@@ -1,5 +1,5 @@
 -- Whether a cookie is valid, stale or strange, by what opening it returned.
-use Rattle.std.proofs.Common.{◌≡◌, ℕ, List, false, Result, Err, sym, ap, ◌∙◌}
+use Rattle.std.proofs.Common.{◌≡◌, ℕ, List, Bool, Result, Err, sym, ap, ◌∙◌}
 use Rattle.sctp_model.specs.end.Sealing.{Body, Sealing}
 use Rattle.sctp_model.specs.end.EndView.{Configuration, EndView}
 use Rattle.sctp_model.specs.end.Opening.{CookieLate, cookie_read, staleness}
@@ -14,25 +14,24 @@ use Rattle.sctp_opening.specs.declared.cookies.CookieReading.{CookieReading}
 use Rattle.sctp_opening.specs.declared.cookies.CookieReading.TheVariants as reading
 
 -- at this moment and this configuration
-pub read_is : (key bytes : List ℕ) (now : ℕ) (c : Configuration) (tag : ℕ) (s : Sealing) (e : EndView) → IsAt c now e → c.reset ≡ false → IsReadAsOpened key bytes tag s e
-    → (ports : Ports) → ports ≡ ports_in c → (r : Result Body CookieFault) → r ≡ open_answer false key bytes now ports tag → read_by (body_of bytes) r ≡ cookie_read s e tag bytes
-read_is key bytes now c tag s e at off law ports between r answer =
-    let without : e.configuration.reset ≡ false = ap (λ (x : Configuration). x.reset) at.configured ∙ off in
-    let by : read_by (body_of bytes) (open_answer false key bytes now ports tag) ≡ cookie_read s e tag bytes = rw (between, ← without, ← at.configured, ← at.now) (sym law) in
+pub read_is : (key bytes : List ℕ) (now : ℕ) (c : Configuration) (tag : ℕ) (s : Sealing) (e : EndView) → IsAt c now e → IsReadAsOpened key bytes tag s e
+    → (ports : Ports) → ports ≡ ports_in c → (resets : Bool) → resets ≡ c.reset → (r : Result Body CookieFault) → r ≡ open_answer resets key bytes now ports tag → read_by (body_of bytes) r ≡ cookie_read s e tag bytes
+read_is key bytes now c tag s e at law ports between resets set r answer =
+    let by : read_by (body_of bytes) (open_answer resets key bytes now ports tag) ≡ cookie_read s e tag bytes = rw (between, set, ← at.configured, ← at.now) (sym law) in
     ap (read_by (body_of bytes)) answer ∙ by
 
 -- the measure of staleness is that of the body in the bytes
-pub stale_by : (key bytes : List ℕ) (now : ℕ) (ports : Ports) (tag n : ℕ) → ((b : Body) → IsSealedWell key b)
-    → Opened false key bytes now ports tag (Err (fault.Stale n)) → n ≡ staleness now (body_of bytes)
-stale_by key bytes now ports tag n well (b, belongs, old, is) =
+pub stale_by : (resets : Bool) (key bytes : List ℕ) (now : ℕ) (ports : Ports) (tag n : ℕ) → ((b : Body) → IsSealedWell key b)
+    → Opened resets key bytes now ports tag (Err (fault.Stale n)) → n ≡ staleness now (body_of bytes)
+stale_by resets key bytes now ports tag n well (b, belongs, old, is) =
     is ∙ ap (staleness now) (sym ((well b).holds belongs.own.cookie.in_range) ∙ ap body_of (sym belongs.own.cookie.is_sealed))
 
 pub late_reading : (held : Body) (n : ℕ) (r : CookieReading) → IsLate held n r → reading_meaning r ≡ CookieLate held
-late_reading held n (reading.Late body told) (is, same) = ap CookieLate is
-late_reading held n (reading.Opens body) is = absurd is
+late_reading held n (reading.Late content told) (is, same) = ap CookieLate is
+late_reading held n (reading.Opens content) is = absurd is
 late_reading held n reading.Strange is = absurd is
 
 pub late_told : (held : Body) (n now : ℕ) (r : CookieReading) → IsLate held n r → n ≡ staleness now held → TellsStaleness now r
-late_told held n now (reading.Late body told) (is, same) by = same ∙ by ∙ ap (staleness now) (sym is)
-late_told held n now (reading.Opens body) is by = absurd is
+late_told held n now (reading.Late content told) (is, same) by = same ∙ by ∙ ap (staleness now) (sym is)
+late_told held n now (reading.Opens content) is by = absurd is
 late_told held n now reading.Strange is by = absurd is

@@ -1,9 +1,8 @@
 -- What the terms of an association say.
-use Rattle.std.specs.Prelude.{false}
 use Rattle.sctp_model.specs.end.EndView as model
 use Rattle.sctp_opening.specs.declared.terms.Terms.{Terms}
 
--- these terms, in which no stream is reset
+-- these terms
 abbrev pub terms_meaning : Terms → model.Terms
 terms_meaning x = record {
   own_tsn = x.own_tsn;
@@ -12,5 +11,5 @@ terms_meaning x = record {
   inbound = x.inbound;
   interleave = x.interleave;
   partial = x.partial;
-  reset = false;
+  reset = x.reset;
 }

@@ -1,17 +1,18 @@
 //! A listener reads the State Cookie of a COOKIE ECHO (RFC 9260, 5.1.5 and 5.2.4).
 
-ghost use Rattle.std.specs.Prelude.{◌≡◌, false, Ok};
+ghost use Rattle.std.specs.Prelude.{◌≡◌, Ok};
 ghost use Rattle.sctp_model.specs.end.EndView.{EndView};
-ghost use Rattle.sctp_model.specs.end.Opening.{cookie_read, is_ours};
+ghost use Rattle.sctp_model.specs.end.Opening.{cookie_read, has_tags, is_ours};
 ghost use Rattle.sctp_model.specs.end.Sealing.{Sealing};
 ghost use Rattle.sctp_cookie.specs.CookieBody.{body_of};
+ghost use Rattle.sctp_cookie.specs.CookieTree.{body_meaning};
 ghost use Rattle.sctp_cookie.specs.Opens.{open_answer};
 ghost use Rattle.sctp_cookie.specs.Seals.{IsUnder};
 ghost use Rattle.sctp_opening.specs.Cookies.{IsAt, IsLate, TellsStaleness, ports_in, reading_meaning};
 
-use crate::options::without_reset;
 use sctp_cookie::{
-    CookieBody, CookieFault, Key, Ports, cookies_are_read, cookies_are_sealed, open,
+    CookieBody, CookieContent, CookieFault, Key, Ports, cookies_are_read, cookies_are_sealed,
+    open_content,
 };
 use sctp_terms::Config;
 
@@ -19,9 +20,12 @@ use sctp_terms::Config;
 #[derive(Clone, Copy, Debug, PartialEq, Eq)]
 pub enum CookieReading {
     /// It is valid: made under this key, for these ports and this tag, and not older than its lifetime.
-    Opens(CookieBody),
+    Opens(CookieContent),
     /// It would be valid, but it is older than its lifetime, by this number of microseconds, or by more than 32 bits hold (RFC 9260, 3.3.10.3).
-    Late { body: CookieBody, microseconds: u32 },
+    Late {
+        content: CookieContent,
+        microseconds: u32,
+    },
     /// It was made under another key, or for other ports or another tag, or it is no cookie at all.
     Strange,
 }
@@ -33,13 +37,18 @@ impl CookieReading {
         ensures { result ≡ is_ours (record { own = own; peer = peer }) (reading_meaning self.now) }
     {
         match self {
-            CookieReading::Opens(body) => body.listener_tag == own && body.caller_tag == peer,
-            CookieReading::Late { body, .. } => {
-                body.listener_tag == own && body.caller_tag == peer
-            }
+            CookieReading::Opens(content) => is_between(&content.body, own, peer),
+            CookieReading::Late { content, .. } => is_between(&content.body, own, peer),
             CookieReading::Strange => false,
         }
     }
+}
+
+/// Whether a cookie is for these tags: packets to its listener carry `own`, packets from it `peer`.
+fn is_between(body: &CookieBody, own: u32, peer: u32) -> bool
+    ensures { result ≡ has_tags (record { own = own; peer = peer }) (body_meaning body.now) }
+{
+    body.listener_tag == own && body.caller_tag == peer
 }
 
 /// Reads the cookie of a COOKIE ECHO that arrived under the verification tag `tag` at the time `now`, in milliseconds, at an endpoint with this key
@@ -51,11 +60,13 @@ pub fn read_cookie(key: &Key, config: &Config, now: u64, tag: u32, cookie: &[u8]
 {
     cookies_are_read();
     cookies_are_sealed();
-    without_reset(config);
     let ports = ports_of(config);
-    match open(key, cookie, now, ports, tag) {
-        Ok(body) => CookieReading::Opens(body),
-        Err(CookieFault::Stale(microseconds)) => late(key, cookie, ports, tag, microseconds),
+    let resets = config.reset();
+    match open_content(key, cookie, now, ports, tag, resets) {
+        Ok(content) => CookieReading::Opens(content),
+        Err(CookieFault::Stale(microseconds)) => {
+            late(key, cookie, ports, tag, resets, microseconds)
+        }
         Err(CookieFault::Form) => CookieReading::Strange,
         Err(CookieFault::Mac) => CookieReading::Strange,
         Err(CookieFault::Ports) => CookieReading::Strange,
@@ -64,12 +75,22 @@ pub fn read_cookie(key: &Key, config: &Config, now: u64, tag: u32, cookie: &[u8]
 }
 
 /// A cookie older than its lifetime, with the body that it would have had.
-fn late(key: &Key, cookie: &[u8], ports: Ports, tag: u32, microseconds: u32) -> CookieReading
-    requires { open_answer false key.now cookie.now 0 ports tag ≡ Ok (body_of cookie.now) }
+fn late(
+    key: &Key,
+    cookie: &[u8],
+    ports: Ports,
+    tag: u32,
+    resets: bool,
+    microseconds: u32,
+) -> CookieReading
+    requires { open_answer resets key.now cookie.now 0 ports tag ≡ Ok (body_of cookie.now) }
     ensures { IsLate (body_of cookie.now) microseconds result }
 {
-    match open(key, cookie, 0, ports, tag) {
-        Ok(body) => CookieReading::Late { body, microseconds },
+    match open_content(key, cookie, 0, ports, tag, resets) {
+        Ok(content) => CookieReading::Late {
+            content,
+            microseconds,
+        },
         Err(_) => unreachable!(),
     }
 }

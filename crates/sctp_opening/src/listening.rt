@@ -9,7 +9,7 @@ ghost use Rattle.sctp_model.specs.end.Opening.{body_for, init_ack, introduction}
 ghost use Rattle.sctp_model.specs.end.Sealing.{Sealing};
 ghost use Rattle.sctp_model.specs.end.Strays.{body_in, first_verdict, init_verdict, listens};
 ghost use Rattle.sctp_wire.specs.ChunkTree.{init_meaning};
-ghost use Rattle.sctp_cookie.specs.CookieTree.{body_meaning};
+ghost use Rattle.sctp_cookie.specs.CookieTree.{content_meaning};
 ghost use Rattle.sctp_cookie.specs.Seals.{IsUnder};
 ghost use Rattle.sctp_opening.specs.Cookies.{IsAt};
 ghost use Rattle.sctp_opening.specs.Room.{size_alone};
@@ -19,12 +19,12 @@ ghost use Rattle.sctp_opening.specs.inner.Fitting.{IsList};
 
 use crate::cookies::{CookieReading, read_cookie};
 use crate::options::{
-    agreed_interleave, agreed_partial, has_no_stream, introduction, put_options, without_reset,
+    agreed_interleave, agreed_partial, agreed_reset, has_no_stream, introduction, put_options,
 };
 use crate::outside::{Outside, Stray};
 use crate::packets::{abort_packet, bare_abort, lone_packet, room_behind, stale_cookie_packet};
 use crate::parameters::put_reports;
-use sctp_cookie::{CookieBody, Key, seal};
+use sctp_cookie::{CookieBody, CookieContent, Key, seal_content};
 use sctp_terms::Reason;
 use sctp_wire::codes::{INVALID_PARAMETER, STATE_COOKIE};
 use sctp_wire::{Chunk, Init, NoMemory, put_parameter};
@@ -65,9 +65,13 @@ impl Outside {
             return self.refuse(alloc, tag);
         };
         match read_cookie(key, &self.config, self.moment, tag, cookie) {
-            CookieReading::Opens(body) => Ok(Stray::Begins(body)),
-            CookieReading::Late { body, microseconds } => {
-                let told = stale_cookie_packet(alloc, &self.config, body.caller_tag, microseconds)?;
+            CookieReading::Opens(content) => Ok(Stray::Begins(content)),
+            CookieReading::Late {
+                content,
+                microseconds,
+            } => {
+                let tag = content.body.caller_tag;
+                let told = stale_cookie_packet(alloc, &self.config, tag, microseconds)?;
                 Ok(Stray::Answered(told))
             }
             CookieReading::Strange => Ok(Stray::Dropped(Reason::Cookie)),
@@ -102,7 +106,7 @@ impl Outside {
         ensures list { IfOk result (λ list. IsList list.items) }
         ensures room { IfOk result (λ list. size_alone (20 + length list.items) ≤ self.now.config.limit) }
     {
-        let cookie = seal(key, &self.cookie_body(offer));
+        let cookie = seal_content(key, &self.cookie_content(offer));
         let mut list = Vec::new(alloc);
         put_parameter(STATE_COOKIE, &cookie, &mut list)?;
         put_options(&self.config, &mut list)?;
@@ -116,11 +120,10 @@ impl Outside {
     }
 
     /// The cookie's content: the state that a listener would have to keep of an INIT and of its INIT ACK (RFC 9260, 5.1.3).
-    fn cookie_body(&self, offer: &Init<'_>) -> CookieBody
-        ensures { (e : EndView) → IsAt self.now.config self.now.moment e → body_meaning result ≡ body_for e self.now.draw (init_meaning offer.now) }
+    fn cookie_content(&self, offer: &Init<'_>) -> CookieContent
+        ensures { (e : EndView) → IsAt self.now.config self.now.moment e → content_meaning result ≡ body_for e self.now.draw (init_meaning offer.now) }
     {
-        without_reset(&self.config);
-        CookieBody {
+        let body = CookieBody {
             made: self.moment,
             listener_port: self.config.own_port(),
             caller_port: self.config.peer_port(),
@@ -133,6 +136,10 @@ impl Outside {
             streams_from_caller: offer.outbound.min(self.config.inbound()),
             partial_reliability: agreed_partial(&self.config, &offer.parameters),
             interleaving: agreed_interleave(&self.config, &offer.parameters),
+        };
+        CookieContent {
+            body,
+            reset: agreed_reset(&self.config, &offer.parameters),
         }
     }
 }

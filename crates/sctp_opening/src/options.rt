@@ -1,15 +1,16 @@
 //! What an endpoint offers in INIT and in INIT ACK, and which extensions are used (RFC 9260, 3.3.2 and 3.3.3; RFC 3758, 3.1 and 3.3;
-//! RFC 8260, 2.2.1 and 2.3.1).
+//! RFC 6525, 5.1; RFC 8260, 2.2.1 and 2.3.1).
 
 ghost use Rattle.std.specs.Prelude.{◌≡◌, List, ◌++◌, true, false, IfOk, OnOk, OnErr};
 ghost use Rattle.sctp_model.specs.wire.Typed.{Typed, WritesTyped, are_typed};
-ghost use Rattle.sctp_model.specs.end.Options.{own_extensions, own_options, agreed_interleave, agreed_partial, lists_type, value_of};
+ghost use Rattle.sctp_model.specs.end.Options.{own_extensions, own_options, agreed_interleave, agreed_partial, agreed_reset, lists_type, value_of};
 ghost use Rattle.sctp_model.specs.end.Opening.{has_no_stream, introduction, own_init};
 ghost use Rattle.sctp_wire.specs.ChunkTree.{init_meaning};
 ghost use Rattle.sctp_packet.specs.Draft.{has_room, after_try};
 
 use crate::parameters::value_of;
 use sctp_packet::PacketWriter;
+use sctp_reconfig::RECONFIG;
 use sctp_terms::{Config, Draw};
 use sctp_wire::codes::{
     FORWARD_TSN, FORWARD_TSN_SUPPORTED, I_DATA, I_FORWARD_TSN, SUPPORTED_EXTENSIONS,
@@ -34,6 +35,13 @@ pub(crate) fn agreed_partial(config: &Config, parameters: &Parameters<'_>) -> bo
         && (!agreed_interleave(config, parameters) || lists_type(I_FORWARD_TSN, parameters))
 }
 
+/// Whether streams can be reset: this endpoint is configured for it, and its peer lists RE-CONFIG (RFC 6525, 5.1).
+pub(crate) fn agreed_reset(config: &Config, parameters: &Parameters<'_>) -> bool
+    ensures { result ≡ agreed_reset config.now parameters.now }
+{
+    config.reset() && lists_type(RECONFIG, parameters)
+}
+
 /// Whether the peer lists a chunk type among its extensions (RFC 5061, 4.2.7).
 fn lists_type(kind: u8, parameters: &Parameters<'_>) -> bool
     ensures { result ≡ lists_type kind (value_of SUPPORTED_EXTENSIONS parameters.now) }
@@ -44,25 +52,19 @@ fn lists_type(kind: u8, parameters: &Parameters<'_>) -> bool
     }
 }
 
-/// It doesn't ask for the reset of streams: no call of [`Config`] sets that (RFC 6525).
-pub(crate) fn without_reset(config: &Config)
-    ensures { config.now.reset ≡ false }
-{
-    if let Some(reset) = config.reset() {
-        match reset {}
-    }
-}
-
 /// The chunk types of this endpoint's extensions, in ascending order (RFC 5061, 4.2.7).
 fn extensions(config: &Config) -> &'static [u8]
     ensures { result.now ≡ own_extensions config.now }
 {
-    without_reset(config);
-    match (config.interleave(), config.partial()) {
-        (false, false) => &[],
-        (true, false) => &[I_DATA],
-        (false, true) => &[FORWARD_TSN],
-        (true, true) => &[I_DATA, FORWARD_TSN, I_FORWARD_TSN],
+    match (config.interleave(), config.reset(), config.partial()) {
+        (false, false, false) => &[],
+        (false, false, true) => &[FORWARD_TSN],
+        (false, true, false) => &[RECONFIG],
+        (false, true, true) => &[RECONFIG, FORWARD_TSN],
+        (true, false, false) => &[I_DATA],
+        (true, false, true) => &[I_DATA, FORWARD_TSN, I_FORWARD_TSN],
+        (true, true, false) => &[I_DATA, RECONFIG],
+        (true, true, true) => &[I_DATA, RECONFIG, FORWARD_TSN, I_FORWARD_TSN],
     }
 }
 

@@ -21,7 +21,7 @@ ghost use Rattle.sctp_opening.specs.Outside.{IsOutside};
 ghost use Rattle.sctp_opening.specs.Told.{IsTold, IsToldWithin};
 
 use crate::packets::{bare_abort, lone_packet};
-use sctp_cookie::{CookieBody, Key};
+use sctp_cookie::{CookieContent, Key};
 use sctp_terms::{Config, Draw, Reason};
 use sctp_wire::{Chunk, Chunks, NoMemory};
 use std::alloc::Global;
@@ -43,7 +43,7 @@ pub struct Outside {
 #[derive(Drop)]
 pub enum Stray {
     /// Its first chunk has a valid cookie: an association begins with this content, and the chunks after it are handled there.
-    Begins(CookieBody),
+    Begins(CookieContent),
     /// It is dropped.
     Dropped(Reason),
     /// It is answered by this packet, to be sent at once.

@@ -3,15 +3,16 @@
 ghost use Rattle.std.specs.Prelude.{◌≡◌};
 ghost use Rattle.sctp_model.specs.end.Opening.{terms_of_ack, terms_of_body, terms_alike};
 ghost use Rattle.sctp_wire.specs.ChunkTree.{init_meaning};
-ghost use Rattle.sctp_cookie.specs.CookieTree.{body_meaning};
+ghost use Rattle.sctp_cookie.specs.CookieTree.{content_meaning};
 ghost use Rattle.sctp_opening.specs.Terms.{terms_meaning};
 
-use crate::options::{agreed_interleave, agreed_partial, without_reset};
-use sctp_cookie::CookieBody;
+use crate::options::{agreed_interleave, agreed_partial, agreed_reset};
+use sctp_cookie::CookieContent;
 use sctp_terms::{Config, Draw};
 use sctp_wire::Init;
 
-/// The initial TSNs, the number of streams each way, and the extensions in use (RFC 9260, 5.1.1; RFC 8260, 2.2.1; RFC 3758, 3.1).
+/// The initial TSNs, the number of streams each way, and the extensions in use (RFC 9260, 5.1.1; RFC 8260, 2.2.1; RFC 3758, 3.1;
+/// RFC 6525, 5.1).
 #[derive(Clone, Copy, Debug, PartialEq, Eq)]
 pub struct Terms {
     /// This endpoint's initial TSN.
@@ -26,6 +27,8 @@ pub struct Terms {
     pub interleave: bool,
     /// Messages may be abandoned once sent (RFC 3758).
     pub partial: bool,
+    /// Streams may be reset (RFC 6525).
+    pub reset: bool,
 }
 
 impl Terms {
@@ -34,7 +37,6 @@ impl Terms {
     pub fn of_init_ack(config: &Config, draw: Draw, offer: &Init<'_>) -> Terms
         ensures { terms_meaning result ≡ terms_of_ack config.now draw (init_meaning offer.now) }
     {
-        without_reset(config);
         Terms {
             own_tsn: draw.tsn(),
             peer_tsn: offer.tsn,
@@ -42,13 +44,15 @@ impl Terms {
             inbound: offer.outbound.min(config.inbound()),
             interleave: agreed_interleave(config, &offer.parameters),
             partial: agreed_partial(config, &offer.parameters),
+            reset: agreed_reset(config, &offer.parameters),
         }
     }
 
     /// The terms of a listener, as its cookie has them: any numbers, also no stream (RFC 9260, 5.1.3).
-    pub fn of_cookie(body: &CookieBody) -> Terms
-        ensures { terms_meaning result ≡ terms_of_body (body_meaning body.now) }
+    pub fn of_cookie(content: &CookieContent) -> Terms
+        ensures { terms_meaning result ≡ terms_of_body (content_meaning content.now) }
     {
+        let body = &content.body;
         Terms {
             own_tsn: body.listener_tsn,
             peer_tsn: body.caller_tsn,
@@ -56,6 +60,7 @@ impl Terms {
             inbound: body.streams_from_caller,
             interleave: body.interleaving,
             partial: body.partial_reliability,
+            reset: content.reset,
         }
     }
 
@@ -63,7 +68,6 @@ impl Terms {
     pub fn alike(config: &Config, own: Draw, peer: Draw) -> Terms
         ensures { terms_meaning result ≡ terms_alike config.now own peer }
     {
-        without_reset(config);
         let streams = config.outbound().min(config.inbound());
         Terms {
             own_tsn: own.tsn(),
@@ -72,6 +76,7 @@ impl Terms {
             inbound: streams,
             interleave: config.interleave(),
             partial: config.partial(),
+            reset: config.reset(),
         }
     }
 }

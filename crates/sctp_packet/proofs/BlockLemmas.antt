@@ -1,12 +1,12 @@
 -- A block of a run: its bytes and what folding moves to them, read and written in a part of a buffer.
-use Rattle.std.proofs.Common.{◌≡◌, ℕ, ◌+◌, ◌-◌, ◌<◌, ◌≤◌, ◌^◌, ◌++◌, inl, inr, List, bit_xor, length, take, drop, refl, sym, ap, ◌∙◌, arith}
+use Rattle.std.proofs.Common.{◌≡◌, ℕ, ◌+◌, ◌-◌, ◌<◌, ◌≤◌, ◌++◌, inl, inr, List, bit_xor, length, take, drop, refl, sym, ap, ◌∙◌, arith}
 use Rattle.std.specs.Prelude.{slice_index}
 use borrow.Rule.Slice.PartMut.{put_mid}
 use Rattle.std.proofs.lemmas.Bool.{cases_lt}
 use Rattle.std.proofs.lemmas.List.{get_or-append_right, get_or_append_left, get_or-drop, get_or-take}
 use Rattle.std.proofs.lemmas.Slice.{between-put_mid}
-use Rattle.sctp_packet.specs.Folding.{byte_of, mixed_byte, reaching}
-use Rattle.sctp_packet.proofs.RoomLemmas.{byte_sum, mixed_plain}
+use Rattle.sctp_packet.specs.Folding.{byte_of, reaching}
+use Rattle.sctp_packet.proofs.RoomLemmas.{byte_sum}
 
 -- a byte of a part
 pub part_byte : (xs : List ℕ) (a n k : ℕ) → k < n → slice_index (take n (drop a xs)) k ≡ slice_index xs (a + k)
@@ -43,29 +43,17 @@ four_words zs f first second third fourth k few =
         let back : n + (k - n) ≡ k = omega (arith, high) in
         ap (slice_index zs) (sym back) ∙ (word (k - n) (omega (arith, high, low)) ∙ ap f back)
 
--- a byte of the first word, to which the register is added
-pub first_word : (register from : ℕ) (bytes room : List ℕ) (word reached j : ℕ) → from ≡ register → byte_of word j ≡ slice_index bytes (0 + j) → byte_of reached j ≡ reaching room (216 + j) →
-    byte_of (bit_xor (bit_xor word from) reached) j ≡ bit_xor (mixed_byte register bytes (0 + j)) (reaching room (216 + (0 + j)))
-first_word register from bytes room word reached j is w r =
-    let zero : j ≡ 0 + j = omega arith in
-    byte_sum (bit_xor word from) reached j
-    ∙ (ap (λ (x : ℕ). bit_xor x (byte_of reached j)) (byte_sum word from j)
-    ∙ (rw (w, r, is) refl ∙ ap (λ (i : ℕ). bit_xor (bit_xor (slice_index bytes (0 + j)) (byte_of register i)) (reaching room (216 + i))) zero))
-
--- and of a later one
-pub later_word : (register : ℕ) (bytes room : List ℕ) (word reached n m j : ℕ) → register < 2 ^ 32 → 4 ≤ n → m ≡ 216 + n → byte_of word j ≡ slice_index bytes (n + j) → byte_of reached j ≡ reaching room (m + j) →
-    byte_of (bit_xor word reached) j ≡ bit_xor (mixed_byte register bytes (n + j)) (reaching room (216 + (n + j)))
-later_word register bytes room word reached n m j small high is w r =
+-- a byte of a word of it
+pub word_byte : (bytes room : List ℕ) (word reached n m j : ℕ) → m ≡ 216 + n → byte_of word j ≡ slice_index bytes (n + j) → byte_of reached j ≡ reaching room (m + j) →
+    byte_of (bit_xor word reached) j ≡ bit_xor (slice_index bytes (n + j)) (reaching room (216 + (n + j)))
+word_byte bytes room word reached n m j is w r =
     let at : m + j ≡ 216 + (n + j) = omega (arith, is) in
-    byte_sum word reached j
-    ∙ (rw (w, r) refl
-    ∙ (ap (λ (x : ℕ). bit_xor x (reaching room (m + j))) (sym (mixed_plain register bytes (n + j) small (omega (arith, high))))
-    ∙ ap (λ (p : ℕ). bit_xor (mixed_byte register bytes (n + j)) (reaching room p)) at))
+    byte_sum word reached j ∙ (rw (w, r) refl ∙ ap (λ (p : ℕ). bit_xor (slice_index bytes (n + j)) (reaching room p)) at)
 
 -- so a block of a part is that of the whole
-pub block_of : (register : ℕ) (bytes room taken before : List ℕ) (at k : ℕ) → k < 32 → ((j : ℕ) → j < 32 → slice_index taken j ≡ slice_index bytes (at + j)) → ((j : ℕ) → j < 216 → slice_index before j ≡ slice_index room (at + j)) →
-    bit_xor (mixed_byte register taken k) (reaching before (216 + k)) ≡ bit_xor (bit_xor (slice_index bytes (at + k)) (byte_of register k)) (reaching room (216 + at + k))
-block_of register bytes room taken before at k few bytes_same room_same =
+pub block_of : (bytes room taken before : List ℕ) (at k : ℕ) → k < 32 → ((j : ℕ) → j < 32 → slice_index taken j ≡ slice_index bytes (at + j)) → ((j : ℕ) → j < 216 → slice_index before j ≡ slice_index room (at + j)) →
+    bit_xor (slice_index taken k) (reaching before (216 + k)) ≡ bit_xor (slice_index bytes (at + k)) (reaching room (216 + at + k))
+block_of bytes room taken before at k few bytes_same room_same =
     rw (bytes_same k few, part_reaching room before at k few room_same) refl
 
 -- ---- a block that is written

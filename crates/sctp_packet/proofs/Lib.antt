@@ -13,6 +13,7 @@ pub mod TableLemmas
 pub mod FoldLemmas
 pub mod JoinedLemmas
 pub mod RoomLemmas
+pub mod StartLemmas
 pub mod BlockLemmas
 pub mod LeftLemmas
 pub mod StepBits

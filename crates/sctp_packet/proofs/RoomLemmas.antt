@@ -37,11 +37,11 @@ pub reaching_same : (xs ys : List ℕ) (q p : ℕ) → ((j : ℕ) → j < q → 
 reaching_same xs ys q p same some near =
     rw (same (p - 65) (omega (arith, near, some)), same (p - 155) (omega (arith, near, some)), same (p - 170) (omega (arith, near, some)), same (p - 195) (omega (arith, near, some)), same (p - 209) (omega (arith, near, some))) refl
 
--- one block more
-pub folded_more : (register : ℕ) (bytes xs ys : List ℕ) (n : ℕ) → IsFolded register bytes n xs → ((j : ℕ) → j < FRONT + n → slice_index ys j ≡ slice_index xs j) →
-    ((k : ℕ) → k < 32 → slice_index ys (FRONT + n + k) ≡ bit_xor (mixed_byte register bytes (n + k)) (reaching xs (FRONT + n + k))) →
-    ((j : ℕ) → FRONT + n + 32 ≤ j → slice_index ys j ≡ slice_index xs j) → IsFolded register bytes (n + 32) ys
-folded_more register bytes xs ys n f before here behind = record {
+-- m bytes more, at most as many as the nearest that one is moved
+pub folded_more : (register : ℕ) (bytes xs ys : List ℕ) (n m : ℕ) → m ≤ 65 → IsFolded register bytes n xs → ((j : ℕ) → j < FRONT + n → slice_index ys j ≡ slice_index xs j) →
+    ((k : ℕ) → k < m → slice_index ys (FRONT + n + k) ≡ bit_xor (mixed_byte register bytes (n + k)) (reaching xs (FRONT + n + k))) →
+    ((j : ℕ) → FRONT + n + m ≤ j → slice_index ys j ≡ slice_index xs j) → IsFolded register bytes (n + m) ys
+folded_more register bytes xs ys n m most f before here behind = record {
   before = λ j low. before j (omega (arith, low)) ∙ f.before j low;
   each = λ i lt.
       elim (cases_lt i n) [
@@ -51,11 +51,11 @@ folded_more register bytes xs ys n f before here behind = record {
   behind = λ j high. behind j (omega (arith, high)) ∙ f.behind j (omega (arith, high));
 }
   where
-    block : (i k : ℕ) → i ≡ n + k → k < 32 → slice_index ys (FRONT + i) ≡ bit_xor (mixed_byte register bytes i) (reaching ys (FRONT + i))
+    block : (i k : ℕ) → i ≡ n + k → k < m → slice_index ys (FRONT + i) ≡ bit_xor (mixed_byte register bytes i) (reaching ys (FRONT + i))
     block i k is few =
         let at : FRONT + n + k ≡ FRONT + i = omega (arith, is) in
         let h = here k few in
-        let same = reaching_same xs ys (FRONT + n) (FRONT + i) before (omega arith) (omega (arith, is, few)) in
+        let same = reaching_same xs ys (FRONT + n) (FRONT + i) before (omega arith) (omega (arith, is, few, most)) in
         ap (slice_index ys) (sym at) ∙ (h ∙ (ap (λ (j : ℕ). bit_xor (mixed_byte register bytes j) (reaching xs (FRONT + n + k))) (sym is)
         ∙ (ap (λ (j : ℕ). bit_xor (mixed_byte register bytes i) (reaching xs j)) at ∙ ap (bit_xor (mixed_byte register bytes i)) (sym same))))
 

@@ -22,7 +22,7 @@ const TURN: usize = 32;
 /// The bytes that it takes at once if fewer than `PLACES` are left.
 const HALF: usize = 8;
 /// The shortest run that is folded: for a shorter one folding costs more than it saves.
-const LONG: usize = 480;
+const LONG: usize = 384;
 
 /// The CRC32c of the bytes: the number in the checksum field of a packet, low byte first, if these are the packet's bytes with that field
 /// zero (RFC 9260, 6.8 and appendix A).
@@ -88,7 +88,7 @@ fn after_runs(register: u32, bytes: &[u8]) -> u32
 /// The register after a long run of whole blocks: the same as 0 after what folding leaves of it.
 fn after_long(register: u32, bytes: &[u8]) -> u32
     requires blocks { length bytes.now % 32 ≡ 0 }
-    requires long { 256 ≤ length bytes.now }
+    requires long { 352 ≤ length bytes.now }
     requires few { length bytes.now ≤ 1_536 }
     ensures { bits 32 result ≡ register_after (drop 1 divisor) (bits 32 register) (message_bits bytes.now) }
 {

@@ -1,7 +1,7 @@
 //! Folding of long runs of bytes, before the tables of the checksum take what is left of them: a byte that is folded needs no table.
 
-ghost use Rattle.std.specs.Prelude.{◌≡◌, ℕ, ◌+◌, ◌-◌, ◌*◌, ◌/◌, ◌%◌, ◌<◌, ◌≤◌, bit_xor, length, slice_index};
-ghost use Rattle.sctp_packet.specs.Folding.{byte_of, mixed_byte, reaching, IsFolded, IsLeft};
+ghost use Rattle.std.specs.Prelude.{◌≡◌, ℕ, ◌+◌, ◌-◌, ◌*◌, ◌/◌, ◌%◌, ◌^◌, ◌<◌, ◌≤◌, bit_xor, length, slice_index};
+ghost use Rattle.sctp_packet.specs.Folding.{byte_of, reaching, IsFolded, IsLeft};
 
 use byteorder::{ByteOrder, LittleEndian};
 
@@ -11,6 +11,12 @@ pub(crate) const BLOCK: usize = 32;
 const FRONT: usize = 216;
 /// The bytes that are left of a folded run: whole blocks.
 pub(crate) const LEFT: usize = 224;
+/// The bytes of a word.
+const WORD: usize = 8;
+/// The first bytes of a run, which no byte before them reaches: whole words, since the nearest that a byte is moved is 65.
+const ALONE: usize = 64;
+/// The first bytes of a run, each of which one byte reaches at most, since the next nearest is 155: whole blocks.
+const NEAR: usize = 128;
 /// The most bytes of a run: whole blocks; a packet of the largest limit has fewer.
 pub(crate) const MOST: usize = 1_536;
 /// The buffer for a run and the zeros before it.
@@ -19,7 +25,7 @@ pub(crate) const ROOM: usize = 1_752;
 /// Folds the run's bytes before `ends`, a block at a time, into a buffer of zeros.
 pub(crate) fn fold(register: u32, bytes: &[u8], ends: usize, room: &mut [u8])
     requires blocks { ends % 32 ≡ 0 }
-    requires some { 32 ≤ ends }
+    requires some { 128 ≤ ends }
     requires within { ends ≤ length bytes.now }
     requires room { 216 + ends ≤ length room.old }
     requires empty { (j : ℕ) → slice_index room.old j ≡ 0 }
@@ -27,30 +33,56 @@ pub(crate) fn fold(register: u32, bytes: &[u8], ends: usize, room: &mut [u8])
     ensures bytes { (j : ℕ) → slice_index room.new j < 256 }
     ensures folded { IsFolded register bytes.now ends room.new }
 {
-    fold_block(register, bytes, 0, room);
-    for turn in 1..ends / BLOCK {
-        fold_block(0, bytes, BLOCK * turn, room);
+    fold_alone(register, bytes, room);
+    fold_near(bytes, room);
+    for turn in NEAR / BLOCK..ends / BLOCK {
+        fold_block(bytes, BLOCK * turn, room);
     }
 }
 
-/// Folds the block at a place, with a register added to its first bytes.
+/// Folds the run's first 64 bytes, which no byte reaches, with the register added to the first four.
 #[inline(always)]
-fn fold_block(register: u32, bytes: &[u8], at: usize, room: &mut [u8])
+fn fold_alone(register: u32, bytes: &[u8], room: &mut [u8])
+    requires bytes { 64 ≤ length bytes.now }
+    requires room { 280 ≤ length room.old }
+    requires empty { (j : ℕ) → slice_index room.old j ≡ 0 }
+    ensures length { length room.new ≡ length room.old }
+    ensures folded { IsFolded register bytes.now 64 room.new }
+{
+    put(room, FRONT, word(bytes, 0) ^ u64::from(register));
+    for place in 1..ALONE / WORD {
+        put(room, FRONT + WORD * place, word(bytes, WORD * place));
+    }
+}
+
+/// Folds the 64 bytes after these, which bytes 65 before them alone reach.
+#[inline(always)]
+fn fold_near(bytes: &[u8], room: &mut [u8])
+    requires bytes { 128 ≤ length bytes.now }
+    requires room { 344 ≤ length room.old }
+    ensures length { length room.new ≡ length room.old }
+    ensures folded { (r : ℕ) → r < 2 ^ 32 → IsFolded r bytes.now 64 room.old → IsFolded r bytes.now 128 room.new }
+{
+    for place in ALONE / WORD..NEAR / WORD {
+        let at = FRONT + WORD * place;
+        let near = word(room, at - 65);
+        put(room, at, word(bytes, WORD * place) ^ near);
+    }
+}
+
+/// Folds the block at a place.
+#[inline(always)]
+fn fold_block(bytes: &[u8], at: usize, room: &mut [u8])
     requires bytes { at + 32 ≤ length bytes.now }
     requires room { 216 + at + 32 ≤ length room.old }
     ensures length { length room.new ≡ length room.old }
     ensures here { (k : ℕ) → k < 32 → slice_index room.new (216 + at + k)
-        ≡ bit_xor (bit_xor (slice_index bytes.now (at + k)) (byte_of register k)) (reaching room.old (216 + at + k)) }
+        ≡ bit_xor (slice_index bytes.now (at + k)) (reaching room.old (216 + at + k)) }
     ensures before { (j : ℕ) → j < 216 + at → slice_index room.new j ≡ slice_index room.old j }
     ensures behind { (j : ℕ) → 216 + at + 32 ≤ j → slice_index room.new j ≡ slice_index room.old j }
 {
     let (before, behind) = room.split_at_mut(FRONT + at);
-    set_block(
-        register,
-        &bytes[at..at + BLOCK],
-        &before[at..],
-        &mut behind[..BLOCK],
-    );
+    set_block(&bytes[at..at + BLOCK], &before[at..], &mut behind[..BLOCK]);
 }
 
 /// Writes what folding leaves of the run, its last 224 bytes, to `left`, a block at a time.
@@ -79,20 +111,20 @@ fn leave_block(bytes: &[u8], room: &[u8], from: usize, at: usize, left: &mut [u8
     ensures before { (j : ℕ) → j < at → slice_index left.new j ≡ slice_index left.old j }
 {
     let (taken, before) = (&bytes[from..from + BLOCK], &room[from..from + FRONT]);
-    set_block(0, taken, before, &mut left[at..at + BLOCK]);
+    set_block(taken, before, &mut left[at..at + BLOCK]);
 }
 
-/// Writes a block: its bytes, with a register added to the first four, and with what folding moves to each from the bytes before the block. The
-/// lengths of the slices are known, and all words are read before one is written, so that a compiler can take two at a time.
+/// Writes a block: its bytes, with what folding moves to each from the bytes before the block. The lengths of the slices are known, and all words
+/// are read before one is written, so that a compiler can take two at a time.
 #[inline(always)]
-fn set_block(register: u32, bytes: &[u8], before: &[u8], block: &mut [u8])
+fn set_block(bytes: &[u8], before: &[u8], block: &mut [u8])
     requires bytes { length bytes.now ≡ 32 }
     requires before { length before.now ≡ 216 }
     requires block { length block.old ≡ 32 }
     ensures length { length block.new ≡ 32 }
-    ensures set { (k : ℕ) → k < 32 → slice_index block.new k ≡ bit_xor (mixed_byte register bytes.now k) (reaching before.now (216 + k)) }
+    ensures set { (k : ℕ) → k < 32 → slice_index block.new k ≡ bit_xor (slice_index bytes.now k) (reaching before.now (216 + k)) }
 {
-    let first = word(bytes, 0) ^ u64::from(register) ^ reaching(before, FRONT);
+    let first = word(bytes, 0) ^ reaching(before, FRONT);
     let second = word(bytes, 8) ^ reaching(before, FRONT + 8);
     let third = word(bytes, 16) ^ reaching(before, FRONT + 16);
     let fourth = word(bytes, 24) ^ reaching(before, FRONT + 24);

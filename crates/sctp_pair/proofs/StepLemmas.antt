@@ -9,9 +9,9 @@ use Rattle.sctp_model.specs.end.Clock.{at_moment}
 use Rattle.sctp_model.specs.end.Strays.{Verdict, Taken, Dropped, Answer}
 use Rattle.sctp_model.specs.end.Arriving.{Receives, IsCutShort}
 use Rattle.sctp_model.specs.end.Building.{Builds, packet_of}
-use Rattle.sctp_model.specs.end.UserCalls.{SendAnswer, send_answer, send_leaves, abandons, abandoned_at, UserTakes, shutdown_answer, shut, AbortAnswer, Aborts, NoPeer, TooLong, abort_answer, abort_leaves}
+use Rattle.sctp_model.specs.end.UserCalls.{SendAnswer, send_answer, send_leaves, abandons, abandoned_at, UserTakes, ResetCall, reset_call, reset_leaves, reset_there, told_leaves, shutdown_answer, shut, AbortAnswer, Aborts, NoPeer, TooLong, abort_answer, abort_leaves}
 use Rattle.sctp_model.specs.world.World.{Side, A, B, World, Log, end_of, bag_of, log_of, with_end, with_packet, with_log, came, logged_one, logged_packet}
-use Rattle.sctp_model.specs.world.Events.{Event, Build, Abandon, Send, Take, Shutdown, Abort, Outcome, Sent, Quiet, Fate, Told, Acted, NotActed, Answered, RefusedState, AbortTooLong, next_number, told, with_verdict, abort_told, with_abort, message_told, shutdown_told}
+use Rattle.sctp_model.specs.world.Events.{Event, Build, Abandon, Send, Take, Reset, WasReset, Shutdown, Abort, Outcome, Sent, Quiet, Fate, Told, Acted, NotActed, Answered, RefusedState, AbortTooLong, next_number, told, with_verdict, abort_told, with_abort, message_told, reset_told, resets_told, shutdown_told}
 use Rattle.sctp_model.specs.world.Steps as steps
 use Rattle.sctp_model.specs.world.Steps.{Step, Brings, accepted, named_at}
 use Rattle.sctp_pair.specs.Sides.{SideView, side_of, with_side, left}
@@ -133,6 +133,20 @@ abandons_at w s k =
 pub takes : (w : World) (s : Side) (n : ℕ) (h : Option Handed) (t : EndView) → UserTakes (end_of w s) n h t →
     Step w (Take s n) (Some (message_told h)) (with_side w s (side t (bag_of w s) (log_of w s)))
 takes w s n h t took = subst (λ (x : World). Step w (Take s n) (Some (message_told h)) x) (end_here w s t) (steps.TakesOne s n h t took)
+
+pub resets : (w : World) (s : Side) (n : ℕ) (a : ResetCall) → reset_call (end_of w s) n ≡ a →
+    Step w (Reset s n) (Some (reset_told a)) (with_side w s (side (reset_leaves a (end_of w s) n) (bag_of w s) (log_of w s)))
+resets w s n a is =
+    subst (λ (x : ResetCall). Step w (Reset s n) (Some (reset_told x)) (with_side w s (side (reset_leaves x (end_of w s) n) (bag_of w s) (log_of w s)))) is
+    (subst (λ (x : World). Step w (Reset s n) (Some (reset_told (reset_call (end_of w s) n))) x) (end_here w s (reset_leaves (reset_call (end_of w s) n) (end_of w s) n))
+    (steps.ResetsOne s n))
+
+pub tells_reset : (w : World) (s : Side) (o : Option ℕ) → reset_there (end_of w s) ≡ o →
+    Step w (WasReset s) (Some (resets_told (end_of w s) o)) (with_side w s (side (told_leaves o (end_of w s)) (bag_of w s) (log_of w s)))
+tells_reset w s o is =
+    subst (λ (x : Option ℕ). Step w (WasReset s) (Some (resets_told (end_of w s) x)) (with_side w s (side (told_leaves x (end_of w s)) (bag_of w s) (log_of w s)))) is
+    (subst (λ (x : World). Step w (WasReset s) (Some (resets_told (end_of w s) (reset_there (end_of w s)))) x) (end_here w s (told_leaves (reset_there (end_of w s)) (end_of w s)))
+    (steps.TellsReset s))
 
 pub shuts_down : (w : World) (s : Side) →
     Step w (Shutdown s) (Some (shutdown_told (shutdown_answer (end_of w s).phase))) (with_side w s (side (shut (end_of w s)) (bag_of w s) (log_of w s)))

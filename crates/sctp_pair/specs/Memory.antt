@@ -4,12 +4,14 @@ use Rattle.sctp_model.specs.numbers.Lists.{item_at}
 use Rattle.sctp_model.specs.wire.Packet.{Packet}
 use Rattle.sctp_model.specs.sender.Readers.{abandoned}
 use Rattle.sctp_model.specs.receiver.ReceiverView.{Handed}
+use Rattle.sctp_model.specs.end.UserCalls.{Begun, reset_call}
 use Rattle.sctp_model.specs.world.World.{Side, are_alike, World, end_of, bag_of}
 use Rattle.sctp_model.specs.world.Events.{Event, OpenBoth, At, Drawing, Connect, Build, Deliver, Foreign, Send, Abandon, Take, Reset, WasReset, Shutdown, Abort}
 use Rattle.sctp_pair.specs.Noted.{has_to_give_up}
 
 -- Something grows in this world if the event happens: endpoints are made, if they may be; a log of what a time or a user abandons, or of a message
--- taken; a bag. Random values, a call, the reset of a stream and a shutdown allocate nothing, nor does a packet that the bag doesn't have.
+-- taken; a bag; an endpoint's table of resets, if one begins. Random values, a call, the report of a reset and a shutdown allocate nothing, nor does a
+-- packet that the bag doesn't have.
 abbrev pub TakesMemory : World → Event → Type 0
 TakesMemory w (OpenBoth x y) = (w.openable && are_alike w.a.configuration w.b.configuration) ≡ true
 TakesMemory w (At m) = (s : Side) × (has_to_give_up (end_of w s) (max w.clock m) ≡ true)
@@ -21,7 +23,7 @@ TakesMemory w (Foreign s p) = Unit {0}
 TakesMemory w (Send s c) = Unit {0}
 TakesMemory w (Abandon s k) = abandoned (end_of w s).sender k ≡ false
 TakesMemory w (Take s n) = (h : Handed) × (slice_get ((end_of w s).receiver.waiting n) 0 ≡ Some h)
-TakesMemory w (Reset s n) = ⊥
+TakesMemory w (Reset s n) = reset_call (end_of w s) n ≡ Begun
 TakesMemory w (WasReset s) = ⊥
 TakesMemory w (Shutdown s) = ⊥
 TakesMemory w (Abort s r) = Unit {0}

@@ -13,7 +13,7 @@ pub(crate) fn are_alike(a: &Config, b: &Config) -> bool
     streams(b) == streams(a)
         && is_shared(b.interleave(), a.interleave())
         && is_shared(b.partial(), a.partial())
-        && is_shared(asks_reset(b), asks_reset(a))
+        && is_shared(b.reset(), a.reset())
 }
 
 /// The number of streams each way of an endpoint that is opened without packets.
@@ -21,16 +21,6 @@ fn streams(config: &Config) -> u16
     ensures { result ≡ min config.now.outbound config.now.inbound }
 {
     config.outbound().min(config.inbound())
-}
-
-/// Whether it asks for the reset of streams (RFC 6525).
-fn asks_reset(config: &Config) -> bool
-    ensures { result ≡ config.now.reset }
-{
-    match config.reset() {
-        Some(reset) => match reset {},
-        None => false,
-    }
 }
 
 /// Whether both have an option, or neither.

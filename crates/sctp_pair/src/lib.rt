@@ -14,8 +14,9 @@
 //!   wouldn't agree is refused and changes nothing; `connect` opens them by packets.
 //! - `Pair::step` makes one step of the world and returns what that step answers: both endpoints opened without packets, time, random values,
 //!   a call, a packet built, one of a bag delivered, a third party's packet, a message sent, with or without a limit of retransmissions,
-//!   abandoned or taken, shutdown, abort. If an allocation fails, an arriving packet has taken effect up to the failing chunk, and any other
-//!   event has changed nothing; only events that allocate can fail so (`TakesMemory` of `specs/Memory`), never random values, a call or a shutdown.
+//!   abandoned or taken, a stream reset, the peer's resets reported, shutdown, abort. If an allocation fails, an arriving packet has taken effect up to the failing chunk, and any other
+//!   event has changed nothing; only events that allocate can fail so (`TakesMemory` of `specs/Memory`), never random values, a call, the
+//!   report of a reset or a shutdown.
 //! - `Pair::run` makes the steps of several events and returns their answers.
 //! - **Both promise that the association is safe** (`Promised` of `specs/PairRuns`): if the course of the pair from its start meets the three
 //!   premises (FRESH: no third party's packet carries a tag that an endpoint generates in the run, or an INIT that proposes one;
@@ -40,6 +41,7 @@ mod moments;
 mod one_side;
 mod pair;
 mod reporting;
+mod resets;
 mod sending;
 mod taken;
 mod user_calls;

@@ -164,6 +164,8 @@ impl Pair {
             }
             Event::Abandon { side, ticket } => self.abandon(*side, *ticket),
             Event::Take { side, stream } => self.take(*side, *stream),
+            Event::Reset { side, stream } => self.reset(*side, *stream),
+            Event::WasReset { side } => Ok(self.was_reset(*side)),
             Event::Shutdown { side } => Ok(self.shutdown(*side)),
             Event::Abort { side, reason } => self.abort(*side, reason),
         }

@@ -1,15 +1,17 @@
 -- Numbers as 64 bits hold them, and chunks whose number is no count below the largest: none of them is passed.
-use Rattle.std.proofs.Common.{◌≡◌, ℕ, suc, ◌-◌, ◌<◌, ◌≤◌, min, Bool, true, false, nat_lt, ◌==◌, List, [], ◌∷◌, Option, Some, None, inl, inr, refl, sym, ◌∙◌, ap, arith}
-use Rattle.std.specs.Prelude.{◌&&◌, ◌||◌}
+use Rattle.std.proofs.Common.{◌≡◌, ℕ, suc, ◌+◌, ◌-◌, ◌<◌, ◌≤◌, min, Bool, true, false, nat_lt, ◌==◌, List, [], ◌∷◌, Option, Some, None, inl, inr, refl, sym, ◌∙◌, ap, arith}
+use Rattle.std.specs.Prelude.{◌&&◌, ◌||◌, option_map}
 use Rattle.std.proofs.lemmas.Bool.{cases_lt}
 use Rattle.std.proofs.lemmas.Bool.Decides.{nat_tests}
 use Rattle.sctp_model.specs.numbers.Lists.{Has}
 use Rattle.sctp_model.specs.numbers.Serial.{COUNTS}
-use Rattle.sctp_model.specs.messages.Format.{Format, Plain, Interleaved, Kind, same_lane}
+use Rattle.sctp_model.specs.messages.Format.{Format, Plain, Interleaved, Kind, Ordered, Unordered, same_lane}
+use Rattle.sctp_model.specs.messages.Framing.{number_near}
 use Rattle.sctp_model.specs.messages.Pieces.{Piece, same_number, fragment_of}
 use Rattle.sctp_model.specs.receiver.PieceTaken.{is_held, is_repeated, are_one_fragment}
 use Rattle.sctp_recv.specs.declared.restart.Restart.{Restart}
-use Rattle.sctp_recv.specs.Resets.{base_of}
+use Rattle.sctp_recv.specs.Resets.{UNRESET, restart_in, base_of}
+use Rattle.sctp_recv.specs.ResetsKept.{ResetsKept}
 use Rattle.sctp_recv.specs.ReceiverKept.{number_read, IsCount, in_64, is_below_or_none}
 
 -- ---- what 64 bits hold
@@ -64,6 +66,22 @@ not_late b low m under large = let below : nat_lt m low ≡ false = grind (arith
     never false = refl
 
 -- ---- what a stream reads
+
+-- before the first request it is the number that is near
+pub read_unreset : (f : Format) (k : Kind) (n : Option ℕ) (resets : Option ResetsKept) (stream wire near : ℕ) → resets ≡ None → n ≡ number_near f k wire near →
+    n ≡ number_read f k (base_of (restart_in resets stream) k) wire near
+read_unreset f k n resets stream wire near none is =
+    let at : near ≡ near - 0 = omega arith in
+    is ∙ sym (same (number_near f k wire near)) ∙ ap (λ (m : ℕ). option_map (λ i. 0 + i) (number_near f k wire m)) at
+    ∙ ap (λ (b : ℕ). number_read f k b wire near) (sym (from_none k)) ∙ ap (λ (r : Option ResetsKept). number_read f k (base_of (restart_in r stream) k) wire near) (sym none)
+  where
+    same : (o : Option ℕ) → option_map (λ m. 0 + m) o ≡ o
+    same None = refl
+    same (Some m) = ap Some (omega arith)
+
+    from_none : (q : Kind) → base_of UNRESET q ≡ 0
+    from_none Ordered = refl
+    from_none Unordered = refl
 
 -- the number read from the base that is known, as 64 bits hold it
 pub number_in_64 : (f : Format) (k : Kind) (n : Option ℕ) (x r : Restart) (base wire near : ℕ) → n ≡ in_64 (number_read f k base wire near) → x ≡ r → base ≡ base_of x k →

@@ -24,7 +24,7 @@ use Rattle.sctp_recv.specs.KeptOf.{kept_of}
 use Rattle.sctp_recv.specs.ReceiverKept.{StreamKept, ReceiverKept, stream_at, near_of, number_read, IsCount, in_64, lowest_of, is_below_or_none}
 use Rattle.sctp_recv.specs.SeenKept.{is_reached, AreWithin}
 use Rattle.sctp_recv.specs.StandsFor.{KeepsView, StandsFor}
-use Rattle.sctp_recv.specs.inner.Rows.{IsAbove, IsNewIndex, IsByRoom, IsRowOf}
+use Rattle.sctp_recv.specs.inner.Rows.{number_at, IsAbove, IsNewIndex, IsByRoom, IsRowOf}
 use Rattle.sctp_recv.proofs.AnswerLemmas.{new_index, row_passed, row_room, row_taken, number_same, passed_late, passed_is}
 use Rattle.sctp_recv.proofs.ChunkLemmas.{chunk_of, held_in_view}
 use Rattle.sctp_recv.proofs.NumberLemmas.{beyond, not_late, not_repeated}
@@ -113,12 +113,12 @@ module _ {F : Type 0} {f : Format} {k : ReceiverKept} {v : ReceiverView} {p : Pi
       )
 
 -- a chunk with a new index on a stream that exists, whose number is no count below the largest, is kept if it fits the buffer
-pub read_beyond : {F : Type 0} (f : Format) (r : Receiver F) (v : ReceiverView) (p : PieceMeaning) (c i s : ℕ) (x : Stream F) (n : Option ℕ) (reached : Bool) (kind : Kind) (row : Row) → kind ≡ lane_kind p.unordered → StandsFor f r v →
+pub read_beyond : {F : Type 0} (f : Format) (r : Receiver F) (v : ReceiverView) (p : PieceMeaning) (c i s : ℕ) (x : Stream F) (reached : Bool) (kind : Kind) (row : Row) → kind ≡ lane_kind p.unordered → StandsFor f r v →
     c ≡ r.seen.kept.cumulative → AreWithin (r.seen.kept.cumulative + WINDOW) r.seen.kept.runs → IsAbove r.initial c p.tsn i → reached ≡ is_reached r.seen.kept i → reached ≡ false → s ≡ p.stream →
-    s < length r.streams.items → x ≡ get_or r.streams.items s x → n ≡ in_64 (number_read f kind (base_of (restart_in (resets_in r.resets) p.stream) kind) p.number (near_of (stream_of x) kind)) → n ≡ Some (COUNTS - 1) →
+    s < length r.streams.items → x ≡ get_or r.streams.items s x → in_64 (number_at f (resets_in r.resets) p.stream (stream_of x) kind p.number) ≡ Some (COUNTS - 1) →
     lowest_of (stream_of x) kind < COUNTS → IsByRoom (kept_of r) (length p.bytes) row → IsRowOf f (kept_of r) v p row
 unfolding StandsFor
-read_beyond f r v p c i s x n reached kind row is_kind w c_is bounds at reached_is new s_is low got near large lowest by = finish row by
+read_beyond f r v p c i s x reached kind row is_kind w c_is bounds at reached_is new s_is low got large lowest by = finish row by
   where
     k : ReceiverKept
     k = kept_of r
@@ -136,13 +136,13 @@ read_beyond f r v p c i s x n reached kind row is_kind w c_is bounds at reached_
     stream = sym (stream_mapped r.streams.items s x low got) ∙ ap (λ (j : ℕ). stream_at k.streams j) s_is
 
     read : Option ℕ
-    read = number_read f (lane_kind p.unordered) (base_of (restart_in k.resets p.stream) (lane_kind p.unordered)) p.number (near_of (stream_at k.streams p.stream) (lane_kind p.unordered))
+    read = number_at f k.resets p.stream (stream_at k.streams p.stream) (lane_kind p.unordered) p.number
 
-    capped : n ≡ in_64 read
-    capped = near ∙ (λ j. in_64 (number_read f (is_kind j) (base_of (restart_in k.resets p.stream) (is_kind j)) p.number (near_of (stream j) (is_kind j))))
+    capped : in_64 (number_at f (resets_in r.resets) p.stream (stream_of x) kind p.number) ≡ in_64 read
+    capped = (λ j. in_64 (number_at f k.resets p.stream (stream j) (is_kind j) p.number))
 
     own : (m : ℕ) × (read ≡ Some m) × (COUNTS ≤ suc m)
-    own = beyond n read capped large
+    own = beyond (Some (COUNTS - 1)) read (sym large ∙ capped) refl
 
     number : Some own.0 ≡ (piece_at f v k.seen.cumulative p).number
     number = sym own.1 ∙ number_same f k v p w.0 bounds

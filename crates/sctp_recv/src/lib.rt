@@ -64,6 +64,7 @@ mod inbound;
 mod laws;
 mod lows;
 mod message;
+mod parameters;
 mod pieces;
 mod places;
 mod ready;

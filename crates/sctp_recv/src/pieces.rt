@@ -12,19 +12,24 @@
 //! message is taken that it belongs to. Under I-DATA a stream knows near which count its unordered MIDs are read by two numbers, the
 //! lowest not skipped and the largest kept.
 
-ghost use Rattle.std.specs.Prelude.{◌≡◌, ◌<◌, ◌≤◌, length, ℕ, true, false, ◌&&◌, IfOk, OnOk, OnErr};
+ghost use Rattle.std.specs.Prelude.{◌≡◌, ◌-◌, ◌^◌, ◌<◌, ◌≤◌, Some, length, ℕ, true, false, ◌&&◌, IfOk, OnOk, OnErr};
+ghost use Rattle.sctp_model.specs.numbers.Serial.{COUNTS};
 ghost use Rattle.sctp_model.specs.messages.Format.{Unordered, is_numbered};
 ghost use Rattle.sctp_model.specs.receiver.ReceiverView.{ReceiverView, IsCumulative};
 ghost use Rattle.sctp_model.specs.receiver.Receiving.{TakesPiece};
 ghost use Rattle.sctp_model.specs.receiver.Reading.{index_at, piece_at};
 ghost use Rattle.sctp_model.specs.receiver.PieceTaken.{PieceTaken, answer_to};
+ghost use Rattle.sctp_values.specs.Meanings.{kind_meaning};
 ghost use Rattle.sctp_wire.specs.ChunkTree.{piece_meaning};
 ghost use Rattle.sctp_recv.specs.AnswerOf.{answer_of, NeedsMemory};
+ghost use Rattle.sctp_recv.specs.Fields.{stream_of};
 ghost use Rattle.sctp_recv.specs.KeptOf.{kept_of};
 ghost use Rattle.sctp_recv.specs.Lows.{IsMarked};
+ghost use Rattle.sctp_recv.specs.ReceiverKept.{IsCount, in_64, lowest_of};
+ghost use Rattle.sctp_recv.specs.Resets.{resets_in};
 ghost use Rattle.sctp_recv.specs.StandsFor.{Stands, StandsFor};
 ghost use Rattle.sctp_recv.specs.inner.Bits.{IsShown};
-ghost use Rattle.sctp_recv.specs.inner.Rows.{IsRowOf, IsByRoom, IsWanted};
+ghost use Rattle.sctp_recv.specs.inner.Rows.{number_at, IsRowOf, IsByRoom, IsWanted};
 
 use crate::answer::{Answer, Row, TsnPlace, place_of_tsn};
 use crate::give::keep_in;
@@ -32,9 +37,9 @@ use crate::inbound::Inbound;
 use crate::places::Lows;
 use crate::ready::show_change;
 use crate::receiver::Receiver;
-use crate::resets::restart_of;
-use crate::restart::is_largest;
-use crate::stream::make;
+use crate::resets::Resets;
+use crate::restart::{Uncounted, is_largest};
+use crate::stream::{Stream, make};
 use sctp_framing::Framing;
 use sctp_values::{Kind, NoMemory};
 use sctp_wire::Piece;
@@ -51,6 +56,34 @@ fn note<F: Framing>(lows: &mut Lows, piece: &Piece<'_>, index: u64)
         return;
     }
     lows.lower(piece.stream, index);
+}
+
+/// The number of a chunk of this stream. Nothing is asked of resets before the peer's first request.
+///
+/// # Errors
+/// It is no count below the largest.
+#[inline(always)]
+fn number_of<F: Framing>(
+    known: &Stream<F>,
+    resets: &Option<Box<Resets>>,
+    kind: Kind,
+    piece: &Piece<'_>,
+) -> Result<Option<u64>, Uncounted>
+    ensures number { IfOk result (λ n. (n ≡ number_at F.format (resets_in resets.now) piece.now.stream (stream_of known.now) (kind_meaning kind) piece.now.number) × IsCount n) }
+    ensures beyond { OnErr result (in_64 (number_at F.format (resets_in resets.now) piece.now.stream (stream_of known.now) (kind_meaning kind) piece.now.number) ≡ Some (COUNTS - 1)) }
+    ensures lowest { lowest_of (stream_of known.now) (kind_meaning kind) < 2 ^ 64 }
+{
+    match resets {
+        None => Ok(known.number(kind, piece.number)),
+        Some(resets) => {
+            let base = resets.restart(piece.stream).base(kind);
+            let number = known.number_near(kind, piece.number, base);
+            if is_largest(number) {
+                return Err(Uncounted);
+            }
+            Ok(number)
+        }
+    }
 }
 
 #[tactic(auto, unfolding(crate::specs::StandsFor::StandsFor))]
@@ -120,11 +153,10 @@ impl<F: Framing> Receiver<F> {
         }
         let known = &self.streams[stream];
         let kind = Kind::of_flag(piece.unordered);
-        let base = restart_of(&self.resets, piece.stream).base(kind);
-        let number = known.number_near(kind, piece.number, base);
-        if is_largest(number) {
-            return self.row_by_room(piece);
-        }
+        let number = match number_of(known, &self.resets, kind, piece) {
+            Err(Uncounted) => return self.row_by_room(piece),
+            Ok(number) => number,
+        };
         if known.is_late(kind, number) || known.is_held(piece, number) {
             return Row::Passed { index };
         }

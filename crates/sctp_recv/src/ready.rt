@@ -104,6 +104,20 @@ pub(crate) fn show<F: Framing>(ready: &mut Ready, streams: &Vec<Stream<F>>, stre
     ready.mark(stream, waits);
 }
 
+/// Sets or clears the bit of a stream, of which it is known whether a message waits on it.
+#[inline(always)]
+fn show_as<F: Framing>(ready: &mut Ready, streams: &Vec<Stream<F>>, stream: u16, waits: bool)
+    ensures { (old : List StreamKept) → AreShown ready.old.words.items old → length old ≡ length streams.now.items → IsSameBut stream old (map stream_of streams.now.items)
+        → min 1 (length (stream_at (map stream_of streams.now.items) stream).waiting) ≡ (if waits then 1 else 0)
+        → AreShown ready.new.words.items (map stream_of streams.now.items) }
+{
+    let at = usize::from(stream);
+    if at >= streams.len() {
+        return;
+    }
+    ready.mark(stream, waits);
+}
+
 /// Sets or clears the bit of a stream if that changed: it is known whether a message waited before and whether one waits now. At most chunks and
 /// messages taken nothing changes.
 #[inline(always)]
@@ -119,6 +133,6 @@ pub(crate) fn show_change<F: Framing>(
         → AreShown ready.new.words.items (map stream_of streams.now.items) }
 {
     if waited != waits {
-        show(ready, streams, stream);
+        show_as(ready, streams, stream, waits);
     }
 }

@@ -1,9 +1,10 @@
 //! The requests of the peer to reset its outgoing streams, and the responses to them (RFC 6525, 5.2).
 //!
 //! All requests of a RE-CONFIG act in one call, one after another: memory for what is known of the streams, and for all responses that a
-//! packet has space for, is allocated first. A reset costs as much as its request lists, one that lists no stream a few steps for each stream.
+//! packet has space for, is allocated first, and none if there is no request. A reset costs as much as its request lists, one that lists no
+//! stream a few steps for each stream.
 
-ghost use Rattle.std.specs.Prelude.{◌≡◌, ◌<◌, ◌≤◌, ◌^◌, ℕ, Bool, true, nat_le, List, length, map, MatchOption, None, Some, OnOk, OnErr, []};
+ghost use Rattle.std.specs.Prelude.{◌≡◌, ◌<◌, ◌≤◌, ◌^◌, ◌∷◌, ℕ, Bool, true, nat_le, List, length, map, MatchOption, None, Some, OnOk, OnErr, []};
 ghost use Rattle.std.specs.List.{list_any};
 ghost use Rattle.sctp_model.specs.numbers.Serial.{tsn};
 ghost use Rattle.sctp_model.specs.wire.Reconfig.{Performed};
@@ -18,6 +19,7 @@ ghost use Rattle.sctp_recv.specs.StandsFor.{StandsFor};
 ghost use Rattle.sctp_recv.specs.inner.Restarting.{HasSpace, AreRestarted};
 ghost use Rattle.sctp_recv.specs.inner.Requesting.{is_same, AreLow, StandsInPart, StandInPart};
 
+use crate::parameters::first_request;
 use crate::receiver::Receiver;
 use crate::resets::{Resets, make_resets};
 use crate::restart::{Reset, ResetResponse};
@@ -137,17 +139,19 @@ fn on_parameter<F: Framing>(
     }
 }
 
-/// Handles parameters, one after another.
+/// Handles a parameter and those after it, one after another.
 fn on_parameters<F: Framing>(
     resets: &mut Resets,
     streams: &Vec<Stream<F>>,
     cumulative: u32,
     limit: u16,
-    parameters: Parameters<'_>,
+    first: Parameter<'_>,
+    others: Parameters<'_>,
 )
-    ensures { StandInPart F.format streams.now cumulative limit resets.old resets.new parameters.entry }
+    ensures { StandInPart F.format streams.now cumulative limit resets.old resets.new (parameter_meaning first.entry ∷ others.entry) }
 {
-    for parameter in parameters {
+    on_parameter(resets, streams, cumulative, limit, first);
+    for parameter in others {
         on_parameter(resets, streams, cumulative, limit, parameter);
     }
 }
@@ -165,6 +169,27 @@ impl<F: Framing> Receiver<F> {
             → OnOk result ((c : ℕ) × IsCumulative v c × StandsFor F.format self.new (all_requested limit c v parameters.entry)) }
         ensures refused { (v : ReceiverView) → StandsFor F.format self.old v → OnErr result (StandsFor F.format self.new v) }
     {
+        let mut others = parameters;
+        match first_request(&mut others) {
+            Some(first) => self.on_all(limit, first, others),
+            None => Ok(()),
+        }
+    }
+
+    /// Handles a request and the parameters after it.
+    ///
+    /// # Errors
+    /// Allocation failed, and nothing changed.
+    fn on_all(
+        &mut self,
+        limit: u16,
+        first: Parameter<'_>,
+        others: Parameters<'_>,
+    ) -> Result<(), NoMemory>
+        ensures step { (v : ReceiverView) → StandsFor F.format self.old v
+            → OnOk result ((c : ℕ) × IsCumulative v c × StandsFor F.format self.new (all_requested limit c v (parameter_meaning first.entry ∷ others.entry))) }
+        ensures refused { (v : ReceiverView) → StandsFor F.format self.old v → OnErr result (StandsFor F.format self.new v) }
+    {
         let count = self.stream_count();
         make_resets(self.alloc, &mut self.resets, self.initial, count)?;
         let cumulative = tsn_of(self.initial, self.seen.cumulative());
@@ -173,7 +198,7 @@ impl<F: Framing> Receiver<F> {
         };
         let resets: &mut Resets = made;
         resets.reserve(limit)?;
-        on_parameters(resets, &self.streams, cumulative, limit, parameters);
+        on_parameters(resets, &self.streams, cumulative, limit, first, others);
         Ok(())
     }
 

@@ -104,7 +104,7 @@ impl Resets {
     }
 
     /// What is known of a stream.
-    fn restart(&self, stream: u16) -> Restart
+    pub(crate) fn restart(&self, stream: u16) -> Restart
         ensures { result ≡ restart_at self.now.streams.items stream }
     {
         match self.streams.get(usize::from(stream)) {

@@ -82,6 +82,10 @@ impl Restart {
     }
 }
 
+/// The number of a chunk is no count below the largest.
+#[derive(Clone, Copy)]
+pub(crate) struct Uncounted;
+
 /// Whether a number is the largest, which stands for each that is no count below it.
 pub(crate) fn is_largest(number: Option<u64>) -> bool
     ensures largest { result ≡ true → number ≡ Some (COUNTS - 1) }

@@ -23,6 +23,7 @@ impl SeenRun {
 }
 
 /// How many runs are below an index, contain it, or touch it.
+#[inline(never)]
 pub(crate) fn upto(runs: &Sequence<SeenRun>, index: u64) -> usize
     ensures bound { result ≤ length runs.now.items }
     ensures place { AreSpaced runs.now.items → IsPlace (begins_by index) runs.now.items result }

@@ -110,7 +110,8 @@ impl Seen {
         Ok(())
     }
 
-    /// Whether the index was received, or is at or below the cumulative one.
+    /// Whether the index was received, or is at or below the cumulative one. It is inlined: of the next index nothing is looked up.
+    #[inline(always)]
     pub(crate) fn is_reached(&self, index: u64) -> bool
         ensures { result ≡ is_reached self.now.kept index }
     {

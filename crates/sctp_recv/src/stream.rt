@@ -2,6 +2,7 @@
 
 ghost use Rattle.std.specs.Prelude.{◌≡◌, ◌<◌, ◌^◌, ℕ, true, false, [], ◌∷◌, ◌&&◌, min, length, if◌then◌else◌, map, replicate, slice_get, None, Some, IfOk, OnOk, IsSome, MatchOption};
 ghost use Rattle.sctp_model.specs.messages.Format.{Lane, is_numbered};
+ghost use Rattle.sctp_model.specs.messages.Framing.{number_near};
 ghost use Rattle.sctp_model.specs.receiver.PieceTaken.{is_repeated};
 ghost use Rattle.sctp_values.specs.Meanings.{kind_meaning};
 ghost use Rattle.sctp_wire.specs.ChunkTree.{piece_meaning};
@@ -48,6 +49,14 @@ impl<F: Framing> Stream<F> {
             Some(inbound) => inbound.lowest(kind),
             None => 0,
         }
+    }
+
+    /// The number that a wire value is read as, if the stream wasn't reset.
+    pub(crate) fn number(&self, kind: Kind, wire: u32) -> Option<u64>
+        ensures number { result ≡ number_near F.format (kind_meaning kind) wire (near_of (stream_of self.now) (kind_meaning kind)) }
+        ensures lowest { lowest_of (stream_of self.now) (kind_meaning kind) < 2 ^ 64 }
+    {
+        F::number_near(kind, wire, self.near(kind))
     }
 
     /// The number that a wire value is read as, if `base` is 0 on the wire: the largest stands for each that is no count below it.

@@ -7,7 +7,7 @@ use Rattle.sctp_script.specs.Configuration.{PORT_A, PORT_B, IsOfPair, AreOfPair}
 use Rattle.sctp_script.specs.Ends.{has_a, has_b}
 use Rattle.sctp_script.specs.Grammar.{Pairs, Says}
 use Rattle.sctp_script.specs.OptionLines.{GivenOption, LeaveAt}
-use Rattle.sctp_script.specs.Places.{Place, Unpaired, Behind, Acted, Plain, Configures, SaysPaired, SaysAt}
+use Rattle.sctp_script.specs.Places.{Place, Unpaired, Behind, Acted, Plain, Configures, SaysUnlimited, SaysPaired, SaysAt}
 use Rattle.sctp_script.proofs.OptionsLeave.{left_at_ports}
 use Rattle.sctp_script.proofs.SpellLemmas.{of_the_pair}
 
@@ -28,11 +28,16 @@ of_alike c right = record {
   of_b = record { own_port = right.peer_port; peer_port = right.own_port; faultless = turned_fault c right.own_port right.peer_port ∙ right.faultless };
 }
 
+-- a line about resets makes no pair
+unlimited_pairs : (line : List ℕ) (c : Configuration) → SaysUnlimited line (Plain (Pairs c)) → Says true line (Pairs c)
+unlimited_pairs line c (inl (r, args, is, says)) = absurd says
+unlimited_pairs line c (inr (none, says)) = says
+
 -- a line with a limit makes no pair
 paired_pairs : (o : Bool) (line : List ℕ) (c : Configuration) → SaysPaired o line (Plain (Pairs c)) → Says true line (Pairs c)
 paired_pairs false line c says = says
 paired_pairs true line c (inl (vs, is, same)) = cc
-paired_pairs true line c (inr (none, says)) = says
+paired_pairs true line c (inr (none, says)) = unlimited_pairs line c says
 
 -- and sets no options
 paired_configures : (o : Bool) (line : List ℕ) (c d : Configuration) → SaysPaired o line (Configures c d) → ⊥

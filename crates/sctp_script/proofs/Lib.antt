@@ -9,6 +9,7 @@ mod OptionNames
 mod OptionWords
 mod OptionsLeave
 mod OptionsDecided
+mod ResetLemmas
 mod PlacedLemmas
 mod ConfigurationLemmas
 mod PlaceLemmas

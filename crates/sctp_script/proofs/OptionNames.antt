@@ -5,12 +5,12 @@ use Rattle.std.proofs.lemmas.Bool.{cases_Bool}
 use Rattle.std.proofs.lemmas.Slice.Eq.{bytes_eq-Decides}
 use Rattle.sctp_script.specs.Options.{option_word}
 use Rattle.sctp_script.specs.declared.option_name.OptionName.{OptionName}
-use Rattle.sctp_script.specs.declared.option_name.OptionName.TheVariants.{Limit, Fragment, Buffer, Streams, Mode, Delay, StandardClosing, FastRetransmit, CongestionControl, RtoMin}
+use Rattle.sctp_script.specs.declared.option_name.OptionName.TheVariants.{Limit, Fragment, Buffer, Streams, Mode, Delay, StandardClosing, FastRetransmit, CongestionControl, RtoMin, Reset}
 
 -- ---- one name, one option
 
 abbrev all_options : List OptionName
-all_options = Limit ∷ Fragment ∷ Buffer ∷ Streams ∷ Mode ∷ Delay ∷ StandardClosing ∷ FastRetransmit ∷ CongestionControl ∷ RtoMin ∷ []
+all_options = Limit ∷ Fragment ∷ Buffer ∷ Streams ∷ Mode ∷ Delay ∷ StandardClosing ∷ FastRetransmit ∷ CongestionControl ∷ RtoMin ∷ Reset ∷ []
 
 abbrev first_named : List ℕ → List OptionName → Option OptionName
 first_named word [] = None
@@ -28,6 +28,7 @@ named_again StandardClosing = refl
 named_again FastRetransmit = refl
 named_again CongestionControl = refl
 named_again RtoMin = refl
+named_again Reset = refl
 
 pub one_option : (o p : OptionName) → option_word o ≡ option_word p → o ≡ p
 one_option o p same =

@@ -15,7 +15,7 @@ use Rattle.sctp_script.specs.OptionLines.{GivenOption, Sets, Leave, IsOptionsLin
 use Rattle.sctp_script.specs.OptionsAnswer.{FindsOptions}
 use Rattle.sctp_script.specs.declared.option_name.Ends.{Ends}
 use Rattle.sctp_script.specs.declared.option_name.OptionName.{OptionName}
-use Rattle.sctp_script.specs.declared.option_name.OptionName.TheVariants.{Limit, Fragment, Buffer, Streams, Mode, Delay, StandardClosing, FastRetransmit, CongestionControl, RtoMin}
+use Rattle.sctp_script.specs.declared.option_name.OptionName.TheVariants.{Limit, Fragment, Buffer, Streams, Mode, Delay, StandardClosing, FastRetransmit, CongestionControl, RtoMin, Reset}
 use Rattle.sctp_script.proofs.FieldLemmas.{WordsSay, first_value, other_values, one_values}
 use Rattle.sctp_script.proofs.OptionWords.{given}
 
@@ -80,6 +80,7 @@ set_ports StandardClosing vs c = record { own = refl; peer = refl }
 set_ports FastRetransmit vs c = record { own = refl; peer = refl }
 set_ports CongestionControl vs c = record { own = refl; peer = refl }
 set_ports RtoMin vs c = record { own = refl; peer = refl }
+set_ports Reset vs c = record { own = refl; peer = refl }
 
 pub left_ports : (gs : List GivenOption) (c d : Configuration) → Leave gs c d → SamePorts c d
 left_ports [] c d is = subst (λ (e : Configuration). SamePorts c e) (sym is) (record { own = refl; peer = refl })

@@ -6,7 +6,7 @@ use Rattle.sctp_words.specs.declared.line_fault.LineError.TheVariants as error
 use Rattle.sctp_script.specs.declared.placed.Placed.{Placed}
 use Rattle.sctp_script.specs.Places.{Unpaired, Behind, Acted, IsPlain}
 use Rattle.sctp_script.specs.PlacedAnswer.{FindsAt, RefusesAt}
-use Rattle.sctp_script.specs.inner.PlainAnswer.{FindsPlain, RefusesPlain, FindsPaired, RefusesPaired}
+use Rattle.sctp_script.specs.inner.PlainAnswer.{FindsPlain, RefusesPlain, FindsUnlimited, RefusesUnlimited, FindsPaired, RefusesPaired}
 
 pub unpaired_says : (line : List ℕ) (r : Result (Option Placed) LineError)
     → MatchResult r (λ found. FindsPlain false line found) (λ e. RefusesPlain false line e)

@@ -7,18 +7,20 @@ use Rattle.sctp_words.specs.declared.line_fault.LineFault.{LineFault}
 use Rattle.sctp_words.specs.declared.line_fault.LineFault.TheVariants.{BadValue}
 use Rattle.sctp_script.specs.declared.option_name.Ends.{Ends}
 use Rattle.sctp_script.specs.Ends.{has_a, has_b}
-use Rattle.sctp_script.specs.Grammar.{Silent, Pairs, Acts, Fault, SaysOneThing}
+use Rattle.sctp_script.specs.Grammar.{LineMeaning, Silent, Pairs, Acts, Fault, SaysOneThing}
 use Rattle.sctp_script.specs.declared.command.Command.TheVariants as command
 use Rattle.sctp_script.specs.Commands.{name_of}
 use Rattle.sctp_script.specs.LimitedSends.{LimitedValues, limited_fields, limited_send, AreLimited, IsLimitedSend, HasNoLimit}
+use Rattle.sctp_script.specs.ResetLines.{IsNoReset, SaysReset}
 use Rattle.sctp_script.specs.Options.{option_fields, set_option}
 use Rattle.sctp_script.specs.OptionLines.{GivenOption, Leave, IsOptionsLine, LeaveAt, LeaveBoth}
-use Rattle.sctp_script.specs.Places.{Place, Unpaired, Behind, Acted, PlacedMeaning, Plain, Configures, IsPlain, SaysPlain, SaysPaired, OptionsSay, SaysAt, SaysOneThingAt}
+use Rattle.sctp_script.specs.Places.{Place, Unpaired, Behind, Acted, PlacedMeaning, Plain, Configures, IsPlain, SaysPlain, SaysUnlimited, SaysPaired, OptionsSay, SaysAt, SaysOneThingAt}
 use Rattle.sctp_script.proofs.FieldLemmas.{WordsSay, one_values, values_or_none}
 use Rattle.sctp_script.proofs.LineLemmas.{first_and_others, first_of, others_of}
 use Rattle.sctp_text.proofs.WordValues.{same_or_not}
 use Rattle.sctp_text.specs.declared.limits.TheConstants.{LONGEST_LINE}
 use Rattle.sctp_script.proofs.EachLineSays.{says_one_thing}
+use Rattle.sctp_script.proofs.ResetLemmas.{reset_or_not, one_reset}
 use Rattle.sctp_script.proofs.OptionsLeave.{one_set, one_left}
 use Rattle.sctp_script.proofs.OptionsDecided.{is_or_not, one_ends_line, one_options_line}
 
@@ -92,11 +94,32 @@ one_limited : (say : WordsSay) (line : List ℕ) (us vs : LimitedValues) → IsL
 one_limited say line us vs a b =
     one_values say limited_fields b.args us vs (subst (λ (ws : List (List ℕ)). AreLimited ws us) (ap others_of (sym a.line_is ∙ b.line_is)) a.values) b.values
 
+-- a line about resets says what its words say, and no other line about them does
+unlimited_says_one : (say : WordsSay) (line : List ℕ) → (m : PlacedMeaning) × SaysUnlimited line m × ((n : PlacedMeaning) → SaysUnlimited line n → n ≡ m)
+unlimited_says_one say line =
+    elim (reset_or_not say line) [
+      | inl is ↦ (Plain is.0, inl is.1, reset_alone is.0 is.1)
+      | inr none ↦ (Plain plain.meaning, inr (none, plain.says), plain_alone_here none)
+    ]
+  where
+    plain : SaysOneThing true line
+    plain = says_one_thing say true line
+
+    reset_alone : (m : LineMeaning) → SaysReset line m → (n : PlacedMeaning) → SaysUnlimited line n → n ≡ Plain m
+    reset_alone m is (Plain n) (inl says) = ap Plain (one_reset say line n m says is)
+    reset_alone m is (Plain n) (inr other) = absurd (other.0 is.0 is.1 is.2)
+    reset_alone m is (Configures c d) says = absurd says
+
+    plain_alone_here : IsNoReset line → (n : PlacedMeaning) → SaysUnlimited line n → n ≡ Plain plain.meaning
+    plain_alone_here none (Plain n) (inl says) = absurd (none says.0 says.1 says.2)
+    plain_alone_here none (Plain n) (inr other) = ap Plain (plain.only n other.1)
+    plain_alone_here none (Configures c d) says = absurd says
+
 limited_alone : (say : WordsSay) (line : List ℕ) (vs : LimitedValues) → IsLimitedSend line vs → (m : PlacedMeaning) → SaysPaired true line m → m ≡ Plain (Acts (limited_send vs))
 limited_alone say line vs is m (inl (us, other, says)) = says ∙ ap (λ (ws : LimitedValues). Plain (Acts (limited_send ws))) (one_limited say line us vs other is)
 limited_alone say line vs is m (inr (none, says)) = absurd (none vs is)
 
-unlimited_alone : (line : List ℕ) (l : PlacedMeaning) → HasNoLimit line → ((m : PlacedMeaning) → SaysPlain true line m → m ≡ l)
+unlimited_alone : (line : List ℕ) (l : PlacedMeaning) → HasNoLimit line → ((m : PlacedMeaning) → SaysUnlimited line m → m ≡ l)
     → (m : PlacedMeaning) → SaysPaired true line m → m ≡ l
 unlimited_alone line l none only m (inl (us, other, says)) = absurd (none us other)
 unlimited_alone line l none only m (inr (_, says)) = only m says
@@ -106,7 +129,7 @@ paired_says_one say false line = plain_says_one say true line
 paired_says_one say true line =
     elim (limited_or_not say line) [
       | inl is ↦ (Plain (Acts (limited_send is.0)), inl (is.0, is.1, refl), limited_alone say line is.0 is.1)
-      | inr none ↦ let one = plain_says_one say true line in (one.0, inr (none, one.1), unlimited_alone line one.0 none one.2)
+      | inr none ↦ let one = unlimited_says_one say line in (one.0, inr (none, one.1), unlimited_alone line one.0 none one.2)
     ]
 
 -- options that leave configurations say so, and nothing else

@@ -22,7 +22,10 @@ use Rattle.sctp_script.specs.Grammar.{LineMeaning, Silent, Pairs, Acts, Fault, C
 use Rattle.sctp_script.proofs.FieldLemmas.{Given, AreGiven, first_value, other_values}
 use Rattle.sctp_script.specs.Fields.{ATag, ANumber}
 use Rattle.sctp_script.specs.LimitedSends.{limited_send}
-use Rattle.sctp_script.specs.Places.{Place, Unpaired, Behind, Acted, Plain, SaysPaired, SaysAt, is_paired}
+use Rattle.sctp_script.specs.Places.{Place, Unpaired, Behind, Acted, Plain, SaysUnlimited, SaysPaired, SaysAt, is_paired}
+use Rattle.sctp_script.specs.ResetLines.{ResetValues, reset_wanted}
+use Rattle.sctp_script.specs.declared.reset_line.ResetCommand.{ResetCommand}
+use Rattle.sctp_script.specs.declared.reset_line.ResetCommand.TheVariants as reset_command
 
 -- ---- what is wanted may be
 
@@ -89,12 +92,20 @@ pub follows : (paired : Bool) (line : List ℕ) (w : Wanted) → Says paired lin
 follows true line w says = refl
 follows false line w says = absurd (says.0 PairOrder (says.1.0, says.1.1, says.1.2, not_pair says.1.0 says.1.1 w says.1.3))
 
+reset_can_be : (c : ResetCommand) (vs : ResetValues c) → CanBe (reset_wanted c vs)
+reset_can_be reset_command.Reset vs = tt
+reset_can_be reset_command.Resets vs = tt
+
+unlimited_can_be : (line : List ℕ) (w : Wanted) → SaysUnlimited line (Plain (Acts w)) → CanBe w
+unlimited_can_be line w (inl (c, args, is, asks)) = subst CanBe (sym asks.2) (reset_can_be c asks.0)
+unlimited_can_be line w (inr (none, says)) = can_be true line w says
+
 paired_can_be : (o : Bool) (line : List ℕ) (w : Wanted) → SaysPaired o line (Plain (Acts w)) → CanBe w
 paired_can_be false line w says = can_be true line w says
 paired_can_be true line w (inl (vs, is, same)) =
     let wanted : w ≡ limited_send vs = cc in
     subst CanBe (sym wanted) tt
-paired_can_be true line w (inr (none, says)) = can_be true line w says
+paired_can_be true line w (inr (none, says)) = unlimited_can_be line w says
 
 pub follows_at : (place : Place) (line : List ℕ) (w : Wanted) → SaysAt place line (Plain (Acts w)) → is_paired place ≡ true
 follows_at Unpaired line w says = follows false line w says

@@ -2,10 +2,10 @@
 use Rattle.std.specs.Prelude.{ℕ, true, false, List, [], ◌∷◌, length, codes}
 use Rattle.sctp_model.specs.end.EndView.{Configuration}
 use Rattle.sctp_terms.specs.Modes.{asked}
-use Rattle.sctp_words.specs.Fields.{Values, delay_word, standard_closing_word, fast_retransmit_word, congestion_control_word, rto_min_word}
+use Rattle.sctp_words.specs.Fields.{Values, delay_word, standard_closing_word, fast_retransmit_word, congestion_control_word, rto_min_word, reset_word}
 use Rattle.sctp_script.specs.Fields.{Field, ANumber, AMode, Value}
 use Rattle.sctp_script.specs.declared.option_name.OptionName.{OptionName}
-use Rattle.sctp_script.specs.declared.option_name.OptionName.TheVariants.{Limit, Fragment, Buffer, Streams, Mode, Delay, StandardClosing, FastRetransmit, CongestionControl, RtoMin}
+use Rattle.sctp_script.specs.declared.option_name.OptionName.TheVariants.{Limit, Fragment, Buffer, Streams, Mode, Delay, StandardClosing, FastRetransmit, CongestionControl, RtoMin, Reset}
 
 -- the word that an option is
 abbrev pub option_word : OptionName → List ℕ
@@ -19,8 +19,9 @@ option_word StandardClosing = standard_closing_word
 option_word FastRetransmit = fast_retransmit_word
 option_word CongestionControl = congestion_control_word
 option_word RtoMin = rto_min_word
+option_word Reset = reset_word
 
--- limit N; fragment N; buffer N; streams OUT IN; mode MODE; delay; standard-closing; fast-retransmit; congestion-control; rto-min MS
+-- limit N; fragment N; buffer N; streams OUT IN; mode MODE; delay; standard-closing; fast-retransmit; congestion-control; rto-min MS; reset
 abbrev pub option_fields : OptionName → List Field
 option_fields Limit = ANumber 16 ∷ []
 option_fields Fragment = ANumber 16 ∷ []
@@ -32,6 +33,7 @@ option_fields StandardClosing = []
 option_fields FastRetransmit = []
 option_fields CongestionControl = []
 option_fields RtoMin = ANumber 32 ∷ []
+option_fields Reset = []
 
 -- the number of words after an option's name
 abbrev pub words_taken : OptionName → ℕ
@@ -53,3 +55,4 @@ set_option StandardClosing rest c = record c { standard_closing = true }
 set_option FastRetransmit rest c = record c { fast_retransmit = true }
 set_option CongestionControl rest c = record c { fast_retransmit = true; congestion_control = true }
 set_option RtoMin (milliseconds, rest) c = record c { least_wait = milliseconds }
+set_option Reset rest c = record c { reset = true }

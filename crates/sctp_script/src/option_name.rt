@@ -16,6 +16,7 @@ pub enum OptionName {
     FastRetransmit,
     CongestionControl,
     RtoMin,
+    Reset,
 }
 
 impl OptionName {
@@ -34,6 +35,7 @@ impl OptionName {
             b"fast-retransmit" => Some(OptionName::FastRetransmit),
             b"congestion-control" => Some(OptionName::CongestionControl),
             b"rto-min" => Some(OptionName::RtoMin),
+            b"reset" => Some(OptionName::Reset),
             _ => None,
         }
     }
@@ -46,7 +48,8 @@ impl OptionName {
             OptionName::Delay
             | OptionName::StandardClosing
             | OptionName::FastRetransmit
-            | OptionName::CongestionControl => 0,
+            | OptionName::CongestionControl
+            | OptionName::Reset => 0,
             OptionName::Limit
             | OptionName::Fragment
             | OptionName::Buffer

@@ -175,5 +175,6 @@ fn set(option: OptionName, words: &mut Words<'_>, settings: Settings) -> Option<
         OptionName::FastRetransmit => Some(settings.with_fast_retransmit()),
         OptionName::CongestionControl => Some(settings.with_congestion_control()),
         OptionName::RtoMin => Some(settings.with_rto_min(read_u32(words.next_word())?)),
+        OptionName::Reset => Some(settings.with_reset()),
     }
 }

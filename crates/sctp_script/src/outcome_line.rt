@@ -45,6 +45,10 @@ pub fn put_outcome(
         Outcome::Fate { fate } => put_side(b"fate", side, &[u64::from(fate.code())], out),
         Outcome::Message { message } => put_message(alloc, side, stream_named(event), message, out),
         Outcome::Empty => put_side(b"empty", side, &[u64::from(stream_named(event))], out),
+        Outcome::ResetThere { stream, count } => {
+            put_side(b"reset", side, &[u64::from(*stream), *count as u64], out)
+        }
+        Outcome::NoReset => put_side(b"no-reset", side, &[], out),
     }
 }
 
@@ -63,6 +67,8 @@ fn side_named(event: &Event) -> Side
         Event::SendWithMaxRetransmits { side, .. } => *side,
         Event::Abandon { side, .. } => *side,
         Event::Take { side, .. } => *side,
+        Event::Reset { side, .. } => *side,
+        Event::WasReset { side } => *side,
         Event::Shutdown { side } => *side,
         Event::Abort { side, .. } => *side,
     }
@@ -84,7 +90,7 @@ fn refusal_code(refusal: Refusal) -> u64
 {
     match refusal {
         Refusal::State | Refusal::NoSuchStream => 1,
-        Refusal::ReasonTooLong | Refusal::Empty => 2,
+        Refusal::ReasonTooLong | Refusal::NoSuchReset | Refusal::Empty => 2,
         Refusal::TooLong => 3,
         Refusal::QueueFull => 4,
         Refusal::Spent => 5,

@@ -3,11 +3,12 @@
 ghost use Rattle.std.specs.Prelude.{Bool, true, false, MatchResult};
 ghost use Rattle.sctp_script.specs.Places as places;
 ghost use Rattle.sctp_script.specs.PlacedAnswer.{place_meaning, FindsAt, RefusesAt};
-ghost use Rattle.sctp_script.specs.inner.PlainAnswer.{FindsPlain, RefusesPlain, FindsPaired, RefusesPaired};
+ghost use Rattle.sctp_script.specs.inner.PlainAnswer.{FindsPlain, RefusesPlain, FindsUnlimited, RefusesUnlimited, FindsPaired, RefusesPaired};
 
 use crate::limited_send::read_limited_send;
 use crate::line::{Acting, read_line};
 use crate::options::read_options;
+use crate::reset_line::read_reset_line;
 use sctp_events::{Event, PairConfig, TwoConfigs};
 use sctp_values::NoMemory;
 use sctp_words::LineError;
@@ -109,7 +110,8 @@ fn read_behind(
     }
 }
 
-/// Reads a line after the `pair` line that isn't one of options. In a script with a line of options it may give a limit of retransmissions.
+/// Reads a line after the `pair` line that isn't one of options. In a script with a line of options it may give a limit of retransmissions, or be
+/// about resets of streams.
 ///
 /// # Errors
 /// As `read_line`.
@@ -121,8 +123,22 @@ fn read_paired(alloc: Global, line: &[u8], with_options: bool) -> Result<Option<
     }
     match read_limited_send(alloc, line) {
         Ok(Some(event)) => Ok(Some(Placed::Event(event))),
-        Ok(None) => read_plain(alloc, line, true),
+        Ok(None) => read_unlimited(alloc, line),
         Err(NoMemory) => Err(LineError::NoMemory),
+    }
+}
+
+/// Reads a line, in a script with a line of options, that is neither one of options nor a `send` with a limit of retransmissions.
+///
+/// # Errors
+/// As `read_line`.
+fn read_unlimited(alloc: Global, line: &[u8]) -> Result<Option<Placed>, LineError>
+    ensures { MatchResult result (λ found. FindsUnlimited line.now found) (λ error. RefusesUnlimited line.now error) }
+{
+    match read_reset_line(line) {
+        Ok(Some(event)) => Ok(Some(Placed::Event(event))),
+        Ok(None) => read_plain(alloc, line, true),
+        Err(fault) => Err(LineError::Fault(fault)),
     }
 }
 

@@ -10,6 +10,7 @@ pub mod CursorLemmas
 pub mod WeightLemmas
 pub mod FrontLemmas
 pub mod CountLemmas
+pub mod SentLemmas
 pub mod RiseLemmas
 pub mod SeatLemmas
 pub mod SeatedLemmas

@@ -26,6 +26,7 @@ pub mod due_table;
 pub mod dues;
 pub mod entry;
 pub mod fates;
+pub mod going_out;
 pub mod last_forward;
 pub mod looking;
 pub mod message;

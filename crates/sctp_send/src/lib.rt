@@ -24,13 +24,13 @@
 //! | [`Sender::put_forward`] | `answer`: true if and only if the FORWARD goes past CUM and fits what is left of the packet. `after`: the packet has it after its other chunks, or is as before. `reaches`: with the least packet limit or more it goes past CUM whenever the point does. `memory`, `unchanged`: NoMemory only if the chunk would have gone in, and the packet is then as before |
 //! | [`Sender::keep_forward`] | the sender stands for the same views: it builds the FORWARD ahead, for `put_forward` to take |
 //! | [`Sender::has_late`], [`Sender::next_late`] | whether a message that may be abandoned is late, and the lowest such ticket above one; if none is, `expire` changes nothing (`idle`) |
-//! | [`Sender::cum`], [`Sender::point`], [`Sender::unsettled`], [`Sender::outstanding`], [`Sender::drained`], [`Sender::acknowledged`], [`Sender::abandoned`], [`Sender::abandoned_messages`], [`Sender::tickets`], [`Sender::peer_window`] | exactly the functions of `sender/Readers` of the model, and how many tickets are of abandoned messages; at most 32,767 are outstanding (`bound`) |
+//! | [`Sender::cum`], [`Sender::point`], [`Sender::unsettled`], [`Sender::outstanding`], [`Sender::drained`], [`Sender::acknowledged`], [`Sender::abandoned`], [`Sender::abandoned_messages`], [`Sender::tickets`], [`Sender::peer_window`], [`Sender::stream_count`] | exactly the functions of `sender/Readers` of the model, and how many tickets are of abandoned messages; at most 32,767 are outstanding (`bound`) |
 //! | [`Sender::in_flight`], [`Sender::last_sent`], [`Sender::room_of_repeats`] | the bytes in flight, the highest index that was sent, the space of the retransmissions among what `fill` would put into a packet: exactly `in_flight`, `last_sent`, `room_of_repeats` of the model |
 //! | [`Sender::first_missed`], [`Sender::is_marked_or_covered`] | the lowest index in flight from one on, below another; whether an index is marked or acknowledged |
 //! | [`Sender::weigh`], [`Sender::weigh_shutdown`], [`Weight`] | of a SACK or a SHUTDOWN without a fault, before it is taken: whether it moves CUM, CUM after it, the highest indexes and the bytes that it newly acknowledges, and whether the chunk that is timed is among them (`IsWeight`) |
 //! | [`Sender::queued`], [`Sender::queued_bytes`] | the length and the bytes of the queue; at most 1,024 messages of 65,536 bytes (`bound`) |
 //! | [`Sender::reset`], [`Sender::is_resetting`], [`Sender::resetting_streams`] | the stream takes no further message (`resetting`), or the same view if memory is refused (`memory`); whether it waits for its reset, and how many do |
-//! | [`Sender::may_ask`], [`Sender::ask`], [`Sender::request`], [`ResetRequest`] | whether a request to reset streams may be made; `step`: the view in which it is made, if it may; what the request that waits says: its number, the last TSN that was assigned when it was made, and its streams, the lowest 256 of which nothing waits or is outstanding |
+//! | [`Sender::may_ask`], [`Sender::ask`], [`Sender::take_back_request`], [`Sender::request`], [`ResetRequest`] | whether a request to reset streams may be made; `step`: the view in which it is made, if it may; the view before that; what the request that waits says: its number, the last TSN that was assigned when it was made, and its streams, the lowest 256 of which nothing waits or is outstanding |
 //! | [`Sender::on_response`] | the view after a response: its streams count from 0 again and take messages, the request has the next number, or its streams take none |
 //! | [`Sender::reached`] | a law: each view that a sender stands for is one that its calls reach |
 //! | [`Sender::limited`] | laws: an abandoned message isn't at its limit (`gone`), and `wear` and `wear_between` abandon only messages that `next_at_limit` gives (`only`) |
@@ -57,14 +57,14 @@
 //! `on_timeout` and `wear` all that is outstanding, `on_missed` and `wear_between` what is of their range, `next_at_limit` the outstanding entries of
 //! higher tickets up to the one that it finds; `expire` and `next_late` the tickets whose deadlines have passed; `weigh` what the SACK does but for what is
 //! no longer acknowledged, each entry once, `first_missed` its range, `room_of_repeats` the entries from the first marked one on, `last_sent` the
-//! entries after it, which were never sent; other readers are constant, `abandon` and `acknowledged` a binary search and the message's own entries. `reset` and `on_response` cost all streams,
-//! `may_ask` and `ask` the streams that wait for their reset, each with its search in the queue and a walk over the entries up to its first one, and nothing if
-//! there are none; without a reset no table is kept, and a message costs one test more. What is kept for that is in `kept`, and each part's counts are its invariant: an entry
+//! entries after it, which were never sent; other readers are constant, `abandon` and `acknowledged` a binary search and the message's own entries. `reset` and `on_response` cost all streams, `reset` also the entries after the last one of its stream,
+//! `may_ask` and `ask` the streams that wait for their reset, each a look at the entry noted for it and, if that is gone, its search in the queue and a walk over
+//! the entries up to its first one, and nothing if there are none; without a reset no table is kept, and a message costs one test more. What is kept for that is in `kept`, and each part's counts are its invariant: an entry
 //! takes 32 bytes with the count of its retransmissions, which ends at 65,535, as limits do.
 //!
 //! The files of `src` form a path on which each imports only what is before it: `due_pages`, `last_forward`, `message`, `ordered`, `resets`, `sendings`; `blocks`, `by_ticket`,
 //! `due_table`, `entry`, `seats`, `track`; `dues`, `fates`, `part_lists`, `pieces`; `looking`, `queue`, `told`, `wishes`; `counts`, `streams`; `stretches`;
-//! `outstanding`; `by_message`, `entries`, `flying`, `lanes`, `marking`, `pushing`, `repeats`, `run_room`, `searching`, `stock`, `table`, `tally`, `telling`,
+//! `outstanding`; `by_message`, `entries`, `flying`, `going_out`, `lanes`, `marking`, `pushing`, `repeats`, `run_room`, `searching`, `stock`, `table`, `tally`, `telling`,
 //! `weight`; `assigning`, `covered`, `indexed`, `restarting`, `sender`, `still`, `waking`; `answering`, `at_limit`, `entering`, `fill`, `last`, `laws`, `pace`, `passing`, `queueing`,
 //! `readers`, `resetting`, `sack`, `wear`, `weighing`; `abandon`, `keeping`, `moments`; `expire`, `forward`, `putting`.
 //!

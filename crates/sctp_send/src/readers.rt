@@ -93,6 +93,13 @@ impl<F: Framing> Sender<F> {
         self.told.rwnd
     }
 
+    /// The number of streams that it sends on, numbered from 0.
+    pub fn stream_count(&self) -> u16
+        ensures { (v : SenderView) → StandsFor F.format self.now v → result ≡ v.streams }
+    {
+        self.told.streams
+    }
+
     /// The number of tickets issued, one for each message accepted by `queue`. They are 1 to this number.
     pub fn tickets(&self) -> u64
         ensures { (v : SenderView) → StandsFor F.format self.now v → result ≡ v.tickets }

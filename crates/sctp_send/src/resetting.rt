@@ -8,14 +8,14 @@ pub mod restarting;
 pub mod still;
 pub mod table;
 
-ghost use Rattle.std.specs.Prelude.{◌≡◌, ◌&&◌, nat_lt, if◌then◌else◌, OnOk, OnErr, MatchOption, None};
+ghost use Rattle.std.specs.Prelude.{◌≡◌, ◌&&◌, true, nat_lt, if◌then◌else◌, OnOk, OnErr, MatchOption, None};
 ghost use Rattle.sctp_model.specs.sender.Outgoing.{is_resetting};
 ghost use Rattle.sctp_model.specs.sender.Resetting.{resetting, may_ask, asked};
 ghost use Rattle.sctp_model.specs.sender.SenderView.{SenderView};
 ghost use Rattle.sctp_send.specs.ResetAnswers.{IsRequest, resetting_streams};
 ghost use Rattle.sctp_send.specs.SenderStands.{StandsFor};
 
-use crate::resetting::still::{any_still, still_of};
+use crate::resetting::still::{any_still, last_out_on, still_of};
 use crate::sender::Sender;
 use sctp_framing::Framing;
 use sctp_serial::tsn_of;
@@ -53,13 +53,20 @@ impl<F: Framing> Sender<F> {
 
     /// Whether a request to reset streams may be made now: none waits for its response, a stream is ready, and fewer than 2^31 - 1 sequence numbers
     /// were used (RFC 6525, 5.1.1).
+    #[inline(always)]
     pub fn may_ask(&self) -> bool
         ensures { (v : SenderView) → StandsFor F.format self.now v → result ≡ may_ask v }
     {
         if !self.told.resets.is_free() {
             return false;
         }
-        any_still(&self.parts, self.told.resets.resetting())
+        let resets = &self.told.resets;
+        any_still(
+            &self.parts,
+            self.told.cum,
+            resets.hints(),
+            resets.resetting(),
+        )
     }
 
     /// The request that waits for its response, if one does (RFC 6525, 4.1).
@@ -89,6 +96,9 @@ impl<F: Framing> Sender<F> {
         let streams = self.told.streams;
         self.told.resets.make(self.told.alloc, streams)?;
         self.told.resets.shut(stream);
+        let last = last_out_on(&self.parts.outstanding, stream);
+        let index = self.told.cum.wrapping_add(last as u64).wrapping_add(1);
+        self.told.resets.note(stream, index);
         Ok(())
     }
 
@@ -103,7 +113,13 @@ impl<F: Framing> Sender<F> {
         if !self.told.resets.is_free() {
             return Ok(());
         }
-        let streams = still_of(self.told.alloc, &self.parts, self.told.resets.resetting())?;
+        let streams = still_of(
+            self.told.alloc,
+            &self.parts,
+            self.told.cum,
+            self.told.resets.hints(),
+            self.told.resets.resetting(),
+        )?;
         if streams.is_empty() {
             return Ok(());
         }
@@ -113,5 +129,12 @@ impl<F: Framing> Sender<F> {
             .wrapping_add(self.parts.outstanding.len() as u64);
         self.told.resets.ask(last, streams);
         Ok(())
+    }
+
+    /// Takes back the request that `ask` made, where the packet that would have carried it isn't built. It takes no memory.
+    pub fn take_back_request(&mut self)
+        ensures { (v : SenderView) → StandsFor F.format self.old (asked v) → may_ask v ≡ true → StandsFor F.format self.new v }
+    {
+        self.told.resets.take_back();
     }
 }

@@ -126,6 +126,7 @@ pub(crate) fn take_tickets(alloc: Global, tickets: &mut Vec<Ticket>) -> Vec<Tick
 }
 
 /// A change is noted, where there is room for that.
+#[inline(always)]
 pub(crate) fn note(log: &mut Vec<Change>, change: Change)
     requires { vec_len log.old < vec_capacity log.old }
     ensures items { log.new.items ≡ log.old.items ++ change ∷ [] }

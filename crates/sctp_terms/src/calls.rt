@@ -31,3 +31,17 @@ pub enum AbortFault {
     #[error("out of memory")]
     NoMemory,
 }
+
+/// Why `reset` is refused: the first of these that applies.
+#[derive(Clone, Copy, Debug, PartialEq, Eq, Error)]
+pub enum ResetFault {
+    /// 1: the state isn't Established, or the peers haven't agreed on the reset of streams (RFC 6525, 5.1).
+    #[error("the association is not established, or resets no streams")]
+    State,
+    /// 2: there is no such outgoing stream.
+    #[error("there is no such stream")]
+    NoSuchStream,
+    /// 3: allocation failed.
+    #[error("out of memory")]
+    NoMemory,
+}

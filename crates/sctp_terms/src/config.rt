@@ -36,12 +36,12 @@ pub struct Config {
     pub(crate) congestion_control: bool,
     /// RTO.Min in milliseconds.
     pub(crate) rto_min: u32,
+    pub(crate) reset: bool,
 }
 
 impl Model for Config {
     ghost use Rattle.sctp_model.specs.end.EndView.{Configuration};
     ghost use Rattle.sctp_model.specs.end.Configured.{IsConfiguration};
-    ghost use Rattle.std.specs.Prelude.{false};
 
     ghost Value = { Configuration };
 
@@ -60,7 +60,7 @@ impl Model for Config {
       fast_retransmit = c.fast_retransmit;
       least_wait = c.rto_min;
       congestion_control = c.congestion_control;
-      reset = false;
+      reset = c.reset;
     } };
 
     ghost inverse = { λ c. record {
@@ -78,6 +78,7 @@ impl Model for Config {
       fast_retransmit = c.fast_retransmit;
       congestion_control = c.congestion_control;
       rto_min = c.least_wait;
+      reset = c.reset;
     } };
 
     ghost invariant = { λ c. IsConfiguration (record {
@@ -95,14 +96,14 @@ impl Model for Config {
       fast_retransmit = c.fast_retransmit;
       least_wait = c.rto_min;
       congestion_control = c.congestion_control;
-      reset = false;
+      reset = c.reset;
     }) };
 }
 
 impl Config {
     /// The configuration of an endpoint at `own_port` whose peer is at `peer_port`: it sends packets of at most `limit` bytes, cuts messages into
     /// fragments of `fragment` bytes, has a receive buffer of `buffer` bytes, and asks for `outbound` streams to its peer and `inbound` from it.
-    /// Neither extension is asked for, SACKs aren't delayed, it closes by this profile's timers, what is lost waits for the data timer, only the peer's
+    /// No extension is asked for, SACKs aren't delayed, it closes by this profile's timers, what is lost waits for the data timer, only the peer's
     /// window limits what is sent, and RTO.Min is 1,000 ms.
     ///
     /// # Errors
@@ -151,6 +152,7 @@ impl Config {
             fast_retransmit: false,
             congestion_control: false,
             rto_min: RTO_MIN,
+            reset: false,
         })
     }
 
@@ -192,6 +194,16 @@ impl Config {
     {
         Config {
             standard_closing: true,
+            ..self
+        }
+    }
+
+    /// This configuration, asking for the reset of streams: an outgoing stream's numbers may begin anew at 0 (RFC 6525, 5.1).
+    pub fn with_reset(self) -> Config
+        ensures { result ≡ record self { reset = true } }
+    {
+        Config {
+            reset: true,
             ..self
         }
     }

@@ -1,12 +1,11 @@
 //! The readers of a configuration. Each value is within its limits.
 
-ghost use Rattle.std.specs.Prelude.{◌≡◌, ◌≤◌, ◌<◌, ◌+◌, true, false, MatchOption};
+ghost use Rattle.std.specs.Prelude.{◌≡◌, ◌≤◌, ◌<◌, ◌+◌};
 ghost use Rattle.sctp_model.specs.numbers.Limits.{STREAM_LIMIT, LEAST_PACKET, GREATEST_PACKET, LEAST_FRAGMENT, GREATEST_FRAGMENT, FRAGMENT_OVERHEAD, LEAST_BUFFER, GREATEST_BUFFER};
 ghost use Rattle.sctp_model.specs.wire.Chunk.{padded};
 ghost use Rattle.sctp_model.specs.end.Configured.{IsConfiguration};
 
 use crate::config::Config;
-use crate::unset::Reset;
 
 impl Config {
     /// The endpoint's own port, which isn't 0.
@@ -101,12 +100,10 @@ impl Config {
         self.standard_closing
     }
 
-    /// With what it asks for the reset of streams (RFC 6525); None if it doesn't. No call sets it.
-    pub fn reset(&self) -> Option<Reset>
-        ensures { MatchOption result (self.now.reset ≡ false) (λ reset. self.now.reset ≡ true) }
+    /// Whether it asks for the reset of streams (RFC 6525).
+    pub fn reset(&self) -> bool
+        ensures { result ≡ self.now.reset }
     {
-        // The proof sees the fields if one is read.
-        let _ = &self.own_port;
-        None
+        self.reset
     }
 }

@@ -7,8 +7,9 @@
 //!
 //! | public function | what is promised |
 //! |---|---|
-//! | [`Config::new`] | the configuration with just these values, if it has no fault: neither extension asked for, a SACK for each packet, closing by this profile's timers, no fast retransmission or congestion control; otherwise the first fault that it has (`configuration_fault`, in the order of the codes) |
+//! | [`Config::new`] | the configuration with just these values, if it has no fault: no extension asked for, a SACK for each packet, closing by this profile's timers, no fast retransmission or congestion control; otherwise the first fault that it has (`configuration_fault`, in the order of the codes) |
 //! | [`Config::with_partial`], [`Config::with_interleave`] | this configuration, asking also for partial reliability, for I-DATA |
+//! | [`Config::with_reset`] | this configuration, asking also for the reset of streams |
 //! | [`Config::with_delay`], [`Config::with_standard_closing`] | this configuration, with delayed SACKs; closing by the RFC's timers |
 //! | [`Config::with_fast_retransmit`], [`Config::with_congestion_control`], [`Config::with_rto_min`] | this configuration, with fast retransmission; with congestion control and fast retransmission; with another RTO.Min |
 //! | [`Config::limit`] and the other readers | the value that it was made with, within its limits |
@@ -19,7 +20,7 @@
 //! | [`Mode::asked`] | this configuration, asking also for what the mode says: for neither extension, for one, or for both |
 //! | [`ConfigFault::code`], [`Reason::code`] | the number that is printed, 1 to 5 |
 //!
-//! [`State`], [`End`] and the refusals [`ConnectFault`], [`ShutdownFault`] and [`AbortFault`] have no calls.
+//! [`State`], [`End`] and the refusals [`ConnectFault`], [`ShutdownFault`], [`ResetFault`] and [`AbortFault`] have no calls.
 #![tactic(auto)]
 
 mod calls;
@@ -33,9 +34,8 @@ mod mode;
 mod pacing;
 mod reason;
 mod settings;
-mod unset;
 
-pub use calls::{AbortFault, ConnectFault, ShutdownFault};
+pub use calls::{AbortFault, ConnectFault, ResetFault, ShutdownFault};
 pub use config::Config;
 pub use config_fault::ConfigFault;
 pub use draw::Draw;
@@ -44,4 +44,3 @@ pub use life::{End, State};
 pub use mode::Mode;
 pub use reason::Reason;
 pub use settings::Settings;
-pub use unset::Reset;

@@ -28,11 +28,11 @@ pub struct Settings {
     congestion_control: bool,
     /// RTO.Min in milliseconds.
     rto_min: u32,
+    reset: bool,
 }
 
 impl Model for Settings {
     ghost use Rattle.sctp_model.specs.end.EndView.{Configuration};
-    ghost use Rattle.std.specs.Prelude.{false};
 
     ghost Value = { Configuration };
 
@@ -51,7 +51,7 @@ impl Model for Settings {
       fast_retransmit = c.fast_retransmit;
       least_wait = c.rto_min;
       congestion_control = c.congestion_control;
-      reset = false;
+      reset = c.reset;
     } };
 
     ghost inverse = { λ c. record {
@@ -69,6 +69,7 @@ impl Model for Settings {
       fast_retransmit = c.fast_retransmit;
       congestion_control = c.congestion_control;
       rto_min = c.least_wait;
+      reset = c.reset;
     } };
 }
 
@@ -92,6 +93,7 @@ impl Settings {
             fast_retransmit: config.fast_retransmit,
             congestion_control: config.congestion_control,
             rto_min: config.rto_min,
+            reset: config.reset,
         }
     }
 
@@ -189,6 +191,16 @@ impl Settings {
         }
     }
 
+    /// These values, asking for the reset of streams (RFC 6525, 5.1).
+    pub fn with_reset(self) -> Settings
+        ensures { result ≡ record self { reset = true } }
+    {
+        Settings {
+            reset: true,
+            ..self
+        }
+    }
+
     /// The configuration with these values. None if they have a fault.
     pub fn checked(self) -> Option<Config>
         ensures { MatchOption result (configuration_fault self ≡ None → ⊥) (λ config. (config ≡ self) × (configuration_fault self ≡ None)) }
@@ -217,6 +229,7 @@ impl Settings {
           fast_retransmit = self.fast_retransmit;
           congestion_control = self.congestion_control;
           least_wait = self.least_wait;
+          reset = self.reset;
         } }
     {
         Config {
@@ -227,6 +240,7 @@ impl Settings {
             fast_retransmit: self.fast_retransmit,
             congestion_control: self.congestion_control,
             rto_min: self.rto_min,
+            reset: self.reset,
             ..config
         }
     }

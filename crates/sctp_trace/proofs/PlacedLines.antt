@@ -2,13 +2,18 @@
 use Rattle.std.proofs.Common.{◌≡◌, ℕ, Bool, true, false, List, inl, inr, refl}
 use Rattle.sctp_model.specs.end.EndView.{Configuration}
 use Rattle.sctp_script.specs.Grammar.{Pairs, Says}
-use Rattle.sctp_script.specs.Places.{Place, Unpaired, Behind, Acted, Plain, Configures, SaysPaired, SaysAt, is_paired}
+use Rattle.sctp_script.specs.Places.{Place, Unpaired, Behind, Acted, Plain, Configures, SaysUnlimited, SaysPaired, SaysAt, is_paired}
 
--- a line with a limit of retransmissions makes no pair
+-- a line about resets makes no pair
+unlimited_plain : (line : List ℕ) (c : Configuration) → SaysUnlimited line (Plain (Pairs c)) → Says true line (Pairs c)
+unlimited_plain line c (inl (r, args, is, says)) = absurd says
+unlimited_plain line c (inr (none, says)) = says
+
+-- nor does one with a limit of retransmissions
 paired_plain : (o : Bool) (line : List ℕ) (c : Configuration) → SaysPaired o line (Plain (Pairs c)) → Says true line (Pairs c)
 paired_plain false line c says = says
 paired_plain true line c (inl (vs, is, same)) = cc
-paired_plain true line c (inr (none, says)) = says
+paired_plain true line c (inr (none, says)) = unlimited_plain line c says
 
 pub pair_plain : (place : Place) (line : List ℕ) (c : Configuration) → SaysAt place line (Plain (Pairs c)) → Says (is_paired place) line (Pairs c)
 pair_plain Unpaired line c says = says

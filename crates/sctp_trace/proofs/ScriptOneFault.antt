@@ -7,7 +7,7 @@ use Rattle.sctp_words.specs.declared.line_fault.LineFault.{LineFault}
 use Rattle.sctp_words.specs.declared.line_fault.LineFault.TheVariants.{TooLong}
 use Rattle.sctp_script.specs.Grammar.{Silent, Pairs, Acts, Fault}
 use Rattle.sctp_script.specs.Places as places
-use Rattle.sctp_script.specs.Places.{Place, Acted, PlacedMeaning, Plain, Configures, SaysPlain, SaysPaired, SaysAt, SaysOneThingAt, has_options}
+use Rattle.sctp_script.specs.Places.{Place, Acted, PlacedMeaning, Plain, Configures, SaysPlain, SaysUnlimited, SaysPaired, SaysAt, SaysOneThingAt, has_options}
 use Rattle.sctp_text.specs.TextLines.{IsOneLine, is_line_feed, ended, joined, first_length}
 use Rattle.sctp_trace.specs.Stages.{Stage, Unpaired, place_of}
 use Rattle.sctp_trace.specs.Script.{Does, LineActs, Goes, BeginsWith, HasFirstFault}
@@ -82,11 +82,17 @@ short_plain b line (Plain (Acts wanted)) state after here says does = within lin
 short_plain b line (Plain (Fault f)) state after here says does = absurd does
 short_plain b line (Configures c d) state after here says does = absurd says
 
+short_unlimited : (line : List ℕ) (m : PlacedMeaning) (state after : Stage) (here : List ℕ) → SaysUnlimited line m → Does state m here after
+    → length line ≤ LONGEST_LINE
+short_unlimited line (Plain m) state after here (inl (r, args, is, says)) does = is.0
+short_unlimited line (Plain m) state after here (inr (none, says)) does = short_plain true line (Plain m) state after here says does
+short_unlimited line (Configures c d) state after here says does = absurd says
+
 short_paired : (o : Bool) (line : List ℕ) (m : PlacedMeaning) (state after : Stage) (here : List ℕ)
     → SaysPaired o line m → Does state m here after → length line ≤ LONGEST_LINE
 short_paired false line m state after here says does = short_plain true line m state after here says does
 short_paired true line m state after here (inl (vs, is, same)) does = is.short
-short_paired true line m state after here (inr (none, says)) does = short_plain true line m state after here says does
+short_paired true line m state after here (inr (none, says)) does = short_unlimited line m state after here says does
 
 short_line : (place : Place) (line : List ℕ) (m : PlacedMeaning) (state after : Stage) (here : List ℕ)
     → SaysAt place line m → Does state m here after → length line ≤ LONGEST_LINE

@@ -46,6 +46,10 @@ congestion_control_word = codes "congestion-control"
 abbrev pub rto_min_word : List ℕ
 rto_min_word = codes "rto-min"
 
+-- streams can be reset (RFC 6525)
+abbrev pub reset_word : List ℕ
+reset_word = codes "reset"
+
 -- the end of a message's lifetime, in milliseconds, or no limit
 abbrev pub IsUntil : List ℕ → Option ℕ → Type 0
 IsUntil word None = word ≡ codes "-"

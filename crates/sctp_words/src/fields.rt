@@ -4,7 +4,7 @@ ghost use Rattle.std.specs.Prelude.{◌≡◌, ◌↔◌, ℕ, List, Option, IsT
 ghost use Rattle.sctp_model.specs.messages.Format as format;
 ghost use Rattle.sctp_values.specs.Meanings.{kind_meaning};
 ghost use Rattle.sctp_text.specs.Numerals.{IsHex};
-ghost use Rattle.sctp_words.specs.Fields.{IsNumber, IsTag, IsUntil, IsTimeBefore, IsUntilLimit, kind_word, mode_word, delay_word, standard_closing_word, fast_retransmit_word, congestion_control_word, rto_min_word};
+ghost use Rattle.sctp_words.specs.Fields.{IsNumber, IsTag, IsUntil, IsTimeBefore, IsUntilLimit, kind_word, mode_word, delay_word, standard_closing_word, fast_retransmit_word, congestion_control_word, rto_min_word, reset_word};
 
 use crate::numbers::{read_u16, read_u32, read_u64};
 use sctp_terms::{Draw, Mode};
@@ -134,4 +134,11 @@ pub fn is_rto_min(word: &[u8]) -> bool
     ensures { IsTrue result ↔ word.now ≡ rto_min_word }
 {
     word == b"rto-min".as_slice()
+}
+
+/// Whether the word is `reset`: streams can be reset, if the peer asks for it too (RFC 6525).
+pub fn is_reset(word: &[u8]) -> bool
+    ensures { IsTrue result ↔ word.now ≡ reset_word }
+{
+    word == b"reset".as_slice()
 }

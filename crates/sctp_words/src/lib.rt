@@ -12,7 +12,7 @@
 //!   `-` for none), `read_mode` and `read_bytes` read a word exactly if it spells such a value.
 //! - `read_until_limit` reads a word exactly if it spells such a time, a limit of retransmissions after `LIMIT_MARK`, which is `x`, or both
 //!   (`xN`, `TxN`), or `-`.
-//! - `is_delay`, `is_standard_closing`, `is_fast_retransmit`, `is_congestion_control` and `is_rto_min` say whether a word is that option's name.
+//! - `is_delay`, `is_standard_closing`, `is_fast_retransmit`, `is_congestion_control`, `is_rto_min` and `is_reset` say whether a word is that option's name.
 //! - `kind_word`, `number_word`, `state_word` and `end_word` write kinds, numbers or `-`, the states of an association (RFC 9260, 4) and how
 //!   it ended by their names; these are the names of the model's kinds, states and ends.
 //! - `LineFault::kind` is the number of a line's fault, 1 to 5. `is_silent` says which lines do nothing: an empty one, and one that begins
@@ -34,7 +34,7 @@ mod names;
 mod numbers;
 
 pub use fields::{
-    LIMIT_MARK, is_congestion_control, is_delay, is_fast_retransmit, is_rto_min,
+    LIMIT_MARK, is_congestion_control, is_delay, is_fast_retransmit, is_reset, is_rto_min,
     is_standard_closing, read_bytes, read_draw, read_kind, read_mode, read_until, read_until_limit,
 };
 pub use line_fault::{COMMENT, LineError, LineFault, comments_begin_with_a_number_sign, is_silent};

@@ -10,7 +10,7 @@ ghost use Rattle.sctp_model.specs.end.EndView.{EndView};
 ghost use Rattle.sctp_packet.specs.Draft.{packet_of};
 ghost use Rattle.sctp_packet.specs.PacketBytes.{WritesPacket};
 ghost use Rattle.sctp_association.specs.DueStands.{DueStands, info_bytes};
-ghost use Rattle.sctp_association.specs.Drafted.{value_left, causes_left, receiver_left, delayed_left, due_left, drafted, IsFresh, IsEmpty};
+ghost use Rattle.sctp_association.specs.Drafted.{value_left, causes_left, receiver_left, answers_left, delayed_left, due_left, drafted, IsFresh, IsEmpty};
 ghost use Rattle.sctp_association.specs.MachineStands.{MachineStands};
 
 use crate::build::Built;
@@ -35,6 +35,10 @@ pub(crate) struct Marks {
     pub(crate) causes: bool,
     pub(crate) sack: bool,
     pub(crate) forward: bool,
+    /// The responses of a RE-CONFIG are still due, if there are any.
+    pub(crate) answers: bool,
+    /// A request to reset streams is still due.
+    pub(crate) request: bool,
     pub(crate) shutdown: bool,
     pub(crate) shutdown_ack: bool,
     pub(crate) starts: Starts,
@@ -95,6 +99,23 @@ impl Machine {
         }
     }
 
+    /// The packet goes out, if it has a chunk: its chunks are no longer due, and their timers start.
+    pub(crate) fn sent(&mut self, moment: u64, packing: Packing, filled: Filled) -> Option<Built>
+        ensures stands { (v : EndView) → MachineStands self.old v → MachineStands self.new (drafted packing.marks (record v { moment = moment })) }
+        ensures packet { MatchOption result (packing.writer.chunks ≡ []) (λ b. WritesPacket b.packet.items (packet_of packing.writer)) }
+        ensures size { IfSome result (λ b. length b.packet.items ≡ size_of_packet packing.writer.chunks) }
+        ensures within { IfSome result (λ b. length b.packet.items ≤ packing.writer.limit) }
+        ensures tickets { IfSome result (λ b. b.tickets ≡ filled.tickets) }
+        ensures sendings { IfSome result (λ b. b.sendings ≡ filled.sendings) }
+    {
+        self.moment = moment;
+        self.when_sack_sent(self.due.sack, packing.marks.sack);
+        self.when_answers_sent(packing.marks.answers);
+        self.timers.start_all(packing.marks.starts, moment);
+        self.due.leave(self.alloc, packing.marks);
+        self.finished(packing.writer, filled)
+    }
+
     /// The packet is ready if it has a chunk; else its buffer is kept.
     #[inline(always)]
     pub(crate) fn finished(&mut self, writer: PacketWriter, filled: Filled) -> Option<Built>
@@ -133,6 +154,19 @@ impl Machine {
         self.sack_sent();
     }
 
+    /// If responses of a RE-CONFIG went out, none waits any more (RFC 6525, 5.2).
+    pub(crate) fn when_answers_sent(&mut self, are_due: bool)
+        ensures { (v : EndView) → MachineStands self.old v → MachineStands self.new (record v { receiver = answers_left are_due v.receiver }) }
+    {
+        if are_due {
+            return;
+        }
+        match &mut self.life {
+            Life::Unjoined(_) => {}
+            Life::Joined(association) => association.traffic.answers_sent(),
+        }
+    }
+
     /// A SACK went out: the duplicates that it reported are forgotten.
     fn sack_sent(&mut self)
         ensures { (v : EndView) → MachineStands self.old v → MachineStands self.new (record v { receiver = sack_sent v.receiver }) }
@@ -158,6 +192,8 @@ impl Marks {
             causes: true,
             sack: due.sack,
             forward: due.forward,
+            answers: true,
+            request: due.request,
             shutdown: due.shutdown,
             shutdown_ack: due.shutdown_ack,
             starts: Starts::none(),
@@ -177,6 +213,7 @@ impl Due {
         leave_causes(alloc, &mut self.causes, marks.causes);
         self.sack = marks.sack;
         self.forward = marks.forward;
+        self.request = marks.request;
         self.shutdown = marks.shutdown;
         self.shutdown_ack = marks.shutdown_ack;
     }

@@ -13,9 +13,9 @@ ghost use Rattle.sctp_packet.specs.PacketBytes.{WritesPacket};
 ghost use Rattle.sctp_association.specs.DueStands.{DueStands};
 ghost use Rattle.sctp_association.specs.TrafficStands.{TrafficStands};
 ghost use Rattle.sctp_association.specs.MachineStands.{MachineStands};
-ghost use Rattle.sctp_association.specs.Drafted.{drafted, IsEmpty, IsPacked, IsQuiet};
+ghost use Rattle.sctp_association.specs.Drafted.{drafted, IsEmpty, IsPacked};
 ghost use Rattle.sctp_association.specs.BuildAnswers.{BuildAnswer};
-ghost use Rattle.sctp_association.specs.PlainPacket.{IsPlain, plain_marks};
+ghost use Rattle.sctp_association.specs.PlainPacket.{IsPlain, IsCalm, plain_marks};
 ghost use Rattle.sctp_association.specs.declared.state.due.Due as kept;
 
 use crate::build::Built;
@@ -54,6 +54,9 @@ impl Due {
         if self.forward {
             return false;
         }
+        if self.request {
+            return false;
+        }
         if self.shutdown {
             return false;
         }
@@ -73,11 +76,35 @@ impl Machine {
     #[inline(always)]
     pub(crate) fn is_plain(&self) -> bool
         ensures { (v : EndView) → MachineStands self.now v → result ≡ true
-            → (t : model.Tags) × (g : model.Stage) × (v.phase ≡ model.Open t g) × IsPlain self.now.due v.due }
+            → (t : model.Tags) × (g : model.Stage) × (v.phase ≡ model.Open t g) × IsPlain self.now.due v.due × IsCalm v }
     {
         match self.opened() {
-            Some(_) => self.due.is_plain(),
+            Some(_) => {
+                if !self.due.is_plain() {
+                    return false;
+                }
+                self.is_calm()
+            }
             None => false,
+        }
+    }
+
+    /// No response to a request to reset streams waits, and no request is to be made. Without stream reset that costs one test.
+    #[inline(always)]
+    fn is_calm(&self) -> bool
+        ensures { (v : EndView) → MachineStands self.now v → result ≡ true → IsCalm v }
+    {
+        match &self.life {
+            Life::Unjoined(_) => false,
+            Life::Joined(association) => {
+                if !association.terms.reset {
+                    return true;
+                }
+                if !association.traffic.answers().is_empty() {
+                    return false;
+                }
+                !self.asks()
+            }
         }
     }
 
@@ -87,7 +114,7 @@ impl Machine {
     /// `NoMemory` if an allocation was refused; nothing changed then, not even the clock.
     #[inline(always)]
     pub(crate) fn build_plain(&mut self, moment: u64) -> Result<Option<Built>, NoMemory>
-        ensures built { (v : EndView) (t : model.Tags) (g : model.Stage) → MachineStands self.old v → v.phase ≡ model.Open t g → IsPlain self.old.due v.due
+        ensures built { (v : EndView) (t : model.Tags) (g : model.Stage) → MachineStands self.old v → v.phase ≡ model.Open t g → IsPlain self.old.due v.due → IsCalm v
             → IfOk result (λ built. BuildAnswer (record v { moment = moment }) built self.new) }
         ensures memory { (v : EndView) → MachineStands self.old v → OnErr result (MachineStands self.new v) }
     {
@@ -102,7 +129,7 @@ impl Machine {
     /// `NoMemory` if an allocation was refused.
     #[inline(always)]
     fn pack_plain(&mut self, moment: u64, writer: &mut PacketWriter) -> Result<Plain, NoMemory>
-        ensures packed { (v : EndView) (t : model.Tags) (g : model.Stage) → MachineStands self.old v → v.phase ≡ model.Open t g → IsPlain self.old.due v.due
+        ensures packed { (v : EndView) (t : model.Tags) (g : model.Stage) → MachineStands self.old v → v.phase ≡ model.Open t g → IsPlain self.old.due v.due → IsCalm v
             → IsEmpty (record v { moment = moment }) (record { writer = writer.old; marks = plain_marks self.old.due self.old.due.sack false })
             → IfOk result (λ p. (s : SenderView)
             × IsPacked (record v { moment = moment }) s self.new.pace (record { writer = writer.new; marks = plain_marks self.old.due p.sack p.fragments }) p.filled
@@ -157,7 +184,7 @@ fn put_plain(
     sack: bool,
     writer: &mut PacketWriter,
 ) -> Result<Plain, NoMemory>
-    ensures packed { (e : EndView) (t : model.Tags) (g : model.Stage) (d : kept.Due) → e.phase ≡ model.Open t g → pace.old ≡ e.pace → moment ≡ e.moment → IsPlain d e.due → IsQuiet e
+    ensures packed { (e : EndView) (t : model.Tags) (g : model.Stage) (d : kept.Due) → e.phase ≡ model.Open t g → pace.old ≡ e.pace → moment ≡ e.moment → IsPlain d e.due → IsCalm e
         → TrafficStands traffic.old (format_of e) e.sender e.receiver → IsEmpty e (record { writer = writer.old; marks = plain_marks d sack false })
         → IfOk result (λ p. (s : SenderView) × IsPacked e s pace.new (record { writer = writer.new; marks = plain_marks d p.sack p.fragments }) p.filled
         × TrafficStands traffic.new (format_of e) s e.receiver) }

@@ -12,6 +12,7 @@ ghost use Rattle.sctp_association.specs.PlainPacket.{still_due};
 ghost use Rattle.sctp_association.specs.declared.build.packing.Marks as marks;
 
 use crate::build::packing::Packing;
+use crate::build::reconfiguring::put_reconfigs;
 use crate::build::replying::{put_answers, put_error};
 use crate::state::carried::EchoedCookie;
 use crate::state::due::Due;
@@ -21,12 +22,14 @@ use sctp_packet::PacketWriter;
 use sctp_terms::Config;
 use sctp_values::NoMemory;
 use sctp_wire::Chunk;
+use std::alloc::Global;
 
 /// The chunks that are due while the association is open.
 ///
 /// # Errors
 /// `NoMemory` if an allocation was refused.
 pub(crate) fn put_open(
+    alloc: Global,
     config: &Config,
     traffic: &Traffic,
     due: &Due,
@@ -41,6 +44,9 @@ pub(crate) fn put_open(
         return Ok(false);
     }
     if !put_forward(config, traffic, packing)? {
+        return Ok(false);
+    }
+    if !put_reconfigs(alloc, traffic, packing)? {
         return Ok(false);
     }
     if !put_shutdown(traffic, packing)? {

@@ -9,7 +9,7 @@ ghost use Rattle.sctp_model.specs.end.EndView as model;
 ghost use Rattle.sctp_model.specs.end.Clock.{timers_in};
 ghost use Rattle.sctp_model.specs.end.Opening.{pace_for, begun, echoing, opened};
 ghost use Rattle.sctp_wire.specs.ChunkTree.{init_meaning};
-ghost use Rattle.sctp_cookie.specs.CookieTree.{body_meaning};
+ghost use Rattle.sctp_cookie.specs.CookieTree.{content_meaning};
 ghost use Rattle.sctp_association.specs.TimersMean.{timers_meaning};
 ghost use Rattle.sctp_association.specs.TrafficStands.{TrafficStands};
 ghost use Rattle.sctp_association.specs.MachineStands.{MachineStands};
@@ -24,7 +24,7 @@ use crate::time::timer::Alarm;
 use crate::time::timers::Timers;
 use crate::traffic::{Sizes, Traffic};
 use sctp_congestion::{Pacing, RoundTrip};
-use sctp_cookie::CookieBody;
+use sctp_cookie::CookieContent;
 use sctp_opening::Terms;
 use sctp_terms::{Config, Draw};
 use sctp_values::FIRST_WAIT;
@@ -74,11 +74,12 @@ impl Machine {
     ///
     /// # Errors
     /// `NoMemory` if an allocation was refused; nothing changed then.
-    pub fn begin(&mut self, body: &CookieBody) -> Result<(), NoMemory>
-        ensures step { (v : EndView) → MachineStands self.old v → OnOk result (MachineStands self.new (begun (body_meaning body.now) v)) }
+    pub fn begin(&mut self, content: &CookieContent) -> Result<(), NoMemory>
+        ensures step { (v : EndView) → MachineStands self.old v → OnOk result (MachineStands self.new (begun (content_meaning content.now) v)) }
         ensures refused { (v : EndView) → MachineStands self.old v → OnErr result (MachineStands self.new v) }
     {
-        let terms = Terms::of_cookie(body);
+        let terms = Terms::of_cookie(content);
+        let body = &content.body;
         let traffic = begun_for(self.alloc, &self.config, terms, body.caller_rwnd)?;
         let tags = Tags {
             own: body.listener_tag,
@@ -171,4 +172,5 @@ fn echo_timers(timers: &mut Timers)
     timers.stop(Alarm::Fragments);
     timers.stop(Alarm::Shutdown);
     timers.stop(Alarm::ShutdownAck);
+    timers.stop(Alarm::Reset);
 }

@@ -85,5 +85,9 @@ impl Machine {
 pub(crate) fn turn_timers(timers: &mut Timers, stage: Stage)
     ensures { (t : model.Tags) → timers_meaning timers.new ≡ timers_in (model.Open t (stage_meaning stage)) (timers_meaning timers.old) }
 {
-    timers.keep_open(stage.is_shutdown_sent(), stage.is_shutdown_ack_sent());
+    timers.keep_open(
+        stage.is_shutdown_sent(),
+        stage.is_shutdown_ack_sent(),
+        stage.is_established(),
+    );
 }

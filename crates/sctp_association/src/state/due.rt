@@ -27,6 +27,8 @@ pub(crate) struct Due {
     pub(crate) causes: WaitingCauses,
     pub(crate) sack: bool,
     pub(crate) forward: bool,
+    /// A request to reset streams.
+    pub(crate) request: bool,
     pub(crate) shutdown: bool,
     pub(crate) shutdown_ack: bool,
 }
@@ -44,6 +46,7 @@ impl Due {
             causes: WaitingCauses::none(alloc),
             sack: false,
             forward: false,
+            request: false,
             shutdown: false,
             shutdown_ack: false,
         }
@@ -62,6 +65,7 @@ impl Due {
     {
         self.init = false;
         self.cookie_echo = false;
+        self.request = self.request && stage.is_established();
         self.shutdown = self.shutdown && stage.is_shutdown_sent();
         self.shutdown_ack = self.shutdown_ack && stage.is_shutdown_ack_sent();
     }
@@ -82,6 +86,7 @@ impl Due {
         self.init = false;
         self.cookie_echo = true;
         self.causes = causes;
+        self.request = false;
         self.shutdown = false;
         self.shutdown_ack = false;
     }
@@ -92,6 +97,7 @@ impl Due {
     {
         self.init = true;
         self.cookie_echo = false;
+        self.request = false;
         self.shutdown = false;
         self.shutdown_ack = false;
     }
@@ -142,6 +148,14 @@ impl Due {
         ensures { (d : model.Due) → DueStands self.old d → DueStands self.new (record d { forward = is_due }) }
     {
         self.forward = is_due;
+    }
+
+    /// Sets whether a request to reset streams is due (RFC 6525, 5.1).
+    #[inline(always)]
+    pub(crate) fn owe_request(&mut self, is_due: bool)
+        ensures { (d : model.Due) → DueStands self.old d → DueStands self.new (record d { request = is_due }) }
+    {
+        self.request = is_due;
     }
 
     /// A SHUTDOWN is due (RFC 9260, 9.2).

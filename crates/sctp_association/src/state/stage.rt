@@ -32,7 +32,8 @@ pub enum Stage {
 impl Stage {
     /// Both users may send.
     pub(crate) fn is_established(self) -> bool
-        ensures { result ≡ is_established (stage_meaning self) }
+        ensures established { result ≡ is_established (stage_meaning self) }
+        ensures home { (t : model.Tags) → result ≡ is_home model.ResetAlarm (model.Open t (stage_meaning self)) }
     {
         matches!(self, Stage::Established)
     }

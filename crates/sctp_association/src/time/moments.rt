@@ -51,6 +51,7 @@ impl Machine {
         self.expire_timer(Alarm::Fragments);
         self.expire_timer(Alarm::Shutdown);
         self.expire_timer(Alarm::ShutdownAck);
+        self.expire_timer(Alarm::Reset);
         self.wait_over();
     }
 
@@ -122,6 +123,7 @@ impl Machine {
             Alarm::Fragments => self.repeat_fragments(),
             Alarm::Shutdown => self.due.owe_shutdown(),
             Alarm::ShutdownAck => self.due.owe_shutdown_ack(),
+            Alarm::Reset => self.due.owe_request(true),
         }
     }
 

@@ -14,6 +14,7 @@ pub(crate) struct Starts {
     pub(crate) fragments: bool,
     pub(crate) shutdown: bool,
     pub(crate) shutdown_ack: bool,
+    pub(crate) reset: bool,
 }
 
 impl Starts {
@@ -27,6 +28,7 @@ impl Starts {
             fragments: false,
             shutdown: false,
             shutdown_ack: false,
+            reset: false,
         }
     }
 
@@ -40,6 +42,7 @@ impl Starts {
             Alarm::Fragments => self.fragments = true,
             Alarm::Shutdown => self.shutdown = true,
             Alarm::ShutdownAck => self.shutdown_ack = true,
+            Alarm::Reset => self.reset = true,
         }
     }
 }

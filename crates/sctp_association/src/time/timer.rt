@@ -23,6 +23,8 @@ pub(crate) enum Alarm {
     Shutdown,
     /// T2-shutdown: SHUTDOWN ACK, until the SHUTDOWN COMPLETE arrives (RFC 9260, 9.2).
     ShutdownAck,
+    /// A request to reset streams, until its response arrives (RFC 6525, 5.1.1).
+    Reset,
 }
 
 /// A timer: its timeout (RTO) at its next start, in milliseconds; the number of expiries since an answer arrived; the time at which it expires, while
@@ -178,6 +180,6 @@ fn repeats_of(alarm: Alarm) -> u32
 {
     match alarm {
         Alarm::Init | Alarm::Cookie => OPENING_REPEATS,
-        Alarm::Fragments | Alarm::Shutdown | Alarm::ShutdownAck => REPEATS,
+        Alarm::Fragments | Alarm::Shutdown | Alarm::ShutdownAck | Alarm::Reset => REPEATS,
     }
 }

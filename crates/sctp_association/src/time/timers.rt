@@ -1,4 +1,4 @@
-//! The five timers of an endpoint: which start and stop together, and which expires first (RFC 9260, 6.3 and 9.2).
+//! The six timers of an endpoint: which start and stop together, and which expires first (RFC 9260, 6.3 and 9.2).
 
 ghost use Rattle.std.specs.Prelude.{◌≡◌, Bool};
 ghost use Rattle.sctp_model.specs.end.EndView as model;
@@ -26,7 +26,7 @@ pub(crate) fn earlier(one: Option<u64>, other: Option<u64>) -> Option<u64>
     }
 }
 
-/// The five timers of an endpoint.
+/// The six timers of an endpoint.
 #[derive(Clone, Copy)]
 pub(crate) struct Timers {
     init: Timer,
@@ -34,6 +34,7 @@ pub(crate) struct Timers {
     fragments: Timer,
     shutdown: Timer,
     shutdown_ack: Timer,
+    reset: Timer,
 }
 
 impl Timers {
@@ -47,6 +48,7 @@ impl Timers {
             fragments: Timer::unused(),
             shutdown: Timer::unused(),
             shutdown_ack: Timer::unused(),
+            reset: Timer::unused(),
         }
     }
 
@@ -60,6 +62,7 @@ impl Timers {
             Alarm::Fragments => self.fragments,
             Alarm::Shutdown => self.shutdown,
             Alarm::ShutdownAck => self.shutdown_ack,
+            Alarm::Reset => self.reset,
         }
     }
 
@@ -73,6 +76,7 @@ impl Timers {
             Alarm::Fragments => self.fragments = timer,
             Alarm::Shutdown => self.shutdown = timer,
             Alarm::ShutdownAck => self.shutdown_ack = timer,
+            Alarm::Reset => self.reset = timer,
         }
     }
 
@@ -85,6 +89,7 @@ impl Timers {
         self.fragments.start_if(starts.fragments, now);
         self.shutdown.start_if(starts.shutdown, now);
         self.shutdown_ack.start_if(starts.shutdown_ack, now);
+        self.reset.start_if(starts.reset, now);
     }
 
     /// Starts the data timer at this time if it is to start and doesn't run.
@@ -139,32 +144,31 @@ impl Timers {
         self.put(alarm, self.get(alarm).kept_if(wanted));
     }
 
-    /// The timers of an open association: those of its opening stop, and those of its closing unless they are wanted.
-    pub(crate) fn keep_open(&mut self, shutdown: bool, shutdown_ack: bool)
-        ensures { (request : Bool) → timers_meaning self.new ≡ open_timers shutdown shutdown_ack request (timers_meaning self.old) }
+    /// The timers of an open association: those of its opening stop, and those of its closing and of its requests to reset streams unless they are wanted.
+    pub(crate) fn keep_open(&mut self, shutdown: bool, shutdown_ack: bool, reset: bool)
+        ensures { timers_meaning self.new ≡ open_timers shutdown shutdown_ack reset (timers_meaning self.old) }
     {
         self.init = self.init.stopped();
         self.cookie = self.cookie.stopped();
         self.shutdown = self.shutdown.kept_if(shutdown);
         self.shutdown_ack = self.shutdown_ack.kept_if(shutdown_ack);
+        self.reset = self.reset.kept_if(reset);
     }
 
     /// Stops them all.
     pub(crate) fn stop_all(&mut self)
         ensures { timers_meaning self.new ≡ resting (timers_meaning self.old) }
     {
-        self.init = self.init.stopped();
-        self.cookie = self.cookie.stopped();
-        self.fragments = self.fragments.stopped();
-        self.shutdown = self.shutdown.stopped();
-        self.shutdown_ack = self.shutdown_ack.stopped();
+        self.keep_open(false, false, false);
+        self.stop(Alarm::Fragments);
     }
 
     /// The earliest expiry of a timer that runs.
     pub(crate) fn next_moment(self) -> Option<u64>
         ensures { result ≡ earliest (timers_meaning self) all_alarms }
     {
-        let closing = earlier(self.shutdown.expiry, self.shutdown_ack.expiry);
+        let answered = earlier(self.shutdown_ack.expiry, self.reset.expiry);
+        let closing = earlier(self.shutdown.expiry, answered);
         let open = earlier(self.fragments.expiry, closing);
         earlier(self.init.expiry, earlier(self.cookie.expiry, open))
     }

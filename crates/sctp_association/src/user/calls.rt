@@ -184,4 +184,5 @@ fn call_timers(timers: &mut Timers)
     timers.stop(Alarm::Fragments);
     timers.stop(Alarm::Shutdown);
     timers.stop(Alarm::ShutdownAck);
+    timers.stop(Alarm::Reset);
 }

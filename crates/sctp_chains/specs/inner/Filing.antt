@@ -7,7 +7,9 @@ use Rattle.sctp_chains.specs.Same.{AreSame}
 use Rattle.sctp_chains.specs.Cells.{Cell}
 use Rattle.sctp_chains.specs.declared.chain.Chain.{Chain}
 use Rattle.sctp_chains.specs.declared.chain.Part.{Part}
-use Rattle.sctp_chains.specs.Links.{ChainKept, chain_of, one_of, cells_in, cells_of, is_linked, join, one_if_whole, IsChain, AreChains}
+use Rattle.sctp_chains.specs.declared.parts.Parts.{Parts}
+use Rattle.sctp_chains.specs.declared.parts.Parts.TheVariants.{One, Many}
+use Rattle.sctp_chains.specs.Links.{ChainKept, parts_in, chain_of, one_of, cells_in, cells_of, is_linked, join, one_if_whole, IsChain, AreChains}
 use Rattle.sctp_chains.specs.inner.Finding.{AreOpen}
 
 -- So many chains at the front lie below a rank, and none behind them does.
@@ -65,10 +67,15 @@ IsWholeOfJoined cs left a right n = (c d : ChainKept) → c ≡ get_or cs left c
 abbrev pub StaysOpen : (old new : List ChainKept) → (at whole : ℕ) → Type 0
 StaysOpen old new at n = (k j : ℕ) → AreOpen k old → j ≤ k - (length old - length new) → (0 < n → j ≤ at) → AreOpen j new
 
+-- the parts are a list that has room for so many more
+abbrev pub HasRoom : Parts → (more : ℕ) → Type 0
+HasRoom (One part) more = ⊥
+HasRoom (Many list) more = deque_len list + more ≤ deque_capacity list
+
 -- The longer of two chains has room for the fragments of the shorter, and one more.
 pub record HasJointRoom (left right : Chain) : Type 0 where
-  pub before : deque_len left.parts < deque_len right.parts → deque_len right.parts + (deque_len left.parts + 1) ≤ deque_capacity right.parts
-  pub behind : deque_len right.parts ≤ deque_len left.parts → deque_len left.parts + (deque_len right.parts + 1) ≤ deque_capacity left.parts
+  pub before : length (parts_in left.parts) < length (parts_in right.parts) → HasRoom right.parts (length (parts_in left.parts) + 1)
+  pub behind : length (parts_in right.parts) ≤ length (parts_in left.parts) → HasRoom left.parts (length (parts_in right.parts) + 1)
 
 -- The chains have the fragments of one more.
 pub record HaveMore (a : ChainKept) (old new : List ChainKept) : Type 0 where

@@ -5,7 +5,7 @@ use Rattle.sctp_end.specs.SetUpWords.{Configures, IsKey}
 use Rattle.sctp_end.specs.declared.options.Options.{Options}
 use Rattle.sctp_end.specs.declared.set_up.Role.{Role}
 use Rattle.sctp_end.specs.declared.set_up.Role.TheVariants.{Caller, Listener}
-use Rattle.sctp_words.specs.Fields.{delay_word, standard_closing_word, fast_retransmit_word, congestion_control_word, rto_min_word}
+use Rattle.sctp_words.specs.Fields.{delay_word, standard_closing_word, fast_retransmit_word, congestion_control_word, reset_word, rto_min_word}
 
 -- the word for a role
 abbrev pub role_word : Role → List ℕ
@@ -17,15 +17,17 @@ abbrev pub IsSplit : List ℕ → List (List ℕ) → Bool → List (List ℕ) �
 IsSplit word words true rest = words ≡ word ∷ rest
 IsSplit word words false rest = (words ≡ rest) × ((others : List (List ℕ)) → words ≡ word ∷ others → ⊥)
 
--- whether these words begin with each of four in turn, and the words after them
+-- whether these words begin with each of five in turn, and the words after them
 pub record AreSplit (words : List (List ℕ)) (o : Options) (rest : List (List ℕ)) : Type 0 where
   pub behind_delay : List (List ℕ)
   pub behind_standard : List (List ℕ)
   pub behind_fast : List (List ℕ)
+  pub behind_control : List (List ℕ)
   pub delay : IsSplit delay_word words o.delay behind_delay
   pub standard : IsSplit standard_closing_word behind_delay o.standard_closing behind_standard
   pub fast : IsSplit fast_retransmit_word behind_standard o.fast_retransmit behind_fast
-  pub control : IsSplit congestion_control_word behind_fast o.congestion_control rest
+  pub control : IsSplit congestion_control_word behind_fast o.congestion_control behind_control
+  pub reset : IsSplit reset_word behind_control o.reset rest
 
 -- the word after `rto-min` if these words begin with both, and the words after them; else all of them
 abbrev pub IsLeastSplit : List (List ℕ) → Option (List ℕ) → List (List ℕ) → Type 0
@@ -34,7 +36,7 @@ IsLeastSplit words None rest = (words ≡ rest) × ((number : List ℕ) (others 
 
 -- none of the options is set
 abbrev pub HasNoOptions : Configuration → Type 0
-HasNoOptions c = (c.delay ≡ false) × (c.standard_closing ≡ false) × (c.fast_retransmit ≡ false) × (c.congestion_control ≡ false)
+HasNoOptions c = (c.delay ≡ false) × (c.standard_closing ≡ false) × (c.fast_retransmit ≡ false) × (c.congestion_control ≡ false) × (c.reset ≡ false)
 
 -- the words say this configuration, and the last of them this key
 abbrev pub SetsListener : List (List ℕ) → Configuration → List ℕ → Type 0

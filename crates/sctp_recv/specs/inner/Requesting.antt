@@ -1,5 +1,5 @@
 -- What handling requests leaves of resets.
-use Rattle.std.specs.Prelude.{◌≡◌, ℕ, ◌==◌, ◌<◌, Bool, List, map, Some}
+use Rattle.std.specs.Prelude.{◌≡◌, ℕ, ◌==◌, ◌<◌, Bool, List, [], map, Some}
 use Rattle.std.specs.declared.alloc.Global.{Global}
 use Rattle.std.specs.declared.vec.Vec.{Vec}
 use Rattle.sctp_model.specs.numbers.Lists.{Has}
@@ -41,3 +41,17 @@ StandsInPart f streams cumulative limit old new p = (k : ReceiverKept) (v : Rece
 abbrev pub StandInPart : {F : Type 0} → Format → Vec (Stream F) Global → (cumulative limit : ℕ) → (old new : Resets) → List ParameterMeaning → Type 0
 StandInPart f streams cumulative limit old new ps = (k : ReceiverKept) (v : ReceiverView) (c : ℕ) → IsBefore f streams cumulative limit old k v c →
     KeepsResets f (Some (resets_of new)) v.initial v.streams v.taken (all_requested limit c v ps).resets
+
+-- ---- without a request
+
+-- a parameter leaves each view as it is
+abbrev pub DoesNothing : ParameterMeaning → Type 0
+DoesNothing p = (limit c : ℕ) (v : ReceiverView) → requested limit c v p ≡ v
+
+-- these parameters do what those do
+abbrev pub ActAs : List ParameterMeaning → List ParameterMeaning → Type 0
+ActAs ps qs = (limit c : ℕ) (v : ReceiverView) → all_requested limit c v ps ≡ all_requested limit c v qs
+
+-- they leave each view as it is
+abbrev pub DoNothing : List ParameterMeaning → Type 0
+DoNothing ps = ActAs ps []

@@ -2,7 +2,7 @@
 use Rattle.std.specs.Prelude.{◌≡◌, ℕ, suc, ◌+◌, ◌-◌, ◌<◌, ◌≤◌, true, false, ◌||◌, nat_lt, nat_le, Option, Some, length}
 use Rattle.sctp_model.specs.numbers.Limits.{WINDOW}
 use Rattle.sctp_model.specs.numbers.Serial.{COUNTS, tsn, ahead, before}
-use Rattle.sctp_model.specs.messages.Format.{Format}
+use Rattle.sctp_model.specs.messages.Format.{Format, Kind}
 use Rattle.sctp_model.specs.wire.Chunk.{PieceMeaning}
 use Rattle.sctp_model.specs.receiver.ReceiverView.{ReceiverView}
 use Rattle.sctp_model.specs.receiver.Reading.{lane_of, piece_at}
@@ -13,7 +13,9 @@ use Rattle.sctp_recv.specs.declared.answer.Row.{Row}
 use Rattle.sctp_recv.specs.declared.answer.Row.TheVariants.{Duplicate, Ahead, NoSuchStream, Passed, NoRoom, Uncounted, Taken}
 use Rattle.sctp_recv.specs.declared.answer.TsnPlace.{TsnPlace}
 use Rattle.sctp_recv.specs.declared.answer.TsnPlace.TheVariants as place
-use Rattle.sctp_recv.specs.ReceiverKept.{ReceiverKept}
+use Rattle.sctp_recv.specs.ReceiverKept.{ReceiverKept, StreamKept, near_of, number_read}
+use Rattle.sctp_recv.specs.Resets.{base_of, restart_in}
+use Rattle.sctp_recv.specs.ResetsKept.{ResetsKept}
 use Rattle.sctp_recv.specs.SeenKept.{is_reached}
 
 -- ---- a TSN
@@ -38,6 +40,10 @@ IsTsnPlace initial c wire place.Ahead =
 IsTsnPlace initial c wire (place.At i) = IsAbove initial c wire i
 
 -- ---- a chunk
+
+-- the number of one of this stream and kind, with this wire value
+abbrev pub number_at : Format → Option ResetsKept → (stream : ℕ) → StreamKept → Kind → (wire : ℕ) → Option ℕ
+number_at f resets s known k wire = number_read f k (base_of (restart_in resets s) k) wire (near_of known k)
 
 -- its index is above the cumulative one, within the window, and wasn't recorded
 pub record IsNewIndex (f : Format) (k : ReceiverKept) (v : ReceiverView) (p : PieceMeaning) (i : ℕ) : Type 0 where

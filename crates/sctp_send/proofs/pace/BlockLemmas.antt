@@ -1,5 +1,5 @@
 -- Which offsets a SACK's blocks acknowledge, block by block.
-use Rattle.std.proofs.Common.{◌≡◌, ℕ, ◌+◌, ◌<◌, ◌≤◌, List, [], ◌∷◌, Bool, true, false, refl, arith}
+use Rattle.std.proofs.Common.{◌≡◌, ℕ, ◌+◌, ◌<◌, ◌≤◌, List, [], ◌∷◌, length, Bool, true, false, refl, arith}
 use Rattle.std.specs.Prelude.{nat_le, nat_lt, ◌&&◌, ◌||◌}
 use Rattle.std.proofs.lemmas.Bool.Decides.{nat_tests}
 use Rattle.sctp_model.specs.wire.Chunk.{BlockMeaning}
@@ -13,6 +13,11 @@ covers_passed c j bs le = let on : nat_le j c ≡ true = grind (arith, nat_tests
 -- beyond them the blocks alone
 pub covers_blocks : (c j : ℕ) (bs : List BlockMeaning) → c < j → sack_covers c bs j ≡ in_blocks c bs j
 covers_blocks c j bs lt = let off : nat_le j c ≡ false = grind (arith, nat_tests) in rw off refl
+
+-- and without blocks nothing
+pub covers_none : (c j : ℕ) (bs : List BlockMeaning) → length bs ≡ 0 → c < j → sack_covers c bs j ≡ false
+covers_none c j [] none lt = covers_blocks c j [] lt
+covers_none c j (b ∷ bs) none lt = absurd (cc)
 
 -- the first block begins behind the offset, and ends where it begins or later; the others are in order behind it
 pub record IsFirstBlock (n : ℕ) (b : BlockMeaning) (bs : List BlockMeaning) : Type 0 where

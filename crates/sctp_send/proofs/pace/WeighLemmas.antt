@@ -30,6 +30,7 @@ use Rattle.sctp_send.specs.inner.Weighing.{is_item_open, is_item_news, unsettled
 use Rattle.sctp_send.proofs.KeepLemmas.{kept_length}
 use Rattle.sctp_send.proofs.kept.WeightLemmas.{bytes_short}
 use Rattle.sctp_send.proofs.pace.PaceViews.{kept_get, kept_passes}
+use Rattle.sctp_send.proofs.pace.FlyingLemmas.{sum_shift}
 use Rattle.sctp_send.proofs.pace.TallyLemmas.{idle_sum, idle_last, idle_off, idle_closed}
 
 -- ---- sums over all items
@@ -83,10 +84,6 @@ weights_few size es on zero some small = omega arith
 weights_few size es on (suc n) some small = let one = weight_few size es on n some small in let rest = weights_few size es on n some small in omega (arith, one, rest)
 
 -- ---- sums over entries
-
-sum_shift : (h : ℕ → ℕ) (n : ℕ) → sum_below h (suc n) ≡ h 0 + sum_below (λ k. h (suc k)) n
-sum_shift h zero = omega arith
-sum_shift h (suc n) = let rest = sum_shift h n in omega (arith, rest)
 
 sum_entries : (g : ℕ → Entry → ℕ) (i : ℕ) (es : List Entry) → sum_from g i es ≡ sum_below (λ k. option_map_or (g (i + k)) (slice_get es k) 0) (length es)
 sum_entries g i [] = refl

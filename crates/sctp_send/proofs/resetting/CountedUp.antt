@@ -169,6 +169,16 @@ any_other p [] n d low off = absurd (omega arith)
 any_other p (x ∷ xs) zero d low off = rw off refl
 any_other p (x ∷ xs) (suc n) d low off = let one : suc n + 1 ≡ suc (n + 1) = omega arith in rw one (any_other p xs n d (omega arith) off)
 
+-- one behind an offset passes
+pub any_behind : {A : Type 0} (p : A → Bool) (xs : List A) (n : ℕ) → list_any p (drop n xs) ≡ true → list_any p xs ≡ true
+any_behind p xs zero on = on
+any_behind p [] (suc n) on = on
+any_behind p (x ∷ xs) (suc n) on = go (p x) refl (any_behind p xs n on)
+  where
+    go : (b : Bool) → p x ≡ b → list_any p xs ≡ true → (p x || list_any p xs) ≡ true
+    go true is more = rw is refl
+    go false is more = rw is more
+
 -- there is none
 pub any_end : {A : Type 0} (p : A → Bool) (xs : List A) (n : ℕ) → length xs ≤ n → list_any p (drop n xs) ≡ false
 any_end p [] zero past = refl

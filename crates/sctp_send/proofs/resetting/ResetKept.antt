@@ -10,7 +10,7 @@ use Rattle.sctp_model.specs.messages.Format.{Format, Kind, Ordered, Unordered, L
 use Rattle.sctp_model.specs.messages.Plan.{Entry}
 use Rattle.sctp_model.specs.sender.Outgoing.{Outgoing, Request}
 use Rattle.sctp_model.specs.sender.SenderView.{SenderView}
-use Rattle.sctp_model.specs.sender.Resetting.{with_resets, is_open_number, response_taken, reset_answered, reset_done, reset_refused, asked_again}
+use Rattle.sctp_model.specs.sender.Resetting.{with_resets, may_ask, is_open_number, response_taken, reset_answered, reset_done, reset_refused, asked_again}
 use Rattle.sctp_model.specs.sender.Reached.{Rebases}
 use Rattle.sctp_model.proofs.sender.OwedLaws.{is_promised}
 use Rattle.sctp_send.specs.SenderKept.{Item, Track, Kept}
@@ -131,3 +131,13 @@ is_again v code q high six = let on : is_progress_code code ≡ true = grind (ar
 
 pub is_refused : (v : SenderView) (code : ℕ) (q : Request) → 1 < code → (code ≡ 6 → ⊥) → reset_answered v code q ≡ reset_refused v q
 is_refused v code q high other = let off : is_progress_code code ≡ false = grind (arith, nat_tests) in rw (not_done code high, off) refl
+
+-- ---- a request is taken back
+
+-- none waits where one may be made
+pub none_waits : (v : SenderView) → may_ask v ≡ true → v.resets.pending ≡ None
+none_waits v on = by_pending v.resets.pending refl
+  where
+    by_pending : (o : Option Request) → v.resets.pending ≡ o → v.resets.pending ≡ None
+    by_pending None is = is
+    by_pending (Some q) is = absurd (let off : may_ask v ≡ false = rw is refl in cc)

@@ -275,3 +275,28 @@ resets_asked n made last b c o r k few is streams listed count pending first at 
         room = let held = k.table.room in let same = ap (λ (xs : _). vec_capacity xs) listed in omega (arith, held, same);
       };
     }
+
+-- ---- a hint is noted
+
+-- a table with other hints stands for the same
+pub resets_noted : (n : ℕ) (b c : Box ResetTable Global) (o : Outgoing) → c.value ≡ record b.value { hints = c.value.hints } → AreResets n (record { table = Some b }) o → AreResets n (record { table = Some c }) o
+resets_noted n b c o is k = record {
+  base = k.base ∙ fun_ext (λ (l : Lane). ap (λ (rs : List StreamReset). base_in rs l) (sym streams));
+  sending = λ s low. k.sending s low ∙ ap (λ (rs : List StreamReset). sending_there (slice_get rs s)) (sym streams);
+  made = k.made ∙ sym (ap (λ (t : ResetTable). t.made) is);
+  pending = k.pending ∙ ap pending_meaning (sym pending);
+  table = record {
+    streams = ap (λ (rs : List StreamReset). length rs) streams ∙ k.table.streams;
+    request = subst (λ (r : Option Request). IsWithin n r) (sym pending) k.table.request;
+    resetting =
+        ap (λ (t : ResetTable). t.resetting.items) is ∙ k.table.resetting
+        ∙ ap (λ (rs : List StreamReset). filter (is_resetting_in rs) (count_up 0 (min n STREAM_LIMIT))) (sym streams);
+    room = let room = k.table.room in let same : vec_capacity c.value.resetting ≡ vec_capacity b.value.resetting = ap (λ (t : ResetTable). vec_capacity t.resetting) is in omega (arith, room, same);
+  };
+}
+  where
+    streams : c.value.streams.items ≡ b.value.streams.items
+    streams = ap (λ (t : ResetTable). t.streams.items) is
+
+    pending : c.value.pending ≡ b.value.pending
+    pending = ap (λ (t : ResetTable). t.pending) is

@@ -35,7 +35,7 @@ use Rattle.std.proofs.lemmas.Bool.Decides.{nat_tests}
 use Rattle.std.proofs.lemmas.List.{length-map}
 use Rattle.sctp_send.specs.declared.kept.entry.Entry.{Entry as EntryFields}
 use Rattle.sctp_send.proofs.fill.EnterLemmas.{read_at}
-use Rattle.sctp_send.proofs.resetting.CountedUp.{any_found, any_other, any_end, all_taken, all_filtered, filter_two, filter_alike, filter_off, filter_below, some_filtered, some_taken}
+use Rattle.sctp_send.proofs.resetting.CountedUp.{any_behind, any_found, any_other, any_end, all_taken, all_filtered, filter_two, filter_alike, filter_off, filter_below, some_filtered, some_taken}
 
 -- ---- one stream
 
@@ -61,6 +61,16 @@ out_off size stream n es e low read other =
     let long = length-map es (item_meaning size) in
     let off : (e.message.value.stream == stream) ≡ false = grind (arith, nat_tests) in
     any_other (is_item_on stream) (map (item_meaning size) es) n (item_meaning size e) (omega (arith, long, low)) (here_on size stream n es e low read ∙ off)
+
+-- then some is
+pub out_at : (size stream n : ℕ) (es : List EntryFields) (e : EntryFields) → n < length es → e ≡ get_or es n e → e.message.value.stream ≡ stream → list_any (is_item_on stream) (map (item_meaning size) es) ≡ true
+out_at size stream n es e low read is = any_behind (is_item_on stream) (map (item_meaning size) es) n (out_on size stream n es e low read is)
+
+-- and the stream isn't still
+pub not_still : (waits part out : Bool) → out ≡ true → false ≡ (not waits && (not part && not out))
+not_still true part out is = refl
+not_still false true out is = refl
+not_still false false out is = sym (ap not is)
 
 pub out_end : (size stream n : ℕ) (es : List EntryFields) → length es ≤ n → list_any (is_item_on stream) (drop n (map (item_meaning size) es)) ≡ false
 out_end size stream n es past = let long = length-map es (item_meaning size) in any_end (is_item_on stream) (map (item_meaning size) es) n (omega (arith, long, past))

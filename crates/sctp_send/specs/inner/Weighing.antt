@@ -11,7 +11,7 @@ use Rattle.sctp_send.specs.CoveredRuns.{in_runs}
 use Rattle.sctp_send.specs.declared.kept.entry.CoveredRun.{CoveredRun}
 use Rattle.sctp_send.specs.declared.pace.tally.Tally.{Tally}
 use Rattle.sctp_send.specs.inner.Walks.{is_item_unsettled}
-use Rattle.sctp_send.specs.inner.Wishing.{item_bytes}
+use Rattle.sctp_send.specs.inner.Wishing.{first_offset, is_item_marked, item_bytes}
 
 -- ---- one item
 
@@ -83,6 +83,13 @@ IsIdle xs on j = (on j && passes_here is_item_open xs (j - 1)) ≡ false
 pub record IsTally (xs : List Item) (on : ℕ → Bool) (t : Tally) : Type 0 where
   pub bytes : t.bytes ≡ sum_below (news_weight xs on) t.at % 2 ^ 64
   pub last : t.newest ≡ last_that (is_news xs on) t.at
+
+-- There are so many items, nothing waits for retransmission, so that all that is outstanding is in flight, and the last item is news.
+pub record AreFlying (count : ℕ) (xs : List Item) : Type 0 where
+  pub some : 0 < count
+  pub all : count ≡ length xs
+  pub unmarked : first_offset is_item_marked xs ≡ None
+  pub last : passes_here is_item_news xs (count - 1) ≡ true
 
 -- the items in these runs are acknowledged by gap blocks
 abbrev pub LieCovered : List CoveredRun → List Item → Type 0

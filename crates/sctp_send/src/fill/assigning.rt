@@ -12,7 +12,6 @@ ghost use Rattle.sctp_send.specs.inner.Walks.{total, one_if_rest};
 ghost use Rattle.sctp_send.specs.inner.Stocking.{stocked, NewAnswer, FirstTurnAnswer, IsNextWithin};
 ghost use Rattle.sctp_send.specs.inner.Newcomers.{rest_at, has_rest, one_if, track_of};
 
-use crate::kept::looking::goes_on_at;
 use crate::kept::message::{fragments_of, shared};
 use crate::kept::outstanding::Outstanding;
 use crate::kept::streams::Streams;
@@ -178,6 +177,6 @@ pub(crate) fn has_window(
         return false;
     }
     let parts = streams.in_part() as usize + usize::from(more);
-    let had = usize::from(goes_on_at(streams.tracks(), stream));
+    let had = usize::from(streams.goes_on(stream));
     outstanding + count + parts <= window + had
 }

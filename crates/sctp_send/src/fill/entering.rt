@@ -15,7 +15,6 @@ ghost use Rattle.sctp_send.specs.inner.Undoing.{Parts, before_all, counted_to, I
 use crate::fill::assigning::{Beginning, stream_after};
 use crate::fill::pushing::{push_first, push_fragment, push_further};
 use crate::kept::entry::Standing;
-use crate::kept::looking::goes_on_at;
 use crate::kept::message::Message;
 use crate::kept::streams::Streams;
 use crate::kept::track::{Rest, Track, rest_from};
@@ -185,9 +184,23 @@ fn leave_rest(streams: &mut Streams, log: &mut Vec<Change>, stream: u16, rest: O
         ≡ slice_set (map (track_meaning size) streams.old.items) stream (left_track (rests_meaning size (track_of (map (track_meaning size) streams.old.items) stream) rest) (track_of (map (track_meaning size) streams.old.items) stream)) }
     ensures back { (p : Parts) → p.tracks ≡ streams.new.items → before_all log.new.items p ≡ before_all log.old.items (record p { tracks = streams.old.items }) }
 {
-    if rest.is_none() && !goes_on_at(streams.tracks(), stream) {
+    if rest.is_none() && !streams.goes_on(stream) {
         return;
     }
+    leave_noted(streams, log, stream, rest);
+}
+
+/// So much is left of the message that took the latest number on a stream, which is noted. A function of its own, so that a message that goes as a
+/// whole costs no room for it.
+#[inline(never)]
+fn leave_noted(streams: &mut Streams, log: &mut Vec<Change>, stream: u16, rest: Option<Rest>)
+    requires stream { stream < length streams.old.items }
+    requires room { vec_len log.old < vec_capacity log.old }
+    ensures size { streams.new.size ≡ streams.old.size }
+    ensures items { (size : ℕ) → map (track_meaning size) streams.new.items
+        ≡ slice_set (map (track_meaning size) streams.old.items) stream (left_track (rests_meaning size (track_of (map (track_meaning size) streams.old.items) stream) rest) (track_of (map (track_meaning size) streams.old.items) stream)) }
+    ensures back { (p : Parts) → p.tracks ≡ streams.new.items → before_all log.new.items p ≡ before_all log.old.items (record p { tracks = streams.old.items }) }
+{
     let track = leave_on(streams, stream, rest);
     note(log, Change::Left { stream, track });
 }

@@ -1,20 +1,18 @@
 //! What has its index goes into a packet: the chunk of an entry, where it fits, and what the stock keeps then (RFC 9260, 6.1 and 6.3.3).
 
-ghost use Rattle.std.specs.Prelude.{◌≡◌, suc, ◌+◌, ◌<◌, length, map, slice_index_or, IfOk, OnErr};
+ghost use Rattle.std.specs.Prelude.{◌≡◌, true, suc, ◌+◌, ◌<◌, length, map, slice_index_or, IfOk, OnErr};
 ghost use Rattle.sctp_model.specs.numbers.Serial.{tsn};
 ghost use Rattle.sctp_model.specs.sender.SenderView.{SenderView};
 ghost use Rattle.sctp_send.specs.SenderKept.{Item};
 ghost use Rattle.sctp_send.specs.SenderStands.{Keeps};
-ghost use Rattle.sctp_send.specs.OutstandingFields.{was_sent, item_meaning};
-ghost use Rattle.sctp_send.specs.PartsKept.{changed};
+ghost use Rattle.sctp_send.specs.OutstandingFields.{item_meaning};
 ghost use Rattle.sctp_send.specs.ResetsKept.{base_of};
-ghost use Rattle.sctp_send.specs.inner.Newcomers.{repeats_after};
+ghost use Rattle.sctp_send.specs.declared.kept.entry.Entry.{Entry as EntryFields};
+ghost use Rattle.sctp_packet.specs.Draft.{has_room};
 ghost use Rattle.sctp_send.specs.inner.Undoing.{IsSized, IsBehind};
-ghost use Rattle.sctp_send.specs.inner.Stocking.{bare, stocked, went_out, item_chunk, IsTried, PutAnswer, IsRefused, IsFlying, IsNextEntry, IsNextUnsent};
+ghost use Rattle.sctp_send.specs.inner.Stocking.{bare, stocked, fragment_chunk, item_chunk, IsTried, PutAnswer, IsRefused, IsFlying, IsNextEntry, IsNextUnsent};
 
-use crate::kept::entry::{Entry, Standing, State};
 use crate::kept::message::Message;
-use crate::kept::outstanding::Outstanding;
 use crate::kept::pieces::{bytes_of, fits, put_fragment};
 use crate::kept::wishes::may_flow;
 use crate::stock::{Change, Stock, note};
@@ -46,12 +44,32 @@ impl Told {
         if !fits::<F>(bytes, packet) {
             return Ok(false);
         }
-        let state = entry.state();
+        self.put_out::<F>(stock, at, packet)
+    }
+
+    /// Puts the entry at this offset, which fits, and notes that it goes out.
+    #[inline(always)]
+    fn put_out<F: Framing>(
+        &self,
+        stock: &mut Stock,
+        at: usize,
+        packet: &mut PacketWriter,
+    ) -> Result<bool, NoMemory>
+        requires sized { IsSized self.now.fragment stock.old }
+        requires within { at < length stock.old.outstanding.items }
+        ensures put { (v : SenderView) → Keeps F.format (stocked (bare self.now) stock.old) v → IsNextEntry F.format v at
+            → IfOk result (λ put. PutAnswer F.format (bare self.now) v packet.old packet.new stock.old stock.new put) }
+        ensures refused { (v : SenderView) (e : EntryFields) → Keeps F.format (stocked (bare self.now) stock.old) v → IsNextEntry F.format v at → e ≡ slice_index_or stock.old.outstanding.items at e
+            → has_room packet.old (fragment_chunk F.format (base_of self.now.resets) self.now.fragment self.now.initial (suc (self.now.cum + at)) e.message.value e.number e.content) ≡ true
+            → OnErr result (IsRefused F.format v packet.old packet.new) }
+        ensures behind { IsBehind stock.old stock.new }
+    {
+        let state = stock.outstanding.get(at).state();
         stock.log.reserve(1).map_err(|_| NoMemory)?;
         let put = self.put_at::<F>(stock, at, packet)?;
         if put {
             note(&mut stock.log, Change::Out { at, state });
-            send_out(&mut stock.outstanding, at);
+            stock.outstanding.send(at);
         }
         Ok(put)
     }
@@ -77,7 +95,10 @@ impl Told {
         if !may_flow(flying, bytes, self.rwnd) {
             return Ok(false);
         }
-        self.put_entry::<F>(stock, at, packet)
+        if !fits::<F>(bytes, packet) {
+            return Ok(false);
+        }
+        self.put_out::<F>(stock, at, packet)
     }
 
     /// Puts the chunk of the entry at this offset, where it fits.
@@ -111,30 +132,5 @@ impl Told {
     {
         let index = self.cum.wrapping_add(at as u64).wrapping_add(1);
         tsn_of(self.initial, index)
-    }
-}
-
-/// An entry goes out.
-fn send_out(outstanding: &mut Outstanding, at: usize)
-    requires { at < length outstanding.old.items }
-    ensures { outstanding.new ≡ changed went_out at outstanding.old }
-{
-    let entry = outstanding.get(at);
-    let state = State {
-        standing: Standing::Sent,
-        covered: entry.covered,
-        abandoned: entry.abandoned,
-        repeats: repeats_after(entry),
-    };
-    outstanding.stand(at, state);
-}
-
-/// How often an entry was retransmitted, once it goes out; 65,535 at most.
-fn repeats_after(entry: &Entry) -> u16
-    ensures { result ≡ repeats_after (was_sent entry.now.standing) entry.now.repeats }
-{
-    match entry.standing {
-        Standing::Unsent => entry.repeats,
-        Standing::Sent | Standing::Marked => entry.repeats.saturating_add(1),
     }
 }

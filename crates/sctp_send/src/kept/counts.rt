@@ -44,6 +44,7 @@ impl Counts {
     }
 
     /// One entry more counts.
+    #[inline(always)]
     pub(crate) fn enter(&mut self, entry: &Entry, size: u16)
         requires { 0 < size }
         ensures { self.new ≡ entered (item_meaning size entry.now) self.old }
@@ -63,6 +64,7 @@ impl Counts {
 
     /// What comes at an offset, behind all others, may have to go out; where it hasn't, a cursor there passes it, and where it is abandoned,
     /// the count in front does.
+    #[inline(always)]
     pub(crate) fn reach(&mut self, at: usize, entry: &Entry)
         requires { at < 0xffff_ffff_ffff_ffff }
         ensures { (size : ℕ) → self.new ≡ reached at (item_meaning size entry.now) self.old }
@@ -82,7 +84,7 @@ impl Counts {
 }
 
 /// A cursor; or one past an offset that it has reached, where that doesn't count.
-fn furthest(cursor: usize, at: usize, counts: bool) -> usize
+pub(crate) fn furthest(cursor: usize, at: usize, counts: bool) -> usize
     requires { at < 0xffff_ffff_ffff_ffff }
     ensures { result ≡ furthest at counts cursor }
 {

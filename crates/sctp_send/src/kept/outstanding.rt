@@ -159,6 +159,7 @@ impl Outstanding {
     ///
     /// # Errors
     /// `NoMemory`: the entry isn't added. Only if there is no space for it.
+    #[inline(always)]
     pub(crate) fn push(&mut self, entry: Entry) -> Result<(), NoMemory>
         ensures size { self.new.size ≡ self.old.size }
         ensures items { OnOk result (self.new.items ≡ self.old.items ++ entry ∷ []) }

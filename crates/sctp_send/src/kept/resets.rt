@@ -41,12 +41,13 @@ pub(crate) struct Request {
     pub(crate) streams: Vec<u16>,
 }
 
-/// All streams, by number; those that wait for their reset, by rising number; how many sequence numbers of requests were used; and the request that
-/// waits for its response.
+/// All streams, by number; those that wait for their reset, by rising number; by stream an index at which a look for its entries begins; how many
+/// sequence numbers of requests were used; and the request that waits for its response.
 #[derive(Drop)]
 pub(crate) struct ResetTable {
     pub(crate) streams: Vec<StreamReset>,
     pub(crate) resetting: Vec<u16>,
+    pub(crate) hints: Vec<u64>,
     pub(crate) made: u32,
     pub(crate) pending: Option<Request>,
 }
@@ -113,6 +114,14 @@ impl OutgoingResets {
     {
         match &self.table {
             Some(table) => &table.resetting,
+            None => &[],
+        }
+    }
+
+    /// By stream an index at which a look for its entries begins.
+    pub(crate) fn hints(&self) -> &[u64] {
+        match &self.table {
+            Some(table) => &table.hints,
             None => &[],
         }
     }

@@ -3,11 +3,13 @@
 ghost use Rattle.std.specs.Prelude.{◌≡◌, ℕ, ◌+◌, ◌<◌, ◌≤◌, ◌%◌, ◌^◌, true, false, map, length, set, replicate, slice_index_or, IfOk, IfSome, IfNone};
 ghost use Rattle.sctp_send.specs.SenderFields.{track_meaning};
 ghost use Rattle.sctp_send.specs.inner.Walks.{total, one_if_rest, rest_owes, any_rest, GoesOnAt};
-ghost use Rattle.sctp_send.specs.inner.Newcomers.{IsNextPart};
+ghost use Rattle.sctp_send.specs.inner.Newcomers.{IsNextPart, rest_at, has_rest};
 ghost use Rattle.sctp_send.specs.inner.Undoing.{counted_to};
 ghost use Rattle.sctp_send.specs.PartsKept.{changed_at};
 
-use crate::kept::looking::{are_past, next_part_by_looking, stream_by_looking, ticket_of_track};
+use crate::kept::looking::{
+    are_past, goes_on_at, next_part_by_looking, stream_by_looking, ticket_of_track,
+};
 use crate::kept::part_lists::PartLists;
 use crate::kept::track::{Track, owed_by_track};
 use sctp_values::{Kind, NoMemory};
@@ -137,6 +139,17 @@ impl Streams {
             Some(part) => part.first.min(u64::from(below)) as u16,
             None => below,
         }
+    }
+
+    /// A stream has a message in part. Where none has, no stream is looked at.
+    #[inline(always)]
+    pub(crate) fn goes_on(&self, stream: u16) -> bool
+        ensures { (size : ℕ) → result ≡ has_rest (rest_at (map (track_meaning size) self.now.items) stream) }
+    {
+        if self.parts == 0 {
+            return false;
+        }
+        goes_on_at(&self.tracks, stream)
     }
 
     /// All messages in part have tickets behind this one.

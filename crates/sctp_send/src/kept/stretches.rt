@@ -5,7 +5,8 @@
 ghost use Rattle.std.specs.Prelude.{◌≡◌, ℕ, ◌+◌, ◌*◌, ◌/◌, ◌%◌, ◌<◌, ◌≤◌, true, false, not, length, slice_get, Some};
 ghost use Rattle.std.specs.VecDeque.{deque_capacity};
 ghost use Rattle.sctp_send.specs.declared.kept.stretches.Stretch.{Stretch};
-ghost use Rattle.sctp_send.specs.inner.Counting.{IsCounted};
+ghost use Rattle.sctp_send.specs.OutstandingFields.{item_meaning};
+ghost use Rattle.sctp_send.specs.inner.Counting.{entered, IsCounted};
 ghost use Rattle.sctp_send.specs.inner.Stretching.{IsPlain, IsQuiet, entry_bytes, plain_bytes, plain_one, AreAlike, told_run, covered_run, turned_counts};
 
 use crate::kept::counts::Counts;
@@ -205,6 +206,17 @@ fn set_covered(entries: &mut [Entry], at: usize, covered: bool)
 }
 
 impl Counts {
+    /// Adds an entry that was sent, and is neither acknowledged nor abandoned nor marked for retransmission.
+    #[inline(always)]
+    pub(crate) fn enter_plain(&mut self, entry: &Entry, size: u16)
+        requires some { 0 < size }
+        requires plain { IsPlain false entry.now }
+        ensures { self.new ≡ entered (item_meaning size entry.now) self.old }
+    {
+        self.flight = self.flight.wrapping_add(u64::from(bytes_in(entry, size)));
+        self.unsettled = self.unsettled.wrapping_add(1);
+    }
+
     /// The entries of a stretch that aren't abandoned count no more, since they are acknowledged; or they count again.
     fn turn(&mut self, bytes: u32, plain: u8, covered: bool)
         ensures { self.new ≡ turned_counts bytes plain covered self.old }

@@ -24,6 +24,7 @@ pub(crate) fn is_first_sending(entry: &Entry) -> bool
 }
 
 /// The bytes of an entry, where it is in flight.
+#[inline(always)]
 pub(crate) fn weight(entry: &Entry, size: u16) -> u64
     requires { 0 < size }
     ensures { result ≡ item_weight (item_meaning size entry.now) }

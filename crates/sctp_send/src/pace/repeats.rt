@@ -34,7 +34,7 @@ impl Outstanding {
     }
 
     /// An offset before which no entry is marked for retransmission.
-    fn first_repeat(&self) -> usize
+    pub(crate) fn first_repeat(&self) -> usize
         ensures none { first_offset is_item_marked (take result (map (item_meaning self.now.size) self.now.items)) ≡ None }
         ensures within { result ≤ length self.now.items }
     {

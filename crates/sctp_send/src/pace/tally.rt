@@ -4,7 +4,7 @@
 ghost use Rattle.std.specs.Prelude.{◌≡◌, ℕ, Bool, ◌+◌, ◌<◌, ◌≤◌, ◌%◌, ◌^◌, max, true, false, nat_le, ◌-◌, ◌||◌, if◌then◌else◌, suc, map};
 ghost use Rattle.sctp_model.specs.sender.SackTaken.{some_is_bad, sack_covers};
 ghost use Rattle.sctp_send.specs.OutstandingFields.{item_meaning};
-ghost use Rattle.sctp_send.specs.inner.Weighing.{is_item_news, is_item_closed, unsettled_bytes, passes_here, IsTally, IsTallied, LieCovered};
+ghost use Rattle.sctp_send.specs.inner.Weighing.{is_item_news, is_item_closed, unsettled_bytes, passes_here, AreFlying, IsTally, IsTallied, LieCovered};
 
 use crate::kept::entry::{CoveredRun, Entry, Standing};
 use crate::kept::outstanding::Outstanding;
@@ -69,6 +69,7 @@ impl Tally {
     }
 
     /// With the entries up to `to`, which are all acknowledged now.
+    #[inline(never)]
     pub(crate) fn take(self, outstanding: &Outstanding, to: usize) -> Tally
         ensures at { result.at ≡ max self.at to }
         ensures tally { (on : ℕ → Bool) → IsTally (map (item_meaning outstanding.now.size) outstanding.now.items) on self → ((j : ℕ) → self.at < j → j ≤ to → on j ≡ true)
@@ -106,8 +107,26 @@ impl Tally {
         }
     }
 
+    /// Of the first entries, up to `to`, which are all acknowledged now. If these are all, it is mostly what is in flight, and costs no walk.
+    #[inline(always)]
+    fn of_passed(outstanding: &Outstanding, to: usize) -> Tally
+        ensures at { result.at ≡ to }
+        ensures tally { (on : ℕ → Bool) → ((j : ℕ) → 0 < j → j ≤ to → on j ≡ true) → IsTally (map (item_meaning outstanding.now.size) outstanding.now.items) on result }
+    {
+        if is_in_flight(outstanding, to) {
+            return Tally {
+                at: to,
+                bytes: outstanding.flight(),
+                newest: to,
+                run: 0,
+            };
+        }
+        Tally::none().take(outstanding, to)
+    }
+
     /// What a SACK newly acknowledges whose cumulative TSN passes so many entries, and with these gap blocks; the entries in the runs are acknowledged
-    /// by gap blocks of the last one.
+    /// by gap blocks of the last one. A SACK without blocks costs a test for them.
+    #[inline(always)]
     pub(crate) fn of_blocks(
         outstanding: &Outstanding,
         runs: &[CoveredRun],
@@ -117,8 +136,29 @@ impl Tally {
         ensures { LieCovered runs.now (map (item_meaning outstanding.now.size) outstanding.now.items) → some_is_bad 0 blocks.now ≡ false
             → IsTallied (map (item_meaning outstanding.now.size) outstanding.now.items) (sack_covers passed blocks.now) result }
     {
+        let tally = Tally::of_passed(outstanding, passed as usize);
+        if blocks.len() == 0 {
+            return tally;
+        }
+        tally.take_blocks(outstanding, runs, passed, blocks)
+    }
+
+    /// With what these gap blocks newly acknowledge beyond the first entries: a cumulative TSN passes so many, and they are weighed.
+    #[inline(never)]
+    fn take_blocks(
+        self,
+        outstanding: &Outstanding,
+        runs: &[CoveredRun],
+        passed: u32,
+        blocks: &Blocks<'_>,
+    ) -> Tally
+        requires { self.at ≡ passed }
+        ensures { LieCovered runs.now (map (item_meaning outstanding.now.size) outstanding.now.items) → some_is_bad 0 blocks.now ≡ false
+            → IsTally (map (item_meaning outstanding.now.size) outstanding.now.items) (sack_covers passed blocks.now) self
+            → IsTallied (map (item_meaning outstanding.now.size) outstanding.now.items) (sack_covers passed blocks.now) result }
+    {
         let passed = passed as usize;
-        let mut tally = Tally::none().take(outstanding, passed);
+        let mut tally = self;
         for block in blocks.iter() {
             let before = usize::from(block.start).saturating_sub(1);
             tally = tally
@@ -134,10 +174,26 @@ impl Tally {
             → IsTallied (map (item_meaning outstanding.now.size) outstanding.now.items) (λ j. nat_le j passed || passes_here is_item_closed (map (item_meaning outstanding.now.size) outstanding.now.items) (j - 1)) result }
     {
         let passed = passed as usize;
-        Tally::none()
-            .take(outstanding, passed)
-            .skip(last_closed(outstanding, passed, top))
+        Tally::of_passed(outstanding, passed).skip(last_closed(outstanding, passed, top))
     }
+}
+
+/// True only if there are so many entries, nothing of them is marked for retransmission, and the last one was sent, and no gap block acknowledges it:
+/// then what is outstanding is in flight.
+#[inline(always)]
+fn is_in_flight(outstanding: &Outstanding, count: usize) -> bool
+    ensures { result ≡ true → AreFlying count (map (item_meaning outstanding.now.size) outstanding.now.items) }
+{
+    if count == 0 {
+        return false;
+    }
+    if count != outstanding.len() {
+        return false;
+    }
+    if outstanding.first_repeat() < count {
+        return false;
+    }
+    is_news(outstanding.get(count - 1))
 }
 
 /// The last offset beyond one, up to another, both counted from 1, that a gap block acknowledges; or the first one.

@@ -1,6 +1,6 @@
 //! The table of resets: made by the first reset, and changed by requests and their responses (RFC 6525, 5.1).
 
-ghost use Rattle.std.specs.Prelude.{◌≡◌, ℕ, suc, ◌+◌, ◌<◌, ◌≤◌, min, length, replicate, filter, Some, IfOk, OnOk, IsSome};
+ghost use Rattle.std.specs.Prelude.{◌≡◌, ℕ, suc, ◌+◌, ◌<◌, ◌≤◌, min, length, replicate, filter, None, Some, IfOk, OnOk, IsSome};
 ghost use Rattle.std.specs.List.{AllByRecursion};
 ghost use Rattle.std.specs.Vec.{vec_len, vec_capacity};
 ghost use Rattle.sctp_model.specs.numbers.Limits.{STREAM_LIMIT, REQUEST_LIMIT};
@@ -61,6 +61,25 @@ impl OutgoingResets {
             });
         }
     }
+
+    /// Notes an index of a stream.
+    pub(crate) fn note(&mut self, stream: u16, index: u64)
+        ensures { (n : ℕ) (x : Outgoing) → AreResets n self.old x → AreResets n self.new x }
+    {
+        if let Some(table) = &mut self.table {
+            note_at(&mut **table, stream, index);
+        }
+    }
+
+    /// The request that was made last is taken back, with its sequence number.
+    pub(crate) fn take_back(&mut self)
+        ensures { (n : ℕ) (x : Outgoing) (q : model.Request) → x.pending ≡ None → AreResets n self.old (record x { made = suc x.made; pending = Some q }) → AreResets n self.new x }
+    {
+        if let Some(table) = &mut self.table {
+            table.made = table.made.wrapping_sub(1);
+            table.pending = None;
+        }
+    }
 }
 
 /// The table of streams of which none was reset.
@@ -74,9 +93,11 @@ fn fresh_table(alloc: Global, streams: u16) -> Result<Box<ResetTable>, NoMemory>
     let resetting = Vec::with_capacity(alloc, usize::from(streams.min(STREAM_LIMIT))).map_err(
         |_| NoMemory,
     )?;
+    let hints = vec![in alloc; 0; usize::from(streams)].map_err(|_| NoMemory)?;
     let table = ResetTable {
         streams: all_streams,
         resetting,
+        hints,
         made: 0,
         pending: None,
     };
@@ -100,6 +121,16 @@ fn fresh_streams(alloc: Global, streams: u16) -> Result<Vec<StreamReset>, NoMemo
         .map_err(|_| NoMemory)?;
     }
     Ok(made)
+}
+
+/// An index of a stream is noted.
+fn note_at(table: &mut ResetTable, stream: u16, index: u64)
+    ensures { table.new ≡ record table.old { hints = table.new.hints } }
+{
+    let at = usize::from(stream);
+    if at < table.hints.len() {
+        table.hints[at] = index;
+    }
 }
 
 /// Whether a stream takes messages is changed.

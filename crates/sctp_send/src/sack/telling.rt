@@ -6,7 +6,7 @@ ghost use Rattle.std.specs.VecDeque.{deque_capacity};
 ghost use Rattle.sctp_send.specs.OutstandingFields.{item_meaning};
 ghost use Rattle.sctp_send.specs.PartsKept.{changed_at, changed};
 ghost use Rattle.sctp_send.specs.inner.Changes.{as_covered, as_uncovered, told, told_where, is_between};
-ghost use Rattle.sctp_send.specs.inner.Counting.{entered, left, IsCounted};
+ghost use Rattle.sctp_send.specs.inner.Counting.{left, IsCounted};
 ghost use Rattle.sctp_send.specs.inner.Stretching.{IsPlain, told_run};
 
 use crate::kept::counts::Counts;
@@ -170,16 +170,6 @@ impl Counts {
     {
         self.flight = self.flight.wrapping_sub(u64::from(bytes_in(entry, size)));
         self.unsettled = self.unsettled.wrapping_sub(1);
-    }
-
-    /// Adds an entry that was sent, and is neither acknowledged nor abandoned nor marked for retransmission.
-    fn enter_plain(&mut self, entry: &Entry, size: u16)
-        requires some { 0 < size }
-        requires plain { IsPlain false entry.now }
-        ensures { self.new ≡ entered (item_meaning size entry.now) self.old }
-    {
-        self.flight = self.flight.wrapping_add(u64::from(bytes_in(entry, size)));
-        self.unsettled = self.unsettled.wrapping_add(1);
     }
 }
 

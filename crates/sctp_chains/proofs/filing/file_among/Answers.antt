@@ -103,19 +103,19 @@ pub returns-in_ok-insert-in-None-None-clause-filed : goal.returns-in_ok-insert-i
 returns-in_ok-insert-in-None-None-clause-filed c =
     let cs = c.args.chains.now.items in
     subst (λ (xs : List Chain). Gains (one_of c.args.part) (map chain_of cs) (map chain_of xs)) (sym c.in_ok-insert-in-None-None.ensures.items)
-    (filed_alone cs c.place-at.result c.args.part c.place-at.ensures.bound c.place-at.ensures.place c.in_ok-chain-in-None-None.chain c.in_ok-chain-in-None-None.ensures
+    (filed_alone cs c.place-at.result c.args.part c.place-at.ensures.bound c.place-at.ensures.place c.alone-chain.result c.alone-chain.ensures
     (subst (λ (o : Option ℕ). IsLinkBefore (map chain_of cs) c.place-at.result (one_of c.args.part) o) c.in-None-None.is-0 (c.linked_before.ensures c.place-at.ensures.bound)) (subst (λ (o : Option ℕ). IsLinkBehind (map chain_of cs) c.place-at.result (one_of c.args.part) o) c.in-None-None.is-1 c.linked_behind.ensures))
 
 pub returns-in_ok-insert-in-None-None-clause-one : goal.returns-in_ok-insert-in-None-None-clause-one
-returns-in_ok-insert-in-None-None-clause-one c = once (chain_of c.in_ok-chain-in-None-None.chain) c.whole-whole.result c.whole-whole.ensures
+returns-in_ok-insert-in-None-None-clause-one c = once (chain_of c.alone-chain.result) c.whole-whole.result c.whole-whole.ensures
 
 pub returns-in_ok-insert-in-None-None-clause-whole : goal.returns-in_ok-insert-in-None-None-clause-whole
 returns-in_ok-insert-in-None-None-clause-whole c =
-    counted_alone c.args.chains.now.items c.insert.new.self.items c.place-at.result c.in_ok-chain-in-None-None.chain c.whole-whole.result c.in_ok-insert-in-None-None.ensures.items c.whole-whole.ensures
+    counted_alone c.args.chains.now.items c.insert.new.self.items c.place-at.result c.alone-chain.result c.whole-whole.result c.in_ok-insert-in-None-None.ensures.items c.whole-whole.ensures
 
 pub returns-in_ok-insert-in-None-None-clause-passed : goal.returns-in_ok-insert-in-None-None-clause-passed
 returns-in_ok-insert-in-None-None-clause-passed c =
-    kept_insert c.args.chains.now.items c.insert.new.self.items c.place-at.result c.in_ok-chain-in-None-None.chain c.whole-whole.result c.place-at.ensures.bound
+    kept_insert c.args.chains.now.items c.insert.new.self.items c.place-at.result c.alone-chain.result c.whole-whole.result c.place-at.ensures.bound
     c.in_ok-insert-in-None-None.ensures.items c.whole-whole.ensures
 
 pub returns-in_ok-insert-in-None-None-clause-few : goal.returns-in_ok-insert-in-None-None-clause-few

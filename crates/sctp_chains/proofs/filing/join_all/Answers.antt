@@ -15,16 +15,6 @@ returns-then-is_err-clause-refused c =
     c.make_joint_room.new.left c.make_joint_room.new.right c.requires.order c.requires.within c.replace-high.ensures.value c.replace-high.ensures.items c.replace-low.ensures.value c.replace-low.ensures.items
     c.make_joint_room.ensures.left c.make_joint_room.ensures.right c.replace.new.self.items c.replace-then-is_err.new.self.items c.replace.ensures.items c.replace-then-is_err.ensures.items
 
--- the one behind is taken out
-gone : (c : goal.After-drop-replace-2) → c.remove.new.self.items ≡ remove c.replace-low.new.self.items c.args.right
-gone c =
-    let one = as_long c.args.chains.now.items c.args.right c.nothing.result in
-    let two = as_long c.replace-high.new.self.items c.args.left c.nothing-2.result in
-    let first = ap length c.replace-high.ensures.items in
-    let second = ap length c.replace-low.ensures.items in
-    let less : c.args.right < length c.replace-low.new.self.items = let l = c.requires.within in omega (arith, l, one, two, first, second) in
-    when_some c.remove.result _ (c.remove.ensures.variant.1 less) c.remove.ensures.items
-
 pub replace-requires-2 : goal.replace-requires-2
 replace-requires-2 c =
     let one = as_long c.args.chains.now.items c.args.right c.nothing.result in
@@ -40,15 +30,27 @@ replace-requires-2 c =
 
 pub returns-clause-few : goal.returns-clause-few
 returns-clause-few c =
+    let one = as_long c.args.chains.now.items c.args.right c.nothing.result in
+    let two = as_long c.replace-high.new.self.items c.args.left c.nothing-2.result in
+    let first = ap length c.replace-high.ensures.items in
+    let second = ap length c.replace-low.ensures.items in
+    let less : c.args.right < length c.replace-low.new.self.items = let l = c.requires.within in omega (arith, l, one, two, first, second) in
+    let gone = when_some c.remove.result (c.remove.new.self.items ≡ remove c.replace-low.new.self.items c.args.right) (c.remove.ensures.variant.1 less) c.remove.ensures.items in
     joined_few c.args.chains.now.items c.replace-high.new.self.items c.replace-low.new.self.items c.args.left c.args.right c.nothing.result c.nothing-2.result c.replace-low.result c.replace-high.result
     c.make_joint_room.new.left c.make_joint_room.new.right c.requires.order c.requires.within c.replace-high.ensures.value c.replace-high.ensures.items c.replace-low.ensures.value c.replace-low.ensures.items
-    c.make_joint_room.ensures.left c.make_joint_room.ensures.right c.remove.new.self.items c.replace-2.new.self.items c.close_gap.new.self (gone c) c.replace-2.ensures.items
+    c.make_joint_room.ensures.left c.make_joint_room.ensures.right c.remove.new.self.items c.replace-2.new.self.items c.close_gap.new.self gone c.replace-2.ensures.items
 
 pub returns-clause-joined : goal.returns-clause-joined
 returns-clause-joined c =
+    let one = as_long c.args.chains.now.items c.args.right c.nothing.result in
+    let two = as_long c.replace-high.new.self.items c.args.left c.nothing-2.result in
+    let first = ap length c.replace-high.ensures.items in
+    let second = ap length c.replace-low.ensures.items in
+    let less : c.args.right < length c.replace-low.new.self.items = let l = c.requires.within in omega (arith, l, one, two, first, second) in
+    let gone = when_some c.remove.result (c.remove.new.self.items ≡ remove c.replace-low.new.self.items c.args.right) (c.remove.ensures.variant.1 less) c.remove.ensures.items in
     joined_back c.args.chains.now.items c.replace-high.new.self.items c.replace-low.new.self.items c.args.left c.args.right c.nothing.result c.nothing-2.result c.replace-low.result c.replace-high.result
     c.make_joint_room.new.left c.make_joint_room.new.right c.requires.order c.requires.within c.replace-high.ensures.value c.replace-high.ensures.items c.replace-low.ensures.value c.replace-low.ensures.items
-    c.make_joint_room.ensures.left c.make_joint_room.ensures.right c.remove.new.self.items c.replace-2.new.self.items c.close_gap.new.self c.args.part (gone c) c.replace-2.ensures.items c.close_gap.ensures
+    c.make_joint_room.ensures.left c.make_joint_room.ensures.right c.remove.new.self.items c.replace-2.new.self.items c.close_gap.new.self c.args.part gone c.replace-2.ensures.items c.close_gap.ensures
 
 pub returns-clause-whole : goal.returns-clause-whole
 returns-clause-whole c =

@@ -22,8 +22,8 @@ loop-chains-preserved-in-Some c =
     let same : x ≡ c.get.result.now = c.in-Some.ensures.value ∙ at_same cs k x c.get.result.now l ∙ sym c.get.ensures in
     let low : (chain_of x).last ≤ c.args.upto = let e = ap (λ (z : Chain). (chain_of z).last) same in let h = c.if-last-upto.true in omega (arith, e, h, c.last.ensures) in
     record {
-      drops = one_more cs k x l c.in-Some.ensures.value c.args.upto (map chain_of c.args.chains.now.items) c.remove_at.new.chains.items c.args.held c.loop-chains.left c.less_all-left.result
-          c.loop-chains.invariant.drops low c.in-Some.ensures.items c.less_all-left.ensures;
+      drops = one_more cs k x l c.in-Some.ensures.value c.args.upto (map chain_of c.args.chains.now.items) c.remove_at.new.chains.items c.args.held c.loop-chains.left c.forget-left.result
+          c.loop-chains.invariant.drops low c.in-Some.ensures.items c.forget-left.ensures;
       whole =
           let step = whole_remove cs k x l c.in-Some.ensures.value in let is = ap (λ (xs : List Chain). whole_in (map chain_of xs)) c.in-Some.ensures.items in let before = c.loop-chains.invariant.whole in omega (arith, step, is, before);
       fewer =
@@ -33,10 +33,6 @@ loop-chains-preserved-in-Some c =
           open_less _ _ (map chain_of c.remove_at.new.chains.items) (kept_removed cs c.remove_at.new.chains.items k _ c.in-Some.ensures.items (c.loop-chains.invariant.passed n h))
           (omega (arith, one, all, before));
     }
-
--- the chain is put back
-put : (c : goal.After-drop-replace) → c.replace.new.self.items ≡ set c.loop-chains.chains.items c.args.at c.trim-left.new.chain
-put c = put_back c.loop-chains.chains.items c.args.at c.nothing-blank.result c.trim-left.new.chain c.replace-chain.new.self.items c.replace.new.self.items c.replace-chain.ensures.items c.replace.ensures.items
 
 pub returns-then-first-upto-clause-left : goal.returns-then-first-upto-clause-left
 returns-then-first-upto-clause-left c =
@@ -51,7 +47,7 @@ returns-then-first-upto-clause-left c =
           let e = ap (λ (z : Chain). (chain_of z).last) (c.replace-chain.ensures.value ∙ at_same cs k x w.get.result.now l ∙ sym w.get.ensures) in let h = w.if-last-upto.false in omega (arith, e, h, w.last.ensures)
       | else-loop-chains-test w ↦ absurd (let h = w.loop-chains-test.false in omega (arith, h, l, c.len.ensures))
     ] in
-    subst (λ (xs : List Chain). LetsGo c.args.upto k (map chain_of c.args.chains.now.items) (map chain_of xs) c.args.held c.trim-left.result) (sym (put c))
+    subst (λ (xs : List Chain). LetsGo c.args.upto k (map chain_of c.args.chains.now.items) (map chain_of xs) c.args.held c.trim-left.result) (sym (put_back c.loop-chains.chains.items c.args.at c.nothing-blank.result c.trim-left.new.chain c.replace-chain.new.self.items c.replace.new.self.items c.replace-chain.ensures.items c.replace.ensures.items))
     (front_more cs k x l c.replace-chain.ensures.value c.args.upto (map chain_of c.args.chains.now.items) c.trim-left.new.chain c.args.held c.loop-chains.left c.trim-left.result
     c.loop-chains.invariant.drops low high c.trim-left.ensures.trimmed)
 
@@ -70,7 +66,7 @@ returns-else-at-len-clause-left c =
 
 pub returns-then-first-upto-clause-fewer : goal.returns-then-first-upto-clause-fewer
 returns-then-first-upto-clause-fewer c =
-    let same = ap length (put c) in
+    let same = ap length (put_back c.loop-chains.chains.items c.args.at c.nothing-blank.result c.trim-left.new.chain c.replace-chain.new.self.items c.replace.new.self.items c.replace-chain.ensures.items c.replace.ensures.items) in
     let all = as_long c.loop-chains.chains.items c.args.at c.trim-left.new.chain in
     let before = c.loop-chains.invariant.fewer in
     omega (arith, same, all, before)
@@ -79,7 +75,7 @@ pub returns-then-first-upto-clause-whole : goal.returns-then-first-upto-clause-w
 returns-then-first-upto-clause-whole c =
     let cs = c.loop-chains.chains.items in
     let l : c.args.at < length cs = omega (arith, c.if-at-len.true, c.len-2.ensures) in
-    let same = ap (λ (xs : List Chain). whole_in (map chain_of xs)) (put c) in
+    let same = ap (λ (xs : List Chain). whole_in (map chain_of xs)) (put_back c.loop-chains.chains.items c.args.at c.nothing-blank.result c.trim-left.new.chain c.replace-chain.new.self.items c.replace.new.self.items c.replace-chain.ensures.items c.replace.ensures.items) in
     let step = whole_set cs c.args.at c.replace-chain.result c.trim-left.new.chain l c.replace-chain.ensures.value in
     let less = c.trim-left.ensures.whole in
     let before = c.loop-chains.invariant.whole in
@@ -94,8 +90,8 @@ returns-then-first-upto-clause-passed c = λ n h.
     let y = c.trim-left.new.chain in
     let l : c.args.at < length cs = omega (arith, c.if-at-len.true, c.len-2.ensures) in
     let all = as_long cs c.args.at y in
-    let same = ap length (put c) in
-    subst (λ (xs : List Chain). AreOpen (n - (length c.args.chains.now.items - length c.replace.new.self.items)) (map chain_of xs)) (sym (put c))
+    let same = ap length (put_back c.loop-chains.chains.items c.args.at c.nothing-blank.result c.trim-left.new.chain c.replace-chain.new.self.items c.replace.new.self.items c.replace-chain.ensures.items c.replace.ensures.items) in
+    subst (λ (xs : List Chain). AreOpen (n - (length c.args.chains.now.items - length c.replace.new.self.items)) (map chain_of xs)) (sym (put_back c.loop-chains.chains.items c.args.at c.nothing-blank.result c.trim-left.new.chain c.replace-chain.new.self.items c.replace.new.self.items c.replace-chain.ensures.items c.replace.ensures.items))
     (open_less _ _ (map chain_of (set cs c.args.at y)) (kept_cut cs c.args.at _ c.replace-chain.result y l c.replace-chain.ensures.value c.trim-left.ensures.whole (c.loop-chains.invariant.passed n h))
     (omega (arith, all, same)))
 

@@ -4,14 +4,14 @@ use Rattle.std.proofs.lemmas.List.{set_at}
 use borrow.Rule.Slice.PartMut.{put_mid}
 use Rattle.byteorder.specs.Endian.{big_bytes}
 use Rattle.sctp_cookie.specs.CookieBody.{body_bytes, options_byte}
-use Rattle.sctp_cookie.specs.CookieTree.{body_meaning}
+use Rattle.sctp_cookie.specs.CookieTree.{content_meaning}
 use Rattle.sctp_cookie.proofs.Filling.{filled, filled_more}
 use Rattle.sctp_cookie.proofs.body.body_bytes.Goals as goal
 
 pub returns-clause-layout : goal.returns-clause-layout
 unfolding body_bytes
 returns-clause-layout c =
-    let b = c.args.body in
+    let b = c.args.content.body in
     let made = big_bytes 8 b.made in
     let bytes_made = c.write_u64.new.buf in
     let is_made : bytes_made ≡ filled made = c.write_u64.ensures in
@@ -42,7 +42,7 @@ returns-clause-layout c =
     let streams_from_caller = streams_to_caller ++ big_bytes 2 b.streams_from_caller in
     let bytes_streams_from_caller = put_mid 34 6 bytes_streams_to_caller c.write_u16-4.new.buf in
     let is_streams_from_caller : bytes_streams_from_caller ≡ filled streams_from_caller = filled_more 34 6 2 streams_to_caller (big_bytes 2 b.streams_from_caller) bytes_streams_to_caller c.write_u16-4.new.buf refl refl (omega arith) refl is_streams_to_caller c.write_u16-4.ensures in
-    rw (c.options_byte.ensures, is_streams_from_caller) (set_at streams_from_caller 0 (0 ∷ 0 ∷ 0 ∷ []) (options_byte (body_meaning b)) 36 refl)
+    rw (c.options_byte.ensures, is_streams_from_caller) (set_at streams_from_caller 0 (0 ∷ 0 ∷ 0 ∷ []) (options_byte (content_meaning c.args.content)) 36 refl)
 
 pub returns-clause-in_range : goal.returns-clause-in_range
 returns-clause-in_range c = record {

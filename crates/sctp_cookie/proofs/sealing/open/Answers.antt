@@ -1,23 +1,23 @@
-use Rattle.std.proofs.Common.{false, arith, ap, sym, ◌∙◌, subst, Result}
+use Rattle.std.proofs.Common.{false, ap, subst, sym, ◌∙◌, Result, Ok}
 use Rattle.sctp_model.specs.end.Sealing.{Body}
 use Rattle.sctp_cookie.specs.Opens.{Opened}
-use Rattle.sctp_cookie.specs.CookieTree.{opened_meaning}
 use Rattle.sctp_cookie.specs.declared.sealing.CookieFault.{CookieFault}
-use Rattle.sctp_cookie.proofs.Opening.{Opened-open_answer, open_answer-Opened, stale-opens}
+use Rattle.sctp_cookie.proofs.BodyRoundTrip.{without_reset}
 use Rattle.sctp_cookie.proofs.sealing.open.Goals as goal
+
+pub returns-clause-answer : goal.returns-clause-answer
+returns-clause-answer c =
+    let content = c.in_ok-content.content in
+    ap Ok (without_reset content c.in_ok-content.ensures.meaning.0.own.made) ∙ c.in_ok-content.ensures.answer
 
 pub returns-clause-meaning : goal.returns-clause-meaning
 returns-clause-meaning c =
     let a = c.args in
-    subst (λ (r : Result Body CookieFault). Opened false a.key.now a.bytes.now a.now a.ports a.tag r) (sym c.checked_body.ensures)
-    (open_answer-Opened false a.key.now a.bytes.now a.now a.ports a.tag (λ i. omega (arith, c.type_inv.bytes i)))
+    let content = c.in_ok-content.content in
+    subst (λ (r : Result Body CookieFault). Opened false a.key.now a.bytes.now a.now a.ports a.tag r) (sym (ap Ok (without_reset content c.in_ok-content.ensures.meaning.0.own.made)))
+    c.in_ok-content.ensures.meaning
 
 pub returns-clause-only : goal.returns-clause-only
 returns-clause-only c = λ outcome opened.
-    let a = c.args in
-    c.checked_body.ensures ∙ Opened-open_answer false a.key.now a.bytes.now a.now a.ports a.tag (λ i. omega (arith, c.type_inv.bytes i)) outcome opened
-
-pub returns-clause-stale : goal.returns-clause-stale
-returns-clause-stale c = λ microseconds stale.
-    let a = c.args in
-    stale-opens false a.key.now a.bytes.now a.now a.ports a.tag (λ i. omega (arith, c.type_inv.bytes i)) microseconds (sym c.checked_body.ensures ∙ ap opened_meaning stale)
+    let content = c.in_ok-content.content in
+    ap Ok (without_reset content c.in_ok-content.ensures.meaning.0.own.made) ∙ c.in_ok-content.ensures.only outcome opened

@@ -1,28 +1,11 @@
-use Rattle.std.proofs.Common.{◌≡◌, Bool, true, false, refl, sym, ◌∙◌}
-use Rattle.sctp_cookie.specs.CookieBody.{body_bytes}
+use Rattle.std.proofs.Common.{◌≡◌, Bool, true, false, refl}
 use Rattle.sctp_cookie.specs.CookieTree.{body_meaning}
-use Rattle.sctp_cookie.specs.Hmac.{hmac}
-use Rattle.sctp_cookie.specs.Opens.{is_made, sealed}
-use Rattle.sctp_cookie.proofs.BodyRoundTrip.{length-body_bytes}
-use Rattle.sctp_cookie.proofs.Filling.{placed_behind}
-use Rattle.sctp_cookie.proofs.Opening.{sealed-one, sealed-opens}
+use Rattle.sctp_cookie.specs.Opens.{is_made}
 use Rattle.sctp_cookie.proofs.sealing.seal.Goals as goal
 
-pub returns-clause-sealed : goal.returns-clause-sealed
-unfolding sealed
-returns-clause-sealed c =
-    let body = body_meaning c.args.body.now in
-    rw (c.copy_from_slice.ensures.after, c.copy_from_slice-2.ensures.after, c.hmac_sha256.ensures, c.as_bytes.ensures, c.body_bytes-body.ensures.layout)
-    (placed_behind (body_bytes body) (hmac c.args.key.now (body_bytes body)) (length-body_bytes body))
-
 pub returns-clause-opens : goal.returns-clause-opens
-returns-clause-opens c = λ resets now young.
-    rw (returns-clause-sealed c) (sealed-opens resets c.args.key.now now (body_meaning c.args.body.now) c.body_bytes-body.ensures.in_range (all resets) young)
+returns-clause-opens c = λ resets now young. c.seal_content.ensures.opens resets now (all resets) young
   where
     all : (r : Bool) → is_made r (body_meaning c.args.body.now) ≡ true
     all true = refl
     all false = refl
-
-pub returns-clause-one : goal.returns-clause-one
-returns-clause-one c = λ other other_in_range same.
-    sealed-one c.args.key.now (body_meaning c.args.body.now) other c.body_bytes-body.ensures.in_range other_in_range (sym (returns-clause-sealed c) ∙ same)

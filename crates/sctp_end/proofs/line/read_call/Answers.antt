@@ -27,5 +27,8 @@ returns-in-Abandoned c = rw c.in-Abandoned.is c.read_abandoned.ensures
 pub returns-in-Take : goal.returns-in-Take
 returns-in-Take c = rw c.in-Take.is c.read_take.ensures
 
+pub returns-in-Reset : goal.returns-in-Reset
+returns-in-Reset c = rw c.in-Reset.is c.read_reset.ensures
+
 pub returns-in-Abort : goal.returns-in-Abort
 returns-in-Abort c = rw c.in-Abort.is c.read_abort.ensures

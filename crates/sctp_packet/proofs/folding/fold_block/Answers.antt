@@ -19,7 +19,7 @@ returns-clause-here c = λ k few.
     let split = c.split_at_mut-before.ensures in
     joined_here front c.set_block.new.block _ (216 + at) k split.front_len c.set_block.ensures.length few
     ∙ (c.set_block.ensures.set k few
-    ∙ block_of c.args.register c.args.bytes.now c.args.room.now _ _ at k few (λ j lt. part_byte c.args.bytes.now at (at + 32 - at) j (omega (arith, lt)))
+    ∙ block_of c.args.bytes.now c.args.room.now _ _ at k few (λ j lt. part_byte c.args.bytes.now at (at + 32 - at) j (omega (arith, lt)))
     (λ j lt. part_byte front at (length front - at) j (omega (arith, lt, split.front_len)) ∙ split.by_index.0 (at + j) 0 (omega (arith, lt))))
 
 pub returns-clause-behind : goal.returns-clause-behind

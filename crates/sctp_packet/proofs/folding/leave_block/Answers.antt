@@ -1,8 +1,5 @@
-use Rattle.std.proofs.Common.{ℕ, ◌+◌, ◌-◌, arith, ◌∙◌, ap, bit_xor, slice_index}
+use Rattle.std.proofs.Common.{◌+◌, ◌-◌, arith, ◌∙◌}
 use Rattle.std.proofs.lemmas.Grind.{common_steps}
-use Rattle.std.specs.Int.Bits.{xor_zero_r}
-use Rattle.sctp_packet.specs.Folding.{reaching}
-use Rattle.sctp_packet.proofs.RoomLemmas.{byte_none}
 use Rattle.sctp_packet.proofs.BlockLemmas.{part_byte, block_of, written_here}
 use Rattle.sctp_packet.proofs.folding.leave_block.Goals as goal
 
@@ -10,11 +7,9 @@ pub returns-clause-here : goal.returns-clause-here
 returns-clause-here c = λ k few.
     let from = c.args.from in
     let at = c.args.at in
-    let byte = slice_index c.args.bytes.now (from + k) in
     written_here at (at + 32 - at) k c.args.left.now c.set_block.new.block c.requires.left c.set_block.ensures.length few
     ∙ (c.set_block.ensures.set k few
-    ∙ (block_of 0 c.args.bytes.now c.args.room.now _ _ from k few (λ j lt. part_byte c.args.bytes.now from (from + 32 - from) j (omega (arith, lt))) (λ j lt. part_byte c.args.room.now from (from + 216 - from) j (omega (arith, lt)))
-    ∙ ap (λ (b : ℕ). bit_xor b (reaching c.args.room.now (216 + from + k))) (ap (bit_xor byte) (byte_none k) ∙ xor_zero_r byte)))
+    ∙ block_of c.args.bytes.now c.args.room.now _ _ from k few (λ j lt. part_byte c.args.bytes.now from (from + 32 - from) j (omega (arith, lt))) (λ j lt. part_byte c.args.room.now from (from + 216 - from) j (omega (arith, lt))))
 
 pub returns-clause-before : goal.returns-clause-before
 returns-clause-before c = grind (arith, common_steps)

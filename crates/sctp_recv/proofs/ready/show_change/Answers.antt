@@ -21,4 +21,4 @@ returns-else-waited-waits g c = λ old h long but waited waits.
     (waits ∙ ap (λ (b : Bool). if b then 1 else 0) same)
 
 pub returns-then-waited-waits : goal.returns-then-waited-waits
-returns-then-waited-waits g c = λ old h long but waited waits. c.show.ensures old h long but
+returns-then-waited-waits g c = λ old h long but waited waits. c.show_as.ensures old h long but waits

@@ -6,18 +6,23 @@ use Rattle.sctp_reconfig.specs.Meanings.{parameter_meaning}
 use Rattle.sctp_recv.specs.Requests.{requested, all_requested}
 use Rattle.sctp_recv.specs.Resets.{resets_of}
 use Rattle.sctp_recv.proofs.ResetLemmas.{keeps_resets}
-use Rattle.sctp_recv.proofs.RequestLemmas.{requested_else, kept_before}
+use Rattle.sctp_recv.proofs.RequestLemmas.{requested_else}
 use Rattle.sctp_recv.proofs.requests.on_parameters.Goals as goal
 
 pub loop-parameter-init : goal.loop-parameter-init
-loop-parameter-init g c = record {
-  space = λ had. had;
-  stands = λ k v t before. (
-    v.resets,
-    kept_before g.F.Framing.format c.args.streams.now c.args.cumulative c.args.limit c.args.resets.now k v t before,
-    ap (λ (ps : List ParameterMeaning). all_requested c.args.limit t v ps) c.into_iter-parameter-iterator.ensures.into_iter_gives,
-  );
-}
+loop-parameter-init g c =
+    let limit = c.args.limit in
+    let p = parameter_meaning c.args.first in
+    let given = c.into_iter-parameter-iterator.ensures.into_iter_gives in
+    record {
+      space = c.on_parameter.ensures.space;
+      stands = λ k v t before. (
+        (requested limit t v p).resets,
+        c.on_parameter.ensures.stands k v t before,
+        ap (λ (u : ReceiverView). all_requested limit t u c.into_iter-parameter-iterator.result) (sym (requested_else limit t v p))
+            ∙ ap (λ (ps : List ParameterMeaning). all_requested limit t (requested limit t v p) ps) given,
+      );
+    }
 
 pub loop-parameter-preserved : goal.loop-parameter-preserved
 loop-parameter-preserved g c =
@@ -29,11 +34,11 @@ loop-parameter-preserved g c =
     let inv = c.loop-parameter.invariant in
     let rest : c.loop-parameter.parameter-iterator ≡ p ∷ left = grind (arith, common_steps) in
     record {
-      space = λ had. c.on_parameter.ensures.space (inv.space had);
+      space = λ had. c.on_parameter-in-loop-parameter.ensures.space (inv.space had);
       stands = λ k v t before.
           let m = inv.stands k v t before in
           let w : ReceiverView = record v { resets = m.0 } in
-          let step = c.on_parameter.ensures.stands (record k { resets = Some (resets_of own) }) w t (record {
+          let step = c.on_parameter-in-loop-parameter.ensures.stands (record k { resets = Some (resets_of own) }) w t (record {
             keeps = keeps_resets f k v (Some (resets_of own)) m.0 before.keeps m.1;
             resets = refl;
             streams = before.streams;

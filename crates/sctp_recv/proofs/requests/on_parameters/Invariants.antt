@@ -1,6 +1,7 @@
-use Rattle.std.proofs.Common.{◌≡◌, ℕ, Some}
+use Rattle.std.proofs.Common.{◌≡◌, ℕ, ◌∷◌, Some}
 use Rattle.sctp_model.specs.receiver.Incoming.{Incoming}
 use Rattle.sctp_model.specs.receiver.ReceiverView.{ReceiverView}
+use Rattle.sctp_reconfig.specs.Meanings.{parameter_meaning}
 use Rattle.sctp_recv.specs.ReceiverKept.{ReceiverKept}
 use Rattle.sctp_recv.specs.Requests.{all_requested}
 use Rattle.sctp_recv.specs.Resets.{resets_of, KeepsResets}
@@ -14,5 +15,5 @@ invariant-loop-parameter g l = record {
   space : HasSpace l.limit l.fn.resets → HasSpace l.limit l.resets;
   stands : (k : ReceiverKept) (v : ReceiverView) (c : ℕ) → IsBefore g.F.Framing.format l.streams l.cumulative l.limit l.fn.resets k v c →
       (x : Incoming) × KeepsResets g.F.Framing.format (Some (resets_of l.resets)) v.initial v.streams v.taken x
-      × (all_requested l.limit c (record v { resets = x }) l.parameter-iterator ≡ all_requested l.limit c v l.fn.parameters);
+      × (all_requested l.limit c (record v { resets = x }) l.parameter-iterator ≡ all_requested l.limit c v (parameter_meaning l.fn.first ∷ l.fn.others));
 }

@@ -12,7 +12,7 @@ returns-in_default c = λ v stands. at_view _ _ _ (rested_shut v.phase (drained 
 pub returns-then-is_established : goal.returns-then-is_established
 unfolding MachineStands
 returns-then-is_established c = λ v stands.
-    at_view _ _ _ (rested_established v _ _ (c.in-Some.ensures v stands) (sym c.is_established.ensures ∙ c.if-is_established.true)) stands
+    at_view _ _ _ (rested_established v _ _ (c.in-Some.ensures v stands) (sym c.is_established.ensures.established ∙ c.if-is_established.true)) stands
 
 pub returns : goal.returns
 returns c = λ v stands. c.advance_closing_in.ensures v _ stands (c.in-Some.ensures v stands)

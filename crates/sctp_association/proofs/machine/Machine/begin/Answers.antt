@@ -5,7 +5,7 @@ use Rattle.sctp_model.specs.end.EndView.{EndView}
 use Rattle.sctp_model.specs.end.EndView as model
 use Rattle.sctp_model.specs.end.Clock.{due_in, turned, measured}
 use Rattle.sctp_model.specs.end.Opening.{joined, begun, tags_of_body, terms_of_body}
-use Rattle.sctp_cookie.specs.CookieTree.{body_meaning}
+use Rattle.sctp_cookie.specs.CookieTree.{content_meaning}
 use Rattle.sctp_association.specs.MachineStands.{MachineStands}
 use Rattle.sctp_association.proofs.MachineLemmas.{at_view}
 use Rattle.sctp_association.proofs.JoinLemmas.{joined_there}
@@ -14,7 +14,7 @@ use Rattle.sctp_association.proofs.machine.Machine.begin.Goals as goal
 pub returns-clause-step : goal.returns-clause-step
 unfolding MachineStands
 returns-clause-step c = λ v stands.
-    let b = body_meaning c.args.body.now in
+    let b = content_meaning c.args.content.now in
     let t = tags_of_body b in
     let d : model.Due = record (due_in (model.Open t model.Established) v.due) { cookie_ack = true } in
     let x : EndView = record (turned (model.Open t model.Established) (joined (terms_of_body b) b.rwnd v)) { due = d } in

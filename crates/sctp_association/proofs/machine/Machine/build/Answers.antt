@@ -11,7 +11,7 @@ returns-then-is_plain-clause-built c = λ v stands.
     let clock : n ≡ max v.moment c.args.now = c.max-moment.ensures ∙ ap (λ (m : ℕ). max m c.args.now) stands.clock in
     let plain = c.is_plain.ensures v stands c.if-is_plain.true in
     subst (λ (m : ℕ). IfOk c.build_plain.result (λ built. BuildAnswer (record v { moment = m }) built c.build_plain.new.self)) clock
-    (c.build_plain.ensures.built v plain.0 plain.1 stands plain.2 plain.3)
+    (c.build_plain.ensures.built v plain.0 plain.1 stands plain.2 plain.3 plain.4)
 
 pub returns-clause-built : goal.returns-clause-built
 unfolding MachineStands

@@ -1,14 +1,22 @@
-use Rattle.sctp_association.proofs.BuildLemmas.{answered}
+use Rattle.std.proofs.Common.{Ok}
+use Rattle.sctp_model.specs.end.Reconfiguring.{asking_now}
+use Rattle.sctp_values.specs.declared.no_memory.NoMemory.{NoMemory}
+use Rattle.sctp_association.specs.MachineStands.{MachineStands}
+use Rattle.sctp_association.proofs.AskLemmas.{asks_once, built_asked}
 use Rattle.sctp_association.proofs.ReportLemmas.{on_err}
 use Rattle.sctp_association.proofs.machine.Machine.build_any.Goals as goal
 
-pub returns-in_err-filled-clause-memory : goal.returns-in_err-filled-clause-memory
-returns-in_err-filled-clause-memory c = λ v stands. on_err _ _ (c.in_err-filled.ensures.memory v (c.packing-packing.ensures.keeps v (c.keep_forward.ensures v stands)))
+pub returns-in_err-asked-clause-memory : goal.returns-in_err-asked-clause-memory
+returns-in_err-asked-clause-memory c = λ v stands. on_err _ _ (c.in_err-asked.ensures.memory v stands)
 
-pub returns-clause-built : goal.returns-clause-built
-returns-clause-built c = λ v stands.
-    let n = c.args.moment in
-    let kept = c.keep_forward.ensures v stands in
-    let packed = c.in_ok-filled.ensures.packed v (c.packing-packing.ensures.keeps v kept) (c.packing-packing.ensures.empty v n kept) in
-    answered (record v { moment = n }) packed.0 c.pack.new.self.pace c.sent.result c.sent.new.self c.pack.new.packing c.in_ok-filled.filled packed.1
-    c.sent.ensures.packet c.sent.ensures.size c.sent.ensures.within c.sent.ensures.tickets c.sent.ensures.sendings (c.sent.ensures.stands (record v { sender = packed.0; pace = c.pack.new.self.pace }) packed.2)
+pub returns-in-Ok-clause-built : goal.returns-in-Ok-clause-built
+returns-in-Ok-clause-built c = λ v stands.
+    let made = c.in_ok-asked.ensures.asked v stands in
+    let a = c.in_ok-asked.asked in
+    built_asked {E = NoMemory} (Ok c.in-Ok.built) v c.args.moment a c.build_asked.new.self made.0 (c.in-Ok.ensures.built (asking_now a v) made.1 (asks_once v a made.0))
+
+pub returns-in-Err-clause-memory : goal.returns-in-Err-clause-memory
+unfolding MachineStands
+returns-in-Err-clause-memory c = λ v stands.
+    let made = c.in_ok-asked.ensures.asked v stands in
+    c.take_back.ensures v (c.in-Err.ensures.memory (asking_now c.in_ok-asked.asked v) made.1) made.0 stands.due.request

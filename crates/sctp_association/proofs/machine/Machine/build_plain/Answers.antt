@@ -15,11 +15,11 @@ returns-in_err-plain-clause-memory c = λ v stands. on_err _ _ (c.in_err-plain.e
 
 pub returns-clause-built : goal.returns-clause-built
 unfolding MachineStands
-returns-clause-built c = λ v t g stands phase plain.
+returns-clause-built c = λ v t g stands phase plain calm.
     let e : EndView = record v { moment = c.args.moment } in
     let d = c.args.self.now.due in
     let before = c.empty_packet-writer.ensures.keeps v stands in
-    let packed = c.in_ok-plain.ensures.packed v t g before phase (still_plain _ _ v.due c.empty_packet-writer.ensures.kept plain)
+    let packed = c.in_ok-plain.ensures.packed v t g before phase (still_plain _ _ v.due c.empty_packet-writer.ensures.kept plain) calm
     (plain_empty v c.args.moment _ c.empty_packet-writer.result (c.empty_packet-writer.ensures.empty v stands) before.due) in
     let p = c.in_ok-plain.plain in
     let same : c.pack_plain.new.self.due ≡ c.empty_packet-writer.new.self.due = ap (λ (m : Machine). m.due) c.in_ok-plain.ensures.kept in

@@ -26,7 +26,7 @@ returns c =
         traffic = subst (λ (x : model.Terms). TrafficStands c.in_ok-traffic.traffic (format_for x.interleave)
             (fresh_sender x.own_tsn x.outbound config.fragment config.buffer x.partial) (fresh_receiver x.peer_tsn x.inbound config.buffer)) c.alike-terms.ensures begins;
         buffer = refl;
-        answers = refl;
+        answers = λ off. refl;
       };
       room = rw c.new.ensures.capacity (omega arith);
       pace = rw c.buffer-2.ensures.exact at c.pace_for-pace.ensures;

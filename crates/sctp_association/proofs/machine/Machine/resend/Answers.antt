@@ -20,3 +20,7 @@ returns-in-Shutdown c = λ v stands. rw c.in-Shutdown.is (with_due _ v _ _ stand
 pub returns-in-ShutdownAck : goal.returns-in-ShutdownAck
 unfolding MachineStands
 returns-in-ShutdownAck c = λ v stands. rw c.in-ShutdownAck.is (with_due _ v _ _ stands (c.owe_shutdown_ack.ensures v.due stands.due))
+
+pub returns-in-Reset : goal.returns-in-Reset
+unfolding MachineStands
+returns-in-Reset c = λ v stands. rw c.in-Reset.is (with_due _ v _ _ stands (c.owe_request.ensures v.due stands.due))

@@ -18,7 +18,7 @@ returns-then-not-is_established-clause-answer c = λ v stands. sym (ap shutdown_
 pub returns-then-not-is_established-clause-step : goal.returns-then-not-is_established-clause-step
 unfolding MachineStands
 returns-then-not-is_established-clause-step c = λ v stands.
-    at_view _ _ _ (shut_begun v _ _ (c.in-Some.ensures v stands) (sym c.is_established.ensures ∙ c.if-not-is_established.true)) stands
+    at_view _ _ _ (shut_begun v _ _ (c.in-Some.ensures v stands) (sym c.is_established.ensures.established ∙ c.if-not-is_established.true)) stands
 
 pub returns-clause-answer : goal.returns-clause-answer
 returns-clause-answer c = λ v stands. sym (ap shutdown_answer (c.in-Some.ensures v stands))
@@ -27,4 +27,4 @@ pub returns-clause-step : goal.returns-clause-step
 unfolding MachineStands
 returns-clause-step c = λ v stands.
     let phase = c.in-Some.ensures v stands in
-    at_view _ _ _ (shut_first v _ _ phase (sym c.is_established.ensures ∙ c.if-not-is_established.false)) (c.advance_closing.ensures _ (c.turn.ensures v _ _ stands phase))
+    at_view _ _ _ (shut_first v _ _ phase (sym c.is_established.ensures.established ∙ c.if-not-is_established.false)) (c.advance_closing.ensures _ (c.turn.ensures v _ _ stands phase))

@@ -33,6 +33,12 @@ returns-in-abandoned c = grind (arith, elements)
 pub returns-in-take : goal.returns-in-take
 returns-in-take c = grind (arith, common_steps)
 
+pub returns-in-reset : goal.returns-in-reset
+returns-in-reset c = grind (arith, common_steps)
+
+pub returns-in-resets : goal.returns-in-resets
+returns-in-resets c = grind (arith, elements)
+
 pub returns-in-shutdown : goal.returns-in-shutdown
 returns-in-shutdown c = grind (arith, elements)
 

@@ -34,6 +34,12 @@ returns-in-Abandoned c = rw c.in-Abandoned.is c.abandoned.ensures
 pub returns-in-Take : goal.returns-in-Take
 returns-in-Take c = rw c.in-Take.is c.take.ensures
 
+pub returns-in-Reset : goal.returns-in-Reset
+returns-in-Reset c = rw c.in-Reset.is c.reset.ensures
+
+pub returns-in-Resets : goal.returns-in-Resets
+returns-in-Resets c = rw c.in-Resets.is c.resets.ensures
+
 pub returns-in-Shutdown : goal.returns-in-Shutdown
 returns-in-Shutdown c = rw c.in-Shutdown.is c.shutdown.ensures
 

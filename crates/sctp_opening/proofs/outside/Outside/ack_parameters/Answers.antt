@@ -6,7 +6,7 @@ use Rattle.sctp_model.specs.end.Options.{STATE_COOKIE, own_options, reports_of}
 use Rattle.sctp_model.specs.end.Reports.{item}
 use Rattle.sctp_model.specs.end.Opening.{body_for}
 use Rattle.sctp_wire.specs.ChunkTree.{init_meaning}
-use Rattle.sctp_cookie.specs.CookieTree.{body_meaning}
+use Rattle.sctp_cookie.specs.CookieTree.{content_meaning}
 use Rattle.sctp_opening.specs.inner.Fitting.{all_within}
 use Rattle.sctp_opening.proofs.FittingLemmas.{all_stay_within}
 use Rattle.sctp_opening.proofs.ListLemmas.{empty_list, front_short}
@@ -17,10 +17,10 @@ pub returns-clause-exact : goal.returns-clause-exact
 returns-clause-exact c = λ s e under at.
     let o = c.args.self.now in
     let m = init_meaning c.args.offer.now in
-    let cookie : c.seal-cookie.result ≡ s.sealed (body_for e o.draw m)
-    = c.seal-cookie.ensures.sealed ∙ sym (under.seals (body_meaning c.cookie_body.result)) ∙ ap s.sealed (c.cookie_body.ensures e at) in
+    let cookie : c.seal_content-cookie.result ≡ s.sealed (body_for e o.draw m)
+    = c.seal_content-cookie.ensures.sealed ∙ sym (under.seals (content_meaning c.cookie_content.result)) ∙ ap s.sealed (c.cookie_content.ensures e at) in
     let first = c.in_ok-put_parameter.ensures.writes [] (rw c.new-list.ensures.items empty_list) in
-    let w : WritesTyped c.put_options.new.list.items (item STATE_COOKIE c.seal-cookie.result ∷ own_options o.config) = c.in_ok-put_options.ensures _ first in
+    let w : WritesTyped c.put_options.new.list.items (item STATE_COOKIE c.seal_content-cookie.result ∷ own_options o.config) = c.in_ok-put_options.ensures _ first in
     let most = c.room_behind.result in
     let reports = reports_of (parameters_reported (typed_in c.args.offer.now.parameters)) in
     let bytes : c.put_reports.new.list.items ≡ all_within most (written_typed (item STATE_COOKIE (s.sealed (body_for e o.draw m)) ∷ own_options e.configuration)) reports
@@ -37,11 +37,11 @@ pub returns-clause-room : goal.returns-clause-room
 returns-clause-room c =
     let o = c.args.self.now in
     let first = c.in_ok-put_parameter.ensures.writes [] (rw c.new-list.ensures.items empty_list) in
-    let w : WritesTyped c.put_options.new.list.items (item STATE_COOKIE c.seal-cookie.result ∷ own_options o.config) = c.in_ok-put_options.ensures _ first in
+    let w : WritesTyped c.put_options.new.list.items (item STATE_COOKIE c.seal_content-cookie.result ∷ own_options o.config) = c.in_ok-put_options.ensures _ first in
     let most = c.room_behind.result in
     let reports = reports_of (parameters_reported (typed_in c.args.offer.now.parameters)) in
-    let size : length c.seal-cookie.result ≡ 72 = omega arith in
-    let base : length c.put_options.new.list.items ≤ most = rw w.bytes_are (let h = front_short o.config c.seal-cookie.result size in omega (arith, c.room_behind.ensures.least)) in
+    let size : length c.seal_content-cookie.result ≡ 72 = omega arith in
+    let base : length c.put_options.new.list.items ≤ most = rw w.bytes_are (let h = front_short o.config c.seal_content-cookie.result size in omega (arith, c.room_behind.ensures.least)) in
     let n = length c.put_reports.new.list.items in
     let few : n ≤ most = rw c.in_ok-put_reports.ensures.bytes (all_stay_within most c.put_options.new.list.items reports base) in
     leb-true _ _ (c.room_behind.ensures.exact n ∙ le-leb _ _ few)

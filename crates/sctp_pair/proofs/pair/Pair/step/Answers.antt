@@ -89,6 +89,22 @@ returns-in-Take-clause-step c = λ w stands.
     let step = s.1 in
     (e, s.0, means, step, promised_step c.a_run_passes_its_worlds.ensures.passes_on c.each_world_on_the_way_is_safe.ensures c.users_take_what_was_sent.ensures w s.0 e _ step, s.2)
 
+pub returns-in-Reset-clause-step : goal.returns-in-Reset-clause-step
+returns-in-Reset-clause-step c = λ w stands.
+    let s = c.reset.ensures.step w stands in
+    let e : meaning.Event = meaning.Reset (side_meaning c.in-Reset.side) c.in-Reset.stream in
+    let means : Means c.args.event.now e = rw c.in-Reset.is refl in
+    let step = s.1 in
+    (e, s.0, means, step, promised_step c.a_run_passes_its_worlds.ensures.passes_on c.each_world_on_the_way_is_safe.ensures c.users_take_what_was_sent.ensures w s.0 e _ step, s.2)
+
+pub returns-in-WasReset-clause-step : goal.returns-in-WasReset-clause-step
+returns-in-WasReset-clause-step c = λ w stands.
+    let s = c.was_reset.ensures w stands in
+    let e : meaning.Event = meaning.WasReset (side_meaning c.in-WasReset.side) in
+    let means : Means c.args.event.now e = rw c.in-WasReset.is refl in
+    let step = s.1 in
+    (e, s.0, means, step, promised_step c.a_run_passes_its_worlds.ensures.passes_on c.each_world_on_the_way_is_safe.ensures c.users_take_what_was_sent.ensures w s.0 e _ step, s.2)
+
 pub returns-in-Shutdown-clause-step : goal.returns-in-Shutdown-clause-step
 returns-in-Shutdown-clause-step c = λ w stands.
     let s = c.shutdown.ensures w stands in
@@ -139,6 +155,11 @@ pub returns-in-Take-clause-memory : goal.returns-in-Take-clause-memory
 returns-in-Take-clause-memory c = λ w e stands means.
     let is : e ≡ meaning.Take (side_meaning c.in-Take.side) c.in-Take.stream = rw c.in-Take.is at means in
     meant_takes w _ e _ is (c.take.ensures.memory w stands)
+
+pub returns-in-Reset-clause-memory : goal.returns-in-Reset-clause-memory
+returns-in-Reset-clause-memory c = λ w e stands means.
+    let is : e ≡ meaning.Reset (side_meaning c.in-Reset.side) c.in-Reset.stream = rw c.in-Reset.is at means in
+    meant_takes w _ e _ is (c.reset.ensures.memory w stands)
 
 pub returns-in-Build-clause-memory : goal.returns-in-Build-clause-memory
 returns-in-Build-clause-memory c = λ w e stands means.

@@ -24,4 +24,5 @@ returns-clause-step g c = λ v stands.
     let keeps = subst (λ (k : Kept). Keeps f k v) (sym c.self.view_is) stands in
     let own = subst (λ (n : ℕ). AreResets n s.told.resets v.resets) (sym keeps.holds.streams) keeps.resets in
     let made = subst (λ (n : ℕ). AreResets n c.make.new.self v.resets) keeps.holds.streams (c.make.ensures.same v.resets own) in
-    keeps_resets f _ v s.told.forward c.shut.new.self _ keeps (c.shut.ensures v.streams v.resets c.in_ok-make.ensures.there made) keeps.forward
+    let shut = c.shut.ensures v.streams v.resets c.in_ok-make.ensures.there made in
+    keeps_resets f _ v s.told.forward c.note.new.self _ keeps (c.note.ensures v.streams _ shut) keeps.forward

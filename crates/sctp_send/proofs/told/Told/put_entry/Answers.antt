@@ -1,14 +1,9 @@
-use Rattle.std.proofs.Common.{suc, ◌+◌, ◌∷◌, [], ◌++◌, List, Some, refl, sym, ap, ◌∙◌, arith}
-use Rattle.sctp_send.specs.PartsKept.{OutstandingKept}
-use Rattle.sctp_send.specs.OutstandingFields.{item_meaning, lane_meaning, message_meaning, entry_meaning}
+use Rattle.std.proofs.Common.{suc, ◌+◌, Some, refl, sym, ◌∙◌}
+use Rattle.sctp_send.specs.OutstandingFields.{lane_meaning, message_meaning, entry_meaning}
 use Rattle.sctp_send.specs.ResetsKept.{base_of}
-use Rattle.sctp_send.specs.declared.kept.entry.State.{State}
-use Rattle.sctp_send.specs.declared.stock.Change.{Change}
-use Rattle.sctp_send.specs.declared.stock.Change.TheVariants.{Out}
-use Rattle.sctp_send.proofs.fill.BehindLemmas.{out_behind}
-use Rattle.sctp_send.proofs.fill.NewMayLemmas.{length_read, on_err}
-use Rattle.sctp_send.proofs.fill.PutLemmas.{entry_put, entry_stops, entry_refused, sent_stock}
-use Rattle.sctp_send.specs.inner.Stocking.{bare, IsRefused}
+use Rattle.sctp_send.proofs.fill.NewMayLemmas.{length_read}
+use Rattle.sctp_send.proofs.fill.PutLemmas.{entry_stops}
+use Rattle.sctp_send.specs.inner.Stocking.{bare}
 use Rattle.sctp_send.proofs.told.Told.put_entry.Goals as goal
 
 pub returns-then-not-fits-clause-put : goal.returns-then-not-fits-clause-put
@@ -21,51 +16,12 @@ returns-then-not-fits-clause-put g c = λ v k premise.
     let room = c.fits.ensures (base_of s.resets) s.initial (suc (s.cum + c.args.at)) e (Some (message_meaning s.fragment m)) long in
     entry_stops g.F.Framing.format s v c.args.packet.now c.args.packet.now c.args.stock.now c.args.stock.now c.args.at x k premise c.requires.within c.get-entry.ensures (sym room ∙ c.if-not-fits.true) refl refl refl
 
-pub returns-in_err-map_err-clause-refused : goal.returns-in_err-map_err-clause-refused
-returns-in_err-map_err-clause-refused g c = λ v k premise.
+pub returns-clause-refused : goal.returns-clause-refused
+returns-clause-refused g c = λ v k premise.
     let s = bare c.args.self.now in
     let x = c.get-entry.result.now in
     let m = x.message.value in
     let e = entry_meaning (lane_meaning m) x.number x.content in
     let long = length_read c.args.self.now.fragment s.fragment c.bytes_of-bytes.result.now e c.deref.result.now m refl c.deref.ensures (c.bytes_of-bytes.ensures (lane_meaning m) x.number) in
     let room = c.fits.ensures (base_of s.resets) s.initial (suc (s.cum + c.args.at)) e (Some (message_meaning s.fragment m)) long in
-    on_err (IsRefused g.F.Framing.format v c.args.packet.now c.args.packet.now) _
-    (entry_refused g.F.Framing.format s v c.args.packet.now c.args.packet.now c.args.stock.now c.args.at x k premise c.requires.within c.get-entry.ensures (sym room ∙ c.if-not-fits.false) refl)
-
-pub returns-in_err-put-clause-refused : goal.returns-in_err-put-clause-refused
-returns-in_err-put-clause-refused g c = λ v k premise.
-    let s = bare c.args.self.now in
-    let x = c.get-entry.result.now in
-    let m = x.message.value in
-    let e = entry_meaning (lane_meaning m) x.number x.content in
-    let long = length_read c.args.self.now.fragment s.fragment c.bytes_of-bytes.result.now e c.deref.result.now m refl c.deref.ensures (c.bytes_of-bytes.ensures (lane_meaning m) x.number) in
-    let room = c.fits.ensures (base_of s.resets) s.initial (suc (s.cum + c.args.at)) e (Some (message_meaning s.fragment m)) long in
-    on_err (IsRefused g.F.Framing.format v c.args.packet.now c.put_at.new.packet) _
-    (entry_refused g.F.Framing.format s v c.args.packet.now c.put_at.new.packet c.args.stock.now c.args.at x k premise c.requires.within c.get-entry.ensures (sym room ∙ c.if-not-fits.false) c.in_err-put.ensures.unchanged)
-
-pub returns-then-put-clause-put : goal.returns-then-put-clause-put
-returns-then-put-clause-put g c = λ v k premise.
-    let s = bare c.args.self.now in
-    let x = c.get-entry.result.now in
-    entry_put g.F.Framing.format s v c.args.packet.now c.put_at.new.packet c.args.stock.now _ c.args.at x c.in_ok-put.put k premise c.requires.within c.get-entry.ensures
-    (c.in_ok-put.ensures.tried (item_meaning s.fragment x))
-    (λ is. (sent_stock s c.args.stock.now c.send_out.new.outstanding c.args.at x c.get-entry.ensures c.send_out.ensures, refl)) (λ is. let on = c.if-put.true in absurd (cc))
-
-pub returns-then-put-clause-behind : goal.returns-then-put-clause-behind
-returns-then-put-clause-behind g c =
-    let old = c.args.stock.now in
-    let x = c.get-entry.result.now in
-    let noted = c.note.ensures.items ∙ ap (λ (cs : List Change). cs ++ Out c.args.at c.state-state.result ∷ []) c.reserve.ensures.items ∙ ap (λ (y : State). old.log.items ++ Out c.args.at y ∷ []) c.state-state.ensures in
-    let room = ap (λ (w : OutstandingKept). w.capacity) c.send_out.ensures in
-    record {
-      origin = out_behind old c.note.new.log.items c.send_out.new.outstanding.items c.args.at x c.get-entry.ensures noted (ap (λ (w : OutstandingKept). w.items) c.send_out.ensures);
-      room = record { window = ap (λ (w : OutstandingKept). w.size) c.send_out.ensures; queue = refl; tracks = refl; entries = omega (arith, room); messages = omega arith };
-    }
-
-pub returns-else-put-clause-put : goal.returns-else-put-clause-put
-returns-else-put-clause-put g c = λ v k premise.
-    let s = bare c.args.self.now in
-    let x = c.get-entry.result.now in
-    entry_put g.F.Framing.format s v c.args.packet.now c.put_at.new.packet c.args.stock.now _ c.args.at x c.in_ok-put.put k premise c.requires.within c.get-entry.ensures
-    (c.in_ok-put.ensures.tried (item_meaning s.fragment x))
-    (λ is. let off = c.if-put.false in absurd (cc)) (λ is. (refl, refl))
+    c.put_out.ensures.refused v x k premise c.get-entry.ensures (sym room ∙ c.if-not-fits.false)

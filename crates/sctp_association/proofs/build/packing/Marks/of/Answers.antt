@@ -14,8 +14,10 @@ returns-clause-same c = λ v stands.
       causes = true;
       sack = d.sack;
       forward = d.forward;
+      answers = true;
+      request = d.request;
       shutdown = d.shutdown;
       shutdown_ack = d.shutdown_ack;
       starts = c.none.result;
     } in
-    drafted_same m v (due_same m v.due stands.init stands.cookie_echo stands.cookie_ack refl refl stands.sack stands.forward stands.shutdown stands.shutdown_ack) stands.sack c.none.ensures
+    drafted_same m v (due_same m v.due stands.init stands.cookie_echo stands.cookie_ack refl refl stands.sack stands.forward stands.request stands.shutdown stands.shutdown_ack) stands.sack refl c.none.ensures

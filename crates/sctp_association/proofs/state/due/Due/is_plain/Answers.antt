@@ -12,6 +12,7 @@ returns-in-None c = λ d stands is.
       heartbeat = none_left true d.heartbeat (sym stands.heartbeat ∙ ap (option_map info_bytes) c.in-None.is);
       causes = no_causes_left true d.causes (sym (ap length stands.causes.bytes_are) ∙ none);
       forward = c.if-self-2.false;
-      shutdown = c.if-self-3.false;
-      shutdown_ack = c.if-self-4.false;
+      request = c.if-self-3.false;
+      shutdown = c.if-self-4.false;
+      shutdown_ack = c.if-self-5.false;
     }

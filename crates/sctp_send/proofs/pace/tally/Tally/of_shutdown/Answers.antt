@@ -1,7 +1,7 @@
 use Rattle.std.proofs.Common.{◌≡◌, ◌∙◌, ◌<◌, map, inl, inr, ap, arith}
 use Rattle.std.proofs.lemmas.Bool.{cases_lt}
 use Rattle.sctp_send.specs.OutstandingFields.{item_meaning}
-use Rattle.sctp_send.proofs.pace.TallyLemmas.{tally_none, tally_skip, Shut, shut_passed, shut_beyond, shut_idle}
+use Rattle.sctp_send.proofs.pace.TallyLemmas.{tally_skip, Shut, shut_passed, shut_beyond, shut_idle}
 use Rattle.sctp_send.proofs.pace.tally.Tally.of_shutdown.Goals as goal
 
 pub returns : goal.returns
@@ -12,11 +12,11 @@ returns c = λ top.
     let on = Shut xs n in
     let last = c.last_closed.result in
     let above = c.last_closed.ensures.above in
-    let first : c.take.result.at ≡ n = omega (arith, c.take.ensures.at, c.none.ensures.at) in
+    let first : c.of_passed.result.at ≡ n = c.of_passed.ensures.at in
     let end : c.skip.result.at ≡ last = omega (arith, c.skip.ensures.at, first, above) in
-    let passed = c.take.ensures.tally on (tally_none xs on c.none.result c.none.ensures.at c.none.ensures.bytes c.none.ensures.newest) (λ j lo hi. shut_passed xs n j hi) in
+    let passed = c.of_passed.ensures.tally on (λ j lo hi. shut_passed xs n j hi) in
     record {
-      tally = tally_skip xs on c.take.result c.skip.result last passed (λ j lo hi. shut_idle xs n j (omega (arith, lo, first))) c.skip.ensures.at c.skip.ensures.bytes c.skip.ensures.newest;
+      tally = tally_skip xs on c.of_passed.result c.skip.result last passed (λ j lo hi. shut_idle xs n j (omega (arith, lo, first))) c.skip.ensures.at c.skip.ensures.bytes c.skip.ensures.newest;
       here = ap on end ∙ (elim (cases_lt n last) [ inl past ↦ shut_beyond xs n last past ∙ c.last_closed.ensures.here size past | inr within ↦ shut_passed xs n last within ]);
       beyond = λ j lo.
           let past : n < j = omega (arith, lo, end, above) in

@@ -1,0 +1,28 @@
+use Rattle.std.proofs.Common.{◌≡◌, ◌∙◌, true, false, length, ap, sym, arith}
+use Rattle.std.proofs.lemmas.Bool.{false≢true}
+use Rattle.std.proofs.lemmas.Grind.{common_steps}
+use Rattle.sctp_model.specs.end.EndView as model
+use Rattle.sctp_association.specs.MachineStands.{MachineStands}
+use Rattle.sctp_association.proofs.MachineLemmas.{joined}
+use Rattle.sctp_association.proofs.AskLemmas.{calm_unagreed, none_of, not_true}
+use Rattle.sctp_association.proofs.machine.Machine.is_calm.Goals as goal
+
+pub returns-in-Unjoined : goal.returns-in-Unjoined
+returns-in-Unjoined c = λ v stands is. absurd (false≢true is)
+
+pub returns-then-not-association : goal.returns-then-not-association
+unfolding MachineStands
+returns-then-not-association c = λ v stands is.
+    calm_unagreed v (sym (ap (λ (t : model.Terms). t.reset) (joined _ _ v c.in-Joined.is stands).terms) ∙ c.if-not-association.true) (joined _ _ v c.in-Joined.is stands).answers
+
+pub returns-then-not-is_empty : goal.returns-then-not-is_empty
+returns-then-not-is_empty c = λ v stands is. absurd (false≢true is)
+
+pub returns-else-not-is_empty : goal.returns-else-not-is_empty
+unfolding MachineStands
+returns-else-not-is_empty c = λ v stands is.
+    let none : length c.answers.result.now ≡ 0 = grind (arith, common_steps) in
+    record {
+      answers = sym (c.answers.ensures _ v.sender v.receiver (joined _ _ v c.in-Joined.is stands).traffic) ∙ none_of c.answers.result.now none;
+      unasked = sym (c.asks.ensures v stands) ∙ not_true c.asks.result is;
+    }

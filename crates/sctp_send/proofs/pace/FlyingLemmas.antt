@@ -1,0 +1,66 @@
+-- What is newly acknowledged where all entries are and nothing is marked for retransmission: what is in flight.
+use Rattle.std.proofs.Common.{◌≡◌, ℕ, zero, suc, ◌+◌, ◌-◌, ◌%◌, ◌^◌, ◌<◌, ◌≤◌, ◌∙◌, List, [], ◌∷◌, length, map, take, take_all, get_or, Bool, true, false, Option, Some, None, refl, sym, ap, arith}
+use Rattle.std.proofs.lemmas.List.{length-map}
+use Rattle.std.specs.Prelude.{if◌then◌else◌, option_map, ◌&&◌}
+use Rattle.sctp_model.specs.sender.Words.{sum_below, last_that}
+use Rattle.sctp_send.specs.SenderKept.{Item}
+use Rattle.sctp_send.specs.declared.pace.tally.Tally.{Tally}
+use Rattle.sctp_send.specs.OutstandingFields.{item_meaning}
+use Rattle.sctp_send.specs.declared.kept.entry.Entry.{Entry as EntryFields}
+use Rattle.sctp_send.proofs.pace.HereLemmas.{here_read}
+use Rattle.sctp_send.specs.inner.Wishing.{first_offset, is_item_marked, item_weight, item_flight}
+use Rattle.sctp_send.specs.inner.Weighing.{is_item_news, passes_here, is_news, news_weight, AreFlying, IsTally}
+
+-- the first summand of a sum apart
+pub sum_shift : (h : ℕ → ℕ) (n : ℕ) → sum_below h (suc n) ≡ h 0 + sum_below (λ k. h (suc k)) n
+sum_shift h zero = omega arith
+sum_shift h (suc n) = let rest = sum_shift h n in omega (arith, rest)
+
+-- what none of many items is, the first isn't, and none of the others
+unmarked_parts : (b : Bool) (o : Option ℕ) → (if b then Some 0 else option_map suc o) ≡ None → (b ≡ false) × (o ≡ None)
+unmarked_parts true o none = absurd (cc)
+unmarked_parts false None none = (refl, refl)
+unmarked_parts false (Some n) none = absurd (cc)
+
+-- so the bytes are those in flight
+pub sum_flying : (xs : List Item) (on : ℕ → Bool) → first_offset is_item_marked xs ≡ None → ((j : ℕ) → 0 < j → j ≤ length xs → on j ≡ true) → sum_below (news_weight xs on) (length xs) ≡ item_flight xs
+sum_flying [] on none all = refl
+sum_flying (x ∷ xs) on none all =
+    let parts = unmarked_parts x.marked (first_offset is_item_marked xs) none in
+    let here : on 1 ≡ true = all 1 (omega arith) (omega arith) in
+    let first : news_weight (x ∷ xs) on 0 ≡ item_weight x = rw (here, parts.0) refl in
+    let rest : sum_below (news_weight xs (λ k. on (suc k))) (length xs) ≡ item_flight xs = sum_flying xs (λ k. on (suc k)) parts.1 (λ j lo hi. all (suc j) (omega arith) (omega (arith, hi))) in
+    sum_shift (news_weight (x ∷ xs) on) (length xs) ∙ (ap (λ (n : ℕ). n + sum_below (news_weight xs (λ k. on (suc k))) (length xs)) first ∙ ap (λ (n : ℕ). item_weight x + n) rest)
+
+-- the last of them is the newest
+last_flying : (xs : List Item) (on : ℕ → Bool) (n : ℕ) → on (suc n) ≡ true → passes_here is_item_news xs n ≡ true → last_that (is_news xs on) (suc n) ≡ suc n
+last_flying xs on n here last =
+    let one : suc n - 1 ≡ n = omega arith in
+    let news : is_news xs on (suc n) ≡ true = rw (one, here, last) refl in
+    rw news refl
+
+pub tally_flying : (xs : List Item) (on : ℕ → Bool) (t : Tally) (count : ℕ) → AreFlying count xs → t.at ≡ count → t.newest ≡ count → t.bytes ≡ item_flight xs % 2 ^ 64 → ((j : ℕ) → 0 < j → j ≤ count → on j ≡ true) → IsTally xs on t
+tally_flying xs on t count h at newest bytes all =
+    let some = h.some in
+    let many = h.all in
+    let next : count ≡ suc (count - 1) = omega (arith, some) in
+    let every : (j : ℕ) → 0 < j → j ≤ length xs → on j ≡ true = λ j lo hi. all j lo (omega (arith, hi, many)) in
+    let top : last_that (is_news xs on) (suc (count - 1)) ≡ suc (count - 1) = last_flying xs on (count - 1) (all (suc (count - 1)) (omega arith) (omega (arith, some))) h.last in
+    record {
+      bytes = bytes ∙ ap (λ (n : ℕ). n % 2 ^ 64) (sym (sum_flying xs on h.unmarked every) ∙ ap (sum_below (news_weight xs on)) (sym (at ∙ many)));
+      last = newest ∙ (next ∙ (sym top ∙ ap (last_that (is_news xs on)) (sym (at ∙ next))));
+    }
+
+-- so the entries are, read at their end
+pub flying_read : (size : ℕ) (es : List EntryFields) (count past : ℕ) (e : EntryFields) (news : Bool) → 0 < count → count ≡ length es → count ≤ past → first_offset is_item_marked (take past (map (item_meaning size) es)) ≡ None
+    → e ≡ get_or es (count - 1) e → news ≡ is_item_news (item_meaning size e) → news ≡ true → AreFlying count (map (item_meaning size) es)
+flying_read size es count past e news some many over none read is there =
+    let xs = map (item_meaning size) es in
+    let long : length xs ≡ length es = length-map es (item_meaning size) in
+    let whole : take past xs ≡ xs = take_all past xs (omega (arith, long, many, over)) in
+    record {
+      some = some;
+      all = omega (arith, many, long);
+      unmarked = ap (first_offset is_item_marked) (sym whole) ∙ none;
+      last = here_read is_item_news size es (count - 1) e (omega (arith, some, many)) read ∙ (sym is ∙ there);
+    }
