@@ -1,10 +1,14 @@
 -- An end that has made its request to reset streams makes no other, and what it builds then is what it builds.
 use Rattle.std.proofs.Common.{◌≡◌, ◌∙◌, ℕ, Bool, true, false, ◌&&◌, if◌then◌else◌, not, List, [], ◌∷◌, ◌++◌, length, map, Option, None, Some, Result, Ok, Err, IfOk, OnErr, refl, ap, sym, subst, arith}
-use Rattle.std.specs.Prelude.{is_some, OnOk}
+use Rattle.std.specs.Prelude.{cond, filter, take, min, nat_lt, is_some, OnOk}
 use Rattle.std.proofs.lemmas.Bool.{false≢true, and_parts}
 use Rattle.sctp_model.specs.wire.Chunk.{ChunkMeaning}
 use Rattle.sctp_model.specs.sender.SenderView.{SenderView, fresh_sender}
-use Rattle.sctp_model.specs.sender.Resetting.{may_ask, asked}
+use Rattle.sctp_model.specs.numbers.Limits.{STREAM_LIMIT, REQUEST_LIMIT, RESETS_AT_ONCE}
+use Rattle.sctp_model.specs.sender.Outgoing.{is_resetting}
+use Rattle.sctp_model.specs.sender.Words.{count_up}
+use Rattle.sctp_model.specs.sender.Resetting.{is_still_on, ready, has_stream, may_ask, asked}
+use Rattle.sctp_send.specs.ResetAnswers.{resetting_streams}
 use Rattle.sctp_model.specs.receiver.ReceiverView.{ReceiverView, fresh_receiver}
 use Rattle.sctp_model.specs.receiver.ResetTaken.{with_answers}
 use Rattle.sctp_model.specs.end.EndView.{EndView, Phase, Idle, Listening, Calling, Echoing, Open, Over, ResetAlarm, has_association}
@@ -36,6 +40,33 @@ never false b = refl
 pub asks_once : (e : EndView) (b : Bool) → b ≡ asks e → asks (asking_now b e) ≡ false
 asks_once e true is = never e.terms.reset (is_home ResetAlarm e.phase)
 asks_once e false is = sym is
+
+-- ---- no stream waits for its reset
+
+one_less : (b c : Bool) (x : ℕ) (ps qs : List ℕ) → length (cond b (x ∷ ps) ps) ≡ 0 → (length ps ≡ 0 → qs ≡ []) → cond (b && c) (x ∷ qs) qs ≡ []
+one_less true c x ps qs none rest = absurd (omega (arith, none))
+one_less false c x ps qs none rest = rest none
+
+none_of_both : (p q : ℕ → Bool) (xs : List ℕ) → length (filter p xs) ≡ 0 → filter (λ s. p s && q s) xs ≡ []
+none_of_both p q [] none = refl
+none_of_both p q (x ∷ xs) none = one_less (p x) (q x) x (filter p xs) (filter (λ s. p s && q s) xs) none (none_of_both p q xs)
+
+none_ready : (v : SenderView) → resetting_streams v ≡ 0 → has_stream (ready v) ≡ false
+none_ready v none =
+    ap (λ (ys : List ℕ). has_stream (take RESETS_AT_ONCE ys))
+    (none_of_both (λ s. is_resetting (v.resets.sending s)) (is_still_on v) (count_up 0 (min v.streams STREAM_LIMIT)) none)
+
+never_without : (a b c d e : Bool) → d ≡ false → (a && (b && (c && (d && e)))) ≡ false
+never_without true true true d e off = rw off refl
+never_without true true false d e off = refl
+never_without true false c d e off = refl
+never_without false b c d e off = refl
+
+-- without one no request is made
+pub unasked_without : (e : EndView) → resetting_streams e.sender ≡ 0 → asks e ≡ false
+unasked_without e none =
+    never_without e.terms.reset (is_home ResetAlarm e.phase) (not (is_some e.sender.resets.pending)) (has_stream (ready e.sender)) (nat_lt e.sender.resets.made REQUEST_LIMIT)
+    (none_ready e.sender none)
 
 -- ---- what it builds
 

@@ -7,7 +7,8 @@ use Rattle.sctp_model.specs.sender.SenderView.{SenderView}
 use Rattle.sctp_model.specs.sender.Words.{when, first_there}
 use Rattle.sctp_model.specs.sender.SackTaken.{Stale, Beyond, BadBlock, is_stale, is_beyond, index_of, shutdown_fault}
 use Rattle.sctp_model.specs.end.EndView.{Stage, Phase, Open, Tags, EndView, Established, ShutdownPending, ShutdownSent, ShutdownReceived, ShutdownAckSent, format_for}
-use Rattle.sctp_model.specs.end.Closing.{hears, takes_acknowledgements, is_shutdown_sent}
+use Rattle.sctp_model.specs.sender.Readers.{drained}
+use Rattle.sctp_model.specs.end.Closing.{rested_in, rested, hears, takes_acknowledgements, is_shutdown_sent}
 use Rattle.sctp_model.specs.end.Acting.{same_format}
 use Rattle.sctp_association.specs.MachineStands.{MachineStands}
 use Rattle.sctp_association.specs.declared.machine.Machine.{Machine}
@@ -16,6 +17,10 @@ use Rattle.sctp_association.specs.declared.machine.Machine.{Machine}
 
 pub hears_by : (says : Stage → Bool) (h : Phase) (t : Tags) (g : Stage) (b r : Bool) → h ≡ Open t g → r ≡ says g → r ≡ b → hears says h ≡ b
 hears_by says h t g b r phase is same = ap (hears says) phase ∙ sym is ∙ same
+
+-- it goes on with closing as it is
+pub rests : (v : EndView) (t : Tags) → v.phase ≡ Open t Established → rested v ≡ v
+rests v t phase = ap (λ (h : Phase). rested_in h (drained v.sender) v) phase
 
 pub shutdown_sent : (g : Stage) (b : Bool) → b ≡ is_shutdown_sent g → b ≡ true → g ≡ ShutdownSent
 shutdown_sent Established b is sent = absurd (false≢true (sym is ∙ sent))

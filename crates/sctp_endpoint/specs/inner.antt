@@ -1,3 +1,4 @@
 pub mod Acted
 pub mod Arrived
+pub mod Expected
 pub mod SacksHeard

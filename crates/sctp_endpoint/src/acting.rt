@@ -13,9 +13,10 @@ ghost use Rattle.sctp_endpoint.specs.inner.SacksHeard.{after_chunk, after_chunks
 use crate::after::{After, Notes, Verdict};
 use crate::closing::{on_abort, on_complete, on_error, on_shutdown_ack};
 use crate::forwards::on_forward;
+use crate::noting::{act_piece, note};
 use crate::opening::{on_cookie_ack, on_cookie_echo, on_init_ack};
 use crate::pieces::on_piece;
-use crate::sacks::on_sack;
+use crate::sacks::{counts, on_sack};
 use crate::shutdowns::on_shutdown;
 use crate::small::{on_heartbeat, on_unknown};
 use sctp_association::Machine;
@@ -27,7 +28,7 @@ use sctp_wire::{Chunk, Chunks};
 ///
 /// # Errors
 /// `NoMemory` if an allocation failed; nothing changed then.
-#[inline(never)]
+#[inline(always)]
 fn act(machine: &mut Machine, tag: u32, chunk: &Chunk<'_>) -> Result<After, NoMemory>
     ensures step { (v : EndView) → MachineStands machine.old v → IfOk result (λ a. Left a v (Acts v tag (chunk_meaning chunk.now)) machine.new) }
     ensures refused { (v : EndView) → MachineStands machine.old v → OnErr result (MachineStands machine.new v) }
@@ -54,40 +55,6 @@ fn act(machine: &mut Machine, tag: u32, chunk: &Chunk<'_>) -> Result<After, NoMe
     }
 }
 
-/// Notes what a chunk left for the end of its packet; an endpoint with nothing outstanding then goes on with closing at once. True if the packet ends
-/// with the chunk; `told` is then what is returned of it.
-#[inline(always)]
-fn note(machine: &mut Machine, notes: &mut Notes, told: &mut Verdict, after: After) -> bool
-    ensures { (tag : ℕ) (v : EndView) (m : ChunkMeaning) → Left after v (Acts v tag m) machine.old
-        → ActsOne tag v notes.old m (told_by (Ok result) told.new) machine.new notes.new }
-{
-    match after {
-        After::GoesOn => {
-            machine.advance_closing();
-            notes.listed = true;
-            false
-        }
-        After::Acknowledges { is_data, at_once } => {
-            machine.advance_closing();
-            notes.acknowledge(is_data, at_once);
-            false
-        }
-        After::PassedOver => false,
-        After::Ends => {
-            *told = Verdict::Taken;
-            true
-        }
-        After::Replies(packet) => {
-            *told = Verdict::Answer(packet);
-            true
-        }
-        After::Drops(reason) => {
-            *told = Verdict::Dropped(reason);
-            true
-        }
-    }
-}
-
 /// Counts a chunk if it is a SACK, modulo 2^64.
 #[inline(always)]
 fn count_sack(chunk: &Chunk<'_>, sacks: &mut u64)
@@ -109,41 +76,78 @@ fn count_sacks(chunks: Chunks<'_>, sacks: &mut u64)
     }
 }
 
-/// The first chunk is taken off and acts; a SACK is counted. Most are DATA or I-DATA, which are read from the bytes directly, without a
-/// `Chunk` between.
+/// A chunk acts, and what it left is noted. True if the packet ends with it; `told` is then what is returned of it.
+///
+/// # Errors
+/// `NoMemory` if an allocation failed; nothing changed then.
+#[inline(never)]
+fn act_noted(
+    machine: &mut Machine,
+    tag: u32,
+    notes: &mut Notes,
+    told: &mut Verdict,
+    chunk: &Chunk<'_>,
+) -> Result<bool, NoMemory>
+    ensures { (v : EndView) → MachineStands machine.old v → ActsOne tag v notes.old (chunk_meaning chunk.now) (told_by result told.new) machine.new notes.new }
+{
+    let after = act(machine, tag, chunk)?;
+    Ok(note(machine, notes, told, after))
+}
+
+/// The same; a SACK that counts, as most do, leaves nothing to return.
+///
+/// # Errors
+/// `NoMemory` if an allocation failed; nothing changed then.
+#[inline(always)]
+fn act_chunk(
+    machine: &mut Machine,
+    tag: u32,
+    notes: &mut Notes,
+    told: &mut Verdict,
+    chunk: &Chunk<'_>,
+) -> Result<bool, NoMemory>
+    ensures { (v : EndView) → MachineStands machine.old v → ActsOne tag v notes.old (chunk_meaning chunk.now) (told_by result told.new) machine.new notes.new }
+{
+    if let Chunk::Sack(sack) = chunk {
+        if counts(machine, sack) {
+            machine.advance_closing();
+            notes.listed = true;
+            return Ok(false);
+        }
+    }
+    act_noted(machine, tag, notes, told, chunk)
+}
+
+/// The first chunk, whatever its type, is taken off and acts, and what it left is noted; a SACK is counted. True if the packet ends with it. It stands
+/// apart, so that the loop over the chunks, most of which are user data, stays small.
 ///
 /// # Errors
 /// `NoMemory` if an allocation failed; nothing changed but that the chunk is taken off, and counted.
-#[inline(always)]
-fn act_first(
+#[inline(never)]
+fn act_any(
     machine: &mut Machine,
     tag: u32,
+    notes: &mut Notes,
+    told: &mut Verdict,
     chunks: &mut Chunks<'_>,
     sacks: &mut u64,
-) -> Result<After, NoMemory>
+) -> Result<bool, NoMemory>
     ensures taken { (m : ChunkMeaning) (ms : List ChunkMeaning) → chunks.old ≡ m ∷ ms → chunks.new ≡ ms }
     ensures step { (v : EndView) (m : ChunkMeaning) (ms : List ChunkMeaning) → chunks.old ≡ m ∷ ms
-        → MachineStands machine.old v → IfOk result (λ a. Left a v (Acts v tag m) machine.new) }
-    ensures refused { (v : EndView) → MachineStands machine.old v → OnErr result (MachineStands machine.new v) }
-    ensures tagged { (m : ChunkMeaning) (ms : List ChunkMeaning) → chunks.old ≡ m ∷ ms → OnErr result (HasTag m) }
+        → MachineStands machine.old v → ActsOne tag v notes.old m (told_by result told.new) machine.new notes.new }
     ensures sacks { (m : ChunkMeaning) (ms : List ChunkMeaning) → chunks.old ≡ m ∷ ms → sacks.new ≡ after_chunk m sacks.old }
 {
-    if let Some(piece) = chunks.next_data() {
-        return on_piece(machine, false, &piece);
-    }
-    if let Some(piece) = chunks.next_i_data() {
-        return on_piece(machine, true, &piece);
-    }
-    match chunks.next() {
+    match &chunks.next() {
         Some(chunk) => {
-            count_sack(&chunk, sacks);
-            act(machine, tag, &chunk)
+            count_sack(chunk, sacks);
+            act_chunk(machine, tag, notes, told, chunk)
         }
-        None => Ok(After::PassedOver),
+        None => Ok(false),
     }
 }
 
-/// The first chunk is taken off and acts, and what it left is noted; a SACK is counted. True if the packet ends with it.
+/// The first chunk is taken off and acts, and what it left is noted; a SACK is counted. True if the packet ends with it. Most are DATA or I-DATA, which
+/// are read from the bytes directly, without a `Chunk` between.
 ///
 /// # Errors
 /// `NoMemory` if an allocation failed; nothing changed but that the chunk is taken off, and counted.
@@ -161,8 +165,13 @@ fn act_next(
         → MachineStands machine.old v → ActsOne tag v notes.old m (told_by result told.new) machine.new notes.new }
     ensures sacks { (m : ChunkMeaning) (ms : List ChunkMeaning) → chunks.old ≡ m ∷ ms → sacks.new ≡ after_chunk m sacks.old }
 {
-    let after = act_first(machine, tag, chunks, sacks)?;
-    Ok(note(machine, notes, told, after))
+    if let Some(piece) = chunks.next_data() {
+        return act_piece(machine, false, notes, told, &piece);
+    }
+    if let Some(piece) = chunks.next_i_data() {
+        return act_piece(machine, true, notes, told, &piece);
+    }
+    act_any(machine, tag, notes, told, chunks, sacks)
 }
 
 /// The chunks of a packet act in order, each on what the one before it left, and are noted. Its SACKs are counted modulo 2^64, also those after a
@@ -170,6 +179,7 @@ fn act_next(
 ///
 /// # Errors
 /// `NoMemory` if an allocation failed: the chunks before the failing one have acted.
+#[inline(always)]
 pub(crate) fn act_all(
     machine: &mut Machine,
     tag: u32,

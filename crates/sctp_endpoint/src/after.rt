@@ -73,8 +73,12 @@ impl Notes {
     {
         self.listed = true;
         self.acknowledges = true;
-        self.brings_data = self.brings_data || is_data;
-        self.at_once = self.at_once || at_once;
+        if is_data {
+            self.brings_data = true;
+        }
+        if at_once {
+            self.at_once = true;
+        }
     }
 
     /// The SACK may not be delayed: for one of the chunks, or because the packet left a gap.

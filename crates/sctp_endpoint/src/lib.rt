@@ -44,6 +44,7 @@ mod endpoint;
 mod forwards;
 mod giving_up;
 mod laws;
+mod noting;
 mod opening;
 mod packets;
 mod passing;

@@ -1,21 +1,48 @@
 //! What a DATA or an I-DATA chunk does (RFC 9260, 6.2; RFC 8260, 2.1).
 
-ghost use Rattle.std.specs.Prelude.{◌≡◌, IfOk, OnErr};
+ghost use Rattle.std.specs.Prelude.{◌≡◌, true, IfOk, OnErr};
 ghost use Rattle.sctp_model.specs.numbers.Numbers.{u32_bytes};
-ghost use Rattle.sctp_model.specs.end.EndView.{EndView, format_for};
+ghost use Rattle.sctp_model.specs.end.EndView.{EndView, Established, format_for};
 ghost use Rattle.sctp_model.specs.wire.Chunk.{PieceMeaning};
 ghost use Rattle.sctp_model.specs.end.Acting.{PieceActs, asks_at_once};
 ghost use Rattle.sctp_wire.specs.ChunkTree.{piece_meaning};
 ghost use Rattle.sctp_recv.specs.AnswerOf.{answer_of};
+ghost use Rattle.sctp_association.specs.StageMeans.{stage_meaning};
 ghost use Rattle.sctp_association.specs.MachineStands.{MachineStands};
 ghost use Rattle.sctp_endpoint.specs.Left.{Left};
+ghost use Rattle.sctp_endpoint.specs.inner.Expected.{IsExpected};
 
 use crate::after::After;
-use sctp_association::Machine;
+use sctp_association::{Machine, Stage};
 use sctp_recv::Answer;
 use sctp_values::NoMemory;
 use sctp_wire::Piece;
 use sctp_wire::codes::{NO_USER_DATA, PROTOCOL_VIOLATION};
+
+/// The association is established.
+#[inline(always)]
+pub(crate) fn is_established(stage: Stage) -> bool
+    ensures { result ≡ true → stage_meaning stage ≡ Established }
+{
+    matches!(stage, Stage::Established)
+}
+
+/// True only for a chunk with user data, of the format that is used, at an established association.
+#[inline(always)]
+pub(crate) fn is_expected(machine: &Machine, interleaved: bool, piece: &Piece<'_>) -> bool
+    ensures { (v : EndView) → MachineStands machine.now v → result ≡ true → IsExpected (format_for interleaved) v (piece_meaning piece.now) }
+{
+    let Some(opened) = machine.opened() else {
+        return false;
+    };
+    if !is_established(opened.stage) {
+        return false;
+    }
+    if piece.bytes.is_empty() {
+        return false;
+    }
+    machine.is_interleaved() == interleaved
+}
 
 /// A DATA or I-DATA chunk is received. One without user data, or of the format that isn't used, aborts the association.
 ///

@@ -1,18 +1,40 @@
 //! What a SACK does (RFC 9260, 6.2.1).
 
-ghost use Rattle.std.specs.Prelude.{IfOk, OnErr};
+ghost use Rattle.std.specs.Prelude.{◌≡◌, true, false, IfOk, OnErr};
 ghost use Rattle.sctp_model.specs.end.EndView.{EndView};
+ghost use Rattle.sctp_model.specs.end.PeerFaults.{Unnoted, GoesOn};
 ghost use Rattle.sctp_model.specs.end.Acting.{SackActs};
 ghost use Rattle.sctp_wire.specs.ChunkTree.{sack_meaning};
 ghost use Rattle.sctp_association.specs.MachineStands.{MachineStands};
 ghost use Rattle.sctp_endpoint.specs.Left.{Left};
 
 use crate::after::After;
+use crate::pieces::is_established;
 use sctp_association::Machine;
 use sctp_send::SackFault;
 use sctp_values::NoMemory;
 use sctp_wire::Sack;
 use sctp_wire::codes::PROTOCOL_VIOLATION;
+
+/// A SACK is received: true only if it counts, or is older than an earlier one and does nothing. Else nothing changed.
+#[inline(always)]
+pub(crate) fn counts(machine: &mut Machine, sack: &Sack<'_>) -> bool
+    ensures heard { (v : EndView) → MachineStands machine.old v → result ≡ true
+        → (w : EndView) × SackActs v (sack_meaning sack.now) (GoesOn Unnoted w) × MachineStands machine.new w }
+    ensures left { (v : EndView) → MachineStands machine.old v → result ≡ false → MachineStands machine.new v }
+{
+    let Some(opened) = machine.opened() else {
+        return false;
+    };
+    if !is_established(opened.stage) {
+        return false;
+    }
+    match machine.hear_sack(sack) {
+        Ok(()) => true,
+        Err(SackFault::Stale) => true,
+        Err(_) => false,
+    }
+}
 
 /// A SACK is received. One that is older than an earlier one does nothing; one that acknowledges a TSN that wasn't sent, or has invalid gap blocks,
 /// aborts the association.

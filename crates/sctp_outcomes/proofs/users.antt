@@ -4,3 +4,5 @@ pub mod Runs
 pub mod Matched
 pub mod Held
 pub mod Promised
+pub mod Parted
+pub mod PartedRuns

@@ -15,3 +15,4 @@ pub mod ToldOnce
 pub mod Few
 pub mod AgedSinceBuilt
 pub mod Users
+pub mod Parted

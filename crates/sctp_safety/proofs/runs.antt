@@ -41,3 +41,4 @@ mod EndingTimes
 pub mod Pairs
 pub mod Unlimited
 pub mod UnlimitedRuns
+pub mod parted

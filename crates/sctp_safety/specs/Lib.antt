@@ -14,3 +14,4 @@ pub mod Handshake
 pub mod Agreement
 pub mod Runs
 pub mod Unlimited
+pub mod Parted

@@ -6,6 +6,7 @@
 mod ends;
 mod exact;
 mod laws;
+mod resets;
 mod rest;
 mod safety;
 mod sender;
@@ -23,6 +24,7 @@ pub use exact::{
     shutdown_is_moves, take_is_moves, taking_is_moves,
 };
 pub use laws::{skip_law, whole_law};
+pub use resets::requests_part_messages;
 pub use rest::{
     every_call_leaves_rest, no_call_passes_the_buffer, nothing_more_is_due, nothing_whole_is_let_go,
 };

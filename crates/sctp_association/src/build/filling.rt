@@ -99,6 +99,7 @@ impl Traffic {
 }
 
 /// `Sender::fill_counting`, with its contract in terms of the function that computes what is filled in.
+#[inline(always)]
 fn fill_from<F: Framing>(
     sender: &mut Sender<F>,
     missed: u64,

@@ -23,8 +23,8 @@ use sctp_packet::PacketWriter;
 use sctp_values::NoMemory;
 use std::alloc::Global;
 
-/// Fills what is left of a packet with user data, at this time in milliseconds: all of it without a pace, else what the pace allows. With one, a sender
-/// that has nothing to send costs one test.
+/// Fills what is left of a packet with user data, at this time in milliseconds: all of it without a pace, else what the pace allows. A sender that has
+/// nothing to send costs one test.
 ///
 /// # Errors
 /// `NoMemory` if an allocation was refused; nothing of the traffic and of the pace changed then.
@@ -46,21 +46,18 @@ pub(crate) fn fill_by(
     ensures kept { OnErr result (pace.new ≡ pace.old) }
     ensures unpaced { pace.old ≡ None → pace.new ≡ None }
 {
+    if traffic.drained() {
+        // law: then it has nothing to send
+        traffic.reached();
+        let filled = filled_none(alloc);
+        return Ok(Fragments {
+            some: false,
+            filled,
+        });
+    }
     match pace {
         None => fill_rest(traffic, 0, writer),
-        Some(pace) => {
-            if traffic.drained() {
-                // law: then it has nothing to send
-                traffic.reached();
-                let filled = filled_none(alloc);
-                return Ok(Fragments {
-                    some: false,
-                    filled,
-                });
-            }
-            let fragments = fill_paced(traffic, pace, moment, writer)?;
-            Ok(fragments)
-        }
+        Some(pace) => fill_paced(traffic, pace, moment, writer),
     }
 }
 

@@ -89,7 +89,8 @@ impl Machine {
         }
     }
 
-    /// No response to a request to reset streams waits, and no request is to be made. Without stream reset that costs one test.
+    /// No response to a request to reset streams waits, and no request is to be made. Without stream reset that costs one test, and three while no
+    /// stream waits for its reset.
     #[inline(always)]
     fn is_calm(&self) -> bool
         ensures { (v : EndView) → MachineStands self.now v → result ≡ true → IsCalm v }
@@ -102,6 +103,10 @@ impl Machine {
                 }
                 if !association.traffic.answers().is_empty() {
                     return false;
+                }
+                // without a stream that waits for its reset none is ready
+                if association.traffic.resetting_streams() == 0 {
+                    return true;
                 }
                 !self.asks()
             }

@@ -41,6 +41,18 @@ impl WaitingCauses {
         if self.bytes.len() + SHORT_CAUSE <= self.bytes.capacity() {
             return Ok(());
         }
+        self.grow()
+    }
+
+    /// The part of `make_room` that allocates, apart so that the test before it stays small.
+    ///
+    /// # Errors
+    /// `NoMemory` if an allocation was refused; nothing changed then.
+    #[inline(never)]
+    fn grow(&mut self) -> Result<(), NoMemory>
+        ensures same { self.new.bytes.items ≡ self.old.bytes.items }
+        ensures room { OnOk result (length self.new.bytes.items + 11 ≤ vec_capacity self.new.bytes) }
+    {
         self.bytes.reserve(SHORT_CAUSE).map_err(|_| NoMemory)
     }
 

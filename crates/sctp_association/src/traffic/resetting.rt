@@ -55,6 +55,7 @@ impl Traffic {
     }
 
     /// How many of the outgoing streams below 1,024 wait for their reset.
+    #[inline(always)]
     pub(crate) fn resetting_streams(&self) -> usize
         ensures { (f : Format) (s : SenderView) (r : ReceiverView) → TrafficStands self.now f s r → result ≡ resetting_streams s }
     {

@@ -141,7 +141,7 @@ module _ (p : EndView) (u v : Asked) (out back : List Dated) (many : ℕ) where
       (with_sender e (response_taken e.sender n code) m (ap (λ (a : SenderView). a.plan) same.1)
       (after_response (format_of e) e.terms.outbound e.sender u p.receiver out back m.met.going x answer)))
 
-  by_parameter : (c : ℕ) (e : EndView) (x : Typed) → (is_parameter OUTGOING_RESET 12 x ≡ true → IsAskedBy p.sender.initial p.sender (reset_read x)) → is_other_request x ≡ false →
+  pub by_parameter : (c : ℕ) (e : EndView) (x : Typed) → (is_parameter OUTGOING_RESET 12 x ≡ true → IsAskedBy p.sender.initial p.sender (reset_read x)) → is_other_request x ≡ false →
       (is_parameter RECONFIG_RESPONSE 8 x ≡ true → IsAnsweredBy p.receiver.initial p.receiver x) → Met e → IsCumulative e.receiver c → Met (parameter_heard c e x)
   by_parameter c e x ask other answer m cumulative = go (is_parameter OUTGOING_RESET 12 x) refl (is_parameter RECONFIG_RESPONSE 8 x) refl (is_other_request x) other
     where

@@ -42,7 +42,7 @@ use Rattle.sctp_safety.proofs.runs.ApartWorld.{Stands, IsApartWorld, apart_end, 
 
 -- ---- the listener
 
-listener_has_none : (h : Phase) → h ≡ Listening → has_association h ≡ true → ⊥
+pub listener_has_none : (h : Phase) → h ≡ Listening → has_association h ≡ true → ⊥
 listener_has_none h is has = let q : false ≡ true = subst (λ (k : Phase). has_association k ≡ true) is has in absurd (cc)
 
 has-drop : (xs : List ChunkMeaning) (y : ChunkMeaning) → Has (drop 1 xs) y → Has xs y
@@ -50,26 +50,24 @@ has-drop [] y h = h
 has-drop (x ∷ xs) y h = inr h
 
 module _ (s : Setup) (drawn : List ℕ) (d : Dates) (w : World) (opening : IsOpening s drawn w) (set : AreSetUp s w) (k : IsApartWorld w) where
-  -- The listener opens a cookie of the caller's: the two have met, and what stands behind the cookie acts.
-  meets : (p q : Packet) (i : ℕ) (b : Body) (t : EndView) (n : Notes) (gap : Bool) (v : Verdict) → item_at w.from_a i ≡ Some q → IsYoungIn w A (d A i) → IsWithin p.chunks q.chunks →
-      IsFound (end_now w B) p.tag p.chunks b → AllAct p.tag (begun b (end_now w B)) (noted Unnoted no_notes) (drop 1 p.chunks) t n v → Before d w B (packet_ended (urged gap n) t)
-  meets p q i b t n gap v there young within found acts =
-      pair_ended w.a (asked_at w B) (asked_at w A) (dated_bag d w B) (dated_bag d w A) (urged gap n) t
-      (all_act_keeps p.tag _ _ _ (pair_acts w.a (asked_at w B) (asked_at w A) (dated_bag d w B) (dated_bag d w A) p.tag 0)
-      (begun b (end_now w B)) (noted Unnoted no_notes) (drop 1 p.chunks) t n v comes (record { pair = start; assigned = refl }) acts).0.pair
+  -- what stands behind a cookie in a packet of the caller's; the listener has assigned nothing yet
+  pub behind_comes : (p q : Packet) (i : ℕ) → item_at w.from_a i ≡ Some q → IsYoungIn w A (d A i) → IsWithin p.chunks q.chunks → (y : ChunkMeaning) → Has (drop 1 p.chunks) y →
+      Comes w.a 0 (dated_bag d w A) y
+  behind_comes p q i there young within y h = record {
+    said = dated (d A i) y;
+    has = bag_has (d A) w.from_a i q y there (within y (has-drop p.chunks y h));
+    same = refl;
+    own = young.own;
+    there = omega arith;
+  }
+
+  -- the listener that has opened a cookie of the caller's, and the caller
+  pub begun_pair : (p q : Packet) (i : ℕ) (b : Body) → item_at w.from_a i ≡ Some q → IsWithin p.chunks q.chunks → IsFound (end_now w B) p.tag p.chunks b →
+      IsPair (begun b (end_now w B)) w.a (asked_at w B) (asked_at w A) (dated_bag d w B) (dated_bag d w A)
+  begun_pair p q i b there within found = start
     where
       has : Has w.from_a q
       has = item_has w.from_a i q there
-
-      -- the listener has assigned nothing yet
-      comes : (y : ChunkMeaning) → Has (drop 1 p.chunks) y → Comes w.a 0 (dated_bag d w A) y
-      comes y h = record {
-        said = dated (d A i) y;
-        has = bag_has (d A) w.from_a i q y there (within y (has-drop p.chunks y h));
-        same = refl;
-        own = young.own;
-        there = omega arith;
-      }
 
       echo : Has q.chunks (CookieEcho found.cookie)
       echo = within (CookieEcho found.cookie) (subst (λ (xs : List ChunkMeaning). Has xs (CookieEcho found.cookie)) (sym found.chunks) (inl refl))
@@ -96,6 +94,15 @@ module _ (s : Setup) (drawn : List ℕ) (d : Dates) (w : World) (opening : IsOpe
           (k.ends A).blank (record { rwnd = b.rwnd; sender = refl; receiver = refl }) fits.1 fits.0 refl
           (k.ends A).moment (now_unmet w B k).moment (some_fragment s w A set) (some_fragment s w B set) (dated_opening d w A k) (dated_opening d w B k)
           (unmet_unclosed w.clock w.a (k.ends A)) begun_unclosed)
+
+  -- The listener opens a cookie of the caller's: the two have met, and what stands behind the cookie acts.
+  meets : (p q : Packet) (i : ℕ) (b : Body) (t : EndView) (n : Notes) (gap : Bool) (v : Verdict) → item_at w.from_a i ≡ Some q → IsYoungIn w A (d A i) → IsWithin p.chunks q.chunks →
+      IsFound (end_now w B) p.tag p.chunks b → AllAct p.tag (begun b (end_now w B)) (noted Unnoted no_notes) (drop 1 p.chunks) t n v → Before d w B (packet_ended (urged gap n) t)
+  meets p q i b t n gap v there young within found acts =
+      pair_ended w.a (asked_at w B) (asked_at w A) (dated_bag d w B) (dated_bag d w A) (urged gap n) t
+      (all_act_keeps p.tag _ _ _ (pair_acts w.a (asked_at w B) (asked_at w A) (dated_bag d w B) (dated_bag d w A) p.tag 0)
+      (begun b (end_now w B)) (noted Unnoted no_notes) (drop 1 p.chunks) t n v (behind_comes p q i there young within)
+      (record { pair = begun_pair p q i b there within found; assigned = refl }) acts).0.pair
 
   listener_hears : (p q : Packet) (i : ℕ) (t : EndView) (v : Verdict) → item_at w.from_a i ≡ Some q → IsYoungIn w A (d A i) → IsWithin p.chunks q.chunks →
       Arrives (end_now w B) w.draw p t v → (t ≡ end_now w B) ⊎ Before d w B t

@@ -28,7 +28,7 @@ use Rattle.sctp_safety.proofs.runs.MetWorld.{MetAt, MetWith, Before, IsMetWorld,
 -- What comes is a packet of the end across, or its beginning, and it comes young; or a stranger's, which changes nothing.
 module _ (s : Setup) (drawn : List ℕ) (d : Dates) (w : World) (e : Event) (v : World) (dates : AreKept d w e v) (opening : IsOpening s drawn w) where
   -- a chunk of the packet at this place
-  comes : (x : Side) (p : Packet) (n : ℕ) → e ≡ Deliver (other x) n → item_at (bag_of w (other x)) n ≡ Some p → (y : ChunkMeaning) → Has p.chunks y →
+  pub comes : (x : Side) (p : Packet) (n : ℕ) → e ≡ Deliver (other x) n → item_at (bag_of w (other x)) n ≡ Some p → (y : ChunkMeaning) → Has p.chunks y →
       Comes (end_of w (other x)) (length (end_now w x).sender.plan.entries) (dated_bag d w (other x)) y
   comes x p n is found y has =
       let young = dates.young (other x) n p is found in
@@ -48,7 +48,7 @@ module _ (s : Setup) (drawn : List ℕ) (d : Dates) (w : World) (e : Event) (v :
       subst (Before d w x) (sym (stranger_stays s.sealing drawn (end_now w x) w.draw q t o strange alone (opening.drawn_tags x) (opening.one_seal x) arrives)) (now_at d w x m)
 
 -- an end that called before doesn't call again
-no_call : (h : Phase) → connect_answer h ≡ Called → has_agreed h ≡ true → ⊥
+pub no_call : (h : Phase) → connect_answer h ≡ Called → has_agreed h ≡ true → ⊥
 no_call Idle e agreed = absurd (cc)
 no_call Listening e agreed = absurd (cc)
 no_call (Calling d) e agreed = absurd (cc)

@@ -121,12 +121,12 @@ module _ (f : Format) (n : ℕ) (a : SenderView) (u : Asked) (r : ReceiverView) 
   is_the_last e = let h : m.number ≡ tsn r.initial r.resets.taken = wire ∙ ap (tsn r.initial) e in grind (arith, nat_tests, h)
 
   -- one in its turn is the request that waits
-  record IsTurn : Type 0 where
-    request : Request
-    waits : a.resets.pending ≡ Some request
-    first : request.first ≤ ask.number
+  pub record IsTurn : Type 0 where
+    pub request : Request
+    pub waits : a.resets.pending ≡ Some request
+    pub first : request.first ≤ ask.number
 
-  turn : is_in_turn r m.number ≡ true → IsTurn
+  pub turn : is_in_turn r m.number ≡ true → IsTurn
   turn on = elim (or_cases (is_next r m.number) (is_again r m.number && is_in_progress r.resets.result) on) [
     | inl next ↦ by_next (next_is next) a.resets.pending refl
     | inr again ↦
@@ -162,10 +162,10 @@ module _ (f : Format) (n : ℕ) (a : SenderView) (u : Asked) (r : ReceiverView) 
 
   -- what is noted then: it is the last one taken
   module _ (on : is_in_turn r m.number ≡ true) where
-    abbrev t : IsTurn
+    abbrev pub t : IsTurn
     t = turn on
 
-    abbrev q : Request
+    abbrev pub q : Request
     q = t.request
 
     asked : (m.last ≡ tsn a.initial q.last) × (m.streams ≡ q.streams)
@@ -268,7 +268,7 @@ module _ (f : Format) (n : ℕ) (a : SenderView) (u : Asked) (r : ReceiverView) 
       all_reached : AreReached r q.last
       all_reached j some le = cumulative.reached j some (let k = last_reached in omega (arith, le, k))
 
-      named : (s : ℕ) → names r m.streams s ≡ lists q.streams s
+      pub named : (s : ℕ) → names r m.streams s ≡ lists q.streams s
       named s = ap (λ (xs : List ℕ). names r xs s) asked.1 ∙ by q.streams open_there.some
         where
           by : (xs : List ℕ) → 0 < length xs → names r xs s ≡ lists xs s

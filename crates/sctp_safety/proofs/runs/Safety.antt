@@ -106,7 +106,7 @@ listens_from : (h k : Phase) → IsPath h k → k ≡ Listening → h ≡ Listen
 listens_from h k (Here _) e = e
 listens_from h k (On _ m _ turn rest) e = absurd (no_listener h m turn (listens_from m k rest e))
 
-kept_start : (s : Setup) (d : Dates) → IsKept d (start s)
+pub kept_start : (s : Setup) (d : Dates) → IsKept d (start s)
 kept_start s d = inl (record { listens = refl; ends = ends; calls = calls; opening = opening })
   where
     ends : (x : Side) → IsUnmet 0 (end_of (start s) x)
@@ -124,13 +124,13 @@ kept_start s d = inl (record { listens = refl; ends = ends; calls = calls; openi
 -- ---- runs
 
 -- what the opening keeps, that the caller never listens, and what is kept of both ends
-record IsSteady (s : Setup) (drawn : List ℕ) (d : Dates) (w : World) : Type 0 where
-  sound : IsSound s drawn w
-  caller : w.a.phase ≡ Listening → ⊥
-  kept : IsKept d w
+pub record IsSteady (s : Setup) (drawn : List ℕ) (d : Dates) (w : World) : Type 0 where
+  pub sound : IsSound s drawn w
+  pub caller : w.a.phase ≡ Listening → ⊥
+  pub kept : IsKept d w
 
 module _ (s : Setup) (drawn : List ℕ) (within : (x : Side) → IsConfiguration (configuration_of s x)) (d : Dates) where
-  set_up : (w : World) → IsSteady s drawn d w → AreSetUp s w
+  pub set_up : (w : World) → IsSteady s drawn d w → AreSetUp s w
   set_up w i = record { alike = λ x. (i.sound.ground.ends x).configuration; within = within }
 
   kept_step : (w v : World) (e : Event) (o : Option Outcome) → AreKept d w e v → IsFine s drawn e → IsSteady s drawn d w → Step w e o v → IsKept d v
@@ -143,7 +143,7 @@ module _ (s : Setup) (drawn : List ℕ) (within : (x : Side) → IsConfiguration
       go (inl k) = apart_step s drawn d w opening (set_up w i) k i.caller e o v dates fine step
       go (inr m) = inr (met_step s drawn d w opening m e o v dates fine step)
 
-  steady_step : (w v : World) (e : Event) (o : Option Outcome) → AreKept d w e v → IsFine s drawn e → IsSteady s drawn d w → Step w e o v → IsSteady s drawn d v
+  pub steady_step : (w v : World) (e : Event) (o : Option Outcome) → AreKept d w e v → IsFine s drawn e → IsSteady s drawn d w → Step w e o v → IsSteady s drawn d v
   steady_step w v e o dates fine i step = record {
     sound = sound_step s drawn within w e o v fine step i.sound;
     caller = λ q. i.caller (listens_from w.a.phase v.a.phase ((step_onward w e o v i.sound.fresh step).later A).path q);

@@ -20,10 +20,10 @@ returns-then-drained-clause-filled c = λ e m n stands pace clock of starting.
 
 pub returns-then-drained-clause-paced : goal.returns-then-drained-clause-paced
 returns-then-drained-clause-paced c = λ e m stands pace clock of.
-    drained_pace e m c.args.writer.now.chunks _ (c.reached.ensures _ e.sender e.receiver stands) (sym (c.drained.ensures _ e.sender e.receiver stands) ∙ c.if-drained.true) (sym c.in-Some.is ∙ pace)
+    drained_pace e m c.args.writer.now.chunks _ (c.reached.ensures _ e.sender e.receiver stands) (sym (c.drained.ensures _ e.sender e.receiver stands) ∙ c.if-drained.true) pace
 
-pub returns-in_ok-fragments-in-Some-clause-filled : goal.returns-in_ok-fragments-in-Some-clause-filled
-returns-in_ok-fragments-in-Some-clause-filled c = λ e m n stands pace clock of. c.in_ok-fragments-in-Some.ensures.filled e m n stands (sym pace ∙ c.in-Some.is) clock of
+pub returns-in-Some-clause-filled : goal.returns-in-Some-clause-filled
+returns-in-Some-clause-filled c = λ e m n stands pace clock of. c.fill_paced.ensures.filled e m n stands (sym pace ∙ c.in-Some.is) clock of
 
-pub returns-in_ok-fragments-in-Some-clause-paced : goal.returns-in_ok-fragments-in-Some-clause-paced
-returns-in_ok-fragments-in-Some-clause-paced c = λ e m stands pace clock of. c.in_ok-fragments-in-Some.ensures.paced e m stands (sym pace ∙ c.in-Some.is) clock of
+pub returns-in-Some-clause-paced : goal.returns-in-Some-clause-paced
+returns-in-Some-clause-paced c = λ e m stands pace clock of. c.fill_paced.ensures.paced e m stands (sym pace ∙ c.in-Some.is) clock of

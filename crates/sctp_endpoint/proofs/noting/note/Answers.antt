@@ -6,7 +6,7 @@ use Rattle.sctp_model.specs.end.Arriving.{Last, EndsAnswered, Stopped}
 use Rattle.sctp_terms.specs.Meanings.{reason_code}
 use Rattle.sctp_endpoint.specs.inner.Acted.{notes_meaning}
 use Rattle.sctp_endpoint.proofs.ChunksInTurn.{goes_on, passes_over}
-use Rattle.sctp_endpoint.proofs.acting.note.Goals as goal
+use Rattle.sctp_endpoint.proofs.noting.note.Goals as goal
 
 pub returns-in-GoesOn : goal.returns-in-GoesOn
 returns-in-GoesOn c = λ tag v m left.

@@ -1,0 +1,13 @@
+pub mod FirstLemmas
+pub mod SettlingLemmas
+pub mod NotingLemmas
+pub mod HearingLemmas
+pub mod RefusingLemmas
+pub mod TableLemmas
+pub mod PacketLemmas
+pub mod OpeningLemmas
+pub mod SendingLemmas
+pub mod Promised
+pub mod NextChannel
+pub mod Driven
+pub mod AllNoted

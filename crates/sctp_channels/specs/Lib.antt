@@ -1,0 +1,15 @@
+pub mod Streams
+pub mod Told
+pub mod Coming
+pub mod Calling
+pub mod Settling
+pub mod Events
+pub mod Meanings
+pub mod ChannelsStand
+pub mod Answers
+pub mod Telling
+pub mod Packets
+pub mod inner
+pub mod Promise
+pub mod NextChannel
+pub mod Driven

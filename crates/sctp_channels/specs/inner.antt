@@ -1,0 +1,4 @@
+pub mod SaidMeans
+pub mod Telling
+pub mod Sent
+pub mod Settles

@@ -1,0 +1,176 @@
+//! What is reported to the user next (RFC 8831, 6.4 to 6.7).
+
+ghost use Rattle.std.specs.Prelude.{◌≡◌, List, length, option_map, Some, IfOk, OnErr};
+ghost use Rattle.sctp_model.specs.receiver.ReceiverView.{Handed};
+ghost use Rattle.sctp_model.specs.end.EndView.{EndView};
+ghost use Rattle.sctp_recv.specs.HandedOf.{handed_of};
+ghost use Rattle.sctp_channels.specs.Streams.{Table, first_from};
+ghost use Rattle.sctp_channels.specs.Settling.{is_closed};
+ghost use Rattle.sctp_channels.specs.Events.{readable_from, turn, is_used, reports_message, reports_over, next_report};
+ghost use Rattle.sctp_channels.specs.Meanings.{event_meaning};
+ghost use Rattle.sctp_channels.specs.ChannelsStand.{ChannelsStand};
+ghost use Rattle.sctp_channels.specs.Telling.{Tells};
+ghost use Rattle.sctp_channels.specs.inner.Telling.{IsEventOf};
+
+use crate::channels::Channels;
+use crate::coming::{Side, Told, comes};
+use crate::event::Event;
+use crate::said::read_message;
+use crate::stream::{Due, State, Stream};
+use sctp_endpoint::Message;
+use sctp_values::NoMemory;
+
+/// The number of streams that there can be (RFC 9260, 3.3.1).
+const STREAMS: u32 = 65_536;
+
+#[tactic(auto, unfolding(crate::specs::ChannelsStand::ChannelsStand, crate::specs::ChannelsStand::endpoint_of, crate::specs::ChannelsStand::table_of))]
+impl Channels {
+    /// What is reported to the user next; None if there is nothing. Call it after each packet until then. The first of these:
+    ///
+    /// - a channel that is closed, on the lowest such stream: the peer has reset its half, all that it sent before was reported, and this side's half was
+    ///   reset, too (RFC 8831, 6.7);
+    /// - the first message that waits on a stream, the streams taking turns. It is taken from the endpoint, and reported by one event. A content on a
+    ///   channel whose DATA_CHANNEL_ACK wasn't received shows that the channel is open: this is reported first. Messages that the peer sent after it reset
+    ///   a stream wait until the channel before is closed;
+    /// - once the association is over, each channel that is left is closed.
+    ///
+    /// # Errors
+    /// `NoMemory` if the allocation for a message of DCEP failed: nothing changed.
+    pub fn next_event(&mut self) -> Result<Option<Event>, NoMemory>
+        ensures told { (v : EndView) (x : Table) → ChannelsStand self.old v x → IfOk result (λ event. Tells (next_report v x) event self.new) }
+        ensures refused { (v : EndView) (x : Table) → ChannelsStand self.old v x → OnErr result (ChannelsStand self.new v x) }
+    {
+        if let Some(stream) = self.first_closed() {
+            self.table.set(stream, Stream::unused());
+            return Ok(Some(Event::Closed { stream }));
+        }
+        match self.turn() {
+            Some(stream) => self.hear(stream),
+            None => Ok(self.end()),
+        }
+    }
+
+    /// The lowest stream whose channel is closed.
+    fn first_closed(&self) -> Option<u16>
+        ensures { (v : EndView) (x : Table) → ChannelsStand self.now v x → result ≡ first_from (is_closed v x) 0 (length x.streams) }
+    {
+        for at in 0..self.table.streams.len() {
+            let stream = at as u16;
+            if self.is_closed(stream) {
+                return Some(stream);
+            }
+        }
+        None
+    }
+
+    /// The channel of the stream is closed (RFC 8831, 6.7).
+    fn is_closed(&self, stream: u16) -> bool
+        ensures { (v : EndView) (x : Table) → ChannelsStand self.now v x → result ≡ is_closed v x stream }
+    {
+        let kept = self.table.at(stream);
+        matches!(kept.state, State::Closing)
+            && kept.is_drained()
+            && !matches!(kept.due, Due::Reset)
+            && !self.endpoint.is_resetting(stream)
+    }
+
+    /// The stream whose turn it is, of those with a message to be reported.
+    fn turn(&self) -> Option<u16>
+        ensures { (v : EndView) (x : Table) → ChannelsStand self.now v x → result ≡ turn v x }
+    {
+        match self.readable_from(self.table.next) {
+            Some(stream) => Some(stream),
+            None => self.readable_from(0),
+        }
+    }
+
+    /// The lowest stream from one on with a message to be reported.
+    fn readable_from(&self, from: u16) -> Option<u16>
+        ensures { (v : EndView) (x : Table) → ChannelsStand self.now v x → result ≡ readable_from v x from }
+    {
+        let mut from = from;
+        for turn in 0..STREAMS {
+            let Some(stream) = self.endpoint.readable(from) else {
+                return None;
+            };
+            if !self.table.at(stream).is_drained() {
+                return Some(stream);
+            }
+            if stream == u16::MAX {
+                return None;
+            }
+            from = stream + 1;
+        }
+        None
+    }
+
+    /// The first message that waits on a stream is reported.
+    ///
+    /// # Errors
+    /// `NoMemory` if an allocation failed: nothing changed.
+    fn hear(&mut self, stream: u16) -> Result<Option<Event>, NoMemory>
+        ensures told { (v : EndView) (x : Table) → ChannelsStand self.old v x
+            → IfOk result (λ event. Tells (reports_message stream (v.receiver.waiting stream) v x) event self.new) }
+        ensures refused { (v : EndView) (x : Table) → ChannelsStand self.old v x → OnErr result (ChannelsStand self.new v x) }
+    {
+        let Some(message) = self.endpoint.waiting(stream, 0) else {
+            return Ok(None);
+        };
+        let said = read_message(self.alloc, message)?;
+        let side = Side {
+            role: self.table.role,
+            outgoing: self.outgoing(),
+        };
+        let after = comes(side, stream, said, self.table.at(stream));
+        if !after.taken {
+            self.table.set(stream, after.stream);
+            return Ok(Some(Event::Opened { stream }));
+        }
+        let message = self.endpoint.take(stream);
+        self.table.set(stream, after.stream.one_taken());
+        self.table.next = stream.wrapping_add(1);
+        Ok(Some(event(stream, after.told, message)))
+    }
+
+    /// Once the association is over, a channel that is left is closed.
+    fn end(&mut self) -> Option<Event>
+        ensures { (v : EndView) (x : Table) → ChannelsStand self.old v x → Tells (reports_over v x) result self.new }
+    {
+        if self.endpoint.ended().is_none() {
+            return None;
+        }
+        let stream = self.first_used()?;
+        self.table.set(stream, Stream::unused());
+        Some(Event::Closed { stream })
+    }
+
+    /// The lowest stream with a channel, or with what is left of one.
+    fn first_used(&self) -> Option<u16>
+        ensures { (v : EndView) (x : Table) → ChannelsStand self.now v x → result ≡ first_from (is_used x) 0 (length x.streams) }
+    {
+        for at in 0..self.table.streams.len() {
+            let stream = at as u16;
+            if !self.table.at(stream).state.is_unused() {
+                return Some(stream);
+            }
+        }
+        None
+    }
+}
+
+/// The event by which this is reported of a message that was taken on a stream, or of one that waits on.
+fn event(stream: u16, told: Told, message: Option<Message>) -> Event
+    ensures { IsEventOf stream told message result }
+{
+    match told {
+        Told::Incoming(parameters) => Event::Incoming { stream, parameters },
+        Told::Opened => Event::Opened { stream },
+        Told::Message { text, empty } => Event::Message {
+            stream,
+            text,
+            message: if empty { None } else { message },
+        },
+        Told::Refused(why) => Event::Refused { stream, why },
+        Told::Ignored(why) => Event::Ignored { stream, why },
+    }
+}

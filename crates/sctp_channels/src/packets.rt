@@ -1,0 +1,46 @@
+//! Packets are received and sent.
+
+ghost use Rattle.std.specs.Prelude.{◌≡◌, Option, IfOk};
+ghost use Rattle.sctp_model.specs.wire.Packet as meaning;
+ghost use Rattle.sctp_model.specs.end.EndView.{EndView};
+ghost use Rattle.sctp_endpoint.specs.Handled.{IsRead, IsAnsweredWithin};
+ghost use Rattle.sctp_endpoint.specs.Transmitted.{TellsFew};
+ghost use Rattle.sctp_channels.specs.Streams.{Table};
+ghost use Rattle.sctp_channels.specs.Packets.{Hears, Transmit};
+ghost use Rattle.sctp_channels.specs.ChannelsStand.{ChannelsStand};
+
+use crate::channels::Channels;
+use sctp_endpoint::{Draw, Sent, Verdict};
+use sctp_values::NoMemory;
+
+#[tactic(auto, unfolding(crate::specs::ChannelsStand::ChannelsStand, crate::specs::ChannelsStand::endpoint_of, crate::specs::ChannelsStand::table_of))]
+impl Channels {
+    /// Handles a received packet, as `Endpoint::handle_packet` does; then each reset of a stream by the peer is noted (RFC 6525, 5.2.2), also after an
+    /// allocation failure. Afterwards call `next_event` until it returns None, and `poll_transmit`.
+    ///
+    /// # Errors
+    /// `NoMemory` if an allocation failed: only the chunks before the one that needed it took effect, so the packet may be passed in again.
+    pub fn handle_packet(&mut self, now: u64, bytes: &[u8], draw: Draw) -> Result<Verdict, NoMemory>
+        ensures step { (v : EndView) (x : Table) (o : Option meaning.Packet) → ChannelsStand self.old v x → IsRead bytes.now o → Hears v x now draw o result self.new }
+        ensures within { (v : EndView) (x : Table) → ChannelsStand self.old v x → IfOk result (λ verdict. IsAnsweredWithin v.configuration.limit verdict) }
+    {
+        let verdict = self.endpoint.handle_packet(now, bytes, draw);
+        self.note_resets();
+        verdict
+    }
+
+    /// The next packet to send at the time `now`, as `Endpoint::poll_transmit` returns it. What is due of the channels is queued before: each
+    /// DATA_CHANNEL_ACK, and the reset of this side's half where the peer has closed a channel. What the endpoint refuses, as for a full queue, stays due.
+    ///
+    /// # Errors
+    /// `NoMemory` if an allocation failed: of what was due, some may have been queued, and nothing else changed, not even the time.
+    pub fn poll_transmit(&mut self, now: u64) -> Result<Option<Sent>, NoMemory>
+        ensures step { (v : EndView) (x : Table) → ChannelsStand self.old v x → Transmit v x now result self.new }
+        ensures few { (v : EndView) (x : Table) → ChannelsStand self.old v x → IfOk result (λ sent. TellsFew sent) }
+    {
+        match self.settle() {
+            Ok(()) => self.endpoint.poll_transmit(now),
+            Err(NoMemory) => Err(NoMemory),
+        }
+    }
+}

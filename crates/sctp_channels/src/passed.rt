@@ -1,0 +1,86 @@
+//! Calls that are passed on to the endpoint. Its streams stay as they are.
+
+ghost use Rattle.std.specs.Prelude.{◌≡◌, ◌≤◌, length, IfOk};
+ghost use Rattle.sctp_model.specs.end.EndView.{EndView};
+ghost use Rattle.sctp_model.specs.end.Moments.{ticked, next_moment};
+ghost use Rattle.sctp_model.specs.end.UserCalls.{connect_answer, shutdown_answer, shut};
+ghost use Rattle.sctp_association.specs.AbortAnswers.{AbortAnswers, aborted_view};
+ghost use Rattle.sctp_association.specs.CallAnswers.{connect_meaning, connected, shutdown_meaning};
+ghost use Rattle.sctp_channels.specs.Streams.{Table};
+ghost use Rattle.sctp_channels.specs.ChannelsStand.{ChannelsStand};
+
+use crate::channels::Channels;
+use sctp_endpoint::{AbortFault, ConnectFault, Draw, Message, ShutdownFault, Ticket};
+
+#[tactic(auto, unfolding(crate::specs::ChannelsStand::ChannelsStand, crate::specs::ChannelsStand::endpoint_of, crate::specs::ChannelsStand::table_of))]
+impl Channels {
+    /// Begins the association: `Endpoint::connect`.
+    ///
+    /// # Errors
+    /// `ConnectFault::State` unless it is a caller that hasn't called yet. Nothing changed then.
+    pub fn connect(&mut self, now: u64, draw: Draw) -> Result<(), ConnectFault>
+        ensures answer { (v : EndView) (x : Table) → ChannelsStand self.old v x → connect_meaning result ≡ connect_answer v.phase }
+        ensures step { (v : EndView) (x : Table) → ChannelsStand self.old v x → ChannelsStand self.new (connected v now draw result) x }
+    {
+        self.endpoint.connect(now, draw)
+    }
+
+    /// Advances the time to `now`, in milliseconds: `Endpoint::on_moment`.
+    pub fn on_moment(&mut self, now: u64)
+        ensures step { (v : EndView) (x : Table) → ChannelsStand self.old v x → ChannelsStand self.new (ticked v now) x }
+    {
+        self.endpoint.on_moment(now);
+    }
+
+    /// When to call `on_moment` next: `Endpoint::next_moment`. The ends of messages' lifetimes don't count.
+    pub fn next_moment(&self) -> Option<u64>
+        ensures { (v : EndView) (x : Table) → ChannelsStand self.now v x → result ≡ next_moment v }
+    {
+        self.endpoint.next_moment()
+    }
+
+    /// Closes the association gracefully: `Endpoint::shutdown`. Browsers don't report it to their pages: `abort` is what they expect.
+    ///
+    /// # Errors
+    /// `ShutdownFault::NotOpen` if no association is open. Nothing changed.
+    pub fn shutdown(&mut self) -> Result<(), ShutdownFault>
+        ensures answer { (v : EndView) (x : Table) → ChannelsStand self.old v x → shutdown_meaning result ≡ shutdown_answer v.phase }
+        ensures step { (v : EndView) (x : Table) → ChannelsStand self.old v x → ChannelsStand self.new (shut v) x }
+    {
+        self.endpoint.shutdown()
+    }
+
+    /// Aborts the association and returns the packet to send: `Endpoint::abort`. Then `next_event` says what was received before, and that each channel
+    /// is closed.
+    ///
+    /// # Errors
+    /// As `Endpoint::abort`. Nothing changed.
+    pub fn abort(&mut self, reason: &[u8]) -> Result<Vec<u8>, AbortFault>
+        ensures answer { (v : EndView) (x : Table) → ChannelsStand self.old v x → AbortAnswers v reason.now result }
+        ensures within { (v : EndView) (x : Table) → ChannelsStand self.old v x → IfOk result (λ packet. length packet.items ≤ v.configuration.limit) }
+        ensures step { (v : EndView) (x : Table) → ChannelsStand self.old v x → ChannelsStand self.new (aborted_view v reason.now result) x }
+    {
+        self.endpoint.abort(reason)
+    }
+
+    /// Returns the buffer of a packet that was sent: `Endpoint::recycle`.
+    pub fn recycle(&mut self, packet: Vec<u8>)
+        ensures { (v : EndView) (x : Table) → ChannelsStand self.old v x → ChannelsStand self.new v x }
+    {
+        self.endpoint.recycle(packet);
+    }
+
+    /// Returns the buffer of the tickets of a packet that was sent: `Endpoint::recycle_tickets`.
+    pub fn recycle_tickets(&mut self, tickets: Vec<Ticket>)
+        ensures { (v : EndView) (x : Table) → ChannelsStand self.old v x → ChannelsStand self.new v x }
+    {
+        self.endpoint.recycle_tickets(tickets);
+    }
+
+    /// Returns the memory of a message that was reported: `Endpoint::give_back`.
+    pub fn give_back(&mut self, message: Message)
+        ensures { (v : EndView) (x : Table) → ChannelsStand self.old v x → ChannelsStand self.new v x }
+    {
+        self.endpoint.give_back(message);
+    }
+}

@@ -1,0 +1,153 @@
+//! Messages are sent (RFC 8831, 6.6), and the ACKs of channels (RFC 8832, 6).
+
+ghost use Rattle.std.specs.Prelude.{◌≡◌, min, Result, Option, Some, None};
+ghost use Rattle.sctp_model.specs.end.EndView.{EndView};
+ghost use Rattle.sctp_model.specs.numbers.Limits.{LAST_MOMENT};
+ghost use Rattle.sctp_dcep.specs.Meanings.{content_meaning};
+ghost use Rattle.sctp_channels.specs.Streams.{Table, stream_at};
+ghost use Rattle.sctp_channels.specs.Calling.{ack_call, content_call, until_by, limit_by};
+ghost use Rattle.sctp_channels.specs.Answers.{Sends};
+ghost use Rattle.sctp_channels.specs.ChannelsStand.{ChannelsStand};
+ghost use Rattle.sctp_channels.specs.inner.Sent.{AcksOn, SendsOn, SendsBehind};
+
+use crate::channels::Channels;
+use crate::fault::SendFault;
+use crate::stream::{ChannelType, Due, Stream};
+use sctp_dcep::{ACKNOWLEDGEMENT, Content, DCEP};
+use sctp_endpoint::{Refused, SendFault as Fault, Ticket};
+
+#[tactic(auto, unfolding(crate::specs::ChannelsStand::ChannelsStand, crate::specs::ChannelsStand::endpoint_of, crate::specs::ChannelsStand::table_of))]
+impl Channels {
+    /// Sends a message on a channel: it is copied and queued (RFC 8831, 6.6). `now` is the current time in milliseconds, from which the lifetime of the
+    /// messages of a channel with `MaxPacketLifetime` counts; call `on_moment` at its end, too. The ticket identifies the message at the endpoint.
+    ///
+    /// # Errors
+    /// `SendFault::NoChannel` if there is no channel on the stream, or it is being closed; else `SendFault::Refused` if the endpoint doesn't take the
+    /// message, or an allocation failed. If the DATA_CHANNEL_ACK of a channel of the peer's is still due it is queued first, and the message is
+    /// refused with it; nothing else changed.
+    pub fn send(&mut self, now: u64, stream: u16, content: Content<'_>) -> Result<Ticket, SendFault>
+        ensures { (v : EndView) (x : Table) → ChannelsStand self.old v x → Sends v x now stream (content_meaning content.entry) result self.new }
+    {
+        let kept = self.table.at(stream);
+        if !kept.state.may_send() {
+            return Err(SendFault::NoChannel);
+        }
+        match self.send_behind_ack(now, stream, kept, content) {
+            Ok(ticket) => Ok(ticket),
+            Err(why) => Err(SendFault::Refused(why)),
+        }
+    }
+
+    /// Queues a message on the channel of a stream, behind the ACK if that is due.
+    ///
+    /// # Errors
+    /// The endpoint refuses one of them, or an allocation failed: of the ACK it isn't due any more if it was queued.
+    fn send_behind_ack(
+        &mut self,
+        now: u64,
+        stream: u16,
+        kept: Stream,
+        content: Content<'_>,
+    ) -> Result<Ticket, Refused>
+        ensures { (v : EndView) (x : Table) → ChannelsStand self.old v x → kept ≡ stream_at x stream
+            → SendsBehind v x now stream kept (content_meaning content.entry) result self.new }
+    {
+        match kept.due {
+            Due::Acknowledgement => match self.acknowledge(stream, kept) {
+                Ok(kept) => self.send_on(now, stream, kept, content),
+                Err(why) => Err(why),
+            },
+            Due::Nothing => self.send_on(now, stream, kept, content),
+            Due::Reset => self.send_on(now, stream, kept, content),
+        }
+    }
+
+    /// Queues the ACK of a channel.
+    ///
+    /// # Errors
+    /// The endpoint refuses it, or an allocation failed: nothing changed.
+    pub(crate) fn queue_ack(&mut self, stream: u16) -> Result<Ticket, Refused>
+        ensures { (v : EndView) (x : Table) → ChannelsStand self.old v x → SendsOn v x (ack_call stream) result self.new }
+    {
+        let bytes = Vec::from_slice(self.alloc, &[ACKNOWLEDGEMENT]).map_err(|_| Refused::Fault(
+            Fault::NoMemory,
+        ))?;
+        self.endpoint.send(stream, true, DCEP, bytes, None)
+    }
+
+    /// Queues the ACK of a channel, which then isn't due any more.
+    ///
+    /// # Errors
+    /// The endpoint refuses it, or an allocation failed: nothing changed.
+    fn acknowledge(&mut self, stream: u16, kept: Stream) -> Result<Stream, Refused>
+        ensures { (v : EndView) (x : Table) → ChannelsStand self.old v x → AcksOn v x stream kept result self.new }
+    {
+        match self.queue_ack(stream) {
+            Ok(_) => {
+                let kept = kept.without_due();
+                self.table.set(stream, kept);
+                Ok(kept)
+            }
+            Err(why) => Err(why),
+        }
+    }
+
+    /// Queues a message on the channel of a stream.
+    ///
+    /// # Errors
+    /// The endpoint refuses it, or an allocation failed: nothing changed.
+    fn send_on(
+        &mut self,
+        now: u64,
+        stream: u16,
+        kept: Stream,
+        content: Content<'_>,
+    ) -> Result<Ticket, Refused>
+        ensures { (v : EndView) (x : Table) → ChannelsStand self.old v x → SendsOn v x (content_call stream kept now (content_meaning content.entry)) result self.new }
+    {
+        let bytes = Vec::from_slice(self.alloc, content.user_data()).map_err(|_| Refused::Fault(
+            Fault::NoMemory,
+        ))?;
+        let ordered = kept.goes_ordered();
+        let payload_id = content.payload_id();
+        let until = until_by(kept.kind, kept.parameter, now);
+        match limit_by(kept.kind, kept.parameter) {
+            None => self
+                .endpoint
+                .send(stream, ordered, payload_id, bytes, until),
+            Some(limit) => self
+                .endpoint
+                .send_with_max_retransmits(stream, ordered, payload_id, bytes, until, limit),
+        }
+    }
+}
+
+/// The end of the lifetime of a message that is sent at this time, on a channel of this type.
+fn until_by(kind: ChannelType, parameter: u32, now: u64) -> Option<u64>
+    ensures { result ≡ until_by kind parameter now }
+{
+    match kind {
+        ChannelType::Timed | ChannelType::TimedUnordered => {
+            Some(now.saturating_add(u64::from(parameter)))
+        }
+        ChannelType::Reliable
+        | ChannelType::ReliableUnordered
+        | ChannelType::Rexmit
+        | ChannelType::RexmitUnordered => None,
+    }
+}
+
+/// How often a message may be retransmitted on a channel of this type.
+fn limit_by(kind: ChannelType, parameter: u32) -> Option<u16>
+    ensures { result ≡ limit_by kind parameter }
+{
+    match kind {
+        ChannelType::Rexmit | ChannelType::RexmitUnordered => {
+            Some(u16::try_from(parameter).unwrap_or(u16::MAX))
+        }
+        ChannelType::Reliable
+        | ChannelType::ReliableUnordered
+        | ChannelType::Timed
+        | ChannelType::TimedUnordered => None,
+    }
+}

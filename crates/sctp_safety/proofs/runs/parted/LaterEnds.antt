@@ -1,0 +1,524 @@
+-- What happens at an end that has met its peer leaves its sender and its receiver as later ones.
+use Rattle.std.proofs.Common.{◌≡◌, ℕ, ◌<◌, ◌≤◌, ◌==◌, ◌&&◌, ◌||◌, not, Bool, true, false, List, [], ◌∷◌, ◌++◌, length, is_some, Option, Some, None, inl, inr, refl, sym, subst, ap, ◌∙◌, eqb-true, if◌then◌else◌}
+use Rattle.std.specs.Prelude.{drop, nat_lt}
+use Rattle.std.proofs.lemmas.Bool.{and_parts}
+use Rattle.sctp_model.specs.numbers.Numbers.{u32_at}
+use Rattle.sctp_model.specs.numbers.Lists.{Has}
+use Rattle.sctp_model.specs.wire.Typed.{Typed, typed_in}
+use Rattle.sctp_model.specs.wire.Reconfig.{RECONFIG, OUTGOING_RESET, RECONFIG_RESPONSE, ResetMeaning, reset_read, is_parameter, is_other_request, response_item, is_done_code, is_progress_code}
+use Rattle.sctp_model.specs.wire.Chunk.{PieceMeaning, ForwardMeaning, ChunkMeaning, Data, IData, Init, InitAck, Sack, Heartbeat, HeartbeatAck, Abort, Shutdown, ShutdownAck, Error, CookieEcho, CookieAck, ShutdownComplete, ForwardTsn, IForwardTsn, Unknown}
+use Rattle.sctp_model.specs.wire.Packet.{Packet}
+use Rattle.sctp_model.specs.messages.Format.{Format}
+use Rattle.sctp_model.specs.sender.Outgoing.{Sending, Sends, Resets, Refuses, is_sending, lists, Request, Outgoing}
+use Rattle.sctp_model.specs.sender.SenderView.{SenderView}
+use Rattle.sctp_model.specs.sender.Resetting.{is_open_number, answered_in, reset_answered, reset_done, reset_refused, asked_again, response_taken, may_ask}
+use Rattle.sctp_model.specs.sender.SackTaken.{sack_taken, shutdown_taken}
+use Rattle.sctp_model.specs.sender.Readers.{point}
+use Rattle.sctp_model.specs.sender.Queueing.{Refusal, refusal}
+use Rattle.sctp_model.specs.sender.Abandoning.{abandon_after, expired, worn, marking}
+use Rattle.sctp_model.specs.sender.Words.{count_up}
+use Rattle.sctp_model.specs.receiver.ReceiverView.{Handed, ReceiverView, IsCumulative}
+use Rattle.sctp_model.specs.receiver.ResetTaken.{reset_answer, answer_in_turn, reset_taken, with_answers, told_of}
+use Rattle.sctp_model.specs.receiver.PieceTaken.{PieceAnswer, PieceTaken}
+use Rattle.sctp_model.specs.receiver.ForwardTaken.{ForwardAnswer, ForwardTaken}
+use Rattle.sctp_model.specs.world.Calls.{Call, Asked}
+use Rattle.sctp_model.specs.end.EndView.{Draw, Aborted, AbortedHere, Completed, StaleCookie, TimedOut, Established, ShutdownPending, ShutdownSent, ShutdownReceived, ShutdownAckSent, Phase, Idle, Listening, Calling, Echoing, Open, Over, Alarm, InitAlarm, CookieAlarm, DataAlarm, ShutdownAlarm, AckAlarm, ResetAlarm, EndView, format_of, has_association, unused_timer}
+use Rattle.sctp_model.specs.end.Clock.{closed, with_timer, repeats_of, is_over_at, at_moment, settled, turned, sender_heard, expired_timer, is_home}
+use Rattle.sctp_model.specs.end.Pacing.{Pace}
+use Rattle.sctp_model.specs.end.Closing.{with_due, hears, takes_data, rested}
+use Rattle.sctp_model.specs.end.Reports.{fits_alone}
+use Rattle.sctp_model.specs.end.PeerFaults.{GoesOn, Ends, Replies, Note}
+use Rattle.sctp_model.specs.end.Opening.{AcceptedAck, RefusedAck, EchoedAgain, CookieAcked}
+use Rattle.sctp_model.specs.end.Reconfiguring.{answers_with, request_heard, response_heard, other_heard, asking_on, in_progress, parameter_heard, parameters_heard, asking_now, asking}
+use Rattle.sctp_model.specs.end.Acting.{ReconfigComes, IsUnknown, Acts, PieceEmpty, WrongFormat, ForwardComes, PieceComes, WrongKind, IsBad, IsOld, SackStale, ShutdownStale, SackWrong, ShutdownWrong, HeartbeatCounts, SackCounts, ShutdownCounts, Closes, SaysNothing, Crosses, Again, AckCompletes, CompleteCompleted}
+use Rattle.sctp_model.specs.end.Arriving.{Arrives, Elsewhere, NotOurs, Stray, CookieBegins, Heard, Notes, no_notes, urged, packet_ended}
+use Rattle.sctp_model.specs.end.Strays.{Verdict}
+use Rattle.sctp_model.specs.end.Wearing.{missed_below, wearing}
+use Rattle.sctp_model.specs.end.Building.{filled_behind, Slot, Puts, NoMore, NotDue, Put, IsFull, Builds, Sleeps, Waits, Calls, Echoes, EndsFull, Fills, EchoSlot, CookieAckSlot, HeartbeatSlot, ErrorSlot, SackSlot, ForwardSlot, ShutdownSlot, ShutdownAckSlot, once_built, room_behind, AnswerSlot, RequestSlot}
+use Rattle.sctp_model.specs.end.Moments.{after_abandoning, is_data_due, given_up, due_again, rung, ring, rung_all, all_alarms, waited_in, passed, ticked}
+use Rattle.sctp_model.specs.end.UserCalls.{is_established, SendAnswer, answer_for, send_answer, send_leaves, NotOpen, is_open, abandoned_at, shut_in, shut, AbortAnswer, Aborts, NoPeer, TooLong, abort_leaves, UserTakes, told_leaves}
+use Rattle.sctp_model.proofs.PacedEnds.{worn_cases}
+use Rattle.sctp_model.proofs.sender.FillLaws.{fill_is_fill}
+use Rattle.sctp_model.proofs.sender.HeardLaws.{heard_cases}
+use Rattle.sctp_model.proofs.sender.WornLaws.{wears_each}
+use Rattle.sctp_safety.proofs.machine.EndWords.{Keeps, all_act_keeps, ended_cases}
+use Rattle.sctp_safety.proofs.machine.Reconfigured.{response_of, parameter_same}
+use Rattle.sctp_safety.proofs.machine.Sides.{unknown_goes, unknown_ends, unknown_never_replies}
+use Rattle.sctp_safety.proofs.machine.Strangers.{found_is}
+use Rattle.sctp_safety.proofs.runs.Acted.{Comes, IsMetWith, not_calling, by_parameter, goes as met_goes, ends as met_ends, replies as met_replies}
+use Rattle.sctp_safety.proofs.runs.Brought.{listens_not}
+use Rattle.sctp_safety.proofs.runs.Dates.{Dated}
+use Rattle.sctp_safety.proofs.runs.Direction.{IsSaid, IsSaidBack, Direction}
+use Rattle.sctp_safety.proofs.runs.Pair.{IsMet, views_rested, met_rested}
+use Rattle.sctp_safety.proofs.runs.ResetFacts.{IsAskedBy, IsAnsweredBy, AreAsked, AreAnswers}
+use Rattle.sctp_safety.proofs.runs.Sending.{abandon_resets, expire_resets, follows_resets}
+use Rattle.sctp_safety.proofs.runs.parted.Since.{Since, since_same, since_itself, since_on, since_queued, since_filled, since_abandoned, since_worn, since_given_up}
+use Rattle.sctp_safety.proofs.runs.parted.Onward.{Onward, onward_calm, onward_itself, onward_same, onward_on, piece_onward, skip_onward, take_onward, request_onward}
+
+-- ---- a sender
+
+pub record Goes (v u : SenderView) : Type 0 where
+  pub since : Since v u
+  -- a stream that takes no message took none before
+  pub shut : (s : ℕ) → is_sending (u.resets.sending s) ≡ false → is_sending (v.resets.sending s) ≡ false
+
+-- nothing else is known of resets
+goes_since : (v u : SenderView) → Since v u → u.resets ≡ v.resets → Goes v u
+goes_since v u since resets = record { since = since; shut = λ s h. subst (λ (x : Outgoing). is_sending (x.sending s) ≡ false) resets h }
+
+goes_itself : (v : SenderView) → Goes v v
+goes_itself v = goes_since v v (since_itself v) refl
+
+goes_on : (v u w : SenderView) → Goes v u → Goes u w → Goes v w
+goes_on v u w a b = record { since = since_on v u w a.since b.since; shut = λ s h. a.shut s (b.shut s h) }
+
+heard_goes : (o : Option Pace) (now : ℕ) (v u : SenderView) → Goes v u → Goes v (sender_heard o now v u)
+heard_goes o now v u h = heard_cases (Goes v) o now v u h
+    (λ test. goes_on v u (marking u test) h (goes_since u (marking u test) (since_same u (marking u test) refl refl refl) refl))
+
+worn_resets : (test : ℕ → Bool) (v : SenderView) → (worn test v).resets ≡ v.resets
+worn_resets test v = wears_each (λ (u : SenderView). u.resets ≡ v.resets) (λ u t same. abandon_resets u t ∙ same) test v (count_up 1 (length v.plan.entries)) refl
+
+given_up_goes : (b : Bool) (v : SenderView) (now : ℕ) → Goes v (given_up b v now)
+given_up_goes b v now = goes_since v (given_up b v now) (since_given_up b v now) (resets b)
+  where
+    resets : (b : Bool) → (given_up b v now).resets ≡ v.resets
+    resets true = worn_resets (λ i. true) (expired v now) ∙ expire_resets now (count_up 1 v.tickets) v
+    resets false = expire_resets now (count_up 1 v.tickets) v
+
+-- a response: what is refused took no message before
+response_goes : (v : SenderView) (number code : ℕ) → ((q : Request) → v.resets.pending ≡ Some q → (s : ℕ) → lists q.streams s ≡ true → is_sending (v.resets.sending s) ≡ false) →
+    Goes v (response_taken v number code)
+response_goes v number code open_shut = record { since = since; shut = λ s. shut (is_open_number v number) s }
+  where
+    since : Since v (response_taken v number code)
+    since =
+        let same = response_of v number code in
+        since_same v (response_taken v number code) (ap (λ (a : SenderView). a.plan) same.1) (ap (λ (a : SenderView). a.queue) same.1) (ap (λ (a : SenderView). a.tickets) same.1)
+
+    set : (q : Request) (x : Sending) (s : ℕ) → v.resets.pending ≡ Some q → (b : Bool) → lists q.streams s ≡ b → is_sending (if b then x else v.resets.sending s) ≡ false →
+        is_sending (v.resets.sending s) ≡ false
+    set q x s waits true listed h = open_shut q waits s listed
+    set q x s waits false listed h = h
+
+    answered : (q : Request) (s : ℕ) → v.resets.pending ≡ Some q → (b c : Bool) → is_sending ((if b then reset_done v q else if c then asked_again v else reset_refused v q).resets.sending s) ≡ false →
+        is_sending (v.resets.sending s) ≡ false
+    answered q s waits true c h = set q Sends s waits (lists q.streams s) refl h
+    answered q s waits false true h = h
+    answered q s waits false false h = set q Refuses s waits (lists q.streams s) refl h
+
+    by_request : (o : Option Request) (s : ℕ) → v.resets.pending ≡ o → is_sending ((answered_in v code o).resets.sending s) ≡ false → is_sending (v.resets.sending s) ≡ false
+    by_request None s waits h = h
+    by_request (Some q) s waits h = answered q s waits (is_done_code code) (is_progress_code code) h
+
+    shut : (b : Bool) (s : ℕ) → is_sending ((if b then answered_in v code v.resets.pending else v).resets.sending s) ≡ false → is_sending (v.resets.sending s) ≡ false
+    shut false s h = h
+    shut true s h = by_request v.resets.pending s refl h
+
+-- ---- an end, beside its peer
+
+pub record LaterEnd (p e t : EndView) : Type 0 where
+  pub sender : Goes e.sender t.sender
+  pub receiver : Onward p.sender e.receiver t.receiver
+
+pub later_views : (p e t : EndView) (a : SenderView) (r : ReceiverView) → t.sender ≡ a → t.receiver ≡ r → Goes e.sender a → Onward p.sender e.receiver r → LaterEnd p e t
+later_views p e t a r sender receiver goes onward = record {
+  sender = subst (Goes e.sender) (sym sender) goes;
+  receiver = subst (Onward p.sender e.receiver) (sym receiver) onward;
+}
+
+pub later_same : (p e t : EndView) → t.sender ≡ e.sender → t.receiver ≡ e.receiver → LaterEnd p e t
+later_same p e t sender receiver = later_views p e t e.sender e.receiver sender receiver (goes_itself e.sender) (onward_itself p.sender e.receiver)
+
+pub later_itself : (p e : EndView) → LaterEnd p e e
+later_itself p e = later_same p e e refl refl
+
+later_sender : (p e t : EndView) → Goes e.sender t.sender → t.receiver ≡ e.receiver → LaterEnd p e t
+later_sender p e t goes same = record { sender = goes; receiver = onward_same p.sender e.receiver t.receiver same }
+
+later_receiver : (p e t : EndView) → t.sender ≡ e.sender → Onward p.sender e.receiver t.receiver → LaterEnd p e t
+later_receiver p e t same onward = record { sender = subst (Goes e.sender) (sym same) (goes_itself e.sender); receiver = onward }
+
+pub later_on : (p e t u : EndView) → LaterEnd p e t → LaterEnd p t u → LaterEnd p e u
+later_on p e t u a b = record {
+  sender = goes_on e.sender t.sender u.sender a.sender b.sender;
+  receiver = onward_on p.sender e.receiver t.receiver u.receiver a.receiver b.receiver;
+}
+
+later_rested : (p e : EndView) → LaterEnd p e (rested e)
+later_rested p e = later_same p e (rested e) (views_rested e).sender (views_rested e).receiver
+
+later_abandoning : (p e : EndView) (a : SenderView) → Goes e.sender a → LaterEnd p e (after_abandoning e a)
+later_abandoning p e a goes =
+    let x = settled (record e { sender = a; due = record e.due { forward = e.due.forward || not (point a == point e.sender) } }) in
+    later_views p e (after_abandoning e a) a e.receiver (views_rested x).sender (views_rested x).receiver goes (onward_itself p.sender e.receiver)
+
+later_worn : (p : EndView) (from : ℕ) (e : EndView) → LaterEnd p e (wearing from e)
+later_worn p from e = worn_cases (LaterEnd p e) from e (later_itself p e)
+    (λ test on. later_abandoning p e (worn test e.sender) (goes_since e.sender (worn test e.sender) (since_worn test e.sender) (worn_resets test e.sender)))
+
+-- ---- a chunk
+
+module _ (p : EndView) (u v : Asked) (out back : List Dated) (many : ℕ) where
+  abbrev Met : EndView → Type 0
+  Met e = IsMetWith many e p u v out back
+
+  -- what a chunk says that comes
+  says : (e : EndView) (x : ChunkMeaning) → (m : Met e) (c : Comes p many back x) → IsSaid (format_of p) p.sender.initial p.sender e.receiver m.met.coming.bags c.said.date.own c.said.chunk →
+      IsSaid (format_of p) p.sender.initial p.sender e.receiver m.met.coming.bags c.said.date.own x
+  says e x m c h = subst (λ (y : ChunkMeaning). IsSaid (format_of p) p.sender.initial p.sender e.receiver m.met.coming.bags c.said.date.own y) c.same h
+
+  by_data : (e : EndView) (x : PieceMeaning) (o : PieceAnswer) (r : ReceiverView) → Met e → Comes p many back (Data x) → PieceTaken (format_of e) e.receiver x o r → Onward p.sender e.receiver r
+  by_data e x o r m c taken =
+      piece_onward (format_of p) p.terms.outbound p.sender v e.receiver back out m.met.coming c.said x o r c.has c.own (says e (Data x) m c)
+      (subst (λ (f : Format). PieceTaken f e.receiver x o r) m.met.format taken)
+
+  by_i_data : (e : EndView) (x : PieceMeaning) (o : PieceAnswer) (r : ReceiverView) → Met e → Comes p many back (IData x) → PieceTaken (format_of e) e.receiver x o r → Onward p.sender e.receiver r
+  by_i_data e x o r m c taken =
+      piece_onward (format_of p) p.terms.outbound p.sender v e.receiver back out m.met.coming c.said x o r c.has c.own (says e (IData x) m c)
+      (subst (λ (f : Format). PieceTaken f e.receiver x o r) m.met.format taken)
+
+  by_forward : (e : EndView) (x : ForwardMeaning) (o : ForwardAnswer) (r : ReceiverView) → Met e → Comes p many back (ForwardTsn x) → ForwardTaken (format_of e) e.receiver x o r →
+      Onward p.sender e.receiver r
+  by_forward e x o r m c taken =
+      skip_onward (format_of p) p.terms.outbound p.sender v e.receiver back out m.met.coming c.said x o r c.has c.own (says e (ForwardTsn x) m c)
+      (subst (λ (f : Format). ForwardTaken f e.receiver x o r) m.met.format taken)
+
+  by_i_forward : (e : EndView) (x : ForwardMeaning) (o : ForwardAnswer) (r : ReceiverView) → Met e → Comes p many back (IForwardTsn x) → ForwardTaken (format_of e) e.receiver x o r →
+      Onward p.sender e.receiver r
+  by_i_forward e x o r m c taken =
+      skip_onward (format_of p) p.terms.outbound p.sender v e.receiver back out m.met.coming c.said x o r c.has c.own (says e (IForwardTsn x) m c)
+      (subst (λ (f : Format). ForwardTaken f e.receiver x o r) m.met.format taken)
+
+  -- ---- a RE-CONFIG
+
+  by_request : (c : ℕ) (e : EndView) (x : ResetMeaning) → Met e → IsCumulative e.receiver c → IsAskedBy p.sender.initial p.sender x → LaterEnd p e (request_heard c e x)
+  by_request c e x m cumulative ask =
+      later_receiver p e (request_heard c e x) refl
+      (request_onward (format_of p) p.terms.outbound p.sender v e.receiver back out m.met.coming c cumulative x ask
+      (answers_with e (response_item x.number (answer_in_turn e.receiver x.number (reset_answer e.receiver c x)))))
+
+  in_progress_same : (b : Bool) (e : EndView) → LaterEnd p e (in_progress b e)
+  in_progress_same false e = later_itself p e
+  in_progress_same true e = later_same p e (in_progress true e) refl refl
+
+  asking_on_same : (e : EndView) → LaterEnd p e (asking_on e)
+  asking_on_same e = go (is_some e.sender.resets.pending)
+    where
+      go : (b : Bool) → LaterEnd p e (if b then e else with_timer ResetAlarm unused_timer (with_due (record e.due { request = false }) e))
+      go true = later_itself p e
+      go false = later_same p e (with_timer ResetAlarm unused_timer (with_due (record e.due { request = false }) e)) refl refl
+
+  by_response : (e : EndView) (number code : ℕ) → Met e → LaterEnd p e (response_heard e number code)
+  by_response e number code m =
+      let t = record e { sender = response_taken e.sender number code } in
+      let b = is_open_number e.sender number && is_progress_code code in
+      let first : LaterEnd p e t = later_sender p e t (response_goes e.sender number code (λ q waits s listed. (m.met.going.step.waiting q waits).shut s listed)) refl in
+      later_on p e t (response_heard e number code) first
+      (later_on p t (in_progress b t) (response_heard e number code) (in_progress_same b t) (asking_on_same (in_progress b t)))
+
+  by_parameter_later : (c : ℕ) (e : EndView) (x : Typed) → (is_parameter OUTGOING_RESET 12 x ≡ true → IsAskedBy p.sender.initial p.sender (reset_read x)) → is_other_request x ≡ false →
+      Met e → IsCumulative e.receiver c → LaterEnd p e (parameter_heard c e x)
+  by_parameter_later c e x ask other m cumulative = go (is_parameter OUTGOING_RESET 12 x) refl (is_parameter RECONFIG_RESPONSE 8 x) (is_other_request x) other
+    where
+      go : (b : Bool) → is_parameter OUTGOING_RESET 12 x ≡ b → (d o : Bool) → o ≡ false →
+          LaterEnd p e (if b then request_heard c e (reset_read x) else if d then response_heard e (u32_at x.value) (u32_at (drop 4 x.value)) else if o then other_heard e (u32_at x.value) else e)
+      go true on d o unasked = by_request c e (reset_read x) m cumulative (ask on)
+      go false off true o unasked = by_response e (u32_at x.value) (u32_at (drop 4 x.value)) m
+      go false off false true unasked = absurd (cc)
+      go false off false false unasked = later_itself p e
+
+  by_parameters : (c : ℕ) (xs : List Typed) → AreAsked p.sender.initial p.sender xs → AreAnswers p.receiver.initial p.receiver xs → (e : EndView) → Met e → IsCumulative e.receiver c →
+      LaterEnd p e (parameters_heard c e xs)
+  by_parameters c [] asks answers e m cumulative = later_itself p e
+  by_parameters c (x ∷ xs) asks answers e m cumulative =
+      let one = asks x (inl refl) in
+      let mid = parameter_heard c e x in
+      later_on p e mid (parameters_heard c mid xs) (by_parameter_later c e x one.0 one.1 m cumulative)
+      (by_parameters c xs (λ y has. asks y (inr has)) (λ y has. answers y (inr has)) mid
+      (by_parameter p u v out back many c e x one.0 one.1 (answers x (inl refl)) m cumulative)
+      (let same = (parameter_same c e x).receiver in subst (λ (r : ReceiverView). IsCumulative r c) (sym same.1) (record { reached = cumulative.reached; open_end = cumulative.open_end })))
+
+  goes : (e : EndView) (tag : ℕ) (x : ChunkMeaning) (y : Note) (t : EndView) → Comes p many back x → Met e → Acts e tag x (GoesOn y t) → LaterEnd p e t
+  goes e tag (Data d) y t has m (PieceComes k g o r is hears some same taken) = later_receiver p e t refl (by_data e d o r m has taken)
+  goes e tag (IData d) y t has m (PieceComes k g o r is hears some same taken) = later_receiver p e t refl (by_i_data e d o r m has taken)
+  goes e tag (Init i) y t has m h = absurd (cc)
+  goes e tag (InitAck i) y t has m (AcceptedAck d cookie is tagged value fault) = absurd (not_calling e.phase d is m.met.phase)
+  goes e tag (Sack s) y t has m (SackStale hears fault) = later_same p e t refl refl
+  goes e tag (Sack s) y t has m (SackCounts hears none) =
+      later_sender p e t (heard_goes e.pace e.moment e.sender (sack_taken e.sender s) (goes_since e.sender (sack_taken e.sender s) (since_same e.sender (sack_taken e.sender s) refl refl refl) refl)) refl
+  goes e tag (Heartbeat i) y t has m (HeartbeatCounts hears) = later_same p e t refl refl
+  goes e tag (HeartbeatAck i) y t has m h = let q : t ≡ e = cc in subst (LaterEnd p e) (sym q) (later_itself p e)
+  goes e tag (Abort b xs) y t has m h = absurd (cc)
+  goes e tag (Shutdown n) y t has m (ShutdownStale k g is hears fault) = later_same p e t refl refl
+  goes e tag (Shutdown n) y t has m (ShutdownCounts k g is hears none) =
+      later_sender p e t (heard_goes e.pace e.moment e.sender (shutdown_taken e.sender n)
+      (goes_since e.sender (shutdown_taken e.sender n) (since_same e.sender (shutdown_taken e.sender n) refl refl refl) refl)) refl
+  goes e tag (Shutdown n) y t has m (Crosses k is) = later_same p e t refl refl
+  goes e tag (Shutdown n) y t has m (Again k is) = later_same p e t refl refl
+  goes e tag ShutdownAck y t has m h = elim h [ ]
+  goes e tag (Error xs) y t has m (SaysNothing off) = later_same p e t refl refl
+  goes e tag (CookieEcho xs) y t has m (EchoedAgain _ _ _ _ _ _ _) = later_same p e t refl refl
+  goes e tag CookieAck y t has m (CookieAcked k xs is) = later_same p e t refl refl
+  goes e tag (ShutdownComplete b) y t has m h = elim h [ ]
+  goes e tag (ForwardTsn d) y t has m (IsOld k g r is hears may taken) = later_receiver p e t refl (by_forward e d _ r m has taken)
+  goes e tag (ForwardTsn d) y t has m (ForwardComes k g r is hears may taken) = later_receiver p e t refl (by_forward e d _ r m has taken)
+  goes e tag (IForwardTsn d) y t has m (IsOld k g r is hears may taken) = later_receiver p e t refl (by_i_forward e d _ r m has taken)
+  goes e tag (IForwardTsn d) y t has m (ForwardComes k g r is hears may taken) = later_receiver p e t refl (by_i_forward e d _ r m has taken)
+  goes e tag (Unknown k f w) y t has m (ReconfigComes c takes cumulative) =
+      let is = eqb-true k RECONFIG (and_parts (k == RECONFIG) (e.terms.reset && hears takes_data e.phase) takes).0 in
+      let ask = says e (Unknown k f w) m has (m.met.coming.said has.said has.has) in
+      let answer = subst (λ (z : ChunkMeaning). IsSaidBack p.receiver.initial p.receiver m.met.going.bags has.said.date.there z) has.same (m.met.going.said_back has.said has.has) in
+      by_parameters c (typed_in w) (ask is) (answer is) e m cumulative
+  goes e tag (Unknown k f w) y t has m (IsUnknown _ off h) = subst (LaterEnd p e) (sym (unknown_goes e y t k f w h).same) (later_same p e _ refl refl)
+
+  ends : (e : EndView) (tag : ℕ) (x : ChunkMeaning) (t : EndView) → Acts e tag x (Ends t) → LaterEnd p e t
+  ends e tag (Data d) t h = elim h [ ]
+  ends e tag (IData d) t h = elim h [ ]
+  ends e tag (Init i) t h = absurd (cc)
+  ends e tag (InitAck i) t h = elim h [ ]
+  ends e tag (Sack s) t h = elim h [ ]
+  ends e tag (Heartbeat i) t h = elim h [ ]
+  ends e tag (HeartbeatAck i) t h = absurd (cc)
+  ends e tag (Abort b xs) t h = let q : t ≡ closed Aborted e = cc in subst (LaterEnd p e) (sym q) (later_same p e (closed Aborted e) refl refl)
+  ends e tag (Shutdown n) t h = elim h [ ]
+  ends e tag ShutdownAck t h = elim h [ ]
+  ends e tag (Error xs) t (Closes on) = later_same p e t refl refl
+  ends e tag (CookieEcho xs) t h = elim h [ ]
+  ends e tag CookieAck t h = elim h [ ]
+  ends e tag (ShutdownComplete b) t (CompleteCompleted on) = later_same p e t refl refl
+  ends e tag (ForwardTsn d) t h = elim h [ ]
+  ends e tag (IForwardTsn d) t h = elim h [ ]
+  ends e tag (Unknown k f w) t (IsUnknown _ off h) = subst (LaterEnd p e) (sym (unknown_ends e t k f w h).same) (later_same p e _ refl refl)
+
+  replies : (e : EndView) (tag : ℕ) (x : ChunkMeaning) (t : EndView) (r : Packet) → Acts e tag x (Replies t r) → LaterEnd p e t
+  replies e tag (Data d) t r (PieceEmpty _ _ _ _ _) = later_same p e t refl refl
+  replies e tag (Data d) t r (WrongFormat _ _ _ _ _ _) = later_same p e t refl refl
+  replies e tag (IData d) t r (PieceEmpty _ _ _ _ _) = later_same p e t refl refl
+  replies e tag (IData d) t r (WrongFormat _ _ _ _ _ _) = later_same p e t refl refl
+  replies e tag (Init i) t r h = absurd (cc)
+  replies e tag (InitAck i) t r (RefusedAck _ _ _ _ _) = later_same p e t refl refl
+  replies e tag (Sack s) t r (SackWrong _ _ _ _ _) = later_same p e t refl refl
+  replies e tag (Heartbeat i) t r h = elim h [ ]
+  replies e tag (HeartbeatAck i) t r h = absurd (cc)
+  replies e tag (Abort b xs) t r h = absurd (cc)
+  replies e tag (Shutdown n) t r (ShutdownWrong _ _ _ _ _) = later_same p e t refl refl
+  replies e tag ShutdownAck t r (AckCompletes _ _ _ _) = later_same p e t refl refl
+  replies e tag (Error xs) t r h = elim h [ ]
+  replies e tag (CookieEcho xs) t r h = elim h [ ]
+  replies e tag CookieAck t r h = elim h [ ]
+  replies e tag (ShutdownComplete b) t r h = elim h [ ]
+  replies e tag (ForwardTsn d) t r (WrongKind _ _ _ _ _) = later_same p e t refl refl
+  replies e tag (ForwardTsn d) t r (IsBad _ _ _ _ _ _ _) = later_same p e t refl refl
+  replies e tag (IForwardTsn d) t r (WrongKind _ _ _ _ _) = later_same p e t refl refl
+  replies e tag (IForwardTsn d) t r (IsBad _ _ _ _ _ _ _) = later_same p e t refl refl
+  replies e tag (Unknown k f w) t r (IsUnknown _ off h) = absurd (unknown_never_replies e t r k f w h)
+
+  -- ---- a packet
+
+  -- an end on the way through a packet, which found the first one
+  pub record OnTheWay (first e : EndView) : Type 0 where
+    pub met : Met e
+    pub later : LaterEnd p first e
+
+  pub on_the_way : (first : EndView) (tag : ℕ) → Keeps tag (OnTheWay first) (λ x. Comes p many back x) (λ r. Unit {0})
+  on_the_way first tag = record {
+    goes = λ e x y t c k act.
+        let m = met_goes p u v out back many e tag x y t c k.met act in
+        record {
+          met = record { met = met_rested t p u v out back m.met; assigned = ap (λ (a : SenderView). length a.plan.entries) (views_rested t).sender ∙ m.assigned };
+          later = later_on p first t (rested t) (later_on p first e t k.later (goes e tag x y t c k.met act)) (later_rested p t);
+        };
+    ends = λ e x t c k act. record { met = met_ends p u v out back many e tag x t k.met act; later = later_on p first e t k.later (ends e tag x t act) };
+    replies = λ e x t r c k act. (record { met = met_replies p u v out back many e tag x t r k.met act; later = later_on p first e t k.later (replies e tag x t r act) }, tt);
+  }
+
+pub later_ended : (p : EndView) (n : Notes) (e : EndView) → LaterEnd p e (packet_ended n e)
+later_ended p n e = ended_cases (LaterEnd p e) n e (later_itself p e) (λ t g is. later_same p e _ refl refl) (λ t g is. later_same p e _ refl refl)
+    (λ x k. later_on p e x _ k (later_same p x _ refl refl))
+
+pub arrives_later : (e p : EndView) (u v : Asked) (out back : List Dated) (d : Draw) (k : Packet) (t : EndView) (o : Verdict) → IsMet e p u v out back →
+    ((x : ChunkMeaning) → Has k.chunks x → Comes p (length e.sender.plan.entries) back x) → Arrives e d k t o → LaterEnd p e t
+arrives_later e p u v out back d k t o m comes (Elsewhere ports) = later_itself p e
+arrives_later e p u v out back d k t o m comes (NotOurs ports passes) = later_itself p e
+arrives_later e p u v out back d k t o m comes (Stray ports passes none closed) = later_itself p e
+arrives_later e p u v out back d k t o m comes (CookieBegins b _ _ _ ports passes none opens acts gap _) = absurd (listens_not e.phase (found_is e k.tag k.chunks b opens).phase m.phase)
+arrives_later e p u v out back d k t o m comes (Heard w n _ ports passes has acts gap _) =
+    let first = (all_act_keeps k.tag (OnTheWay p u v out back (length e.sender.plan.entries) e) _ _ (on_the_way p u v out back (length e.sender.plan.entries) e k.tag) e no_notes k.chunks w n o comes
+    (record { met = record { met = m; assigned = refl }; later = later_itself p e }) acts).0.later in
+    let worn = wearing (missed_below e.pace) w in
+    later_on p e w (packet_ended (urged gap n) worn) first (later_on p w worn (packet_ended (urged gap n) worn) (later_worn p (missed_below e.pace) w) (later_ended p (urged gap n) worn))
+
+-- ---- a packet that is built
+
+later_built : (p : EndView) (s : Slot) (e : EndView) → LaterEnd p e (once_built s e)
+later_built p EchoSlot e = later_same p e _ refl refl
+later_built p CookieAckSlot e = later_same p e _ refl refl
+later_built p HeartbeatSlot e = later_same p e _ refl refl
+later_built p ErrorSlot e = later_same p e _ refl refl
+later_built p SackSlot e = later_receiver p e _ refl (onward_calm p.sender e.receiver _ (λ j h. h) refl (λ s. refl) (λ s n is. is))
+later_built p ForwardSlot e = later_same p e _ refl refl
+later_built p AnswerSlot e = later_receiver p e _ refl (onward_calm p.sender e.receiver _ (λ j h. h) refl (λ s. refl) (λ s n is. is))
+later_built p RequestSlot e = later_same p e _ refl refl
+later_built p ShutdownSlot e = later_same p e _ refl refl
+later_built p ShutdownAckSlot e = later_same p e _ refl refl
+
+later_puts : (p : EndView) (ss : List Slot) (e : EndView) (xs zs : List ChunkMeaning) (full : Bool) (t : EndView) → Puts ss e xs zs full t → LaterEnd p e t
+later_puts p ss e xs zs full t (NoMore _ _) = later_itself p e
+later_puts p ss e xs zs full t (NotDue _ more _ _ _ _ _ off rest) = later_puts p more e xs zs full t rest
+later_puts p ss e xs zs full t (Put s more _ x _ _ _ _ due wants room rest) = later_on p e (once_built s e) t (later_built p s e) (later_puts p more (once_built s e) (xs ++ x ∷ []) zs full t rest)
+later_puts p ss e xs zs full t (IsFull _ _ _ _ _ due wants room) = later_itself p e
+
+later_asking : (p e : EndView) → LaterEnd p e (asking e)
+later_asking p e = go (e.terms.reset && (is_home ResetAlarm e.phase && may_ask e.sender))
+  where
+    go : (b : Bool) → LaterEnd p e (asking_now b e)
+    go true = later_sender p e (asking_now true e) (record { since = since_same e.sender _ refl refl refl; shut = λ s h. h }) refl
+    go false = later_itself p e
+
+pub builds_later : (p e : EndView) (zs : List ChunkMeaning) (t : EndView) → Builds e zs t → LaterEnd p e t
+builds_later p e zs t (Sleeps _) = later_itself p e
+builds_later p e zs t (Waits _ _ _) = later_itself p e
+builds_later p e zs t (Calls _ _ _) = later_same p e t refl refl
+builds_later p e zs t (Echoes _ _ _ full _ is puts) = later_puts p _ e [] zs full t puts
+builds_later p e zs t (EndsFull _ _ _ _ is puts) = later_on p e (asking e) t (later_asking p e) (later_puts p _ (asking e) [] zs true t puts)
+builds_later p e zs t (Fills _ _ ys x is puts) =
+    let follows = (fill_is_fill (format_of x) (room_behind x ys) x.sender).follows in
+    let fills : Goes x.sender (filled_behind x ys).view =
+    goes_since x.sender (filled_behind x ys).view (since_filled (format_of x) x.sender (room_behind x ys) (filled_behind x ys).wishes (filled_behind x ys).view follows)
+    (follows_resets (format_of x) x.sender (room_behind x ys) (filled_behind x ys).wishes (filled_behind x ys).view follows).last in
+    later_on p e x t (later_on p e (asking e) x (later_asking p e) (later_puts p _ (asking e) [] ys false x puts)) (later_sender p x t fills refl)
+
+-- ---- time
+
+later_again : (p : EndView) (a : Alarm) (e : EndView) → LaterEnd p e (due_again a e)
+later_again p InitAlarm e = later_same p e _ refl refl
+later_again p CookieAlarm e = later_same p e _ refl refl
+later_again p DataAlarm e = later_sender p e _ (goes_since e.sender (marking e.sender (λ i. true)) (since_same e.sender (marking e.sender (λ i. true)) refl refl refl) refl) refl
+later_again p ShutdownAlarm e = later_same p e _ refl refl
+later_again p AckAlarm e = later_same p e _ refl refl
+later_again p ResetAlarm e = later_same p e _ refl refl
+
+later_rung : (p : EndView) (b : Bool) (a : Alarm) (e : EndView) → LaterEnd p e (rung b a e)
+later_rung p false a e = later_itself p e
+later_rung p true a e = go (nat_lt (e.timers a).repeats (repeats_of a))
+  where
+    go : (c : Bool) → LaterEnd p e (if c then due_again a (with_timer a (expired_timer (e.timers a)) e) else closed TimedOut e)
+    go true = let x = with_timer a (expired_timer (e.timers a)) e in later_on p e x (due_again a x) (later_same p e x refl refl) (later_again p a x)
+    go false = later_same p e _ refl refl
+
+later_rung_all : (p : EndView) (alarms : List Alarm) (e : EndView) → LaterEnd p e (rung_all alarms e)
+later_rung_all p [] e = later_itself p e
+later_rung_all p (a ∷ more) e = later_on p e (ring a e) (rung_all more (ring a e)) (later_rung p (is_over_at e.moment (e.timers a).expiry) a e) (later_rung_all p more (ring a e))
+
+later_waited : (p : EndView) (b : Bool) (e : EndView) → LaterEnd p e (waited_in b e)
+later_waited p false e = later_itself p e
+later_waited p true e = later_same p e _ refl refl
+
+pub ticked_later : (p e : EndView) (now : ℕ) → LaterEnd p e (ticked e now)
+ticked_later p e now = go (has_association e.phase)
+  where
+    go : (b : Bool) → LaterEnd p e (if b then passed (at_moment e now) else at_moment e now)
+    go false = later_same p e _ refl refl
+    go true =
+        let m = at_moment e now in
+        let x = after_abandoning m (given_up (is_data_due m) m.sender m.moment) in
+        let rang = rung_all all_alarms x in
+        let abandoned = later_abandoning p m (given_up (is_data_due m) m.sender m.moment) (given_up_goes (is_data_due m) m.sender m.moment) in
+        later_on p e m (waited_in (is_over_at rang.moment rang.delayed) rang) (later_same p e m refl refl)
+        (later_on p m x (waited_in (is_over_at rang.moment rang.delayed) rang) abandoned
+        (later_on p x rang (waited_in (is_over_at rang.moment rang.delayed) rang) (later_rung_all p all_alarms x) (later_waited p (is_over_at rang.moment rang.delayed) rang)))
+
+-- no time changes the receiver
+again_receiver : (a : Alarm) (e : EndView) → (due_again a e).receiver ≡ e.receiver
+again_receiver InitAlarm e = refl
+again_receiver CookieAlarm e = refl
+again_receiver DataAlarm e = refl
+again_receiver ShutdownAlarm e = refl
+again_receiver AckAlarm e = refl
+again_receiver ResetAlarm e = refl
+
+rung_receiver : (b : Bool) (a : Alarm) (e : EndView) → (rung b a e).receiver ≡ e.receiver
+rung_receiver false a e = refl
+rung_receiver true a e = go (nat_lt (e.timers a).repeats (repeats_of a))
+  where
+    go : (c : Bool) → (if c then due_again a (with_timer a (expired_timer (e.timers a)) e) else closed TimedOut e).receiver ≡ e.receiver
+    go true = again_receiver a (with_timer a (expired_timer (e.timers a)) e)
+    go false = refl
+
+rung_all_receiver : (alarms : List Alarm) (e : EndView) → (rung_all alarms e).receiver ≡ e.receiver
+rung_all_receiver [] e = refl
+rung_all_receiver (a ∷ more) e = rung_all_receiver more (ring a e) ∙ rung_receiver (is_over_at e.moment (e.timers a).expiry) a e
+
+waited_receiver : (b : Bool) (e : EndView) → (waited_in b e).receiver ≡ e.receiver
+waited_receiver false e = refl
+waited_receiver true e = refl
+
+pub ticked_receiver : (e : EndView) (now : ℕ) → (ticked e now).receiver ≡ e.receiver
+ticked_receiver e now = go (has_association e.phase)
+  where
+    go : (b : Bool) → (if b then passed (at_moment e now) else at_moment e now).receiver ≡ e.receiver
+    go false = refl
+    go true =
+        let m = at_moment e now in
+        let a = given_up (is_data_due m) m.sender m.moment in
+        let x = after_abandoning m a in
+        let rang = rung_all all_alarms x in
+        waited_receiver (is_over_at rang.moment rang.delayed) rang ∙ rung_all_receiver all_alarms x
+        ∙ (views_rested (settled (record m { sender = a; due = record m.due { forward = m.due.forward || not (point a == point m.sender) } }))).receiver
+
+-- ---- calls
+
+pub sent_later : (p e : EndView) (c : Call) → LaterEnd p e (send_leaves (send_answer e c) e c)
+sent_later p e c = go (hears is_established e.phase)
+  where
+    by : (o : Option Refusal) → LaterEnd p e (send_leaves (answer_for e o) e c)
+    by None = later_sender p e _ (goes_since e.sender _ (since_queued e.sender c.lane c.payload c.bytes c.until c.limit) refl) refl
+    by (Some x) = later_itself p e
+
+    go : (b : Bool) → LaterEnd p e (send_leaves (if b then answer_for e (refusal e.sender c.lane.stream c.bytes) else NotOpen) e c)
+    go true = by (refusal e.sender c.lane.stream c.bytes)
+    go false = later_itself p e
+
+pub abandoned_later : (p e : EndView) (n : ℕ) → LaterEnd p e (abandoned_at e n)
+abandoned_later p e n = go (is_open e.phase)
+  where
+    goes : Goes e.sender (abandon_after e.sender n)
+    goes = goes_since e.sender (abandon_after e.sender n) (since_abandoned e.sender n) (abandon_resets e.sender n)
+
+    go : (b : Bool) → LaterEnd p e (if b then after_abandoning e (abandon_after e.sender n) else record e { sender = abandon_after e.sender n })
+    go true = later_abandoning p e (abandon_after e.sender n) goes
+    go false = later_sender p e (record e { sender = abandon_after e.sender n }) goes refl
+
+pub told_later : (p e : EndView) (o : Option ℕ) → LaterEnd p e (told_leaves o e)
+told_later p e None = later_itself p e
+told_later p e (Some s) = later_receiver p e _ refl (onward_calm p.sender e.receiver (told_of e.receiver s) (λ j h. h) refl (λ k. refl) (λ k n is. told k n (k == s) is))
+  where
+    told : (k n : ℕ) (b : Bool) → (if b then None else e.receiver.resets.told k) ≡ Some n → e.receiver.resets.told k ≡ Some n
+    told k n true here = absurd (cc)
+    told k n false here = here
+
+pub shut_later : (p e : EndView) → LaterEnd p e (shut e)
+shut_later p e = go e.phase
+  where
+    go : (h : Phase) → LaterEnd p e (shut_in h e)
+    go (Open t Established) = let x = turned (Open t ShutdownPending) e in later_on p e x (rested x) (later_same p e x refl refl) (later_rested p x)
+    go (Open t ShutdownPending) = later_itself p e
+    go (Open t ShutdownSent) = later_itself p e
+    go (Open t ShutdownReceived) = later_itself p e
+    go (Open t ShutdownAckSent) = later_itself p e
+    go Idle = later_itself p e
+    go Listening = later_itself p e
+    go (Calling d) = later_itself p e
+    go (Echoing t xs) = later_itself p e
+    go (Over why) = later_itself p e
+
+pub aborted_later : (p e : EndView) (a : AbortAnswer) → LaterEnd p e (abort_leaves a e)
+aborted_later p e (Aborts x) = later_same p e _ refl refl
+aborted_later p e NoPeer = later_itself p e
+aborted_later p e TooLong = later_itself p e
+
+pub taken_later : (p e : EndView) (u v : Asked) (out back : List Dated) (s : ℕ) (h : Option Handed) (t : EndView) → IsMet e p u v out back → UserTakes e s h t → LaterEnd p e t
+taken_later p e u v out back s h t m takes =
+    later_views p e t e.sender takes.receiver (ap (λ (x : EndView). x.sender) takes.leaves) (ap (λ (x : EndView). x.receiver) takes.leaves) (goes_itself e.sender)
+    (take_onward (format_of p) p.terms.outbound p.sender v e.receiver back out m.coming s h takes.receiver takes.takes)
