@@ -32,6 +32,7 @@ pub data Course (s : ℕ) : EndView → Table → EndView → Table → Type 0 w
   Notes : (v : EndView) (x : Table) (u : EndView) (y : Table) (k count : ℕ) → Course s v (with_reset k count x) u y → Course s v x u y
   Beside : (v : EndView) (x : Table) (w : EndView) (z : Table) (u : EndView) (y : Table) → IsBeside s v x w z → Course s w z u y → Course s v x u y
 
+-- along a course the place of a reset stays (RFC 8831, 6.7)
 abbrev pub CoursesKeepPlaces : Type 0
 CoursesKeepPlaces = (s n : ℕ) (v : EndView) (x : Table) (u : EndView) (y : Table) → Course s v x u y → HasPlace v x s n → HasPlace u y s n
 

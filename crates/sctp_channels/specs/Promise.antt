@@ -29,6 +29,7 @@ pub record IsTaken (v : EndView) (x : Table) (s : ℕ) (c : Content) : Type 0 wh
   pub content : content_of message.payload message.bytes ≡ Some c
   pub leaves : (next_report v x).view ≡ record v { receiver = first_taken v.receiver s message rest }
 
+-- a content that is told is in the message that waited first, and that is taken (RFC 8831, 6.6)
 abbrev pub ContentsAreTaken : Type 0
 ContentsAreTaken = (v : EndView) (x : Table) (s : ℕ) (c : Content) → (next_report v x).report ≡ Some (record { stream = s; told = Message c }) → IsTaken v x s c
 
