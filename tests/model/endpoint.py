@@ -745,10 +745,9 @@ class Endpoint:
                 self.response(*struct.unpack('>II', value[:8]))
 
     def response(self, number, result):
-        """RFC 6525 section 5.2.7: the timer of a request that is in progress begins anew, without its count; that of one that
-        is answered is as it was at first."""
-        if self.sender.resets.on_response(number, result):
-            self.timers['request'].renew(self.now)
+        """RFC 6525 section 5.2.7: the timer of a request that is answered is as it was at first. That of one in progress runs
+        on, and its expiry counts (section 5.1.1)."""
+        self.sender.resets.on_response(number, result)
         if self.sender.resets.pending is None:
             self.due.discard('request')
             self.timers['request'] = Timer(OTHER_REPEATS)

@@ -200,7 +200,7 @@ def in_progress():
     made.send(byte='63', ticket=3)
     made = begins('a request in progress is repeated with the next number').comes('B').build('A').says('at 1000', 'ok')
     made.build('A', 56, request(2, 0, 2, 0) + data(2, 1, 0, '62')).comes('A').says('resets B', 'no-reset B')
-    made.build('B', 44, sack(2, 0xfffe) + responses((2, 6))).comes('B').build('A').says('at 1999', 'ok').build('A').says('at 2000', 'ok')
+    made.build('B', 44, sack(2, 0xfffe) + responses((2, 6))).comes('B').build('A').says('at 2999', 'ok').build('A').says('at 3000', 'ok')
     made.build('A', 36, request(3, 0, 2, 0)).comes('A').says('resets B', 'reset B 0 1').build('B', 28, responses((3, 1))).comes('B').send(byte='63', ticket=3)
     made = begins('the response to a number that was in progress comes again: it is the last one\'s no more').comes('B')
     made.foreign('A', responses((1, 1))).says('send A 0 o 0 - 63', 'refused 8').foreign('A', responses((2, 1))).send(byte='63', ticket=3)
@@ -234,10 +234,13 @@ def timer():
         moment, wait = moment + wait, min(2 * wait, 60000)
         made.says('at %d' % (moment - 1), 'ok').build('A').says('at %d' % moment, 'ok').build('A', 36, request(1, 0, 1, 0))
     made.says('at %d' % (moment + wait - 1), 'ok').build('A').says('at %d' % (moment + wait), 'ok').build('A').says('reset A 0', 'refused 1').says('send A 0 o 0 - 61', 'refused 7')
-    made = reset_begins('a peer whose response is in progress for ever: no repeat counts, and the association goes on').build('A', 36)
-    for number in range(1, 14):
-        made.foreign('A', responses((number, 6))).says('at %d' % (1000 * number), 'ok').build('A', 36, request(number + 1, 0, 1, 0))
-    made.foreign('A', responses((14, 1))).send(byte='62', ticket=2)
+    made = reset_begins('a peer whose response is in progress for ever: ten repeats, and the association is over').build('A', 36)
+    moment, wait = 0, 1000
+    for number in range(1, 11):
+        moment, wait = moment + wait, min(2 * wait, 60000)
+        made.foreign('A', responses((number, 6))).says('at %d' % (moment - 1), 'ok').build('A')
+        made.says('at %d' % moment, 'ok').build('A', 36, request(number + 1, 0, 1, 0))
+    made.foreign('A', responses((11, 6))).says('at %d' % (moment + wait), 'ok').build('A').says('reset A 0', 'refused 1').says('send A 0 o 0 - 61', 'refused 7')
     made = reset_begins('in progress once, and then silence: ten repeats, and the association is over').build('A', 36).foreign('A', responses((1, 6)))
     moment, wait = 0, 1000
     for _ in range(10):

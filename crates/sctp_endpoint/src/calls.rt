@@ -43,8 +43,8 @@ impl Endpoint {
     ///
     /// # Errors
     /// `Refused::NotOpen` unless the association is established, before every other error; then `Refused::Fault` with the first of the sender's
-    /// errors that applies: no such stream, no bytes, more than 65,536 bytes, 1,024 messages queued already, no ticket left, or an allocation that
-    /// failed. Nothing changed; the bytes are dropped.
+    /// errors that applies: no such stream, a stream that is being reset or whose reset the peer refused, no bytes, more than 65,536 bytes, 1,024
+    /// messages queued already, no ticket left, or an allocation that failed. Nothing changed; the bytes are dropped.
     pub fn send(
         &mut self,
         stream: u16,

@@ -10,7 +10,7 @@ ghost use Rattle.sctp_model.specs.end.EndView.{EndView, state_of, ended_of};
 ghost use Rattle.sctp_model.specs.end.Moments.{next_moment};
 ghost use Rattle.sctp_terms.specs.Meanings.{end_meaning, state_meaning};
 ghost use Rattle.sctp_send.specs.SenderAnswers.{next_late, abandoned_messages};
-ghost use Rattle.sctp_send.specs.Waiting.{queued_bytes};
+ghost use Rattle.sctp_send.specs.Waiting.{queued_bytes, queued_bytes_on};
 ghost use Rattle.sctp_recv.specs.HandedOf.{handed_of};
 ghost use Rattle.sctp_recv.specs.Readable.{ReadableAnswer};
 ghost use Rattle.sctp_association.specs.Agreeing.{AgreedAnswer};
@@ -172,6 +172,16 @@ impl Endpoint {
         ensures bound { (v : EndView) → EndpointStands self.now v → result ≤ QUEUE_LIMIT * LONGEST_MESSAGE }
     {
         self.machine.queued_bytes()
+    }
+
+    /// Of the bytes that `queued_bytes` counts, those of the messages on this stream, ordered or not, with one of these payload protocol identifiers; an
+    /// identifier given twice counts once. 0 before an association. It is a walk over the queue. Of 51 and 53, the user data that a data channel
+    /// buffers (RFC 8831, 8).
+    pub fn queued_bytes_on(&self, stream: u16, payload_ids: &[u32]) -> u64
+        ensures bytes { (v : EndView) → EndpointStands self.now v → result ≡ queued_bytes_on stream payload_ids.now v.sender }
+        ensures bound { (v : EndView) → EndpointStands self.now v → result ≤ QUEUE_LIMIT * LONGEST_MESSAGE }
+    {
+        self.machine.queued_bytes_on(stream, payload_ids)
     }
 
     /// The peer's advertised receiver window (a_rwnd) in bytes, as last received: 0 before an association. Bytes in flight are not subtracted (RFC 9260,

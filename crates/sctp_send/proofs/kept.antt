@@ -4,6 +4,7 @@ pub mod ItemLemmas
 pub mod MomentLemmas
 pub mod MomentPages
 pub mod LoadLemmas
+pub mod QueuedOnLemmas
 pub mod OrderedLemmas
 pub mod OwedLemmas
 pub mod CursorLemmas

@@ -29,6 +29,7 @@
 //! | [`Sender::first_missed`], [`Sender::is_marked_or_covered`] | the lowest index in flight from one on, below another; whether an index is marked or acknowledged |
 //! | [`Sender::weigh`], [`Sender::weigh_shutdown`], [`Weight`] | of a SACK or a SHUTDOWN without a fault, before it is taken: whether it moves CUM, CUM after it, the highest indexes and the bytes that it newly acknowledges, and whether the chunk that is timed is among them (`IsWeight`) |
 //! | [`Sender::queued`], [`Sender::queued_bytes`] | the length and the bytes of the queue; at most 1,024 messages of 65,536 bytes (`bound`) |
+//! | [`Sender::queued_bytes_on`] | the bytes of the messages in the queue that are on one stream with one of the given payload protocol identifiers; no more than all of it may have (`bound`) |
 //! | [`Sender::reset`], [`Sender::is_resetting`], [`Sender::resetting_streams`] | the stream takes no further message (`resetting`), or the same view if memory is refused (`memory`); whether it waits for its reset, and how many do |
 //! | [`Sender::may_ask`], [`Sender::ask`], [`Sender::take_back_request`], [`Sender::request`], [`ResetRequest`] | whether a request to reset streams may be made; `step`: the view in which it is made, if it may; the view before that; what the request that waits says: its number, the last TSN that was assigned when it was made, and its streams, the lowest 256 of which nothing waits or is outstanding |
 //! | [`Sender::on_response`] | the view after a response: its streams count from 0 again and take messages, the request has the next number, or its streams take none |
@@ -57,13 +58,13 @@
 //! `on_timeout` and `wear` all that is outstanding, `on_missed` and `wear_between` what is of their range, `next_at_limit` the outstanding entries of
 //! higher tickets up to the one that it finds; `expire` and `next_late` the tickets whose deadlines have passed; `weigh` what the SACK does but for what is
 //! no longer acknowledged, each entry once, `first_missed` its range, `room_of_repeats` the entries from the first marked one on, `last_sent` the
-//! entries after it, which were never sent; other readers are constant, `abandon` and `acknowledged` a binary search and the message's own entries. `reset` and `on_response` cost all streams, `reset` also the entries after the last one of its stream,
+//! entries after it, which were never sent, `queued_bytes_on` the queue; other readers are constant, `abandon` and `acknowledged` a binary search and the message's own entries. `reset` and `on_response` cost all streams, `reset` also the entries after the last one of its stream,
 //! `may_ask` and `ask` the streams that wait for their reset, each a look at the entry noted for it and, if that is gone, its search in the queue and a walk over
 //! the entries up to its first one, and nothing if there are none; without a reset no table is kept, and a message costs one test more. What is kept for that is in `kept`, and each part's counts are its invariant: an entry
 //! takes 32 bytes with the count of its retransmissions, which ends at 65,535, as limits do.
 //!
 //! The files of `src` form a path on which each imports only what is before it: `due_pages`, `last_forward`, `message`, `ordered`, `resets`, `sendings`; `blocks`, `by_ticket`,
-//! `due_table`, `entry`, `seats`, `track`; `dues`, `fates`, `part_lists`, `pieces`; `looking`, `queue`, `told`, `wishes`; `counts`, `streams`; `stretches`;
+//! `due_table`, `entry`, `seats`, `track`; `dues`, `fates`, `part_lists`, `pieces`; `looking`, `queue`, `told`, `wishes`; `counts`, `queued_on`, `streams`; `stretches`;
 //! `outstanding`; `by_message`, `entries`, `flying`, `going_out`, `lanes`, `marking`, `pushing`, `repeats`, `run_room`, `searching`, `stock`, `table`, `tally`, `telling`,
 //! `weight`; `assigning`, `covered`, `indexed`, `restarting`, `sender`, `still`, `waking`; `answering`, `at_limit`, `entering`, `fill`, `last`, `laws`, `pace`, `passing`, `queueing`,
 //! `readers`, `resetting`, `sack`, `wear`, `weighing`; `abandon`, `keeping`, `moments`; `expire`, `forward`, `putting`.

@@ -1,5 +1,7 @@
 //! What can be read from a sender.
 
+pub mod queued_on;
+
 ghost use Rattle.std.specs.Prelude.{◌≡◌, ℕ, Bool, ◌<◌, ◌≤◌, ◌^◌, ◌%◌, ◌*◌, ◌&&◌, not, map, length};
 ghost use Rattle.sctp_model.specs.numbers.Limits.{WINDOW, QUEUE_LIMIT, LONGEST_MESSAGE};
 ghost use Rattle.sctp_model.specs.sender.SenderView.{SenderView};
@@ -8,12 +10,13 @@ ghost use Rattle.sctp_send.specs.OutstandingFields.{item_meaning};
 ghost use Rattle.sctp_send.specs.SenderFields.{track_meaning};
 ghost use Rattle.sctp_send.specs.SenderStands.{StandsFor};
 ghost use Rattle.sctp_send.specs.SenderAnswers.{abandoned_messages};
-ghost use Rattle.sctp_send.specs.Waiting.{queued_bytes};
+ghost use Rattle.sctp_send.specs.Waiting.{queued_bytes, queued_bytes_on};
 ghost use Rattle.sctp_send.specs.inner.Walks.{total, one_if_rest, abandoned_items, any_unsettled, is_item_unsettled, is_abandoned_fate, is_numbered_fate, any_uncovered, any_rest};
 
 use crate::kept::message::Fate;
 use crate::kept::outstanding::Outstanding;
 use crate::kept::streams::Streams;
+use crate::readers::queued_on::bytes_on;
 use crate::sender::Sender;
 use sctp_framing::Framing;
 use sctp_values::Ticket;
@@ -84,6 +87,15 @@ impl<F: Framing> Sender<F> {
         ensures bound { (v : SenderView) → StandsFor F.format self.now v → result ≤ QUEUE_LIMIT * LONGEST_MESSAGE }
     {
         self.parts.queue.bytes()
+    }
+
+    /// Of the bytes that `queued_bytes` counts, those of the messages on this stream, ordered or not, with one of these payload protocol identifiers; an
+    /// identifier given twice counts once. It is a walk over the queue. Of 51 and 53, the user data that a data channel buffers (RFC 8831, 8).
+    pub fn queued_bytes_on(&self, stream: u16, payload_ids: &[u32]) -> u64
+        ensures bytes { (v : SenderView) → StandsFor F.format self.now v → result ≡ queued_bytes_on stream payload_ids.now v }
+        ensures bound { (v : SenderView) → StandsFor F.format self.now v → result ≤ QUEUE_LIMIT * LONGEST_MESSAGE }
+    {
+        bytes_on(&self.parts.queue, stream, payload_ids)
     }
 
     /// The peer's receiver window in bytes, as last advertised (a_rwnd; RFC 9260, 3.3.2 and 3.3.4). Bytes in flight are not subtracted.

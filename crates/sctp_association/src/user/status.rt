@@ -6,7 +6,7 @@ ghost use Rattle.sctp_model.specs.messages.Format.{Format};
 ghost use Rattle.sctp_model.specs.sender.SenderView.{SenderView};
 ghost use Rattle.sctp_model.specs.receiver.ReceiverView.{ReceiverView};
 ghost use Rattle.sctp_model.specs.end.EndView.{EndView};
-ghost use Rattle.sctp_send.specs.Waiting.{queued_bytes};
+ghost use Rattle.sctp_send.specs.Waiting.{queued_bytes, queued_bytes_on};
 ghost use Rattle.sctp_recv.specs.Readable.{ReadableAnswer};
 ghost use Rattle.sctp_association.specs.Agreeing.{AgreedAnswer};
 ghost use Rattle.sctp_association.specs.MachineStands.{MachineStands};
@@ -37,6 +37,19 @@ impl Traffic {
         match self {
             Traffic::Plain(directions) => directions.sender.queued_bytes(),
             Traffic::Interleaved(directions) => directions.sender.queued_bytes(),
+        }
+    }
+
+    /// Those of the messages on a stream with one of these payload protocol identifiers.
+    pub(crate) fn queued_bytes_on(&self, stream: u16, payload_ids: &[u32]) -> u64
+        ensures bytes { (f : Format) (s : SenderView) (r : ReceiverView) → TrafficStands self.now f s r → result ≡ queued_bytes_on stream payload_ids.now s }
+        ensures bound { (f : Format) (s : SenderView) (r : ReceiverView) → TrafficStands self.now f s r → result ≤ QUEUE_LIMIT * LONGEST_MESSAGE }
+    {
+        match self {
+            Traffic::Plain(directions) => directions.sender.queued_bytes_on(stream, payload_ids),
+            Traffic::Interleaved(directions) => directions
+                .sender
+                .queued_bytes_on(stream, payload_ids),
         }
     }
 
@@ -82,6 +95,17 @@ impl Machine {
         match &self.life {
             Life::Unjoined(_) => 0,
             Life::Joined(association) => association.traffic.queued_bytes(),
+        }
+    }
+
+    /// Those of the messages on a stream, ordered or not, with one of these payload protocol identifiers.
+    pub fn queued_bytes_on(&self, stream: u16, payload_ids: &[u32]) -> u64
+        ensures bytes { (v : EndView) → MachineStands self.now v → result ≡ queued_bytes_on stream payload_ids.now v.sender }
+        ensures bound { (v : EndView) → MachineStands self.now v → result ≤ QUEUE_LIMIT * LONGEST_MESSAGE }
+    {
+        match &self.life {
+            Life::Unjoined(_) => 0,
+            Life::Joined(association) => association.traffic.queued_bytes_on(stream, payload_ids),
         }
     }
 
