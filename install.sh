@@ -2,7 +2,7 @@
 # What `rt lib` built in crates/sctp_c, for C:
 #
 #     install.sh PREFIX            PREFIX/lib (libsctp_endpoint.a, libsctp_endpoint_malloc.a, libsctp_endpoint.so.1, pkgconfig/sctp_endpoint.pc),
-#                                  PREFIX/include/sctp_endpoint.h and the licences in PREFIX/share/licenses/sctp_endpoint
+#                                  PREFIX/include (sctp_endpoint.h, sctp_channels.h) and the licences in PREFIX/share/licenses/sctp_endpoint
 #     install.sh --archive FILE    the same as FILE, a .tar.gz of one folder, sctp_endpoint-VERSION, which may be unpacked anywhere: pkg-config
 #                                  finds the rest from where its own file is
 #
@@ -26,13 +26,13 @@ put() {
     [ -f "$core" ] || { echo "install.sh: first (cd crates/sctp_c && rt lib)" >&2; exit 1; }
     heap=$(dirname "$(rt doc)")/c/liblibc_c.a
     mkdir -p "$folder/lib/pkgconfig" "$folder/include" "$folder/share/licenses/sctp_endpoint"
-    install -m 644 "$header" "$folder/include/"
+    install -m 644 "$header" "$root/include/sctp_channels.h" "$folder/include/"
     install -m 644 "$core" "$folder/lib/libsctp_endpoint.a"
     install -m 644 "$heap" "$folder/lib/libsctp_endpoint_malloc.a"
     install -m 644 "$root"/LICENSE* "$folder/share/licenses/sctp_endpoint/"
 
-    # The shared library exports the calls of the header alone, and needs nothing but the C library.
-    echo '{ global: sctp_endpoint_*; local: *; };' > "$at/exports"
+    # The shared library exports the calls of the headers alone, and needs nothing but the C library.
+    echo '{ global: sctp_endpoint_*; sctp_channels_*; local: *; };' > "$at/exports"
     "${CC:-cc}" -shared -o "$folder/lib/$soname" -Wl,-soname,"$soname" -Wl,--version-script="$at/exports" -Wl,-z,defs \
         -Wl,--whole-archive "$core" -Wl,--no-whole-archive "$heap"
     ln -sf "$soname" "$folder/lib/libsctp_endpoint.so"

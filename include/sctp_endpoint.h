@@ -1,6 +1,7 @@
 /* One endpoint of an SCTP association: RFC 9260, with FORWARD-TSN (RFC 3758), I-DATA (RFC 8260) and stream reset (RFC 6525). The library opens
  * no socket, reads no clock and generates no random numbers: received packets, the current time and random values are arguments, packets to
- * send and received messages are results. docs/C.md has a first program, the loop of a program over UDP, and what to set.
+ * send and received messages are results. Data channels over an endpoint are in sctp_channels.h. docs/C.md has a first program, the loop of a
+ * program over UDP, and what to set.
  *
  * What a caller must observe, since no call can check it:
  *
@@ -62,7 +63,8 @@ enum sctp_endpoint_result {
     SCTP_EP_OK = 0,
     SCTP_EP_NO_SUCH_STREAM = 1, /* the stream isn't below the number of streams agreed on */
     SCTP_EP_EMPTY = 2,          /* the message has no bytes */
-    SCTP_EP_TOO_LONG = 3,       /* the message has more than 65,536 bytes; abort: the reason doesn't fit one packet */
+    SCTP_EP_TOO_LONG = 3,       /* the message has more than 65,536 bytes; abort: the reason doesn't fit one packet; a channel's label and protocol
+                                 * have more than 65,524 bytes together */
     SCTP_EP_QUEUE_FULL = 4,     /* 1,024 messages are queued: send again after the next SACK */
     SCTP_EP_SPENT = 5,          /* the 2^63 - 1 TSNs or the tickets of this association are used up */
     SCTP_EP_NO_MEMORY = 6,      /* memory allocation failed */
@@ -70,10 +72,16 @@ enum sctp_endpoint_result {
     SCTP_EP_BAD_STATE = 8,      /* the call isn't allowed in this state */
     SCTP_EP_NOTHING = 9,        /* there is none: no message is ready; a packet doesn't have what is asked for */
     SCTP_EP_NEEDS_ROOM = 10,    /* the buffer is too small: the length says how many bytes it must have. Nothing is lost */
-    SCTP_EP_MISUSE = 11,        /* the handle is empty; a call that makes an endpoint: it isn't empty */
+    SCTP_EP_MISUSE = 11,        /* the handle is empty; a call that makes an endpoint, or channels: it isn't empty */
     SCTP_EP_BAD_DRAW = 12,      /* a tag is 0 */
     SCTP_EP_BAD_RESERVED = 13,  /* a reserved number isn't 0, or a flag has no meaning */
     SCTP_EP_RESETTING = 14,     /* the stream is being reset, or the peer refused to reset it */
+    /* of the calls of sctp_channels.h */
+    SCTP_EP_NO_CHANNEL = 15,    /* there is no channel on the stream, or it is being closed */
+    SCTP_EP_NO_STREAM = 16,     /* there is no such stream both ways; if none was asked for, none is free */
+    SCTP_EP_WRONG_HALF = 17,    /* the stream is one of those on which the peer opens channels */
+    SCTP_EP_USED = 18,          /* there is a channel on the stream, or one is still being closed */
+    SCTP_EP_OUT_OF_RANGE = 19,  /* more than 65,535 retransmissions or milliseconds */
     /* the first thing wrong with a configuration, in this order */
     SCTP_EP_BAD_PORT = 21,
     SCTP_EP_BAD_PACKET_LIMIT = 22,
@@ -127,7 +135,8 @@ struct sctp_endpoint_config {
  *
  * parts of messages can fill the buffer with none complete, and then nothing more is ever received, though nothing was lost. With at least so
  * many bytes there is always space for what is missing of each message in part, as long as the user takes what is complete. Here: 64 x 65,536
- * = 4 MiB. Under DATA (no interleave) one message at a time is in part, so the longest message is enough. */
+ * = 4 MiB. Under DATA (no interleave) one message at a time is in part, so the longest message is enough,
+ * or four times that for a browser (docs/PEERS.md). */
 #define SCTP_ENDPOINT_CONFIG(own_port, peer_port) \
     { (uint16_t)(own_port), (uint16_t)(peer_port), 1232, 1200, 4194304, 64, 64, true, true, false, true, 0, 0, { 0, 0 } }
 

@@ -16,19 +16,26 @@ static=("$prefix/lib/libsctp_endpoint.a" "$prefix/lib/libsctp_endpoint_malloc.a"
 say() { echo "c: $*"; }
 there() { command -v "$1" > /dev/null || { say "left out, no $1: $2"; return 1; }; }
 
-# ---- the header's calls are the library's, and nothing else is seen of it
-grep -o 'sctp_endpoint_[a-z_]*(' "$prefix/include/sctp_endpoint.h" | tr -d '(' | sort -u > "$at/header"
+# ---- the headers' calls are the library's, and nothing else is seen of it
+grep -oh 'sctp_\(endpoint\|channels\)_[a-z_]*(' "$prefix/include/"*.h | tr -d '(' | sort -u > "$at/header"
 nm -g --defined-only "$prefix/lib/libsctp_endpoint.a" | awk 'NF == 3 { print $3 }' | sort -u > "$at/static"
 nm -D --defined-only "$prefix/lib/libsctp_endpoint.so.1" | awk '{ print $3 }' | sort -u > "$at/shared"
 diff "$at/header" "$at/static"
 diff "$at/header" "$at/shared"
-say "$(wc -l < "$at/header") calls in header, static and shared library"
+say "$(wc -l < "$at/header") calls in headers, static and shared library"
 
 # ---- C99, C++, sizes, misuse, refused allocations
 "$cc" "${flags[@]}" -o "$at/layout" tests/c/layout.c "${static[@]}"
 "$at/layout"
 "$cc" "${flags[@]}" -o "$at/refused" tests/c/refused.c "$prefix/lib/libsctp_endpoint.a"
 told=$("$at/refused"); say "$told"
+"$cc" "${flags[@]}" -o "$at/channels" tests/c/channels.c "${static[@]}"
+"$at/channels"
+"$cc" "${flags[@]}" -o "$at/channels_refused" tests/c/channels_refused.c "$prefix/lib/libsctp_endpoint.a"
+told=$("$at/channels_refused"); say "$told"
+"$cc" "${flags[@]}" -o "$at/two" examples/c/channels.c "${static[@]}"
+[ "$("$at/two" | tail -n 2)" = "$(printf 'server, channel 0: closed\nclient, channel 0: closed')" ]
+say "channels: misuse, buffers, two ends in one program"
 "$cc" "${flags[@]}" -o "$at/kept" tests/c/kept.c "$prefix/lib/libsctp_endpoint.a"
 kept=$("$at/kept" 10000000); say "ten million messages that are over leave $kept bytes at both ends"
 [ "$kept" -le 65536 ]
@@ -38,20 +45,26 @@ for sizes in 17 64 "17 1114112"; do
     told=$("$at/buffer" $sizes) || { say "buffer $sizes: $told"; exit 1; }
     say "$told"
 done
-if there "${CXX:-c++}" "the header in C++"; then
+if there "${CXX:-c++}" "the headers in C++"; then
     cat > "$at/plus.cc" <<'PLUS'
-#include "sctp_endpoint.h"
+#include "sctp_channels.h"
 int main(int count, char **) {
     struct sctp_endpoint e = SCTP_ENDPOINT_INIT;
     struct sctp_endpoint_config config = SCTP_ENDPOINT_CONFIG(5000 + count, 5001 + count);
     if (sctp_endpoint_caller(&e, &config) != SCTP_EP_OK) return 1;
     sctp_endpoint_free(&e);
+    struct sctp_channels c = SCTP_CHANNELS_INIT;
+    struct sctp_endpoint_config of_channels = SCTP_CHANNELS_CONFIG(5000 + count, 5001 + count);
+    struct sctp_channel_parameters parameters = SCTP_CHANNEL_PARAMETERS_INIT;
+    if (sctp_endpoint_caller(&e, &of_channels) != SCTP_EP_OK || sctp_channels_over(&c, &e, true) != SCTP_EP_OK) return 1;
+    if (sctp_channels_open_negotiated(&c, &parameters, 0) != SCTP_EP_NO_STREAM) return 1;
+    sctp_channels_free(&c);
     return sctp_endpoint_abi() != SCTP_EP_ABI;
 }
 PLUS
     "${CXX:-c++}" -std=c++11 -Wall -Wextra -Werror -I"$prefix/include" -o "$at/plus" "$at/plus.cc" "${static[@]}"
     "$at/plus"
-    say "the header in C++"
+    say "the headers in C++"
 fi
 if there pkg-config "pkg-config"; then
     # shellcheck disable=SC2046
@@ -76,8 +89,10 @@ done
 for flag in address,undefined; do
     if "$cc" "${flags[@]}" -fsanitize=$flag -fno-sanitize-recover=all -o "$at/sanitized" examples/c/lossy.c "${static[@]}" 2> /dev/null; then
         "$at/sanitized" 5 200 10 3 > /dev/null
-        "$cc" "${flags[@]}" -fsanitize=$flag -fno-sanitize-recover=all -o "$at/sanitized" tests/c/layout.c "${static[@]}"
-        "$at/sanitized"
+        for tried in layout channels; do
+            "$cc" "${flags[@]}" -fsanitize=$flag -fno-sanitize-recover=all -o "$at/sanitized" tests/c/$tried.c "${static[@]}"
+            "$at/sanitized"
+        done
         say "under -fsanitize=$flag"
     else
         say "left out: -fsanitize=$flag"
@@ -86,6 +101,7 @@ done
 if there valgrind "valgrind"; then
     valgrind -q --error-exitcode=1 --leak-check=full "$at/lossy" 7 50 10 3 > /dev/null
     valgrind -q --error-exitcode=1 --leak-check=full "$at/layout"
+    valgrind -q --error-exitcode=1 --leak-check=full "$at/channels"
     say "under valgrind: nothing is read uninitialised, nothing leaks"
     "$cc" "${flags[@]}" -o "$at/cost" tests/c/cost.c "${static[@]}"
     # a long copy by `rep movsb` would count as an instruction a byte
@@ -157,7 +173,7 @@ block 1 > "$at/first.c"
 say "the first program of docs/C.md: $(wc -l < "$at/first.c") lines"
 {
     printf '#include <stdint.h>\n#include <stdio.h>\n'
-    block 2
+    block 3
     echo 'int main(void) { uint8_t packet[12] = { 0 }; trace(stdout, 1500, packet, 12); trace(stdout, 2000, packet, 12); return 0; }'
 } > "$at/trace.c"
 "$cc" "${flags[@]}" -o "$at/trace" "$at/trace.c"

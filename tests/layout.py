@@ -1,10 +1,10 @@
 #!/usr/bin/env python3
-"""What crosses to C, compared (tests/layout.sh): the proved code says it in crates/sctp_c/src, C in include/sctp_endpoint.h, Rust in
-bindings/rust/src/raw.rs, Python in bindings/python/sctp_endpoint.py. No proof can compare them.
+"""What crosses to C, compared (tests/layout.sh): the proved code says it in crates/sctp_c/src, C in include/sctp_endpoint.h and sctp_channels.h, Rust
+in bindings/rust/src/raw.rs, Python in bindings/python/sctp_endpoint.py and sctp_channels.py. No proof can compare them.
 
 Names, order and types of the fields of each struct and of the parameters of each call are the same in all four (but for those of the Rust and
-Python bindings that these don't use), and so are the numbers: those of src/codes.rs by their constants, those of states, ends, fates and reasons
-by the definitions that the contracts cite. Each fault is printed, and the status is 1. With a file's name, a C program is written to it whose
+Python bindings that these don't use), and so are the numbers: those of src/codes.rs by their constants, those of states, ends, fates, reasons and
+events by the definitions that the contracts cite. Each fault is printed, and the status is 1. With a file's name, a C program is written to it whose
 compilation fails unless sizes and offsets are those of the code, by the rules of `repr(C)`."""
 
 import re
@@ -37,22 +37,23 @@ def same(what, one, other):
 
 
 def c_name(struct):
-    """The header's name of a struct: SctpConfig is sctp_endpoint_config, SctpEndpoint sctp_endpoint."""
-    return 'sctp_endpoint' if struct == 'SctpEndpoint' else 'sctp_endpoint_' + struct.removeprefix('Sctp').lower()
+    """The header's name of a struct: SctpConfig is sctp_endpoint_config, SctpEndpoint sctp_endpoint, SctpChannelEvent sctp_channel_event."""
+    words = re.findall('[A-Z][a-z]+', struct.removeprefix('Sctp'))
+    return '_'.join(['sctp', *['endpoint'] * (words[0] not in ('Endpoint', 'Channel', 'Channels')), *words]).lower()
 
 
 # ---- the code
 
 def code():
     """The structs of the code with their fields, and its calls with their parameters: names and types of the code."""
-    sources = ''.join(text(path.relative_to(ROOT)) for path in sorted((ROOT / 'crates/sctp_c/src').glob('*.rt')))
+    sources = ''.join(text(path.relative_to(ROOT)) for path in sorted((ROOT / 'crates/sctp_c/src').rglob('*.rt')))
     structs = {}
     for name, body in STRUCT.findall(sources):
         fields = [re.match(r'(?:pub(?:\(crate\))? )?(\w+): (.+)$', field, re.S) for field in split(body) if 'ghost ' not in field]
         structs[name] = [(field[1], field[2]) for field in fields if field[2] != 'Global']
     for name, fields in structs.items():  # a struct inside of another one: its fields
         structs[name] = [inner for field, of in fields for inner in structs.get(of, [(field, of)])]
-    del structs['Slot']
+    del structs['Slot'], structs['ChannelsSlot']
     calls = {name: (parameters(split(given)), result) for name, given, result in CALL.findall(sources)}
     return structs, calls
 
@@ -88,7 +89,8 @@ def in_c(name, of):
 
 def header():
     """The header's structs and calls, a declaration each for a field or parameter."""
-    source = re.sub(r'/\*.*?\*/|^#.*?(?<!\\)$', '', text('include/sctp_endpoint.h'), flags=re.S | re.M)
+    both = text('include/sctp_endpoint.h') + text('include/sctp_channels.h')
+    source = re.sub(r'/\*.*?\*/|^#.*?(?<!\\)$', '', both, flags=re.S | re.M)
     structs = {}
     for name, body in re.findall(r'^struct (\w+) \{(.*?)^\};', source, re.S | re.M):
         structs[name] = []
@@ -96,8 +98,9 @@ def header():
             first, *more = [part.strip() for part in line.split(',')]
             structs[name] += [first] + [re.match(r'(.*?)\w+$', first)[1] + other for other in more]
     calls = {name: ([part.strip() for part in re.sub(r'\s+', ' ', given).split(',') if part.strip() != 'void'], result)
-             for result, name, given in re.findall(r'^(\w+) (sctp_endpoint_\w+)\((.*?)\);', source, re.S | re.M)}
-    return structs, calls, {name: int(number) for name, number in re.findall(r'SCTP_EP_(\w+) = (\d+)', source)}
+             for result, name, given in re.findall(r'^(\w+) (sctp_(?:endpoint|channels)_\w+)\((.*?)\);', source, re.S | re.M)}
+    numbers = {kind: {name: int(number) for name, number in re.findall(rf'SCTP_{kind}_(\w+) = (\d+)', source)} for kind in ('EP', 'CH')}
+    return structs, calls, numbers
 
 
 def compare_header(structs, calls):
@@ -128,8 +131,8 @@ def compare_rust(structs, calls):
         same(f'{name}, in code and raw.rs', (code_has, calls[name][1]), (have, result))
 
 
-def compare_python(structs, calls):
-    source = text('bindings/python/sctp_endpoint.py')
+def compare_python(structs, calls, module):
+    source = text(f'bindings/python/{module}.py')
     for name, body in re.findall(r'^class (\w+)\(Structure\):.*?_fields_ = \[(.*?)\]\n', source, re.S | re.M):
         struct = 'SctpEndpoint' if name == '_Handle' else 'Sctp' + name.lstrip('_')
         wanted = []
@@ -140,7 +143,7 @@ def compare_python(structs, calls):
     called = re.search(r'^_calls = \{(.*?)^\}', source, re.S | re.M)[1]
     for name, given in re.findall(r'"(\w+)": \((.*)\),', called):
         count = len([part for part in given.split(', ') if part.strip(' ,')])
-        same(f'parameters of {name}, counted in code and Python', len(calls['sctp_endpoint_' + name][0]), count)
+        same(f'parameters of {name}, counted in code and Python', len(calls[f'{module}_{name}'][0]), count)
 
 
 def compare_numbers():
@@ -156,14 +159,28 @@ def compare_numbers():
     for name, number in re.findall(r'^(FAULT|PORTS|TAG|STATE|COOKIE) = (\d+)', text('crates/sctp_model/specs/end/PeerFaults.antt'), re.M):
         wanted[name] = int(number)
     wanted.update({'NOT_ENDED': 0, 'NO_REASON': 0})
-    same('numbers of the code and of the header', sorted(wanted.items()), sorted(numbers.items()))
+    same('numbers of the code and of the header', sorted(wanted.items()), sorted(numbers['EP'].items()))
+    compare_channel_numbers(numbers['CH'])
+
+
+def compare_channel_numbers(numbers):
+    """The same of channels: reasons, events, reliabilities."""
+    codes, events = text('crates/sctp_c/specs/channels/Codes.antt'), text('crates/sctp_c/specs/channels/Events.antt')
+    found = re.findall(r'^(?:fault|refusal|ignored)_number \w+\.(\w+) = (\d+)', codes, re.M)
+    found += re.findall(r'^told_numbers s \(?(\w+).*plain_event s (\d+)', events, re.M) + re.findall(r'^type_of \(?(\w+).* = (\d+)', text('crates/sctp_dcep/specs/Dcep.antt'), re.M)
+    found += [('Incoming', re.search(r'^incoming_numbers s p = record \(plain_event s (\d+)\)', events, re.M)[1]), ('NoReason', 0)]
+    names = {'OnClosing': 'Closing', 'OnRefused': 'WasRefused', 'Refuses': 'Refused', 'Ignores': 'Ignored'}
+    wanted = {re.sub(r'(?<!^)(?=[A-Z])', '_', names.get(name, name)).upper(): int(number) for name, number in found}
+    same('numbers of channels, of the code and of the header', sorted(wanted.items()), sorted(numbers.items()))
+    stream = re.search(r'ANY_STREAM: u16 = ([\d_]+);', text('crates/sctp_c/src/channels/crossing.rt'))[1].replace('_', '')
+    same('any stream, in code and header', [stream], re.findall(r'^#define SCTP_CH_ANY_STREAM (\d+)', text('include/sctp_channels.h'), re.M))
 
 
 # ---- sizes and offsets
 
 def checks(structs):
     """A program that compiles if the C compiler lays the structs out as `repr(C)` does."""
-    lines = ['#include "sctp_endpoint.h"', '#define SAME(what, holds) typedef char what[(holds) ? 1 : -1]']
+    lines = ['#include "sctp_channels.h"', '#define SAME(what, holds) typedef char what[(holds) ? 1 : -1]']
     for name, fields in structs.items():
         place = largest = 0
         for field, of in fields:
@@ -179,7 +196,8 @@ def checks(structs):
 structs, calls = code()
 compare_header(structs, calls)
 compare_rust(structs, calls)
-compare_python(structs, calls)
+compare_python(structs, calls, 'sctp_endpoint')
+compare_python(structs, calls, 'sctp_channels')
 compare_numbers()
 if len(sys.argv) > 1:
     Path(sys.argv[1]).write_text(checks(structs))

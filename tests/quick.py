@@ -19,7 +19,7 @@ LONGEST = 12 * 60  # the whole test; what hasn't begun by then is left to the ga
 CASE = '\n= '
 SUBJECT = '\n== '
 # what a program writes after a case that isn't the last of the stored run, before the line feed that the next one begins with
-AFTER = {'sctp_rows': '\n', 'sctp_call_rows': ''}
+AFTER = {'sctp_rows': '\n', 'sctp_call_rows': '', 'sctp_channel_rows': '\n'}
 
 
 def text_of(path):
@@ -129,7 +129,8 @@ def groups():
     """All that is run, the longest first."""
     rows = [Group('sctp_rows', half) for half in halves(subjects('sctp_rows', 120_000))]
     programs = [program(crate) for crate in sorted(os.listdir('crates')) if re.fullmatch(r'sctp_\w+_main|sctp_example', crate)]
-    return [*rows, Group('sctp_call_rows', subjects('sctp_call_rows', 120_000)), Group('sctp_tests', []), Group('sctp_reconfig', []), *programs]
+    return [*rows, Group('sctp_call_rows', subjects('sctp_call_rows', 120_000)),
+            Group('sctp_channel_rows', subjects('sctp_channel_rows', 120_000)), Group('sctp_tests', []), Group('sctp_reconfig', []), *programs]
 
 
 def main(words):

@@ -14,7 +14,7 @@ import enum
 import os
 import secrets
 from ctypes import POINTER, Structure, byref, c_bool, c_char_p, c_size_t, c_uint8, c_uint16, c_uint32, c_uint64, c_void_p
-from typing import Dict, List, NamedTuple, Optional
+from typing import Callable, Dict, List, NamedTuple, Optional
 
 LONGEST_PACKET = 1500
 LONGEST_MESSAGE = 65536
@@ -47,6 +47,11 @@ class Result(enum.IntEnum):
     BAD_DRAW = 12
     BAD_RESERVED = 13
     RESETTING = 14
+    NO_CHANNEL = 15
+    NO_STREAM = 16
+    WRONG_HALF = 17
+    USED = 18
+    OUT_OF_RANGE = 19
     BAD_PORT = 21
     BAD_PACKET_LIMIT = 22
     BAD_FRAGMENT = 23
@@ -160,6 +165,24 @@ class Config(Structure):
         self.interleave, self.partial = interleave, partial
         self.delay, self.standard_closing = delay, standard_closing
         self.flags, self.rto_min = bool(fast_retransmit) + 2 * bool(congestion_control) + 4 * bool(stream_reset), rto_min
+
+    @classmethod
+    def for_data_channels(cls, own_port: int = 5000, peer_port: int = 5000) -> "Config":
+        """What a browser's data channels need, as SCTP_CHANNELS_CONFIG of sctp_channels.h: packets of 1,188 bytes and less, 1,024 streams each way, a
+        receive buffer of 1 MiB, partial reliability without I-DATA, congestion control and stream reset."""
+        return cls(
+            own_port,
+            peer_port,
+            packet_limit=1188,
+            fragment=1156,
+            buffer=1 << 20,
+            outbound=1024,
+            inbound=1024,
+            interleave=False,
+            standard_closing=False,
+            congestion_control=True,
+            stream_reset=True,
+        )
 
     def __setattr__(self, name: str, value) -> None:
         kind = dict(self._fields_).get(name)
@@ -384,17 +407,22 @@ _calls = {
 _RESULTS = {"free": None, "version": c_size_t, "name": c_size_t}
 
 
-def _load():
-    library = ctypes.CDLL(os.environ.get("SCTP_ENDPOINT_LIBRARY", "libsctp_endpoint.so.1"))
-    for name, arguments in _calls.items():
-        call = getattr(library, "sctp_endpoint_" + name)
+_library = ctypes.CDLL(os.environ.get("SCTP_ENDPOINT_LIBRARY", "libsctp_endpoint.so.1"))
+
+
+def _bind(prefix: str, calls: dict) -> dict:
+    """The library's calls with this prefix, by what follows it."""
+    bound = {}
+    for name, arguments in calls.items():
+        call = getattr(_library, prefix + name)
         call.argtypes, call.restype = arguments, _RESULTS.get(name, c_uint32)
-    if library.sctp_endpoint_abi() != 1:
-        raise ImportError("libsctp_endpoint.so.1 is for another version of this module")
-    return {name: getattr(library, "sctp_endpoint_" + name) for name in _calls}
+        bound[name] = call
+    return bound
 
 
-_call = _load()
+_call = _bind("sctp_endpoint_", _calls)
+if _call["abi"]() != 1:
+    raise ImportError("libsctp_endpoint.so.1 is for another version of this module")
 
 
 def _text(name: str, *arguments) -> str:
@@ -426,44 +454,22 @@ def abort_cause(packet: bytes) -> Optional[AbortCause]:
     return AbortCause(cause.value, bytes(room[: length.value]))
 
 
-class Endpoint:
-    """One endpoint of an association; what it holds is freed with it."""
+class _Association:
+    """What an endpoint does, by itself or below data channels; what it holds is freed with it."""
+
+    _call: Dict[str, Callable] = {}
 
     def __init__(self, handle: _Handle):
-        """Not for users: `caller`, `listener` and `opened` make one."""
+        """Not for users: the class methods make one."""
         self._handle = handle
         self._room = (c_uint8 * LONGEST_PACKET)()
         self._tickets = (c_uint64 * _MOST_TICKETS)()
 
-    @classmethod
-    def _made(cls, name: str, *arguments) -> "Endpoint":
-        end = cls(_Handle())
-        end._do(name, *arguments)
-        return end
-
-    @classmethod
-    def caller(cls, config: Config) -> "Endpoint":
-        """An endpoint that opens the association, by `connect`."""
-        return cls._made("caller", byref(config))
-
-    @classmethod
-    def listener(cls, config: Config, key: bytes) -> "Endpoint":
-        """An endpoint that waits for a peer. The key, 32 secret random bytes, authenticates its state cookies; listeners may share it."""
-        key = _data(key, "key")
-        if len(key) != 32:
-            raise ValueError(f"the key has {len(key)} bytes, not 32")
-        return cls._made("listener", byref(config), byref(_Key((c_uint8 * 32)(*key))))
-
-    @classmethod
-    def opened(cls, config: Config, own: Draw, peer: Draw) -> "Endpoint":
-        """An endpoint that is established at once, without packets; its peer is opened with `own` and `peer` exchanged."""
-        return cls._made("opened", byref(config), byref(own), byref(peer))
-
     def __del__(self):
-        _call["free"](byref(self._handle))
+        self._call["free"](byref(self._handle))
 
     def _do(self, name: str, *arguments) -> None:
-        result = _call[name](byref(self._handle), *arguments)
+        result = self._call[name](byref(self._handle), *arguments)
         if result != _OK:
             raise Refused(Result(result))
 
@@ -493,74 +499,11 @@ class Endpoint:
         of the status says, and at the earliest `until` of the messages sent. A time far in the future can't be taken back."""
         self._do("on_moment", _number(now, 64, "now"))
 
-    def send(self, stream: int, data: bytes, ordered: bool = True, payload_id: int = 0, until: Optional[int] = None,
-             max_retransmits: Optional[int] = None) -> int:
-        """Queues a message, and returns its ticket. `until` is the time at which its lifetime is over and it is abandoned, by the next
-        `on_moment`: lifetimes aren't part of `next_moment`. With `max_retransmits` it is abandoned as soon as a fragment of it, which was
-        retransmitted so many times already, would be retransmitted once more. Both count only if both endpoints use partial reliability."""
-        ticket, data = c_uint64(), _data(data, "data")
-        until = _NEVER if until is None else _number(until, 64, "until")
-        stream, payload_id = _number(stream, 16, "stream"), _number(payload_id, 32, "payload_id")
-        message = stream, bool(ordered), payload_id, data, len(data), until
-        if max_retransmits is None:
-            self._do("send", *message, byref(ticket))
-        else:
-            self._do("send_with_max_retransmits", *message, _number(max_retransmits, 16, "max_retransmits"), byref(ticket))
-        return ticket.value
-
-    def readable(self, start: int = 0) -> Optional[int]:
-        """The first stream, from `start` on, on which a message is ready, or None."""
-        stream = c_uint16()
-        if _call["readable"](byref(self._handle), _number(start, 16, "start"), byref(stream)) == _NOTHING:
-            return None
-        return stream.value
-
-    def take(self, stream: int) -> Optional[Message]:
-        """Takes the first message that is ready on a stream, or returns None."""
-        told = _Message()
-        if _call["peek"](byref(self._handle), _number(stream, 16, "stream"), byref(told)) == _NOTHING:
-            return None
-        room = (c_uint8 * told.length)()
-        self._do("take", stream, byref(told), room, told.length)
-        return Message(told.stream, told.ordered, told.number if told.numbered else None, told.payload_id, bytes(room))
-
     def abandon(self, ticket: int) -> Fate:
         """Abandons a message, and returns what has become of it."""
         fate = c_uint32()
         self._do("abandon", _number(ticket, 64, "ticket"), byref(fate))
         return Fate(fate.value)
-
-    def _asked(self, name: str, ticket: int) -> bool:
-        answer = c_bool()
-        self._do(name, _number(ticket, 64, "ticket"), byref(answer))
-        return answer.value
-
-    def acknowledged(self, ticket: int) -> bool:
-        """Whether the peer has acknowledged all of a message that wasn't abandoned."""
-        return self._asked("acknowledged", ticket)
-
-    def abandoned(self, ticket: int) -> bool:
-        """Whether a message was sent, at least in part, and then abandoned."""
-        return self._asked("abandoned", ticket)
-
-    def reset(self, stream: int) -> None:
-        """Asks for the reset of an outgoing stream: from now on `send` refuses its messages. Once all that was sent on it is acknowledged, the peer
-        is asked to reset it; once the peer has done so, the stream takes messages again, whose numbers on the wire begin anew at 0. If the
-        peer refuses, it takes none until this is called again. Both endpoints must have been configured with `stream_reset`."""
-        self._do("reset", _number(stream, 16, "stream"))
-
-    def resetting(self, stream: int) -> bool:
-        """Whether the reset of an outgoing stream was asked for and isn't done: false also if the peer refused it."""
-        answer = c_bool()
-        self._do("resetting", _number(stream, 16, "stream"), byref(answer))
-        return answer.value
-
-    def take_reset(self) -> Optional[Reset]:
-        """A reset by the peer, of the lowest stream of which one wasn't reported; None if there is none."""
-        stream, earlier = c_uint16(), c_uint64()
-        if _call["take_reset"](byref(self._handle), byref(stream), byref(earlier)) == _NOTHING:
-            return None
-        return Reset(stream.value, earlier.value)
 
     def shutdown(self) -> None:
         """Closes gracefully: no more messages are accepted, those that were are still delivered. Once `ended` is COMPLETED, go on passing in
@@ -632,3 +575,96 @@ class Endpoint:
                 Reason.COOKIE: told.dropped_cookie,
             },
         )
+
+
+class Endpoint(_Association):
+    """One endpoint of an association; what it holds is freed with it."""
+
+    _call = _call
+
+    @classmethod
+    def _made(cls, name: str, *arguments) -> "Endpoint":
+        end = cls(_Handle())
+        end._do(name, *arguments)
+        return end
+
+    @classmethod
+    def caller(cls, config: Config) -> "Endpoint":
+        """An endpoint that opens the association, by `connect`."""
+        return cls._made("caller", byref(config))
+
+    @classmethod
+    def listener(cls, config: Config, key: bytes) -> "Endpoint":
+        """An endpoint that waits for a peer. The key, 32 secret random bytes, authenticates its state cookies; listeners may share it."""
+        key = _data(key, "key")
+        if len(key) != 32:
+            raise ValueError(f"the key has {len(key)} bytes, not 32")
+        return cls._made("listener", byref(config), byref(_Key((c_uint8 * 32)(*key))))
+
+    @classmethod
+    def opened(cls, config: Config, own: Draw, peer: Draw) -> "Endpoint":
+        """An endpoint that is established at once, without packets; its peer is opened with `own` and `peer` exchanged."""
+        return cls._made("opened", byref(config), byref(own), byref(peer))
+
+    def send(self, stream: int, data: bytes, ordered: bool = True, payload_id: int = 0, until: Optional[int] = None,
+             max_retransmits: Optional[int] = None) -> int:
+        """Queues a message, and returns its ticket. `until` is the time at which its lifetime is over and it is abandoned, by the next
+        `on_moment`: lifetimes aren't part of `next_moment`. With `max_retransmits` it is abandoned as soon as a fragment of it, which was
+        retransmitted so many times already, would be retransmitted once more. Both count only if both endpoints use partial reliability."""
+        ticket, data = c_uint64(), _data(data, "data")
+        until = _NEVER if until is None else _number(until, 64, "until")
+        stream, payload_id = _number(stream, 16, "stream"), _number(payload_id, 32, "payload_id")
+        message = stream, bool(ordered), payload_id, data, len(data), until
+        if max_retransmits is None:
+            self._do("send", *message, byref(ticket))
+        else:
+            self._do("send_with_max_retransmits", *message, _number(max_retransmits, 16, "max_retransmits"), byref(ticket))
+        return ticket.value
+
+    def readable(self, start: int = 0) -> Optional[int]:
+        """The first stream, from `start` on, on which a message is ready, or None."""
+        stream = c_uint16()
+        if _call["readable"](byref(self._handle), _number(start, 16, "start"), byref(stream)) == _NOTHING:
+            return None
+        return stream.value
+
+    def take(self, stream: int) -> Optional[Message]:
+        """Takes the first message that is ready on a stream, or returns None."""
+        told = _Message()
+        if _call["peek"](byref(self._handle), _number(stream, 16, "stream"), byref(told)) == _NOTHING:
+            return None
+        room = (c_uint8 * told.length)()
+        self._do("take", stream, byref(told), room, told.length)
+        return Message(told.stream, told.ordered, told.number if told.numbered else None, told.payload_id, bytes(room))
+
+    def _asked(self, name: str, ticket: int) -> bool:
+        answer = c_bool()
+        self._do(name, _number(ticket, 64, "ticket"), byref(answer))
+        return answer.value
+
+    def acknowledged(self, ticket: int) -> bool:
+        """Whether the peer has acknowledged all of a message that wasn't abandoned."""
+        return self._asked("acknowledged", ticket)
+
+    def abandoned(self, ticket: int) -> bool:
+        """Whether a message was sent, at least in part, and then abandoned."""
+        return self._asked("abandoned", ticket)
+
+    def reset(self, stream: int) -> None:
+        """Asks for the reset of an outgoing stream: from now on `send` refuses its messages. Once all that was sent on it is acknowledged, the peer
+        is asked to reset it; once the peer has done so, the stream takes messages again, whose numbers on the wire begin anew at 0. If the
+        peer refuses, it takes none until this is called again. Both endpoints must have been configured with `stream_reset`."""
+        self._do("reset", _number(stream, 16, "stream"))
+
+    def resetting(self, stream: int) -> bool:
+        """Whether the reset of an outgoing stream was asked for and isn't done: false also if the peer refused it."""
+        answer = c_bool()
+        self._do("resetting", _number(stream, 16, "stream"), byref(answer))
+        return answer.value
+
+    def take_reset(self) -> Optional[Reset]:
+        """A reset by the peer, of the lowest stream of which one wasn't reported; None if there is none."""
+        stream, earlier = c_uint16(), c_uint64()
+        if _call["take_reset"](byref(self._handle), byref(stream), byref(earlier)) == _NOTHING:
+            return None
+        return Reset(stream.value, earlier.value)

@@ -56,6 +56,23 @@ impl Config {
         }
     }
 
+    /// What a browser's data channels need, as `SCTP_CHANNELS_CONFIG` of `sctp_channels.h`: packets of 1,188 bytes and less, 1,024 streams each way, a
+    /// receive buffer of 1 MiB, partial reliability without I-DATA, congestion control and stream reset.
+    pub fn for_data_channels(own_port: u16, peer_port: u16) -> Config {
+        Config {
+            packet_limit: 1_188,
+            fragment: 1_156,
+            buffer: 1 << 20,
+            outbound: 1_024,
+            inbound: 1_024,
+            interleave: false,
+            standard_closing: false,
+            congestion_control: true,
+            stream_reset: true,
+            ..Config::new(own_port, peer_port)
+        }
+    }
+
     pub(crate) fn raw(&self) -> raw::Config {
         raw::Config {
             own_port: self.own_port,

@@ -27,6 +27,16 @@ pub enum Error {
     BadState,
     /// The stream is being reset, or the peer refused to reset it.
     Resetting,
+    /// There is no channel on the stream, or it is being closed.
+    NoChannel,
+    /// There is no such stream both ways, or none is free.
+    NoStream,
+    /// The stream is one of those on which the peer opens channels.
+    WrongHalf,
+    /// There is a channel on the stream.
+    Used,
+    /// More than 65,535 retransmissions or milliseconds.
+    OutOfRange,
     /// The buffer is too small: so many bytes are needed. Nothing is lost.
     NeedsRoom(usize),
     /// A port is 0.
@@ -56,6 +66,11 @@ impl Error {
             8 => Error::BadState,
             NEEDS_ROOM => Error::NeedsRoom(length),
             14 => Error::Resetting,
+            15 => Error::NoChannel,
+            16 => Error::NoStream,
+            17 => Error::WrongHalf,
+            18 => Error::Used,
+            19 => Error::OutOfRange,
             21 => Error::BadPort,
             22 => Error::BadPacketLimit,
             23 => Error::BadFragment,
@@ -79,6 +94,11 @@ impl Error {
             Error::BadState => 8,
             Error::NeedsRoom(_) => NEEDS_ROOM,
             Error::Resetting => 14,
+            Error::NoChannel => 15,
+            Error::NoStream => 16,
+            Error::WrongHalf => 17,
+            Error::Used => 18,
+            Error::OutOfRange => 19,
             Error::BadPort => 21,
             Error::BadPacketLimit => 22,
             Error::BadFragment => 23,

@@ -3,8 +3,11 @@
 //! packets, the current time and random values are arguments, packets to send and received messages are results. Times are milliseconds on any
 //! clock that doesn't go back.
 //!
-//! An [`Endpoint`] may be moved to another thread.
+//! [`Channels`] are data channels over an endpoint (RFC 8831, RFC 8832), by `sctp_channels.h`.
+//!
+//! An [`Endpoint`] and [`Channels`] may be moved to another thread.
 
+mod channels;
 mod config;
 mod error;
 mod messages;
@@ -13,6 +16,7 @@ mod raw;
 mod resets;
 mod values;
 
+pub use channels::{Channels, Content, Event, Parameters, Reason as ChannelReason, Reliability};
 pub use config::{Config, Draw};
 pub use error::Error;
 pub use packets::{abort_cause, peek_packet, version};
@@ -23,7 +27,7 @@ pub use values::{
 
 use error::{checked, checked_at};
 use std::fmt;
-use values::{counts_of, ended_of, reason_of, state_of};
+use values::{counts_of, path_of, status_of, verdict_of};
 
 /// The bytes of the longest packet that an endpoint builds.
 pub const LONGEST_PACKET: usize = 1_500;
@@ -35,7 +39,7 @@ const OK: u32 = 0;
 const NEVER: u64 = u64::MAX;
 
 /// One endpoint of an association; what it holds is freed when it is dropped.
-pub struct Endpoint(raw::Handle);
+pub struct Endpoint(pub(crate) raw::Handle);
 
 // SAFETY: that a handle may go to another thread is proved of the library (`handles_may_go_to_another_thread`); it goes by `&mut` here, or is read alone.
 unsafe impl Send for Endpoint {}
@@ -112,11 +116,7 @@ impl Endpoint {
             )
         };
         checked_at(result, told.length)?;
-        Ok(match told.verdict {
-            0 => VerdictInto::Taken,
-            1 => VerdictInto::Answer(told.length),
-            _ => VerdictInto::Dropped(reason_of(told.reason)),
-        })
+        Ok(verdict_of(&told))
     }
 
     /// The next packet to send. It counts as sent: call this after every other call until it returns None.
@@ -190,23 +190,7 @@ impl Endpoint {
         let mut told = raw::Status::default();
         let result = unsafe { raw::sctp_endpoint_status(&mut self.0, &mut told) };
         debug_assert_eq!(result, OK);
-        Status {
-            next_moment: (told.next_moment != NEVER).then_some(told.next_moment),
-            state: state_of(told.state),
-            ended: ended_of(told.ended),
-            tickets: told.tickets,
-            outstanding: told.outstanding,
-            queued: told.queued,
-            queued_bytes: told.queued_bytes,
-            held_bytes: told.held_bytes,
-            reassembly_bytes: told.reassembly_bytes,
-            peer_window: told.peer_window,
-            outbound: told.outbound,
-            inbound: told.inbound,
-            interleaved: told.interleaved,
-            partial: told.partial,
-            resetting: told.resetting,
-        }
+        status_of(&told)
     }
 
     /// What it knows of the path to its peer.
@@ -214,15 +198,7 @@ impl Endpoint {
         let mut told = raw::Path::default();
         let result = unsafe { raw::sctp_endpoint_path(&mut self.0, &mut told) };
         debug_assert_eq!(result, OK);
-        let (measured, controlled) = (told.flags & 2 > 0, told.flags & 4 > 0);
-        Path {
-            in_flight: told.in_flight,
-            rto: (told.flags & 1 > 0).then_some(told.rto),
-            srtt: measured.then_some(told.srtt),
-            rttvar: measured.then_some(told.rttvar),
-            cwnd: controlled.then_some(told.cwnd),
-            ssthresh: controlled.then_some(told.ssthresh),
-        }
+        path_of(&told)
     }
 
     /// What it counted since it was made.

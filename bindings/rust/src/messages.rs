@@ -1,7 +1,7 @@
 //! Messages: sending, taking, abandoning.
 
 use crate::error::{checked, checked_at};
-use crate::values::head_of;
+use crate::values::{fate_of, head_of};
 use crate::{raw, Endpoint, Error, Fate, Head, Message, NEVER, OK};
 
 const NOTHING: u32 = 9;
@@ -107,7 +107,7 @@ impl Endpoint {
         let mut fate = 0;
         let result = unsafe { raw::sctp_endpoint_abandon(&mut self.0, ticket, &mut fate) };
         debug_assert_eq!(result, OK);
-        [Fate::Withdrawn, Fate::Abandoned, Fate::Acknowledged, Fate::Unknown, Fate::Reliable][fate as usize - 1]
+        fate_of(fate)
     }
 
     /// Whether the peer has acknowledged all of a message that wasn't abandoned.

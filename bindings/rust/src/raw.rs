@@ -1,4 +1,4 @@
-//! The header `sctp_endpoint.h`, as far as the calls of this crate go.
+//! The headers `sctp_endpoint.h` and `sctp_channels.h`, as far as the calls of this crate go.
 
 use core::ffi::c_void;
 
@@ -6,6 +6,38 @@ use core::ffi::c_void;
 pub struct Handle {
     pub full: usize,
     pub at: *mut c_void,
+}
+
+#[repr(C)]
+pub struct Channels {
+    pub full: usize,
+    pub at: *mut c_void,
+}
+
+#[repr(C)]
+#[derive(Clone, Copy)]
+pub struct ChannelParameters {
+    pub limit: u32,
+    pub priority: u16,
+    pub reliability: u8,
+    pub ordered: bool,
+    pub reserved: [u32; 2],
+}
+
+#[repr(C)]
+#[derive(Clone, Copy, Default)]
+pub struct ChannelEvent {
+    pub length: usize,
+    pub label_length: usize,
+    pub reason: u32,
+    pub limit: u32,
+    pub priority: u16,
+    pub reliability: u8,
+    pub ordered: bool,
+    pub stream: u16,
+    pub kind: u8,
+    pub text: bool,
+    pub reserved: [u32; 2],
 }
 
 #[repr(C)]
@@ -217,4 +249,74 @@ extern "C" {
         buffer_length: usize,
         length: *mut usize,
     ) -> u32;
+    pub fn sctp_channels_over(channels: *mut Channels, endpoint: *mut Handle, is_dtls_client: bool) -> u32;
+    pub fn sctp_channels_free(channels: *mut Channels);
+    pub fn sctp_channels_open(
+        channels: *mut Channels,
+        parameters: *const ChannelParameters,
+        label: *const u8,
+        label_length: usize,
+        protocol: *const u8,
+        protocol_length: usize,
+        stream: u16,
+        opened: *mut u16,
+    ) -> u32;
+    pub fn sctp_channels_open_negotiated(
+        channels: *mut Channels,
+        parameters: *const ChannelParameters,
+        stream: u16,
+    ) -> u32;
+    pub fn sctp_channels_send(
+        channels: *mut Channels,
+        now: u64,
+        stream: u16,
+        text: bool,
+        bytes: *const u8,
+        length: usize,
+        ticket: *mut u64,
+    ) -> u32;
+    pub fn sctp_channels_close(channels: *mut Channels, stream: u16) -> u32;
+    pub fn sctp_channels_abandon(channels: *mut Channels, ticket: u64, fate: *mut u32) -> u32;
+    pub fn sctp_channels_buffered_amount(channels: *mut Channels, stream: u16, bytes: *mut u64) -> u32;
+    pub fn sctp_channels_set_buffered_amount_low_threshold(channels: *mut Channels, stream: u16, bytes: u32) -> u32;
+    pub fn sctp_channels_max_message_size(channels: *mut Channels, bytes: *mut u32) -> u32;
+    pub fn sctp_channels_next_event(
+        channels: *mut Channels,
+        event: *mut ChannelEvent,
+        buffer: *mut u8,
+        buffer_length: usize,
+    ) -> u32;
+    pub fn sctp_channels_connect(channels: *mut Channels, now: u64, draw: *const Draw) -> u32;
+    pub fn sctp_channels_handle_packet(
+        channels: *mut Channels,
+        now: u64,
+        packet: *const u8,
+        packet_length: usize,
+        draw: *const Draw,
+        buffer: *mut u8,
+        buffer_length: usize,
+        verdict: *mut Verdict,
+    ) -> u32;
+    pub fn sctp_channels_poll_transmit(
+        channels: *mut Channels,
+        now: u64,
+        buffer: *mut u8,
+        buffer_length: usize,
+        tickets: *mut u64,
+        tickets_length: usize,
+        sent: *mut Sent,
+    ) -> u32;
+    pub fn sctp_channels_on_moment(channels: *mut Channels, now: u64) -> u32;
+    pub fn sctp_channels_shutdown(channels: *mut Channels) -> u32;
+    pub fn sctp_channels_abort(
+        channels: *mut Channels,
+        reason: *const u8,
+        reason_length: usize,
+        buffer: *mut u8,
+        buffer_length: usize,
+        length: *mut usize,
+    ) -> u32;
+    pub fn sctp_channels_status(channels: *mut Channels, status: *mut Status) -> u32;
+    pub fn sctp_channels_path(channels: *mut Channels, path: *mut Path) -> u32;
+    pub fn sctp_channels_counts(channels: *mut Channels, counts: *mut Counts) -> u32;
 }

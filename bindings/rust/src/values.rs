@@ -1,6 +1,6 @@
 //! What the library returns: verdicts, packets, messages, the status.
 
-use crate::raw;
+use crate::{raw, NEVER};
 
 /// What was done with a received packet.
 #[derive(Clone, Debug, PartialEq, Eq)]
@@ -247,6 +247,50 @@ pub(crate) fn counts_of(told: &raw::Counts) -> Counts {
     }
 }
 
+pub(crate) fn status_of(told: &raw::Status) -> Status {
+    Status {
+        next_moment: (told.next_moment != NEVER).then_some(told.next_moment),
+        state: state_of(told.state),
+        ended: ended_of(told.ended),
+        tickets: told.tickets,
+        outstanding: told.outstanding,
+        queued: told.queued,
+        queued_bytes: told.queued_bytes,
+        held_bytes: told.held_bytes,
+        reassembly_bytes: told.reassembly_bytes,
+        peer_window: told.peer_window,
+        outbound: told.outbound,
+        inbound: told.inbound,
+        interleaved: told.interleaved,
+        partial: told.partial,
+        resetting: told.resetting,
+    }
+}
+
+pub(crate) fn path_of(told: &raw::Path) -> Path {
+    let (measured, controlled) = (told.flags & 2 > 0, told.flags & 4 > 0);
+    Path {
+        in_flight: told.in_flight,
+        rto: (told.flags & 1 > 0).then_some(told.rto),
+        srtt: measured.then_some(told.srtt),
+        rttvar: measured.then_some(told.rttvar),
+        cwnd: controlled.then_some(told.cwnd),
+        ssthresh: controlled.then_some(told.ssthresh),
+    }
+}
+
+pub(crate) fn fate_of(number: u32) -> Fate {
+    [Fate::Withdrawn, Fate::Abandoned, Fate::Acknowledged, Fate::Unknown, Fate::Reliable][number as usize - 1]
+}
+
+pub(crate) fn verdict_of(told: &raw::Verdict) -> VerdictInto {
+    match told.verdict {
+        0 => VerdictInto::Taken,
+        1 => VerdictInto::Answer(told.length),
+        _ => VerdictInto::Dropped(reason_of(told.reason)),
+    }
+}
+
 pub(crate) fn head_of(told: &raw::Message) -> Head {
     Head {
         length: told.length,
@@ -257,11 +301,11 @@ pub(crate) fn head_of(told: &raw::Message) -> Head {
     }
 }
 
-pub(crate) fn reason_of(number: u32) -> Reason {
+fn reason_of(number: u32) -> Reason {
     [Reason::Fault, Reason::Ports, Reason::Tag, Reason::State, Reason::Cookie][number as usize - 1]
 }
 
-pub(crate) fn state_of(number: u32) -> State {
+fn state_of(number: u32) -> State {
     [
         State::Closed,
         State::Listen,
@@ -275,7 +319,7 @@ pub(crate) fn state_of(number: u32) -> State {
     ][number as usize - 1]
 }
 
-pub(crate) fn ended_of(number: u32) -> Option<Ended> {
+fn ended_of(number: u32) -> Option<Ended> {
     [
         None,
         Some(Ended::Completed),

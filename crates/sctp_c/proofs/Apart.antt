@@ -1,4 +1,4 @@
--- The endpoint and the allocator as rows, and the machine's value of a slot.
+-- The endpoint, channels and the allocator as rows, and the machine's value of a slot.
 use Rattle.std.specs.Prelude.{[], ◌∷◌}
 use lib.Dec.{T, lit<}
 use mir.Syntax.{impl, tnil, tcons, dnil}
@@ -12,6 +12,8 @@ use Rattle.std_heap.specs.contracts.GlobalAllocator.TheImpl.{ghosts, dict}
 use Rattle.std_heap.proofs.Global.TheLaws as global_laws
 use Rattle.sctp_endpoint.specs.contracts.endpoint.Endpoint as endpoint
 use Rattle.sctp_endpoint.proofs.endpoint.Endpoint.TheLaws as endpoint_laws
+use Rattle.sctp_c.specs.contracts.channels.held.Held as held
+use Rattle.sctp_c.proofs.channels.held.Held.TheLaws as held_laws
 
 -- memory of the C library
 abbrev pub heap : Al
@@ -20,6 +22,10 @@ heap = record { row = global.the_row; laws = global_laws.the_row_laws; g = ghost
 -- an endpoint in a box there
 abbrev pub boxed : Bx
 boxed = record { row = endpoint.the_row; laws = endpoint_laws.the_row_laws; al = heap }
+
+-- and what a handle of channels holds
+abbrev pub held_boxed : Bx
+held_boxed = record { row = held.the_row; laws = held_laws.the_row_laws; al = heap }
 
 -- a slot at null
 abbrev pub empty_word : Val → Val

@@ -1,5 +1,6 @@
 mod Apart
 mod HandingBack
 mod BufferLemmas
+mod ChannelLemmas
 mod SendLemmas
 mod TicketLemmas

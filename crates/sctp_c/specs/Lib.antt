@@ -1,4 +1,5 @@
 pub mod Asked
+pub mod channels
 pub mod Codes
 pub mod Counts
 pub mod Holds

@@ -36,4 +36,9 @@ name_of n =
     else if n == 12 then codes "a tag is 0"
     else if n == 13 then codes "a reserved number isn't 0"
     else if n == 14 then codes "the stream is being reset"
+    else if n == 15 then codes "there is no open channel on the stream"
+    else if n == 16 then codes "there is no such stream, or none is free"
+    else if n == 17 then codes "the stream is one of the peer's"
+    else if n == 18 then codes "there is a channel on the stream"
+    else if n == 19 then codes "more than 65,535 retransmissions or milliseconds"
     else config_name n

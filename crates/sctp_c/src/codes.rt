@@ -8,7 +8,7 @@ pub(crate) const OK: u32 = 0;
 pub(crate) const NO_SUCH_STREAM: u32 = 1;
 /// The message has no bytes.
 pub(crate) const EMPTY: u32 = 2;
-/// The message has more than 65,536 bytes, or the reason of an ABORT doesn't fit one packet.
+/// The message has more than 65,536 bytes, label and protocol of a channel have more than 65,524, or the reason of an ABORT doesn't fit one packet.
 pub(crate) const TOO_LONG: u32 = 3;
 /// 1,024 messages are queued.
 pub(crate) const QUEUE_FULL: u32 = 4;
@@ -32,6 +32,16 @@ pub(crate) const BAD_DRAW: u32 = 12;
 pub(crate) const BAD_RESERVED: u32 = 13;
 /// The stream is being reset (RFC 6525, 5.1.2), or the peer refused that.
 pub(crate) const RESETTING: u32 = 14;
+/// There is no channel on the stream, or it is being closed (RFC 8831, 6.7).
+pub(crate) const NO_CHANNEL: u32 = 15;
+/// There is no such stream both ways, or none is free.
+pub(crate) const NO_STREAM: u32 = 16;
+/// The stream is one of those on which the peer opens channels (RFC 8832, 6).
+pub(crate) const WRONG_HALF: u32 = 17;
+/// There is a channel on the stream.
+pub(crate) const USED: u32 = 18;
+/// More than 65,535 retransmissions or milliseconds.
+pub(crate) const OUT_OF_RANGE: u32 = 19;
 /// What the first fault of a configuration is counted from: 21 to 25.
 pub(crate) const BAD_CONFIG: u32 = 20;
 
@@ -75,6 +85,11 @@ pub fn result_numbers()
     ensures bad_draw { BAD_DRAW ≡ 12 }
     ensures bad_reserved { BAD_RESERVED ≡ 13 }
     ensures resetting { RESETTING ≡ 14 }
+    ensures no_channel { NO_CHANNEL ≡ 15 }
+    ensures no_stream { NO_STREAM ≡ 16 }
+    ensures wrong_half { WRONG_HALF ≡ 17 }
+    ensures used { USED ≡ 18 }
+    ensures out_of_range { OUT_OF_RANGE ≡ 19 }
     ensures bad_config { BAD_CONFIG ≡ 20 }
 {}
 

@@ -50,7 +50,7 @@ pub struct SctpCounts {
 }
 
 /// What an endpoint counted, as C gets it.
-fn counts_of(end: &Endpoint) -> SctpCounts
+pub(crate) fn counts_of(end: &Endpoint) -> SctpCounts
     ensures { (v : EndView) → EndpointStands end.now v → IsCounts result v (counted end.now) }
 {
     let counts = end.counts();

@@ -1,4 +1,5 @@
-//! One endpoint of an SCTP association for C: the calls of the header `sctp_endpoint.h`, each over one `sctp_endpoint::Endpoint` (RFC 9260, 11.1).
+//! One endpoint of an SCTP association for C: the calls of the header `sctp_endpoint.h`, each over one `sctp_endpoint::Endpoint` (RFC 9260, 11.1);
+//! and data channels over one, the calls of `sctp_channels.h` (`channels`).
 //!
 //! A handle, `SctpEndpoint`, is in the caller's memory: it is empty, which is all zero, or has the address of an endpoint in a block of its own.
 //! A call tests handle and arguments, borrows the endpoint in place, calls it, and writes for C what it returned:
@@ -15,6 +16,7 @@
 mod block;
 mod buffers;
 mod calls;
+mod channels;
 mod codes;
 mod config;
 mod counts;

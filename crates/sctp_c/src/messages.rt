@@ -69,7 +69,7 @@ fn copy_parts(whole: &Message, buffer: &mut [u8]) -> Result<usize, usize>
 }
 
 /// Copies a message to the beginning of a buffer that has space for it, by `Message::copy_into` if it has several fragments.
-fn copy_whole(whole: &Message, buffer: &mut [u8]) -> Result<usize, usize>
+pub(crate) fn copy_whole(whole: &Message, buffer: &mut [u8]) -> Result<usize, usize>
     ensures copied { IfOk result (λ many. (many ≡ length (message_bytes whole.now)) × (buffer.new ≡ message_bytes whole.now ++ drop many buffer.old)) }
     ensures wanted { IfErr result (λ many. (many ≡ min (length (message_bytes whole.now)) (2 ^ 64 - 1)) × (length buffer.old < many)) }
     ensures refused { OnErr result (buffer.new ≡ buffer.old) }

@@ -5,8 +5,9 @@ ghost use Rattle.sctp_c.specs.Names.{name_of, config_name, IsText};
 
 use crate::buffers::put_text;
 use crate::codes::{
-    BAD_DRAW, BAD_RESERVED, BAD_STATE, EMPTY, MISUSE, NEEDS_ROOM, NO_MEMORY, NO_SUCH_STREAM,
-    NOT_OPEN, NOTHING, OK, QUEUE_FULL, RESETTING, SPENT, TOO_LONG,
+    BAD_DRAW, BAD_RESERVED, BAD_STATE, EMPTY, MISUSE, NEEDS_ROOM, NO_CHANNEL, NO_MEMORY, NO_STREAM,
+    NO_SUCH_STREAM, NOT_OPEN, NOTHING, OK, OUT_OF_RANGE, QUEUE_FULL, RESETTING, SPENT, TOO_LONG,
+    USED, WRONG_HALF,
 };
 
 /// What a result that is a fault of a configuration means.
@@ -43,6 +44,11 @@ fn name_of(code: u32) -> &'static [u8]
         BAD_DRAW => b"a tag is 0",
         BAD_RESERVED => b"a reserved number isn't 0",
         RESETTING => b"the stream is being reset",
+        NO_CHANNEL => b"there is no open channel on the stream",
+        NO_STREAM => b"there is no such stream, or none is free",
+        WRONG_HALF => b"the stream is one of the peer's",
+        USED => b"there is a channel on the stream",
+        OUT_OF_RANGE => b"more than 65,535 retransmissions or milliseconds",
         _ => config_name(code),
     }
 }

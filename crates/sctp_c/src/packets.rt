@@ -23,14 +23,14 @@ use crate::handle::SctpEndpoint;
 use sctp_endpoint::{AbortFault, Draw, Endpoint, NoMemory, Sent, Verdict};
 
 /// The bytes of the longest packet that this endpoint sends.
-fn limit_of(end: &Endpoint) -> usize
+pub(crate) fn limit_of(end: &Endpoint) -> usize
     ensures { (v : EndView) → EndpointStands end.now v → result ≡ v.configuration.limit }
 {
     usize::from(end.config().limit())
 }
 
 /// What C gets if there is no packet: so many bytes that its buffer must have, or 0.
-fn no_packet(length: usize) -> SctpSent
+pub(crate) fn no_packet(length: usize) -> SctpSent
     ensures { (result.length ≡ length) × (result.tickets ≡ 0) × (result.reserved ≡ 0) }
 {
     SctpSent {
@@ -113,7 +113,7 @@ pub extern "C" fn sctp_endpoint_poll_transmit(
 }
 
 /// The verdict of a packet without answer or reason: so many bytes that the buffer must have, or 0.
-fn no_verdict(length: usize) -> SctpVerdict
+pub(crate) fn no_verdict(length: usize) -> SctpVerdict
     ensures { (result.length ≡ length) × (result.verdict ≡ 0) × (result.reason ≡ 0) × (result.reserved ≡ 0) }
 {
     SctpVerdict {
@@ -125,7 +125,7 @@ fn no_verdict(length: usize) -> SctpVerdict
 }
 
 /// Writes the verdict on a received packet, and its answer, for C.
-fn tell_heard(
+pub(crate) fn tell_heard(
     answer: Result<Verdict, NoMemory>,
     buffer: &mut [u8],
     verdict: &mut SctpVerdict,
@@ -152,8 +152,7 @@ fn tell_heard(
 }
 
 /// Processes a received packet: what was done with it is written to `verdict`, and its answer, a packet to send at once, to `buffer`. The draw is
-/// used only if the packet is an INIT to a listener; a new one is passed each time. If the buffer has less than the endpoint's packet limit,
-/// nothing is done.
+/// used only if it is an INIT to a listener; a new one is passed each time. If the buffer has less than the packet limit, nothing is done.
 #[unsafe(no_mangle)]
 pub extern "C" fn sctp_endpoint_handle_packet(
     handle: &mut SctpEndpoint,
@@ -200,7 +199,11 @@ pub extern "C" fn sctp_endpoint_handle_packet(
 }
 
 /// Writes the ABORT, or that there is none, for C.
-fn tell_abort(answer: Result<Vec<u8>, AbortFault>, buffer: &mut [u8], count: &mut usize) -> u32
+pub(crate) fn tell_abort(
+    answer: Result<Vec<u8>, AbortFault>,
+    buffer: &mut [u8],
+    count: &mut usize,
+) -> u32
     ensures told { IfOk answer (λ bytes. length bytes.items ≤ length buffer.old) → AbortTold answer result count.new buffer.old buffer.new }
     ensures untold { ((result ≡ OK) → ⊥) → buffer.new ≡ buffer.old }
 {

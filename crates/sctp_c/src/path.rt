@@ -85,7 +85,7 @@ fn path_told(in_flight: u64, path: Option<Path>) -> SctpPath
 }
 
 /// The path of an endpoint.
-fn path_of(end: &Endpoint) -> SctpPath
+pub(crate) fn path_of(end: &Endpoint) -> SctpPath
     ensures { (v : EndView) → EndpointStands end.now v → IsPath result v }
 {
     path_told(end.in_flight(), end.path())

@@ -13,7 +13,7 @@ use crate::handle::SctpEndpoint;
 use sctp_endpoint::{Reset, ResetFault};
 
 /// The result of a request for a reset.
-fn code_of(answer: Result<(), ResetFault>) -> u32
+pub(crate) fn code_of(answer: Result<(), ResetFault>) -> u32
     ensures { result ≡ reset_code answer }
 {
     match answer {

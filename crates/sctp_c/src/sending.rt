@@ -31,7 +31,7 @@ fn until_of(moment: u64) -> Option<u64>
 }
 
 /// The result for a refusal.
-fn send_code(why: Refused) -> u32
+pub(crate) fn send_code(why: Refused) -> u32
     ensures { result ≡ refused_code why }
 {
     match why {

@@ -103,7 +103,7 @@ fn resetting_of(end: &Endpoint) -> u32
 }
 
 /// The status of an endpoint.
-fn status_of(end: &Endpoint) -> SctpStatus
+pub(crate) fn status_of(end: &Endpoint) -> SctpStatus
     ensures told { (v : EndView) → EndpointStands end.now v → IsStatus result v }
     ensures within { (v : EndView) → EndpointStands end.now v → IsWithin result v }
 {

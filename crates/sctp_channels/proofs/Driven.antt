@@ -4,6 +4,7 @@ use Rattle.std.specs.Prelude.{replicate, slice_index_or, slice_set}
 use Rattle.std.proofs.lemmas.Bool.{cases_lt}
 use Rattle.sctp_channels.specs.declared.table.DtlsRole.{DtlsRole}
 use Rattle.sctp_channels.specs.Coming.{After, comes, leaving, one_taken, heard, peer_resets}
+use Rattle.sctp_channels.specs.Buffered.{with_look, threshold_set}
 use Rattle.sctp_channels.specs.Calling.{outgoing}
 use Rattle.std.proofs.lemmas.Bool.Decides.{nat_tests}
 use Rattle.std.proofs.lemmas.List.{append-nil, append_assoc}
@@ -23,15 +24,16 @@ use Rattle.sctp_outcomes.proofs.AgedDates.{AreSound, start_sound, step_goes_on}
 use Rattle.sctp_outcomes.proofs.users.Noted.{quiet_none, step_noted}
 use Rattle.sctp_dcep.specs.Content.{Content, content_of}
 use Rattle.sctp_channels.specs.declared.stream.Stream.{Stream}
+use Rattle.sctp_channels.specs.declared.threshold.Threshold.{Threshold}
 use Rattle.sctp_channels.specs.declared.stream.State.TheVariants as state
 use Rattle.sctp_channels.specs.Streams.{unused, with_channel, Table, fresh_table, stream_at, with_stream}
 use Rattle.sctp_channels.specs.Told as told
-use Rattle.sctp_channels.specs.Told.{Closed, Report}
+use Rattle.sctp_channels.specs.Told.{Closed, BufferedAmountLow, Report}
 use Rattle.sctp_channels.specs.Settling.{without_due}
-use Rattle.sctp_channels.specs.Events.{Reported, quiet, reports_closed, reports_taken, reports_waiting, reports_message, next_report, with_reset}
+use Rattle.sctp_channels.specs.Events.{Reported, quiet, reports_closed, reports_low, reports_taken, reports_waiting, reports_message, next_report, with_reset}
 use Rattle.sctp_channels.specs.Promise.{HasPlace, IsOfChannels}
-use Rattle.sctp_channels.specs.Driven.{is_call, closes, Moves, Elsewhere, Fails, Takes, Notes, NotesNone, Opens, Answers, Says, Refuses, IsNotOpen, Closes, Resets, ResetsNone, Driven, Rests, Goes, Tells, Agrees, IsClosedIn, IsPartedThere, content_in, contents_on, AreOf, ChannelsAreFaithful}
-use Rattle.sctp_channels.proofs.Promised.{comes_keeps, comes_open, report_cases, one_report, beyond, at_same, at_other, same_or_not, within, noted_now, places_are_kept, contents_are_taken, closed_at_the_place, channels_say_what_was_sent}
+use Rattle.sctp_channels.specs.Driven.{is_call, closes, Moves, Elsewhere, Fails, Takes, Notes, NotesNone, Opens, Answers, Says, Refuses, IsNotOpen, Closes, Resets, ResetsNone, Driven, Rests, Goes, Tells, Agrees, Sets, IsClosedIn, IsPartedThere, content_in, contents_on, AreOf, ChannelsAreFaithful}
+use Rattle.sctp_channels.proofs.Promised.{comes_keeps, comes_open, report_cases, one_report, low_is_open, beyond, at_same, at_other, same_or_not, within, noted_now, places_are_kept, contents_are_taken, closed_at_the_place, channels_say_what_was_sent}
 use Rattle.sctp_channels.proofs.NextChannel.{beside_kept, notes_kept, took}
 
 -- ---- lists
@@ -173,6 +175,7 @@ driven_sends y w x es os vs rs u (Goes _ v _ z _ e o more others worlds now next
     by_part (inr there) first second = second there
 driven_sends y w x es os vs rs u (Tells _ _ _ _ _ _ r more is same on) a has = driven_sends y w (next_report (end_of w y) x).table es os vs more u on a has
 driven_sends y w x es os vs rs u (Agrees _ _ _ _ _ _ _ s t ordered r is on) a has = driven_sends y w _ es os vs rs u on a has
+driven_sends y w x es os vs rs u (Sets _ _ _ _ _ _ _ s k may on) a has = driven_sends y w _ es os vs rs u on a has
 
 -- ---- the place of a reset
 
@@ -198,6 +201,10 @@ module _ (y : Side) (n : ℕ) where
   seen : (v u : EndView) (x : Table) (k : ℕ) → u.receiver.taken n ≡ v.receiver.taken n ++ [] → HasPlace v x n k → HasPlace u x n k
   seen v u x k is p = beside_kept n k v x u x (record { taken = is ∙ append-nil (v.receiver.taken n); left = refl; is_reset = refl }) p
 
+  -- other thresholds
+  aside : (v : EndView) (x : Table) (ts : List Threshold) (k : ℕ) → HasPlace v x n k → HasPlace v (record x { thresholds = ts }) n k
+  aside v x ts k p = beside_kept n k v x v (record x { thresholds = ts }) (record { taken = refl; left = refl; is_reset = refl }) p
+
   moved : (v u : EndView) (x : Table) (e : Event) (o : Option Outcome) (rs : List Report) (z : Table) → Moves y v u x e o rs z →
       u.receiver.taken n ≡ v.receiver.taken n ++ taken_by y n e o → (Has rs closing → ⊥) → (k : ℕ) → HasPlace v x n k → HasPlace u z n k
   moved v u x e o rs z (Elsewhere _ _ off) took unclosed k p = seen v u x k (took ∙ ap (λ (hs : List Handed). v.receiver.taken n ++ hs) (quiet_taken y n e o off)) p
@@ -208,7 +215,7 @@ module _ (y : Side) (n : ℕ) where
   moved v u x e o rs z NotesNone took unclosed k p = seen v u x k took p
   moved v u x e o rs z (Opens s t c choice is) took unclosed k p = seen v u z k took (stands v x s (with_channel state.Connecting c.ordered c.reliability (stream_at x s)) k refl refl p)
   moved v u x e o rs z (Answers s t is) took unclosed k p = seen v u z k took (stands v x s (without_due (stream_at x s)) k refl refl p)
-  moved v u x e o rs z (Says s t now c may) took unclosed k p = seen v u x k took p
+  moved v u x e o rs z (Says s t now c may) took unclosed k p = aside u x (with_look u s x).thresholds k (seen v u x k took p)
   moved v u x e o rs z (Refuses c why) took unclosed k p = seen v u x k took p
   moved v u x e o rs z (IsNotOpen c) took unclosed k p = seen v u x k took p
   moved v u x e o rs z (Closes s may) took unclosed k p = seen v u z k took (stands v x s (closes (stream_at x s)) k refl refl p)
@@ -263,6 +270,7 @@ takes_one n v x r is P none one = go r.told refl
     go told.Opened says = none
     go (told.Message c) says = by_stream c says (n == r.stream) refl
     go told.Closed says = none
+    go told.BufferedAmountLow says = none
     go (told.Refuses why) says = none
     go (told.Ignores why) says = none
 
@@ -302,6 +310,7 @@ module _ (y : Side) (n : ℕ) where
       takes_one n (end_of w y) x r is (λ (cs : List Content). AreOf (taken y n es os) (cs ++ contents_on n more)) rest (λ c m content one.
       absurd (let twice = ap length (sym one ∙ ap (λ (q : EndView). q.receiver.taken n) same) in let l = length-append ((end_of w y).receiver.taken n) (m ∷ []) in omega (arith, twice, l)))
   driven_says w x es os vs rs u (Agrees _ _ _ _ _ _ _ s t ordered r is on) passes fresh sound = driven_says w _ es os vs rs u on passes fresh sound
+  driven_says w x es os vs rs u (Sets _ _ _ _ _ _ _ s k may on) passes fresh sound = driven_says w _ es os vs rs u on passes fresh sound
 
 -- ---- resets are noted before messages are taken
 
@@ -332,6 +341,7 @@ module _ (y : Side) (n : ℕ) where
       (move_takes (end_of w y) (end_of v y) x e o now z move, driven_takes v z more others worlds next u on)
   driven_takes w x es os vs rs u (Tells _ _ _ _ _ _ r more is same on) = driven_takes w (next_report (end_of w y) x).table es os vs more u on
   driven_takes w x es os vs rs u (Agrees _ _ _ _ _ _ _ s t ordered r is on) = driven_takes w _ es os vs rs u on
+  driven_takes w x es os vs rs u (Sets _ _ _ _ _ _ _ s k may on) = driven_takes w _ es os vs rs u on
 
 -- ---- a run
 
@@ -410,6 +420,10 @@ module _ (n : ℕ) where
     by_closed i (inl off) = set_unset x i unused (λ e. refl) (inl off)
     by_closed i (inr is) = set_unset x i unused (λ e. refl) (inr (one_report i n Closed Closed is).0)
 
+    by_low : (i : ℕ) → P (reports_low i v x)
+    by_low i (inl off) = off
+    by_low i (inr is) = absurd (low_is_open (one_report i n BufferedAmountLow Closed is).1)
+
     by_quiet : P (quiet v x)
     by_quiet (inl off) = off
     by_quiet (inr is) = absurd (cc)
@@ -435,7 +449,7 @@ module _ (n : ℕ) where
     by_waiting i (h ∷ rest) = by_taken i h rest (after i h).taken
 
     next_unset : Unset x ⊎ ((next_report v x).report ≡ Some (record { stream = n; told = Closed })) → Unset (next_report v x).table
-    next_unset = report_cases P v x (λ i on. by_closed i) (λ i on. by_waiting i (v.receiver.waiting i)) by_quiet (λ i on. by_closed i)
+    next_unset = report_cases P v x (λ i on. by_closed i) by_low (λ i on. by_waiting i (v.receiver.waiting i)) by_quiet (λ i on. by_closed i)
 
 closed_or_not : (n : ℕ) (r : Report) → (r ≡ record { stream = n; told = Closed }) ⊎ (r ≡ record { stream = n; told = Closed } → ⊥)
 closed_or_not n r = go r.told refl
@@ -452,6 +466,7 @@ closed_or_not n r = go r.told refl
     go told.Opened is = other_told told.Opened is (λ h. cc h)
     go (told.Message c) is = other_told (told.Message c) is (λ h. cc h)
     go told.Closed is = by_stream is (same_or_not r.stream n)
+    go told.BufferedAmountLow is = other_told told.BufferedAmountLow is (λ h. cc h)
     go (told.Refuses why) is = other_told (told.Refuses why) is (λ h. cc h)
     go (told.Ignores why) is = other_told (told.Ignores why) is (λ h. cc h)
 
@@ -531,7 +546,8 @@ module _ (y : Side) (n : ℕ) where
       go (inl e) (inr t) = on (λ off. absurd (let set = t.place.is_reset in cc)) (inr t)
       go (inr ne) m = on (λ off. ap (λ (q : Stream). q.is_reset) (at_other x s n (peer_resets k (stream_at x s)) ne) ∙ off) m
   move_mark es os v u x e o rs z NotesNone took count same m = mark_on es (WasReset y ∷ []) os (Some NoReset ∷ []) v u x x (λ h. h) (λ k p. seen y n v u x k took p) m
-  move_mark es os v u x e o rs z (Says s t now c may) took count same m = mark_on es _ os _ v u x x (λ h. h) (λ k p. seen y n v u x k took p) m
+  move_mark es os v u x e o rs z (Says s t now c may) took count same m =
+      mark_on es _ os _ v u x (with_look u s x) (λ h. h) (λ k p. aside y n u x (with_look u s x).thresholds k (seen y n v u x k took p)) m
   move_mark es os v u x e o rs z (Refuses c why) took count same m = mark_on es _ os _ v u x x (λ h. h) (λ k p. seen y n v u x k took p) m
   move_mark es os v u x e o rs z (IsNotOpen c) took count same m = mark_on es _ os _ v u x x (λ h. h) (λ k p. seen y n v u x k took p) m
   move_mark es os v u x e o rs z (ResetsNone s _ by) took count same m = mark_on es _ os _ v u x x (λ h. h) (λ k p. seen y n v u x k took p) m
@@ -597,6 +613,22 @@ module _ (y : Side) (n : ℕ) where
         outcomes = t.outcomes;
         aligned = t.aligned;
         place = stands y n (end_of w y) x s (with_channel state.Open ordered r (stream_at x s)) (length (taken y n t.past t.answers) + t.waiting) refl refl t.place;
+      })
+  driven_mark es os w x more others vs rs u (Sets _ _ _ _ _ _ _ s k may on) passes fresh sound count same m =
+      driven_mark es os w (threshold_set (end_of w y) s k x) more others vs rs u on passes fresh sound count same (go m)
+    where
+      go : Mark es os (end_of w y) x → Mark es os (end_of w y) (threshold_set (end_of w y) s k x)
+      go (inl off) = inl off
+      go (inr t) = inr (record {
+        past = t.past;
+        mid = t.mid;
+        answers = t.answers;
+        mids = t.mids;
+        waiting = t.waiting;
+        events = t.events;
+        outcomes = t.outcomes;
+        aligned = t.aligned;
+        place = aside y n (end_of w y) x (threshold_set (end_of w y) s k x).thresholds (length (taken y n t.past t.answers) + t.waiting) t.place;
       })
 
 -- ---- the law

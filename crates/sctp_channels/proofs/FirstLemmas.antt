@@ -51,6 +51,17 @@ none_from test i n none = go (cases_lt i n)
     go (inl less) = first_from_to test i n n (omega (arith, less)) (omega arith) (λ q low high. none q low) ∙ first_none test n n (omega arith)
     go (inr most) = first_none test i n most
 
+-- from 0 on, up to one
+pub first_from_start : (test : ℕ → Bool) (s n : ℕ) → s ≤ n → ((q : ℕ) → q < s → test q ≡ false) → first_from test 0 n ≡ first_from test s (n - s)
+first_from_start test s n most none =
+    let all : n - 0 ≡ n = omega arith in
+    subst (λ (k : ℕ). first_from test 0 k ≡ first_from test s (n - s)) all (first_from_to test 0 s n (omega arith) most (λ q low high. none q high))
+
+pub none_from_start : (test : ℕ → Bool) (n : ℕ) → ((q : ℕ) → test q ≡ false) → first_from test 0 n ≡ None
+none_from_start test n none =
+    let all : n - 0 ≡ n = omega arith in
+    subst (λ (k : ℕ). first_from test 0 k ≡ None) all (none_from test 0 n (λ q low. none q))
+
 -- ---- readable streams
 
 and_false : (b : Bool) → (b && false) ≡ false

@@ -23,8 +23,9 @@ use Rattle.sctp_channels.specs.declared.table.DtlsRole.{DtlsRole}
 use Rattle.sctp_channels.specs.Streams.{Table, stream_at, with_stream, is_own, with_channel, first_from}
 use Rattle.sctp_channels.specs.Told.{Told, Incoming, Opened, WrongHalf, NoWayBack}
 use Rattle.sctp_channels.specs.Coming.{After, tells, refuses, begins, with_ack, control_comes, content_comes, other_comes, Said, OfDcep, OfChannel, said_in, comes_saying, comes, one_taken, heard}
+use Rattle.sctp_channels.specs.Buffered.{is_low}
 use Rattle.sctp_channels.specs.Calling.{outgoing}
-use Rattle.sctp_channels.specs.Events.{Reported, one_on, reports_taken, reports_waiting, reports_after, reports_message, turn, reports_over, reports_turn, reports_first, next_report}
+use Rattle.sctp_channels.specs.Events.{Reported, one_on, reports_taken, reports_waiting, reports_after, reports_message, turn, reports_turn, reports_second, reports_first, next_report}
 use Rattle.sctp_channels.specs.ChannelsStand.{ChannelsStand}
 use Rattle.sctp_channels.specs.Telling.{Tells}
 
@@ -102,12 +103,10 @@ one_further s low = go (s == 65_535) refl
 
 -- ---- which report is next
 
-pub next_message : (v : EndView) (x : Table) (s : ℕ) → None ≡ first_from (is_closed v x) 0 (length x.streams) → Some s ≡ turn v x
-    → next_report v x ≡ reports_message s (v.receiver.waiting s) v x
-next_message v x s none there = ap (λ (o : Option ℕ). reports_first o v x) (sym none) ∙ ap (λ (o : Option ℕ). reports_turn o v x) (sym there)
-
-pub next_over : (v : EndView) (x : Table) → None ≡ first_from (is_closed v x) 0 (length x.streams) → None ≡ turn v x → next_report v x ≡ reports_over v x
-next_over v x none there = ap (λ (o : Option ℕ). reports_first o v x) (sym none) ∙ ap (λ (o : Option ℕ). reports_turn o v x) (sym there)
+pub next_turn : (v : EndView) (x : Table) (o : Option ℕ) → None ≡ first_from (is_closed v x) 0 (length x.streams) → None ≡ first_from (is_low v x) 0 (length x.streams) → o ≡ turn v x
+    → next_report v x ≡ reports_turn o v x
+next_turn v x o none high there =
+    ap (λ (p : Option ℕ). reports_first p v x) (sym none) ∙ (ap (λ (p : Option ℕ). reports_second p v x) (sym high) ∙ ap (λ (p : Option ℕ). reports_turn p v x) (sym there))
 
 -- ---- a message
 

@@ -4,6 +4,9 @@ pub mod NotingLemmas
 pub mod HearingLemmas
 pub mod RefusingLemmas
 pub mod TableLemmas
+pub mod SpanLemmas
+pub mod UsedLemmas
+pub mod BusyLemmas
 pub mod PacketLemmas
 pub mod OpeningLemmas
 pub mod SendingLemmas
@@ -11,3 +14,11 @@ pub mod Promised
 pub mod NextChannel
 pub mod Driven
 pub mod AllNoted
+pub mod StreamsThere
+pub mod MadeLemmas
+pub mod MadeRuns
+pub mod MadeSettled
+pub mod MadePackets
+pub mod MadeCalls
+pub mod MadePassed
+pub mod MadeEvents

@@ -17,13 +17,14 @@ use Rattle.sctp_channels.specs.declared.stream.State.{State}
 use Rattle.sctp_channels.specs.declared.stream.State.TheVariants.{Unused, Connecting, Unanswered, Open, Closing, Refused}
 use Rattle.sctp_channels.specs.declared.stream.Stream.{Stream}
 use Rattle.sctp_channels.specs.declared.table.DtlsRole.{DtlsRole}
-use Rattle.sctp_channels.specs.Streams.{unused, is_drained, Table, stream_at, with_stream, is_own, first_from}
-use Rattle.sctp_channels.specs.Told.{WrongHalf, NoWayBack, Told, Message, Closed, Report}
+use Rattle.sctp_channels.specs.Streams.{unused, is_drained, Table, stream_at, with_stream, with_none, is_own, first_from}
+use Rattle.sctp_channels.specs.Told.{WrongHalf, NoWayBack, Told, Message, Closed, BufferedAmountLow, Report}
 use Rattle.sctp_channels.specs.Coming.{After, tells, begins, refuses, control_comes, content_comes, other_comes, data_comes, Said, OfDcep, OfChannel, said_in, comes_saying, comes, half_closed, leaving, heard, peer_resets}
 use Rattle.sctp_channels.specs.Coming.{Said}
+use Rattle.sctp_channels.specs.Buffered.{is_low, with_low_told}
 use Rattle.sctp_channels.specs.Calling.{outgoing}
 use Rattle.sctp_channels.specs.Settling.{is_closing, is_asked, is_resetting_out, is_closed}
-use Rattle.sctp_channels.specs.Events.{Reported, quiet, reports_closed, reports_message, reports_after, reports_taken, reports_waiting, is_empty, is_readable, readable_from, or_else, turn, is_used, reports_end, reports_turn, reports_first, next_report, with_reset}
+use Rattle.sctp_channels.specs.Events.{Reported, quiet, reports_closed, reports_low, reports_message, reports_after, reports_taken, reports_waiting, is_empty, is_readable, readable_from, or_else, turn, is_used, reports_end, reports_turn, reports_second, reports_first, next_report, with_reset}
 use Rattle.sctp_channels.specs.Promise.{ContentsAreTaken, HasPlace, ResetsAreNoted, PlacesAreKept, ClosedAtThePlace, IsOfContent, IsOfChannels, ChannelsSayWhatWasSent}
 
 -- ---- what a message leaves of the mark of a reset
@@ -246,8 +247,9 @@ turn_passes v x j is = go (readable_from v x x.next) refl is
     go None first here = first_passes (is_readable v x) 0 (65_536 - 0) j here
 
 pub report_cases : (P : Reported → Type 0) (v : EndView) (x : Table) → ((i : ℕ) → is_closed v x i ≡ true → P (reports_closed i v x)) →
-    ((i : ℕ) → is_readable v x i ≡ true → P (reports_message i (v.receiver.waiting i) v x)) → P (quiet v x) → ((i : ℕ) → is_some (ended_of v.phase) ≡ true → P (reports_closed i v x)) → P (next_report v x)
-report_cases P v x closed readable none over = first (first_from (is_closed v x) 0 (length x.streams)) refl
+    ((i : ℕ) → P (reports_low i v x)) → ((i : ℕ) → is_readable v x i ≡ true → P (reports_message i (v.receiver.waiting i) v x)) → P (quiet v x) →
+    ((i : ℕ) → is_some (ended_of v.phase) ≡ true → P (reports_closed i v x)) → P (next_report v x)
+report_cases P v x closed low readable none over = first (first_from (is_closed v x) 0 (length x.streams)) refl
   where
     ends : (o : Option ℕ) → is_some (ended_of v.phase) ≡ true → P (reports_end o v x)
     ends (Some i) on = over i on
@@ -261,9 +263,13 @@ report_cases P v x closed readable none over = first (first_from (is_closed v x)
     second (Some i) is = readable i (turn_passes v x i is)
     second None is = third (is_some (ended_of v.phase)) refl
 
+    by_low : (o : Option ℕ) → P (reports_second o v x)
+    by_low (Some i) = low i
+    by_low None = second (turn v x) refl
+
     first : (o : Option ℕ) → first_from (is_closed v x) 0 (length x.streams) ≡ o → P (reports_first o v x)
     first (Some i) is = closed i (first_passes (is_closed v x) 0 (length x.streams) i is)
-    first None is = second (turn v x) refl
+    first None is = by_low (first_from (is_low v x) 0 (length x.streams))
 
 -- what is told is one
 or_report : Option Report → Report
@@ -276,6 +282,12 @@ one_report i s t u is = (ap (λ (o : Option Report). (or_report o).stream) is, a
 
 closed_says_nothing : (c : Content) → Closed ≡ Message c → ⊥
 closed_says_nothing c is = cc
+
+low_says_nothing : (c : Content) → BufferedAmountLow ≡ Message c → ⊥
+low_says_nothing c is = cc
+
+pub low_is_open : BufferedAmountLow ≡ Closed → ⊥
+low_is_open is = cc
 
 -- ---- what is told was taken
 
@@ -291,7 +303,8 @@ module _ (v : EndView) (x : Table) (s : ℕ) (c : Content) where
 
   takes_it : TakesIt (next_report v x)
   takes_it =
-      report_cases TakesIt v x (λ i on is. absurd (closed_says_nothing c (one_report i s Closed (Message c) is).1)) (λ i on. by_waiting i (v.receiver.waiting i) refl) (λ is. absurd (cc))
+      report_cases TakesIt v x (λ i on is. absurd (closed_says_nothing c (one_report i s Closed (Message c) is).1))
+      (λ i is. absurd (low_says_nothing c (one_report i s BufferedAmountLow (Message c) is).1)) (λ i on. by_waiting i (v.receiver.waiting i) refl) (λ is. absurd (cc))
       (λ i on is. absurd (closed_says_nothing c (one_report i s Closed (Message c) is).1))
     where
       apart : {A : Type 0} (b : Bool) → b ≡ false → b ≡ true → A
@@ -352,9 +365,9 @@ module _ (v : EndView) (x : Table) (s n : ℕ) (p : HasPlace v x s n) where
   elsewhere_closed : (i : ℕ) → KeepsPlace (reports_closed i v x)
   elsewhere_closed i unclosed = go (same_or_not i s)
     where
-      go : (i ≡ s) ⊎ (s ≡ i → ⊥) → HasPlace v (with_stream x i unused) s n
+      go : (i ≡ s) ⊎ (s ≡ i → ⊥) → HasPlace v (with_none x i) s n
       go (inl e) = absurd (unclosed (ap (λ (k : ℕ). Some (record { stream = k; told = Closed })) e))
-      go (inr ne) = untouched v (with_stream x i unused) (at_other x i s unused ne) refl
+      go (inr ne) = untouched v (with_none x i) (at_other x i s unused ne) refl
 
   taken_at : (i : ℕ) (h : Handed) → (s ≡ i → ⊥) → length (at v.receiver.taken i (v.receiver.taken i ++ h ∷ []) s) ≡ length (v.receiver.taken s)
   taken_at i h ne = go (s == i) refl
@@ -422,7 +435,7 @@ module _ (v : EndView) (x : Table) (s n : ℕ) (p : HasPlace v x s n) where
       go false unclosed = untouched _ _ (at_other x i s (heard (after i h)) ne) refl
 
   place_kept : KeepsPlace (next_report v x)
-  place_kept = report_cases KeepsPlace v x (λ i on. elsewhere_closed i) (λ i on. by_stream i (same_or_not i s) on (v.receiver.waiting i)) (λ none. p) (λ i on. elsewhere_closed i)
+  place_kept = report_cases KeepsPlace v x (λ i on. elsewhere_closed i) (λ i unclosed. untouched v (with_low_told i x) refl refl) (λ i on. by_stream i (same_or_not i s) on (v.receiver.waiting i)) (λ none. p) (λ i on. elsewhere_closed i)
     where
       by_stream : (i : ℕ) → (i ≡ s) ⊎ (s ≡ i → ⊥) → is_readable v x i ≡ true → (hs : List Handed) → KeepsPlace (reports_message i hs v x)
       by_stream i which on [] = λ none. p
@@ -460,7 +473,7 @@ module _ (v : EndView) (x : Table) (s : ℕ) where
 
 pub closed_at_the_place : ClosedAtThePlace
 closed_at_the_place v x s alive =
-    report_cases (AtPlace v x s) v x (by_closed v x s) (λ i on. by_waiting v x s i (v.receiver.waiting i)) (λ is. absurd (cc))
+    report_cases (AtPlace v x s) v x (by_closed v x s) (λ i is. absurd (low_is_open (one_report i s BufferedAmountLow Closed is).1)) (λ i on. by_waiting v x s i (v.receiver.waiting i)) (λ is. absurd (cc))
     (λ i on is. absurd (let off = ap (λ (o : Option Ended). is_some o) alive in cc))
 
 -- ---- what is told was sent

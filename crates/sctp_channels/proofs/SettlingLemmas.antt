@@ -1,10 +1,13 @@
 -- What is due is settled stream by stream.
-use Rattle.std.proofs.Common.{◌≡◌, ℕ, zero, suc, ◌+◌, ◌-◌, ◌<◌, List, [], ◌∷◌, ◌++◌, length, take, drop, get_or, set, refl, ap, ◌∙◌, append_assoc, arith}
+use Rattle.std.proofs.Common.{◌≡◌, ℕ, zero, suc, ◌+◌, ◌-◌, ◌<◌, ◌≤◌, List, [], ◌∷◌, ◌++◌, length, take, drop, get_or, set, refl, sym, ap, ◌∙◌, append_assoc, arith}
 use Rattle.std.proofs.lemmas.List.{take_more, drop_more, set_at, get_or-append_right, set-get_or, length-take-le}
+use lib.Seq.{get_or-set_other}
 use Rattle.sctp_model.specs.end.EndView.{EndView}
+use Rattle.sctp_channels.specs.declared.stream.Due.{Due}
+use Rattle.sctp_channels.specs.declared.stream.Due.TheVariants.{Nothing}
 use Rattle.sctp_channels.specs.declared.stream.Stream.{Stream}
 use Rattle.sctp_channels.specs.Streams.{unused, Table, stream_at, with_stream}
-use Rattle.sctp_channels.specs.Settling.{settled, AllSettled, all_settled, Standing, settled_below}
+use Rattle.sctp_channels.specs.Settling.{settled_by, settled, AllSettled, all_settled, Standing, settled_below, settled_all}
 
 -- as many streams are left as there were
 settled_many : (v : EndView) (s : ℕ) (xs : List Stream) → length (all_settled v s xs).streams ≡ length xs
@@ -51,3 +54,49 @@ settled_more n v x less =
 -- nothing is due on a stream
 pub settled_none : (x : Table) (s : ℕ) → with_stream x s (stream_at x s) ≡ x
 settled_none x s = ap (λ (xs : List Stream). record x { streams = xs }) (set-get_or x.streams s unused)
+
+-- ---- streams of which nothing is due
+
+idle_one : (t : Standing) (s : ℕ) → (stream_at t.table s).due ≡ Nothing → one_settled t s ≡ t
+idle_one t s idle =
+    let y = stream_at t.table s in
+    ap (λ (d : Due). record { view = (settled_by d t.view s y).view; table = with_stream t.table s (settled_by d t.view s y).stream }) idle
+    ∙ ap (λ (z : Table). record { view = t.view; table = z }) (settled_none t.table s)
+
+-- those below
+pub settled_idle : (n : ℕ) (v : EndView) (x : Table) → n ≤ length x.streams → ((q : ℕ) → q < n → (stream_at x q).due ≡ Nothing) → settled_below n v x ≡ record { view = v; table = x }
+settled_idle zero v x most idle = refl
+settled_idle (suc n) v x most idle =
+    let next : suc n ≡ n + 1 = omega arith in
+    ap (λ (k : ℕ). settled_below k v x) next
+    ∙ (settled_more n v x (omega (arith, most))
+    ∙ (ap (λ (t : Standing). one_settled t n) (settled_idle n v x (omega (arith, most)) (λ q low. idle q (omega (arith, low))))
+    ∙ idle_one (record { view = v; table = x }) n (idle n (omega arith))))
+
+-- those above are as they were
+settled_kept : (n : ℕ) (v : EndView) (x : Table) (i : ℕ) → n ≤ i → n ≤ length x.streams → stream_at (settled_below n v x).table i ≡ stream_at x i
+settled_kept zero v x i low most = refl
+settled_kept (suc n) v x i low most =
+    let next : suc n ≡ n + 1 = omega arith in
+    let t = settled_below n v x in
+    let other : i ≡ n → ⊥ = λ e. omega (arith, e, low) in
+    ap (λ (k : ℕ). stream_at (settled_below k v x).table i) next
+    ∙ (ap (λ (u : Standing). stream_at u.table i) (settled_more n v x (omega (arith, most)))
+    ∙ (get_or-set_other t.table.streams n i (settled t.view n (stream_at t.table n)).stream unused other
+    ∙ settled_kept n v x i (omega (arith, low)) (omega (arith, most))))
+
+-- those from one on
+settled_on : (k n : ℕ) (v : EndView) (x : Table) → n + k ≤ length x.streams → ((q : ℕ) → n ≤ q → (stream_at x q).due ≡ Nothing) → settled_below (n + k) v x ≡ settled_below n v x
+settled_on zero n v x most idle = let none : n + zero ≡ n = omega arith in ap (λ (i : ℕ). settled_below i v x) none
+settled_on (suc k) n v x most idle =
+    let next : n + suc k ≡ (n + k) + 1 = omega arith in
+    ap (λ (i : ℕ). settled_below i v x) next
+    ∙ (settled_more (n + k) v x (omega (arith, most))
+    ∙ (ap (λ (t : Standing). one_settled t (n + k)) (settled_on k n v x (omega (arith, most)) idle)
+    ∙ idle_one (settled_below n v x) (n + k)
+    (ap (λ (y : Stream). y.due) (settled_kept n v x (n + k) (omega arith) (omega (arith, most))) ∙ idle (n + k) (omega arith))))
+
+pub settled_rest : (n : ℕ) (v : EndView) (x : Table) → n ≤ length x.streams → ((q : ℕ) → n ≤ q → (stream_at x q).due ≡ Nothing) → settled_below n v x ≡ settled_all v x
+settled_rest n v x most idle =
+    let all : n + (length x.streams - n) ≡ length x.streams = omega (arith, most) in
+    sym (settled_on (length x.streams - n) n v x (omega (arith, most)) idle) ∙ ap (λ (i : ℕ). settled_below i v x) all

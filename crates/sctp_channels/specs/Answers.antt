@@ -17,11 +17,14 @@ use Rattle.sctp_channels.specs.declared.fault.OpenFault.{OpenFault}
 use Rattle.sctp_channels.specs.declared.fault.OpenFault.TheVariants as opening
 use Rattle.sctp_channels.specs.declared.fault.SendFault.{SendFault}
 use Rattle.sctp_channels.specs.declared.fault.SendFault.TheVariants as send
+use Rattle.sctp_channels.specs.declared.fault.ThresholdFault.{ThresholdFault}
+use Rattle.sctp_channels.specs.declared.fault.ThresholdFault.TheVariants as threshold
 use Rattle.sctp_channels.specs.declared.stream.Due.{Due}
 use Rattle.sctp_channels.specs.declared.stream.Due.TheVariants.{Nothing, Acknowledgement, Reset}
 use Rattle.sctp_channels.specs.declared.stream.State.TheVariants.{Connecting, Open, Closing}
 use Rattle.sctp_channels.specs.declared.stream.Stream.{Stream}
 use Rattle.sctp_channels.specs.Streams.{may_send, with_channel, Table, stream_at, with_stream}
+use Rattle.sctp_channels.specs.Buffered.{with_look, threshold_set}
 use Rattle.sctp_channels.specs.Calling.{open_call, ack_call, content_call, open_choice, negotiated_choice}
 use Rattle.sctp_channels.specs.Settling.{Settled, acknowledged}
 use Rattle.sctp_channels.specs.ChannelsStand.{ChannelsStand}
@@ -63,12 +66,16 @@ with_ack_sent v s x = if is_ack_due x.due then acknowledged (send_answer v (ack_
 abbrev pub AckRefused : EndView → (stream : ℕ) → Stream → Refused → Type 0
 AckRefused v s x why = (is_ack_due x.due ≡ true) × Refuses v (SendAnswers v (ack_call s)) why
 
+-- the channels, once the buffered amount of this stream was looked at
+abbrev pub StandLooked : EndView → (stream : ℕ) → Table → Channels → Type 0
+StandLooked v s x c = ChannelsStand c v (with_look v s x)
+
 -- A message was queued, behind the ACK if that was due; or it wasn't for this reason, and at most the ACK was.
 abbrev pub Sends : EndView → Table → (now stream : ℕ) → Content → Result Ticket SendFault → Channels → Type 0
 Sends v x now s k (Ok ticket) c =
     let t = with_ack_sent v s (stream_at x s) in
     (may_send (stream_at x s).state ≡ true) × (is_ack_due t.stream.due ≡ false) × SendAnswers t.view (content_call s t.stream now k) (Ok ticket)
-    × ChannelsStand c (sent_view t.view (content_call s t.stream now k) (Ok ticket)) (with_stream x s t.stream)
+    × StandLooked (sent_view t.view (content_call s t.stream now k) (Ok ticket)) s (with_stream x s t.stream) c
 Sends v x now s k (Err send.NoChannel) c = (may_send (stream_at x s).state ≡ false) × ChannelsStand c v x
 Sends v x now s k (Err (send.Refused why)) c =
     let t = with_ack_sent v s (stream_at x s) in
@@ -88,3 +95,11 @@ Closes v x s (Ok y) c =
     (may_send (stream_at x s).state ≡ true) × ResetAnswers v s (Ok y) × ChannelsStand c (reset_view v s (Ok y)) (with_stream x s (closing (stream_at x s)))
 Closes v x s (Err close.NoChannel) c = (may_send (stream_at x s).state ≡ false) × ChannelsStand c v x
 Closes v x s (Err (close.Refused why)) c = (may_send (stream_at x s).state ≡ true) × ResetAnswers v s (Err why) × ChannelsStand c v x
+
+-- ---- the low threshold of the buffered amount
+
+-- It is set; or there is no channel on the stream, or an allocation failed, and nothing changed.
+abbrev pub SetsThreshold : EndView → Table → (stream bytes : ℕ) → Result (Unit {0}) ThresholdFault → Channels → Type 0
+SetsThreshold v x s n (Ok y) c = (may_send (stream_at x s).state ≡ true) × ChannelsStand c v (threshold_set v s n x)
+SetsThreshold v x s n (Err threshold.NoChannel) c = (may_send (stream_at x s).state ≡ false) × ChannelsStand c v x
+SetsThreshold v x s n (Err threshold.NoMemory) c = (may_send (stream_at x s).state ≡ true) × ChannelsStand c v x

@@ -23,6 +23,7 @@ use Rattle.sctp_channels.specs.declared.stream.Stream.{Stream}
 use Rattle.sctp_channels.specs.declared.table.DtlsRole.{DtlsRole}
 use Rattle.sctp_channels.specs.Streams.{may_send, with_channel, Table, fresh_table, stream_at, with_stream}
 use Rattle.sctp_channels.specs.Told.{Told, Message, Closed, Report}
+use Rattle.sctp_channels.specs.Buffered.{with_look, threshold_set}
 use Rattle.sctp_channels.specs.Calling.{open_call, ack_call, content_call, open_choice, negotiated_choice}
 use Rattle.sctp_channels.specs.Settling.{without_due}
 use Rattle.sctp_channels.specs.Events.{next_report, with_reset, all_noted}
@@ -59,7 +60,7 @@ pub data Moves (y : Side) (v u : EndView) (x : Table) : Event → Option Outcome
       Moves y v u x (Send y (open_call s p)) (Some (model.Told (Ticket t))) [] (with_stream x s (with_channel state.Connecting p.ordered p.reliability (stream_at x s)))
   Answers : (s t : ℕ) → (stream_at x s).due ≡ due.Acknowledgement → Moves y v u x (Send y (ack_call s)) (Some (model.Told (Ticket t))) [] (with_stream x s (without_due (stream_at x s)))
   Says : (s t now : ℕ) (c : Content) → may_send (stream_at x s).state ≡ true →
-      Moves y v u x (Send y (content_call s (stream_at x s) now c)) (Some (model.Told (Ticket t))) [] x
+      Moves y v u x (Send y (content_call s (stream_at x s) now c)) (Some (model.Told (Ticket t))) [] (with_look u s x)
   Refuses : (c : Call) (why : Refusal) → Moves y v u x (Send y c) (Some (model.Told (Refused why))) [] x
   IsNotOpen : (c : Call) → Moves y v u x (Send y c) (Some (model.Told NotOpen)) [] x
   -- this side's half is reset: as the user closes the channel, or as is due; or it isn't
@@ -80,7 +81,7 @@ pub data Driven (y : Side) : World → Table → List Event → List (Option Out
   -- an event happens
   Goes : (w v : World) (x z u : Table) (e : Event) (o : Option Outcome) (es : List Event) (os : List (Option Outcome)) (vs : List World) (rs more : List Report) →
       Moves y (end_of w y) (end_of v y) x e o rs z → Driven y v z es os vs more u → Driven y w x (e ∷ es) (o ∷ os) (v ∷ vs) (rs ++ more) u
-  -- the user is told something that changes nothing at the endpoint: a channel is open, or closed
+  -- the user is told something that changes nothing at the endpoint: a channel is open, or closed, or its buffered amount is low
   Tells : (w : World) (x u : Table) (es : List Event) (os : List (Option Outcome)) (vs : List World) (r : Report) (more : List Report) →
       (next_report (end_of w y) x).report ≡ Some r → (next_report (end_of w y) x).view ≡ end_of w y →
       Driven y w (next_report (end_of w y) x).table es os vs more u → Driven y w x es os vs (r ∷ more) u
@@ -88,6 +89,9 @@ pub data Driven (y : Side) : World → Table → List Event → List (Option Out
   Agrees : (w : World) (x u : Table) (es : List Event) (os : List (Option Outcome)) (vs : List World) (more : List Report) (s t : ℕ) (ordered : Bool) (r : Reliability) →
       negotiated_choice (end_of w y) x r t ≡ Ok s → Driven y w (with_stream x s (with_channel state.Open ordered r (stream_at x s))) es os vs more u →
       Driven y w x es os vs more u
+  -- the low threshold of a channel's buffered amount is set
+  Sets : (w : World) (x u : Table) (es : List Event) (os : List (Option Outcome)) (vs : List World) (more : List Report) (s n : ℕ) →
+      may_send (stream_at x s).state ≡ true → Driven y w (threshold_set (end_of w y) s n x) es os vs more u → Driven y w x es os vs more u
 
 -- ---- a channel that is closed
 

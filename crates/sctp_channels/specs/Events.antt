@@ -5,9 +5,10 @@ use Rattle.sctp_model.specs.receiver.SackMade.{first_taken}
 use Rattle.sctp_model.specs.receiver.ResetTaken.{old_waiting}
 use Rattle.sctp_model.specs.end.EndView.{EndView, ended_of}
 use Rattle.sctp_model.specs.end.UserCalls.{reset_there, told_leaves}
-use Rattle.sctp_channels.specs.Streams.{unused, is_unused, is_drained, Table, stream_at, with_stream, first_from}
-use Rattle.sctp_channels.specs.Told.{Closed, Report}
+use Rattle.sctp_channels.specs.Streams.{is_unused, is_drained, Table, stream_at, with_stream, with_none, first_from}
+use Rattle.sctp_channels.specs.Told.{Closed, BufferedAmountLow, Report}
 use Rattle.sctp_channels.specs.Coming.{After, comes, heard, peer_resets}
+use Rattle.sctp_channels.specs.Buffered.{is_low, with_low_told}
 use Rattle.sctp_channels.specs.Calling.{outgoing}
 use Rattle.sctp_channels.specs.Settling.{Standing, is_closed}
 
@@ -23,7 +24,11 @@ quiet v x = record { report = None; view = v; table = x }
 
 -- a channel is closed, and its stream free
 abbrev pub reports_closed : (stream : ℕ) → EndView → Table → Reported
-reports_closed s v x = record { report = Some (record { stream = s; told = Closed }); view = v; table = with_stream x s unused }
+reports_closed s v x = record { report = Some (record { stream = s; told = Closed }); view = v; table = with_none x s }
+
+-- the buffered amount of a channel is low
+abbrev pub reports_low : (stream : ℕ) → EndView → Table → Reported
+reports_low s v x = record { report = Some (record { stream = s; told = BufferedAmountLow }); view = v; table = with_low_told s x }
 
 -- ---- a message
 
@@ -98,9 +103,14 @@ abbrev pub reports_turn : Option ℕ → EndView → Table → Reported
 reports_turn None v x = reports_over v x
 reports_turn (Some s) v x = reports_message s (v.receiver.waiting s) v x
 
+-- a buffered amount that is low, before
+abbrev pub reports_second : Option ℕ → EndView → Table → Reported
+reports_second None v x = reports_turn (turn v x) v x
+reports_second (Some s) v x = reports_low s v x
+
 -- a channel that is closed, first
 abbrev pub reports_first : Option ℕ → EndView → Table → Reported
-reports_first None v x = reports_turn (turn v x) v x
+reports_first None v x = reports_second (first_from (is_low v x) 0 (length x.streams)) v x
 reports_first (Some s) v x = reports_closed s v x
 
 -- THE NEXT EVENT

@@ -1,4 +1,5 @@
 pub mod Streams
+pub mod Buffered
 pub mod Told
 pub mod Coming
 pub mod Calling
@@ -13,3 +14,5 @@ pub mod inner
 pub mod Promise
 pub mod NextChannel
 pub mod Driven
+pub mod Making
+pub mod MadeByCalls

@@ -18,7 +18,7 @@ use Rattle.sctp_channels.specs.Told.{Told, Report}
 
 -- the streams
 abbrev pub table_meaning : declared.Table → Table
-table_meaning t = record { role = t.role; next = t.next; streams = t.streams.items }
+table_meaning t = record { role = t.role; next = t.next; streams = t.streams.items; thresholds = t.thresholds.items }
 
 -- the parameters of a channel (RFC 8832, 5.1)
 abbrev pub parameters_meaning : Parameters → dcep.Parameters
@@ -58,5 +58,6 @@ event_meaning (event.Incoming s p) = record { stream = s; told = model.Incoming 
 event_meaning (event.Opened s) = record { stream = s; told = model.Opened }
 event_meaning (event.Message s text m) = record { stream = s; told = model.Message (record { text = text; bytes = content_bytes m }) }
 event_meaning (event.Closed s) = record { stream = s; told = model.Closed }
+event_meaning (event.BufferedAmountLow s) = record { stream = s; told = model.BufferedAmountLow }
 event_meaning (event.Refused s why) = record { stream = s; told = model.Refuses (refusal_meaning why) }
 event_meaning (event.Ignored s why) = record { stream = s; told = model.Ignores (ignored_meaning why) }

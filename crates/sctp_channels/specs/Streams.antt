@@ -1,5 +1,5 @@
 -- What is kept of each stream, and of all of them (RFC 8831, 6.4 to 6.7; RFC 8832, 5.1 and 6).
-use Rattle.std.specs.Prelude.{ℕ, zero, suc, ◌%◌, ◌==◌, Bool, true, false, not, ◌&&◌, if◌then◌else◌, List, replicate, slice_index_or, slice_set, Option, None, Some}
+use Rattle.std.specs.Prelude.{ℕ, zero, suc, ◌%◌, ◌==◌, Bool, true, false, not, ◌&&◌, if◌then◌else◌, List, [], replicate, slice_index_or, slice_set, Option, None, Some}
 use Rattle.sctp_dcep.specs.Dcep.{Reliability, Reliable, MaxRetransmits, MaxPacketLifetime, value_of}
 use Rattle.sctp_channels.specs.declared.stream.ChannelType.{ChannelType}
 use Rattle.sctp_channels.specs.declared.stream.ChannelType.TheVariants as channel
@@ -9,6 +9,7 @@ use Rattle.sctp_channels.specs.declared.stream.State.TheVariants.{Unused, Connec
 use Rattle.sctp_channels.specs.declared.stream.Stream.{Stream}
 use Rattle.sctp_channels.specs.declared.table.DtlsRole.{DtlsRole}
 use Rattle.sctp_channels.specs.declared.table.DtlsRole.TheVariants.{Client, Server}
+use Rattle.sctp_channels.specs.declared.threshold.Threshold.{Threshold}
 
 -- ---- one stream
 
@@ -68,15 +69,20 @@ with_channel state ordered r x = record x { state = state; kind = type_for order
 
 -- ---- all streams
 
--- This side's role in the DTLS handshake; the stream from which the next message is looked for; each stream.
+-- no low threshold of the buffered amount was set
+abbrev pub no_threshold : Threshold
+no_threshold = record { bytes = 0; is_set = false; is_above = false }
+
+-- This side's role in the DTLS handshake; the stream from which the next message is looked for; each stream; the low threshold of each, none before the first is set.
 pub record Table : Type 0 where
   pub role : DtlsRole
   pub next : ℕ
   pub streams : List Stream
+  pub thresholds : List Threshold
 
 -- no channel is there yet
 abbrev pub fresh_table : DtlsRole → (streams : ℕ) → Table
-fresh_table role n = record { role = role; next = 0; streams = replicate n unused }
+fresh_table role n = record { role = role; next = 0; streams = replicate n unused; thresholds = [] }
 
 -- the stream of this number
 abbrev pub stream_at : Table → ℕ → Stream
@@ -85,6 +91,18 @@ stream_at x s = slice_index_or x.streams s unused
 -- it is this one now
 abbrev pub with_stream : Table → ℕ → Stream → Table
 with_stream x s y = record x { streams = slice_set x.streams s y }
+
+-- the threshold of the stream of this number
+abbrev pub threshold_at : Table → ℕ → Threshold
+threshold_at x s = slice_index_or x.thresholds s no_threshold
+
+-- it is this one now
+abbrev pub with_threshold : Table → ℕ → Threshold → Table
+with_threshold x s t = record x { thresholds = slice_set x.thresholds s t }
+
+-- nothing is left of the stream's channel
+abbrev pub with_none : Table → ℕ → Table
+with_none x s = with_threshold (with_stream x s unused) s no_threshold
 
 -- This side opens channels on it: the DTLS client on streams of even, the server on streams of odd number (RFC 8832, 6).
 abbrev pub is_own : DtlsRole → (stream : ℕ) → Bool

@@ -28,6 +28,7 @@ pub data Told : Type 0 where
   Opened : Told
   Message : Content → Told
   Closed : Told
+  BufferedAmountLow : Told
   Refuses : Refusal → Told
   Ignores : Reason → Told
 

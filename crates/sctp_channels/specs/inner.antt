@@ -2,3 +2,4 @@ pub mod SaidMeans
 pub mod Telling
 pub mod Sent
 pub mod Settles
+pub mod Spans

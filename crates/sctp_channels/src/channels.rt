@@ -5,6 +5,7 @@ ghost use Rattle.sctp_model.specs.end.EndView.{EndView};
 ghost use Rattle.sctp_endpoint.specs.EndpointStands.{EndpointStands};
 ghost use Rattle.sctp_channels.specs.Streams.{fresh_table};
 ghost use Rattle.sctp_channels.specs.ChannelsStand.{endpoint_of, ChannelsStand};
+ghost use Rattle.sctp_channels.specs.Streams as streams;
 
 use crate::table::{DtlsRole, Table};
 use sctp_endpoint::Endpoint;
@@ -42,7 +43,8 @@ impl Channels {
 
     /// The endpoint.
     pub fn endpoint(&self) -> &Endpoint
-        ensures { result.now ≡ endpoint_of self.now }
+        ensures endpoint { result.now ≡ endpoint_of self.now }
+        ensures stands { (v : EndView) (x : streams.Table) → ChannelsStand self.now v x → EndpointStands result.now v }
     {
         &self.endpoint
     }

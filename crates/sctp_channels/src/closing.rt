@@ -51,12 +51,13 @@ impl Channels {
     pub(crate) fn settle(&mut self) -> Result<(), NoMemory>
         ensures { (v : EndView) (x : Table) → ChannelsStand self.old v x → SettlesAll v x result self.new }
     {
-        for at in 0..self.table.streams.len() {
-            match self.settle_one(at as u16) {
+        for stream in self.table.busy.low..self.table.busy.high {
+            match self.settle_one(stream) {
                 Ok(()) => {}
                 Err(NoMemory) => return Err(NoMemory),
             }
         }
+        self.table.shorten();
         Ok(())
     }
 

@@ -91,6 +91,11 @@ pub enum Event {
         /// Its stream.
         stream: u16,
     },
+    /// The buffered amount of a channel was above the threshold that was set for it, and isn't any more.
+    BufferedAmountLow {
+        /// Its stream.
+        stream: u16,
+    },
     /// The peer began what opens no channel. What else it sends on the stream is ignored, until it resets the stream.
     Refused {
         /// The stream.

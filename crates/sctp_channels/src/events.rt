@@ -6,7 +6,7 @@ ghost use Rattle.sctp_model.specs.end.EndView.{EndView};
 ghost use Rattle.sctp_recv.specs.HandedOf.{handed_of};
 ghost use Rattle.sctp_channels.specs.Streams.{Table, first_from};
 ghost use Rattle.sctp_channels.specs.Settling.{is_closed};
-ghost use Rattle.sctp_channels.specs.Events.{readable_from, turn, is_used, reports_message, reports_over, next_report};
+ghost use Rattle.sctp_channels.specs.Events.{readable_from, turn, reports_message, reports_over, next_report};
 ghost use Rattle.sctp_channels.specs.Meanings.{event_meaning};
 ghost use Rattle.sctp_channels.specs.ChannelsStand.{ChannelsStand};
 ghost use Rattle.sctp_channels.specs.Telling.{Tells};
@@ -16,7 +16,7 @@ use crate::channels::Channels;
 use crate::coming::{Side, Told, comes};
 use crate::event::Event;
 use crate::said::read_message;
-use crate::stream::{Due, State, Stream};
+use crate::stream::{Due, State};
 use sctp_endpoint::Message;
 use sctp_values::NoMemory;
 
@@ -29,6 +29,8 @@ impl Channels {
     ///
     /// - a channel that is closed, on the lowest such stream: the peer has reset its half, all that it sent before was reported, and this side's half was
     ///   reset, too (RFC 8831, 6.7);
+    /// - a channel whose buffered amount is low, on the lowest such stream: since the threshold was set, or since this was last reported, the amount was above
+    ///   it, and it isn't any more;
     /// - the first message that waits on a stream, the streams taking turns. It is taken from the endpoint, and reported by one event. A content on a
     ///   channel whose DATA_CHANNEL_ACK wasn't received shows that the channel is open: this is reported first. Messages that the peer sent after it reset
     ///   a stream wait until the channel before is closed;
@@ -41,8 +43,13 @@ impl Channels {
         ensures refused { (v : EndView) (x : Table) → ChannelsStand self.old v x → OnErr result (ChannelsStand self.new v x) }
     {
         if let Some(stream) = self.first_closed() {
-            self.table.set(stream, Stream::unused());
+            self.table.free(stream);
             return Ok(Some(Event::Closed { stream }));
+        }
+        if let Some(stream) = self.first_low() {
+            let threshold = self.table.threshold(stream);
+            self.table.set_threshold(stream, threshold.told_low());
+            return Ok(Some(Event::BufferedAmountLow { stream }));
         }
         match self.turn() {
             Some(stream) => self.hear(stream),
@@ -54,8 +61,7 @@ impl Channels {
     fn first_closed(&self) -> Option<u16>
         ensures { (v : EndView) (x : Table) → ChannelsStand self.now v x → result ≡ first_from (is_closed v x) 0 (length x.streams) }
     {
-        for at in 0..self.table.streams.len() {
-            let stream = at as u16;
+        for stream in self.table.busy.low..self.table.busy.high {
             if self.is_closed(stream) {
                 return Some(stream);
             }
@@ -139,22 +145,9 @@ impl Channels {
         if self.endpoint.ended().is_none() {
             return None;
         }
-        let stream = self.first_used()?;
-        self.table.set(stream, Stream::unused());
+        let stream = self.table.first_used()?;
+        self.table.free(stream);
         Some(Event::Closed { stream })
-    }
-
-    /// The lowest stream with a channel, or with what is left of one.
-    fn first_used(&self) -> Option<u16>
-        ensures { (v : EndView) (x : Table) → ChannelsStand self.now v x → result ≡ first_from (is_used x) 0 (length x.streams) }
-    {
-        for at in 0..self.table.streams.len() {
-            let stream = at as u16;
-            if !self.table.at(stream).state.is_unused() {
-                return Some(stream);
-            }
-        }
-        None
     }
 }
 

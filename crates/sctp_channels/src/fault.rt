@@ -47,3 +47,14 @@ pub enum CloseFault {
     #[error(transparent)]
     Refused(ResetFault),
 }
+
+/// Why no low threshold of the buffered amount is set. Nothing changed.
+#[derive(Clone, Copy, Debug, PartialEq, Eq, Error)]
+pub enum ThresholdFault {
+    /// There is no channel on the stream, or it is being closed.
+    #[error("there is no open channel on the stream")]
+    NoChannel,
+    /// An allocation failed.
+    #[error("out of memory")]
+    NoMemory,
+}

@@ -1,16 +1,17 @@
 //! Calls that are passed on to the endpoint. Its streams stay as they are.
 
-ghost use Rattle.std.specs.Prelude.{◌≡◌, ◌≤◌, length, IfOk};
+ghost use Rattle.std.specs.Prelude.{◌≡◌, ◌/◌, ◌≤◌, length, IfOk};
 ghost use Rattle.sctp_model.specs.end.EndView.{EndView};
 ghost use Rattle.sctp_model.specs.end.Moments.{ticked, next_moment};
-ghost use Rattle.sctp_model.specs.end.UserCalls.{connect_answer, shutdown_answer, shut};
+ghost use Rattle.sctp_model.specs.end.UserCalls.{connect_answer, abandons, abandoned_at, shutdown_answer, shut};
+ghost use Rattle.sctp_send.specs.SenderAnswers.{answer_meaning};
 ghost use Rattle.sctp_association.specs.AbortAnswers.{AbortAnswers, aborted_view};
 ghost use Rattle.sctp_association.specs.CallAnswers.{connect_meaning, connected, shutdown_meaning};
 ghost use Rattle.sctp_channels.specs.Streams.{Table};
 ghost use Rattle.sctp_channels.specs.ChannelsStand.{ChannelsStand};
 
 use crate::channels::Channels;
-use sctp_endpoint::{AbortFault, ConnectFault, Draw, Message, ShutdownFault, Ticket};
+use sctp_endpoint::{Abandoned, AbortFault, ConnectFault, Draw, Message, ShutdownFault, Ticket};
 
 #[tactic(auto, unfolding(crate::specs::ChannelsStand::ChannelsStand, crate::specs::ChannelsStand::endpoint_of, crate::specs::ChannelsStand::table_of))]
 impl Channels {
@@ -25,6 +26,15 @@ impl Channels {
         self.endpoint.connect(now, draw)
     }
 
+    /// Abandons a message: `Endpoint::abandon` (RFC 3758, 3.5). The answer says what was done: one that is queued is withdrawn, and its bytes aren't
+    /// buffered any more; one of which a fragment was sent is abandoned if both endpoints support partial reliability.
+    pub fn abandon(&mut self, ticket: Ticket) -> Abandoned
+        ensures answer { (v : EndView) (x : Table) → ChannelsStand self.old v x → answer_meaning result ≡ abandons v ticket.0 }
+        ensures step { (v : EndView) (x : Table) → ChannelsStand self.old v x → ChannelsStand self.new (abandoned_at v ticket.0) x }
+    {
+        self.endpoint.abandon(ticket)
+    }
+
     /// Advances the time to `now`, in milliseconds: `Endpoint::on_moment`.
     pub fn on_moment(&mut self, now: u64)
         ensures step { (v : EndView) (x : Table) → ChannelsStand self.old v x → ChannelsStand self.new (ticked v now) x }
@@ -37,6 +47,15 @@ impl Channels {
         ensures { (v : EndView) (x : Table) → ChannelsStand self.now v x → result ≡ next_moment v }
     {
         self.endpoint.next_moment()
+    }
+
+    /// The longest message, in bytes, to announce to the peer as `max-message-size` (RFC 8841, 6): a quarter of the receive buffer. A message longer than the
+    /// buffer never arrives whole, and holds up all that follow it; and with messages nearly as long some peers fill the buffer with later ones, so that a
+    /// missing fragment doesn't fit any more.
+    pub fn max_message_size(&self) -> u32
+        ensures { (v : EndView) (x : Table) → ChannelsStand self.now v x → result ≡ v.configuration.buffer / 4 }
+    {
+        self.endpoint.config().buffer() / 4
     }
 
     /// Closes the association gracefully: `Endpoint::shutdown`. Browsers don't report it to their pages: `abort` is what they expect.

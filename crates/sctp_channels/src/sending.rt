@@ -19,7 +19,7 @@ use sctp_endpoint::{Refused, SendFault as Fault, Ticket};
 #[tactic(auto, unfolding(crate::specs::ChannelsStand::ChannelsStand, crate::specs::ChannelsStand::endpoint_of, crate::specs::ChannelsStand::table_of))]
 impl Channels {
     /// Sends a message on a channel: it is copied and queued (RFC 8831, 6.6). `now` is the current time in milliseconds, from which the lifetime of the
-    /// messages of a channel with `MaxPacketLifetime` counts; call `on_moment` at its end, too. The ticket identifies the message at the endpoint.
+    /// messages of a channel with `MaxPacketLifetime` counts; call `on_moment` at its end, too. The ticket identifies the message at the endpoint. A buffered amount above the channel's low threshold is noted.
     ///
     /// # Errors
     /// `SendFault::NoChannel` if there is no channel on the stream, or it is being closed; else `SendFault::Refused` if the endpoint doesn't take the
@@ -33,7 +33,10 @@ impl Channels {
             return Err(SendFault::NoChannel);
         }
         match self.send_behind_ack(now, stream, kept, content) {
-            Ok(ticket) => Ok(ticket),
+            Ok(ticket) => {
+                self.look(stream);
+                Ok(ticket)
+            }
             Err(why) => Err(SendFault::Refused(why)),
         }
     }

@@ -7,6 +7,7 @@ ghost use Rattle.sctp_channels.specs.Streams.{unused, is_unused, may_send, is_fr
 ghost use Rattle.sctp_channels.specs.Coming.{half_closed, leaving, one_taken, peer_resets};
 ghost use Rattle.sctp_channels.specs.Calling.{goes_ordered};
 ghost use Rattle.sctp_channels.specs.Settling.{without_due};
+ghost use Rattle.sctp_channels.specs.inner.Spans.{is_restless};
 
 use sctp_dcep::Reliability;
 
@@ -143,6 +144,13 @@ impl Stream {
         ensures { result ≡ is_free self }
     {
         self.state.is_unused() && !self.is_reset
+    }
+
+    /// Its channel is being closed, or something of it is due.
+    pub(crate) fn is_restless(self) -> bool
+        ensures { result ≡ is_restless self }
+    {
+        matches!(self.state, State::Closing) || !matches!(self.due, Due::Nothing)
     }
 
     /// All messages that were sent before the peer's reset were taken.

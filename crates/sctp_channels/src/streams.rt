@@ -1,11 +1,14 @@
 //! The streams of all channels: made, read and changed.
 
-ghost use Rattle.std.specs.Prelude.{◌≡◌, IfOk};
-ghost use Rattle.sctp_channels.specs.Streams.{is_own, fresh_table, stream_at, with_stream};
+ghost use Rattle.std.specs.Prelude.{◌≡◌, replicate, IfOk, OnErr};
+ghost use Rattle.sctp_channels.specs.Streams.{is_own, no_threshold, fresh_table, stream_at, with_stream, threshold_at, with_threshold, with_none};
+ghost use Rattle.sctp_channels.specs.Buffered.{with_thresholds};
 ghost use Rattle.sctp_channels.specs.Meanings.{table_meaning};
 
+use crate::span::Span;
 use crate::stream::Stream;
 use crate::table::{DtlsRole, Table};
+use crate::threshold::Threshold;
 use sctp_values::NoMemory;
 use std::alloc::Global;
 
@@ -37,6 +40,9 @@ impl Table {
             role,
             next: 0,
             streams,
+            thresholds: Vec::new(alloc),
+            busy: Span::empty(),
+            used: Span::empty(),
         })
     }
 
@@ -59,6 +65,67 @@ impl Table {
         let at = usize::from(stream);
         if at < self.streams.len() {
             self.streams[at] = to;
+            self.busy = self.busy.with(stream, to.is_restless());
+            self.used = self.used.with(stream, !to.state.is_unused());
         }
     }
+
+    /// The low threshold of a stream.
+    pub(crate) fn threshold(&self, stream: u16) -> Threshold
+        ensures { result ≡ threshold_at (table_meaning self.now) stream }
+    {
+        let at = usize::from(stream);
+        if at < self.thresholds.len() {
+            self.thresholds[at]
+        } else {
+            Threshold::none()
+        }
+    }
+
+    /// Changes the low threshold of a stream, if there is one.
+    pub(crate) fn set_threshold(&mut self, stream: u16, to: Threshold)
+        ensures { table_meaning self.new ≡ with_threshold (table_meaning self.old) stream to }
+    {
+        let at = usize::from(stream);
+        if at < self.thresholds.len() {
+            self.thresholds[at] = to;
+            self.busy = self.busy.with(stream, to.is_above);
+        }
+    }
+
+    /// Makes a low threshold for each stream, unless they are there.
+    ///
+    /// # Errors
+    /// `NoMemory` if an allocation failed: nothing changed.
+    pub(crate) fn make_thresholds(&mut self, alloc: Global) -> Result<(), NoMemory>
+        ensures made { IfOk result (λ _. table_meaning self.new ≡ with_thresholds (table_meaning self.old)) }
+        ensures refused { OnErr result (table_meaning self.new ≡ table_meaning self.old) }
+    {
+        if self.thresholds.is_empty() {
+            self.thresholds = no_thresholds(alloc, self.streams.len())?;
+        }
+        Ok(())
+    }
+
+    /// Nothing is left of a stream's channel.
+    pub(crate) fn free(&mut self, stream: u16)
+        ensures { table_meaning self.new ≡ with_none (table_meaning self.old) stream }
+    {
+        self.set(stream, Stream::unused());
+        self.set_threshold(stream, Threshold::none());
+    }
+}
+
+/// So many low thresholds, none of them set.
+///
+/// # Errors
+/// `NoMemory` if an allocation failed.
+fn no_thresholds(alloc: Global, count: usize) -> Result<Vec<Threshold>, NoMemory>
+    ensures { IfOk result (λ thresholds. thresholds.items ≡ replicate count no_threshold) }
+{
+    let mut thresholds = Vec::with_capacity(alloc, count).map_err(|_| NoMemory)?;
+    for _ in 0..count {
+        thresholds.push(Threshold::none()).map_err(|_| NoMemory)?;
+    }
+    Ok(thresholds)
 }

@@ -1,21 +1,36 @@
-use Rattle.std.proofs.Common.{◌<◌, length, sym, ◌∙◌, arith}
+use Rattle.std.proofs.Common.{◌<◌, ◌≤◌, length, sym, ◌∙◌, arith}
 use Rattle.sctp_channels.specs.Settling.{is_closed}
-use Rattle.sctp_channels.specs.ChannelsStand.{ChannelsStand, table_of}
-use Rattle.sctp_channels.proofs.FirstLemmas.{first_found, first_more, below_length}
+use Rattle.sctp_channels.specs.ChannelsStand.{ChannelsStand, endpoint_of, table_of}
+use Rattle.sctp_channels.proofs.BusyLemmas.{closed_fails, search_begins, search_ends}
+use Rattle.sctp_channels.proofs.FirstLemmas.{first_found, first_more}
+use Rattle.sctp_channels.proofs.TableLemmas.{busy_of}
 use Rattle.sctp_channels.proofs.channels.Channels.first_closed.Goals as goal
 
-pub returns-then-is_closed : goal.returns-then-is_closed
-unfolding ChannelsStand table_of
-returns-then-is_closed c = λ v x stands.
-    let at = c.loop-at.at in
-    let there : at < length c.args.self.now.table.streams.items = omega (arith, c.loop-at-test.true, c.len-at-end.ensures, c.args.self.now.table.streams.ok.0) in
-    let less = below_length _ x at stands.1 there in
-    sym (c.loop-at.invariant v x stands ∙ first_found (is_closed v x) at (length x.streams) less (sym (c.is_closed.ensures v x stands) ∙ c.if-is_closed.true))
+pub loop-stream-init : goal.loop-stream-init
+unfolding ChannelsStand endpoint_of table_of
+loop-stream-init c = λ v x stands.
+    let r = c.args.self.now.table.busy in
+    let holds = busy_of c.args.self.now.table x stands.1 in
+    search_begins (is_closed v x) x r holds (λ q out. closed_fails v x r q holds out)
 
-pub loop-at-preserved : goal.loop-at-preserved
-unfolding ChannelsStand table_of
-loop-at-preserved c = λ v x stands.
-    let at = c.loop-at.at in
-    let there : at < length c.args.self.now.table.streams.items = omega (arith, c.loop-at-test.true, c.len-at-end.ensures, c.args.self.now.table.streams.ok.0) in
-    let less = below_length _ x at stands.1 there in
-    c.loop-at.invariant v x stands ∙ first_more (is_closed v x) at (length x.streams) less (sym (c.is_closed.ensures v x stands) ∙ c.if-is_closed.false)
+pub returns-then-is_closed : goal.returns-then-is_closed
+unfolding ChannelsStand endpoint_of table_of
+returns-then-is_closed c = λ v x stands.
+    let holds = busy_of c.args.self.now.table x stands.1 in
+    let there : c.loop-stream.stream < length x.streams = let b = holds.1 in omega (arith, c.loop-stream-test.true, b) in
+    sym (c.loop-stream.invariant v x stands ∙ first_found (is_closed v x) c.loop-stream.stream (length x.streams) there (sym (c.is_closed.ensures v x stands) ∙ c.if-is_closed.true))
+
+pub loop-stream-preserved : goal.loop-stream-preserved
+unfolding ChannelsStand endpoint_of table_of
+loop-stream-preserved c = λ v x stands.
+    let holds = busy_of c.args.self.now.table x stands.1 in
+    let there : c.loop-stream.stream < length x.streams = let b = holds.1 in omega (arith, c.loop-stream-test.true, b) in
+    c.loop-stream.invariant v x stands ∙ first_more (is_closed v x) c.loop-stream.stream (length x.streams) there (sym (c.is_closed.ensures v x stands) ∙ c.if-is_closed.false)
+
+pub returns : goal.returns
+unfolding ChannelsStand endpoint_of table_of
+returns c = λ v x stands.
+    let r = c.args.self.now.table.busy in
+    let holds = busy_of c.args.self.now.table x stands.1 in
+    let past : r.high ≤ c.loop-stream.stream = omega (arith, c.loop-stream-test.false) in
+    sym (c.loop-stream.invariant v x stands ∙ search_ends (is_closed v x) x r c.loop-stream.stream past (λ q out. closed_fails v x r q holds out))

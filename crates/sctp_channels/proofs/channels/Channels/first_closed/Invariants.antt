@@ -5,7 +5,7 @@ use Rattle.sctp_channels.specs.Settling.{is_closed}
 use Rattle.sctp_channels.specs.ChannelsStand.{ChannelsStand}
 use Rattle.sctp_channels.proofs.channels.Channels.first_closed.Given as goal
 
--- no channel passed is closed
-abbrev pub invariant-loop-at : goal.invariant-loop-at
-invariant-loop-at l = (v : EndView) (x : Table) → ChannelsStand l.self v x →
-    first_from (is_closed v x) 0 (length x.streams) ≡ first_from (is_closed v x) l.at (length x.streams - l.at)
+-- none of the streams passed is the one
+abbrev pub invariant-loop-stream : goal.invariant-loop-stream
+invariant-loop-stream l = (v : EndView) (x : Table) → ChannelsStand l.self v x →
+    first_from (is_closed v x) 0 (length x.streams) ≡ first_from (is_closed v x) l.stream (length x.streams - l.stream)

@@ -15,4 +15,4 @@ returns-in-Ok c = λ v x stands.
     let told = subst (λ (y : Stream). SendsBehind v x c.args.now c.args.stream y (content_meaning c.args.content) (Ok c.in-Ok.ticket) c.send_behind_ack.new.self) kept (c.in-Ok.ensures v x stands kept) in
     let goes : may_send c.at-kept.result.state ≡ true = cc in
     let may : may_send (stream_at x c.args.stream).state ≡ true = ap (λ (y : Stream). may_send y.state) (sym kept) ∙ goes in
-    (may, told.0, told.1, told.2)
+    (may, told.0, told.1, c.look.ensures _ _ told.2)

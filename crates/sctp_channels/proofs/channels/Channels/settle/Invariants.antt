@@ -5,5 +5,5 @@ use Rattle.sctp_channels.specs.ChannelsStand.{ChannelsStand}
 use Rattle.sctp_channels.proofs.channels.Channels.settle.Given as goal
 
 -- the streams so far are settled
-abbrev pub invariant-loop-at : goal.invariant-loop-at
-invariant-loop-at l = (v : EndView) (x : Table) → ChannelsStand l.fn.self v x → ChannelsStand l.self (settled_below l.at v x).view (settled_below l.at v x).table
+abbrev pub invariant-loop-stream : goal.invariant-loop-stream
+invariant-loop-stream l = (v : EndView) (x : Table) → ChannelsStand l.fn.self v x → ChannelsStand l.self (settled_below l.stream v x).view (settled_below l.stream v x).table

@@ -1,0 +1,155 @@
+-- What each call of channels makes, from what its contract says of it (RFC 8831, 6; RFC 8832, 6).
+use Rattle.std.specs.Prelude.{◌≡◌, ℕ, ◌<◌, ◌^◌, max, List, [], ◌∷◌, ◌++◌, Bool, Option, Some, None, Result, Ok, Err}
+use Rattle.std.specs.declared.vec.Vec.{Vec}
+use Rattle.std.specs.declared.alloc.Global.{Global}
+use Rattle.sctp_model.specs.wire.Packet.{Packet}
+use Rattle.sctp_model.specs.end.EndView.{Draw, IsDraw}
+use Rattle.sctp_model.specs.end.Moments.{ticked}
+use Rattle.sctp_model.specs.end.UserCalls.{connect_answer, abandoned_at, shut}
+use Rattle.sctp_model.specs.world.World.{Side, A, World, end_of, bag_of, Setup, start}
+use Rattle.sctp_model.specs.world.Events.{Event, OpenBoth, At, Drawing, Connect, Build, Abandon, Shutdown, Abort, Outcome, Done}
+use Rattle.sctp_model.specs.world.Steps.{Step, Brings, last_of}
+use Rattle.sctp_packet.specs.PacketBytes.{WritesPacket}
+use Rattle.sctp_values.specs.declared.no_memory.NoMemory.{NoMemory}
+use Rattle.sctp_values.specs.declared.ticket.Ticket.{Ticket}
+use Rattle.sctp_terms.specs.declared.calls.AbortFault.{AbortFault}
+use Rattle.sctp_terms.specs.declared.calls.ConnectFault.{ConnectFault}
+use Rattle.sctp_association.specs.AbortAnswers.{AbortAnswers, aborted_view}
+use Rattle.sctp_association.specs.CallAnswers.{connect_meaning, connected}
+use Rattle.sctp_endpoint.specs.declared.after.Verdict.{Verdict}
+use Rattle.sctp_endpoint.specs.declared.after.Verdict.TheVariants.{Taken, Dropped, Answer}
+use Rattle.sctp_endpoint.specs.declared.transmit.Sent.{Sent}
+use Rattle.sctp_dcep.specs.Content.{Content}
+use Rattle.sctp_dcep.specs.Dcep.{Reliability, Parameters}
+use Rattle.sctp_channels.specs.declared.channels.Channels.{Channels}
+use Rattle.sctp_channels.specs.declared.event.Event as declared
+use Rattle.sctp_channels.specs.declared.fault.CloseFault.{CloseFault}
+use Rattle.sctp_channels.specs.declared.fault.OpenFault.{OpenFault}
+use Rattle.sctp_channels.specs.declared.fault.SendFault.{SendFault}
+use Rattle.sctp_channels.specs.declared.fault.ThresholdFault.{ThresholdFault}
+use Rattle.sctp_channels.specs.declared.table.DtlsRole.{DtlsRole}
+use Rattle.sctp_channels.specs.Streams.{Table, fresh_table}
+use Rattle.sctp_channels.specs.Told.{Report}
+use Rattle.sctp_channels.specs.Events.{next_report}
+use Rattle.sctp_channels.specs.Meanings.{event_meaning}
+use Rattle.sctp_channels.specs.ChannelsStand.{ChannelsStand}
+use Rattle.sctp_channels.specs.Answers.{Opens, OpensNegotiated, Sends, Closes, SetsThreshold}
+use Rattle.sctp_channels.specs.Telling.{Tells}
+use Rattle.sctp_channels.specs.Packets.{Hears, Transmit}
+use Rattle.sctp_channels.specs.Making.{IsAllNoted, IsMade, with_side, IsDrivenTo}
+
+-- ---- calls of the user
+
+-- a call that changed nothing: one that asks, gives back a buffer, or was refused
+abbrev pub NothingIsMade : Type 0
+NothingIsMade = (y : Side) (w : World) (x : Table) (c : Channels) → ChannelsStand c (end_of w y) x → IsMade y w x [] [] [] c
+
+-- `open` (RFC 8832, 6)
+abbrev pub OpensAreMade : Type 0
+OpensAreMade = (y : Side) (w : World) (x : Table) (p : Parameters) (o : Option ℕ) (r : Result ℕ OpenFault) (c : Channels) → Opens (end_of w y) x p o r c → IsMade y w x [] [] [] c
+
+-- `open_negotiated` (RFC 8831, 6.4)
+abbrev pub NegotiatedAreMade : Type 0
+NegotiatedAreMade = (y : Side) (w : World) (x : Table) (ordered : Bool) (l : Reliability) (s : ℕ) (r : Result (Unit {0}) OpenFault) (c : Channels) →
+    OpensNegotiated (end_of w y) x ordered l s r c → IsMade y w x [] [] [] c
+
+-- `send` (RFC 8831, 6.6)
+abbrev pub SendsAreMade : Type 0
+SendsAreMade = (y : Side) (w : World) (x : Table) (now s : ℕ) (k : Content) (r : Result Ticket SendFault) (c : Channels) → Sends (end_of w y) x now s k r c → IsMade y w x [] [] [] c
+
+-- `close` (RFC 8831, 6.7)
+abbrev pub ClosesAreMade : Type 0
+ClosesAreMade = (y : Side) (w : World) (x : Table) (s : ℕ) (r : Result (Unit {0}) CloseFault) (c : Channels) → Closes (end_of w y) x s r c → IsMade y w x [] [] [] c
+
+-- `set_buffered_amount_low_threshold`
+abbrev pub ThresholdsAreMade : Type 0
+ThresholdsAreMade = (y : Side) (w : World) (x : Table) (s bytes : ℕ) (r : Result (Unit {0}) ThresholdFault) (c : Channels) → SetsThreshold (end_of w y) x s bytes r c → IsMade y w x [] [] [] c
+
+-- ---- what is told
+
+-- the report of an event, if there is one
+abbrev pub reports_of : Option declared.Event → List Report
+reports_of None = []
+reports_of (Some e) = event_meaning e ∷ []
+
+-- `next_event`, if resets are noted
+abbrev pub EventsAreMade : Type 0
+EventsAreMade = (y : Side) (w : World) (x : Table) (e : Option declared.Event) (c : Channels) → IsAllNoted (end_of w y) → Tells (next_report (end_of w y) x) e c → IsMade y w x [] (reports_of e) [] c
+
+-- ---- packets
+
+-- the packet whose bytes answer a packet, if there is one
+abbrev pub IsAnsweredBy : Result Verdict NoMemory → List Packet → Type 0
+IsAnsweredBy (Ok Taken) ps = ps ≡ []
+IsAnsweredBy (Ok (Dropped reason)) ps = ps ≡ []
+IsAnsweredBy (Ok (Answer bytes)) ps = (p : Packet) × (ps ≡ p ∷ []) × WritesPacket bytes.items p
+IsAnsweredBy (Err why) ps = ps ≡ []
+
+-- `handle_packet`, at the world's time and with its random numbers, of a packet that an event brings
+abbrev pub PacketsAreMade : Type 0
+PacketsAreMade = (y : Side) (w : World) (x : Table) (e : Event) (o : Option Packet) (r : Result Verdict NoMemory) (c : Channels) → Brings w e y o → Hears (end_of w y) x w.clock w.draw o r c →
+    (ps : List Packet) × IsAnsweredBy r ps × IsMade y w x (e ∷ []) [] ps c
+
+-- the packet whose bytes are sent, if there is one
+abbrev pub IsSentAs : Result (Option Sent) NoMemory → List Packet → Type 0
+IsSentAs (Ok None) ps = ps ≡ []
+IsSentAs (Ok (Some sent)) ps = (p : Packet) × (ps ≡ p ∷ []) × WritesPacket sent.packet.items p
+IsSentAs (Err why) ps = ps ≡ []
+
+-- a packet is built, unless an allocation failed before that
+abbrev pub building : Side → Result (Option Sent) NoMemory → List Event
+building y (Ok sent) = Build y ∷ []
+building y (Err why) = []
+
+-- `poll_transmit`, at the world's time
+abbrev pub TransmitsAreMade : Type 0
+TransmitsAreMade = (y : Side) (w : World) (x : Table) (r : Result (Option Sent) NoMemory) (c : Channels) → Transmit (end_of w y) x w.clock r c →
+    (ps : List Packet) × IsSentAs r ps × IsMade y w x (building y r) [] ps c
+
+-- ---- calls that are passed on
+
+-- `connect`, at the end that calls (RFC 9260, 5.1); at the other it is refused, and changes nothing
+abbrev pub ConnectsAreMade : Type 0
+ConnectsAreMade = (w : World) (x : Table) (d : Draw) (r : Result (Unit {0}) ConnectFault) (c : Channels) → IsDraw d → connect_meaning r ≡ connect_answer w.a.phase →
+    ChannelsStand c (connected w.a w.clock d r) x → IsMade A w x (Connect d ∷ []) [] [] c
+
+-- `abandon` (RFC 3758, 3.5)
+abbrev pub AbandonsAreMade : Type 0
+AbandonsAreMade = (y : Side) (w : World) (x : Table) (k : ℕ) (c : Channels) → ChannelsStand c (abandoned_at (end_of w y) k) x → IsMade y w x (Abandon y k ∷ []) [] [] c
+
+-- `shutdown` (RFC 9260, 9.2)
+abbrev pub ShutdownsAreMade : Type 0
+ShutdownsAreMade = (y : Side) (w : World) (x : Table) (c : Channels) → ChannelsStand c (shut (end_of w y)) x → IsMade y w x (Shutdown y ∷ []) [] [] c
+
+-- the ABORT whose bytes are returned, if it is
+abbrev pub IsAbortedBy : Result (Vec ℕ Global) AbortFault → List Packet → Type 0
+IsAbortedBy (Ok bytes) ps = (p : Packet) × (ps ≡ p ∷ []) × WritesPacket bytes.items p
+IsAbortedBy (Err why) ps = ps ≡ []
+
+-- `abort` (RFC 9260, 9.1)
+abbrev pub AbortsAreMade : Type 0
+AbortsAreMade = (y : Side) (w : World) (x : Table) (reason : List ℕ) (r : Result (Vec ℕ Global) AbortFault) (c : Channels) → AbortAnswers (end_of w y) reason r →
+    ChannelsStand c (aborted_view (end_of w y) reason r) x → (ps : List Packet) × IsAbortedBy r ps × IsMade y w x (Abort y reason ∷ []) [] ps c
+
+-- ---- both ends
+
+-- `on_moment` at both ends: a time of the world
+abbrev pub TimesAreMade : Type 0
+TimesAreMade = (w : World) (m : ℕ) (x : Side → Table) (c : Side → Channels) → m < 2 ^ 64 → ((y : Side) → ChannelsStand (c y) (ticked (end_of w y) (max w.clock m)) (x y)) →
+    (v : World) × Step w (At m) (Some Done) v × ((y : Side) → ChannelsStand (c y) (end_of v y) (x y)) × ((y : Side) → bag_of v y ≡ bag_of w y) × (v.clock ≡ max w.clock m)
+
+-- both ends are opened without packets, time passes, or there are new random numbers
+pub data IsBeside : Event → Type 0 where
+  OpensBoth : (d e : Draw) → IsBeside (OpenBoth d e)
+  Passes : (m : ℕ) → IsBeside (At m)
+  Draws : (d : Draw) → IsBeside (Drawing d)
+
+-- WHAT CALLS MAKE IS DRIVEN: from the start, call by call at either end and with what happens beside, a run that the tables of both ends drive. The law of channels speaks of each such run.
+pub record CallsAreDriven : Type 0 where
+  pub begins : (s : Setup) (roles : Side → DtlsRole) (many : Side → ℕ) → IsDrivenTo s roles many [] [] [] (λ y. []) (start s) (λ y. fresh_table (roles y) (many y))
+  pub calls : (s : Setup) (roles : Side → DtlsRole) (many : Side → ℕ) (es : List Event) (os : List (Option Outcome)) (vs : List World) (told : Side → List Report) (w : World) (x : Side → Table) →
+      IsDrivenTo s roles many es os vs told w x → (y : Side) (others : List Event) (reports : List Report) (ps : List Packet) (c : Channels) → (m : IsMade y w (x y) others reports ps c) →
+      IsDrivenTo s roles many (es ++ m.makes.events) (os ++ m.makes.outcomes) (vs ++ m.makes.worlds) (with_side y (told y ++ reports) told) (last_of w m.makes.worlds) (with_side y m.table x)
+  pub goes_on : (s : Setup) (roles : Side → DtlsRole) (many : Side → ℕ) (es : List Event) (os : List (Option Outcome)) (vs : List World) (told : Side → List Report) (w : World) (x : Side → Table) →
+      IsDrivenTo s roles many es os vs told w x → (e : Event) (o : Option Outcome) (v : World) → IsBeside e → Step w e o v →
+      IsDrivenTo s roles many (es ++ e ∷ []) (os ++ o ∷ []) (vs ++ v ∷ []) told v x
