@@ -3,10 +3,11 @@ use Rattle.std.specs.Prelude.{ℕ, true}
 use Rattle.sctp_model.specs.end.EndView.{Configuration}
 use Rattle.sctp_model.specs.end.Configured.{plain_configuration}
 
--- the most bytes of a packet, and the data bytes of a fragment, which fills one
+-- the most bytes of a packet
 abbrev pub CHANNEL_PACKET : ℕ
 CHANNEL_PACKET = 1_188
 
+-- the data bytes of a fragment, which fills such a packet
 abbrev pub CHANNEL_FRAGMENT : ℕ
 CHANNEL_FRAGMENT = 1_156
 
