@@ -1,4 +1,6 @@
 pub mod CountedUp
+pub mod PassingLists
+pub mod WaitingLemmas
 pub mod StillLemmas
 pub mod ResetTables
 pub mod ResetKept

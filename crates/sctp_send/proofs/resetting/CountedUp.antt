@@ -5,7 +5,6 @@ use Rattle.std.specs.List.{list_any, AllByRecursion}
 use Rattle.std.proofs.lemmas.Bool.Decides.{nat_tests}
 use Rattle.sctp_model.specs.sender.Words.{count_up}
 use Rattle.sctp_model.specs.sender.Outgoing.{lists}
-use Rattle.sctp_model.proofs.sender.WordLaws.{count_push}
 use Rattle.sctp_send.specs.PartsKept.{changed_at}
 use Rattle.sctp_send.specs.inner.Resetting.{all_changed}
 use Rattle.sctp_send.specs.declared.kept.resets.StreamReset.{StreamReset}
@@ -36,31 +35,6 @@ filter_alike p q i (suc n) same = go (q i) refl (same i (omega arith) (omega ari
 pub filter_off : (p : ℕ → Bool) (i n : ℕ) → ((s : ℕ) → i ≤ s → s < i + n → p s ≡ false) → filter p (count_up i n) ≡ []
 filter_off p i zero off = refl
 filter_off p i (suc n) off = let here = off i (omega arith) (omega arith) in rw here (filter_off p (suc i) n (λ s lo hi. off s (omega (arith, lo)) (omega (arith, hi))))
-
-filter_joined : (p : ℕ → Bool) (xs ys : List ℕ) → filter p (xs ++ ys) ≡ filter p xs ++ filter p ys
-filter_joined p [] ys = refl
-filter_joined p (x ∷ xs) ys = go (p x) refl (filter_joined p xs ys)
-  where
-    go : (b : Bool) → p x ≡ b → filter p (xs ++ ys) ≡ filter p xs ++ filter p ys → filter p (x ∷ (xs ++ ys)) ≡ filter p (x ∷ xs) ++ filter p ys
-    go true on more = rw on (ap (λ (zs : List ℕ). x ∷ zs) more)
-    go false on more = rw on more
-
--- one number more
-pub filter_on : (p : ℕ → Bool) (n : ℕ) → p n ≡ true → filter p (count_up 0 (n + 1)) ≡ filter p (count_up 0 n) ++ n ∷ []
-filter_on p n on =
-    let next : n + 1 ≡ suc n = omega arith in
-    let zeroed : 0 + n ≡ n = omega arith in
-    ap (λ (k : ℕ). filter p (count_up 0 k)) next ∙ ap (filter p) (count_push 0 n) ∙ filter_joined p (count_up 0 n) ((0 + n) ∷ []) ∙ rw (zeroed, on) refl
-
-pub filter_not : (p : ℕ → Bool) (n : ℕ) → p n ≡ false → filter p (count_up 0 (n + 1)) ≡ filter p (count_up 0 n)
-filter_not p n off =
-    let next : n + 1 ≡ suc n = omega arith in
-    let zeroed : 0 + n ≡ n = omega arith in
-    ap (λ (k : ℕ). filter p (count_up 0 k)) next ∙ ap (filter p) (count_push 0 n) ∙ filter_joined p (count_up 0 n) ((0 + n) ∷ []) ∙ rw (zeroed, off) (none_more (filter p (count_up 0 n)))
-  where
-    none_more : (xs : List ℕ) → xs ++ [] ≡ xs
-    none_more [] = refl
-    none_more (x ∷ xs) = ap (λ (ys : List ℕ). x ∷ ys) (none_more xs)
 
 -- they are below where the counting ends
 pub filter_below : (p : ℕ → Bool) (i n m : ℕ) → i + n ≤ m → AllByRecursion (λ (s : ℕ). s < m) (filter p (count_up i n))

@@ -1,5 +1,5 @@
 -- Of which resets a table is, as it is made and as it changes (RFC 6525, 5.1 and 5.2.7).
-use Rattle.std.proofs.Common.{◌≡◌, ℕ, zero, suc, ◌+◌, ◌<◌, ◌≤◌, ◌%◌, ◌^◌, min, List, [], ◌∷◌, ◌++◌, length, filter, get_or, Bool, true, false, Option, Some, None, refl, sym, ap, ◌∙◌, subst, arith}
+use Rattle.std.proofs.Common.{◌≡◌, ℕ, zero, suc, ◌+◌, ◌<◌, ◌≤◌, ◌%◌, ◌^◌, min, List, [], ◌∷◌, length, filter, Bool, true, false, Option, Some, None, refl, sym, ap, ◌∙◌, subst, arith}
 use Rattle.std.specs.Prelude.{◌==◌, if◌then◌else◌, slice_get, option_map, replicate, is_some, not}
 use Rattle.std.specs.List.{AllByRecursion}
 use Rattle.std.specs.Vec.{vec_capacity}
@@ -7,7 +7,7 @@ use Rattle.std.specs.declared.alloc.Global.{Global}
 use Rattle.std.specs.declared.boxed.Box.{Box}
 use Rattle.std.proofs.Math.Path.{fun_ext}
 use Rattle.std.proofs.lemmas.List.{length-replicate}
-use Rattle.std.proofs.lemmas.Option.{slice_get_read, slice_get_within}
+use Rattle.std.proofs.lemmas.Option.{slice_get_within}
 use Rattle.std.proofs.lemmas.Bool.Decides.{nat_tests}
 use Rattle.sctp_model.specs.numbers.Limits.{STREAM_LIMIT, REQUEST_LIMIT}
 use Rattle.sctp_model.specs.numbers.Lists.{at}
@@ -18,7 +18,7 @@ use Rattle.sctp_model.specs.sender.Resetting.{set_to}
 use Rattle.sctp_model.specs.sender.Words.{count_up}
 use Rattle.sctp_send.specs.PartsKept.{changed_at}
 use Rattle.sctp_send.specs.ResetsKept.{base_there, base_in, base_under, sending_meaning, sending_there, sending_under, request_meaning, pending_meaning, pending_under, made_under, IsWithin, is_resetting_in, IsTable, AreResets}
-use Rattle.sctp_send.specs.inner.Resetting.{stream_as, begun_anew, restarted_by, refused_by, number_from, all_changed, listed_with, IsFresh}
+use Rattle.sctp_send.specs.inner.Resetting.{stream_as, restarted_by, refused_by, number_from, all_changed, waiting_of, IsFresh}
 use Rattle.sctp_send.specs.declared.kept.track.Track.{Track as TrackFields}
 use Rattle.sctp_send.specs.declared.kept.resets.Sending.{Sending}
 use Rattle.sctp_send.specs.declared.kept.resets.Sending.TheVariants.{Sends, Resets, Refuses}
@@ -26,7 +26,8 @@ use Rattle.sctp_send.specs.declared.kept.resets.StreamReset.{StreamReset}
 use Rattle.sctp_send.specs.declared.kept.resets.Request.{Request}
 use Rattle.sctp_send.specs.declared.kept.resets.ResetTable.{ResetTable}
 use Rattle.sctp_send.proofs.kept.ChangedLemmas.{count_changed}
-use Rattle.sctp_send.proofs.resetting.CountedUp.{filter_off, filter_on, filter_not, get_changed, get_all, length-all, listed_below}
+use Rattle.sctp_send.proofs.resetting.CountedUp.{filter_off, get_changed, get_all, length-all, listed_below}
+use Rattle.sctp_send.proofs.resetting.WaitingLemmas.{IsListed, sends_anew}
 
 -- ---- a table is made
 
@@ -68,37 +69,22 @@ none_there (Some x) b is on = absurd (let off : true ≡ false = is ∙ ap not o
 
 -- ---- a table changes
 
--- Streams changed, those that wait are listed anew, and this request waits.
-pub record IsListed (t u : ResetTable) (rs : List StreamReset) (r : Option Request) (many : ℕ) : Type 0 where
-  pub streams : u.streams.items ≡ rs
-  pub listed : min (length rs) STREAM_LIMIT ≤ vec_capacity t.resetting → u.resetting.items ≡ filter (is_resetting_in rs) (count_up 0 (min (length rs) STREAM_LIMIT))
-  pub capacity : vec_capacity u.resetting ≡ vec_capacity t.resetting
-  pub pending : u.pending ≡ r
-  pub made : u.made ≡ many
-
 still_table : (n : ℕ) (t u : ResetTable) (rs : List StreamReset) (r : Option Request) (made : ℕ) → IsTable n t → IsListed t u rs r made → length rs ≡ length t.streams.items → IsWithin n r → IsTable n u
 still_table n t u rs r made h i long within = record {
-  streams = ap (λ (xs : List StreamReset). length xs) i.streams ∙ long ∙ h.streams;
+  streams = many;
   request = subst (λ (x : Option Request). IsWithin n x) (sym i.pending) within;
-  resetting =
-      let many : length rs ≡ n = long ∙ h.streams in
-      let room : min (length rs) STREAM_LIMIT ≤ vec_capacity t.resetting = rw many h.room in
-      i.listed room ∙ ap (λ (xs : List StreamReset). filter (is_resetting_in xs) (count_up 0 (min (length rs) STREAM_LIMIT))) (sym i.streams) ∙ ap (λ (j : ℕ). filter (is_resetting_in u.streams.items) (count_up 0 (min j STREAM_LIMIT))) many;
-  room = let held = h.room in let same = i.capacity in omega (arith, held, same);
+  resetting = i.listed room was ∙ ap (λ (xs : List StreamReset). waiting_of xs) (sym i.streams) ∙ ap (λ (j : ℕ). filter (is_resetting_in u.streams.items) (count_up 0 (min j STREAM_LIMIT))) many;
+  room = let held = h.room in let more = i.capacity in omega (arith, held, more);
 }
+  where
+    many : length u.streams.items ≡ n
+    many = ap (λ (xs : List StreamReset). length xs) i.streams ∙ long ∙ h.streams
 
--- it changed so, and the streams that wait were listed anew
-pub listed_from : (t t1 t2 : ResetTable) (rs : List StreamReset) → t1 ≡ record t { streams = t1.streams } → t1.streams.items ≡ rs → t2 ≡ record t1 { resetting = t2.resetting }
-    → (min (length t1.streams.items) STREAM_LIMIT ≤ vec_capacity t1.resetting → t2.resetting.items ≡ filter (is_resetting_in t1.streams.items) (count_up 0 (min (length t1.streams.items) STREAM_LIMIT)))
-    → vec_capacity t2.resetting ≡ vec_capacity t1.resetting → IsListed t t2 rs t.pending t.made
-listed_from t t1 t2 rs one streams two listed capacity = record {
-  streams = ap (λ (u : ResetTable). u.streams.items) two ∙ streams;
-  listed = subst (λ (xs : List StreamReset). min (length xs) STREAM_LIMIT ≤ vec_capacity t.resetting → t2.resetting.items ≡ filter (is_resetting_in xs) (count_up 0 (min (length xs) STREAM_LIMIT))) streams
-      (λ room. let held = ap (λ (u : ResetTable). vec_capacity u.resetting) one in listed (omega (arith, room, held)));
-  capacity = capacity ∙ ap (λ (u : ResetTable). vec_capacity u.resetting) one;
-  pending = ap (λ (u : ResetTable). u.pending) two ∙ ap (λ (u : ResetTable). u.pending) one;
-  made = ap (λ (u : ResetTable). u.made) two ∙ ap (λ (u : ResetTable). u.made) one;
-}
+    room : min (length t.streams.items) STREAM_LIMIT ≤ vec_capacity t.resetting
+    room = subst (λ (j : ℕ). min j STREAM_LIMIT ≤ vec_capacity t.resetting) (sym h.streams) h.room
+
+    was : t.resetting.items ≡ waiting_of t.streams.items
+    was = h.resetting ∙ ap (λ (j : ℕ). filter (is_resetting_in t.streams.items) (count_up 0 (min j STREAM_LIMIT))) (sym h.streams)
 
 there : (rs : List StreamReset) (s : ℕ) → s < length rs → (r : StreamReset) × (slice_get rs s ≡ Some r)
 there [] s low = absurd (omega arith)
@@ -211,11 +197,7 @@ resets_restarted n ts b c o q d p r count k asked here waits none i counts = rec
         → set_to model.Sends q o.sending s ≡ sending_there (if lists q.streams s then option_map (restarted_by ts s) (slice_get b.value.streams.items s) else slice_get b.value.streams.items s)
     sends_of s low true on =
         let has = found n (restarted_by ts) (λ s x. refl) b c o q d p r k asked here waits none i s on in
-        rw (on, has.1) (sym (ap sending_meaning (anew (slice_get ts s))))
-      where
-        anew : (t : Option TrackFields) → (begun_anew t).sending ≡ Sends
-        anew None = refl
-        anew (Some t) = refl
+        rw (on, has.1) (sym (ap sending_meaning (sends_anew (slice_get ts s))))
     sends_of s low false off = rw off (k.sending s low)
 
 -- the peer refused
@@ -244,18 +226,6 @@ resets_refused n b c o q d p r k asked here waits none i = record {
         let has = found n refused_by (λ s x. refl) b c o q d p r k asked here waits none i s on in
         rw (on, has.1) refl
     sends_of s low false off = rw off (k.sending s low)
-
--- streams are listed, one after the other
-pub list_step : (rs : List StreamReset) (m : ℕ) (r : StreamReset) (old new : List ℕ) → m < length rs → r ≡ get_or rs m r → old ≡ filter (is_resetting_in rs) (count_up 0 m) → new ≡ listed_with r m old
-    → new ≡ filter (is_resetting_in rs) (count_up 0 (m + 1))
-list_step rs m r old new low read so_far is = go (model.is_resetting (sending_meaning r.sending)) refl
-  where
-    here : is_resetting_in rs m ≡ model.is_resetting (sending_meaning r.sending)
-    here = ap (λ (o : Option StreamReset). model.is_resetting (sending_there o)) (slice_get_read rs (length rs) m r refl low read)
-
-    go : (b : Bool) → model.is_resetting (sending_meaning r.sending) ≡ b → new ≡ filter (is_resetting_in rs) (count_up 0 (m + 1))
-    go true on = is ∙ rw on (ap (λ (xs : List ℕ). xs ++ m ∷ []) so_far ∙ sym (filter_on (is_resetting_in rs) m (here ∙ on)))
-    go false off = is ∙ rw off (so_far ∙ sym (filter_not (is_resetting_in rs) m (here ∙ off)))
 
 -- a request is made
 pub resets_asked : (n made last : ℕ) (b c : Box ResetTable Global) (o : Outgoing) (r : Request) → AreResets n (record { table = Some b }) o → b.value.made < REQUEST_LIMIT → made ≡ (b.value.made + 1) % 2 ^ 32

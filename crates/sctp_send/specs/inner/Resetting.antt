@@ -1,5 +1,5 @@
 -- Streams that are reset: whether they are still, and what becomes of what is kept of them (RFC 6525, 5.1).
-use Rattle.std.specs.Prelude.{◌≡◌, ℕ, ◌<◌, ◌≤◌, min, replicate, ◌==◌, nat_lt, if◌then◌else◌, Bool, not, ◌&&◌, List, [], ◌∷◌, ◌++◌, length, map, slice_get, Option, None, Some}
+use Rattle.std.specs.Prelude.{◌≡◌, ℕ, ◌<◌, ◌≤◌, min, replicate, ◌==◌, nat_lt, if◌then◌else◌, Bool, not, ◌&&◌, List, [], ◌∷◌, ◌++◌, length, map, filter, slice_get, Option, None, Some}
 use Rattle.std.specs.List.{list_any}
 use Rattle.std.specs.Vec.{vec_capacity}
 use Rattle.std.specs.declared.alloc.Global.{Global}
@@ -8,11 +8,11 @@ use Rattle.sctp_model.specs.numbers.Limits.{STREAM_LIMIT, RESETS_AT_ONCE}
 use Rattle.sctp_model.specs.messages.Format.{Lane}
 use Rattle.sctp_model.specs.sender.Entries.{entry_lane}
 use Rattle.sctp_model.specs.sender.Assigning.{is_on}
-use Rattle.sctp_model.specs.sender.Outgoing.{is_resetting}
+use Rattle.sctp_model.specs.sender.Words.{count_up}
 use Rattle.sctp_send.specs.OutstandingFields.{item_meaning}
 use Rattle.sctp_send.specs.SenderFields.{queued_by, track_meaning}
 use Rattle.sctp_send.specs.SenderKept.{Item}
-use Rattle.sctp_send.specs.ResetsKept.{base_by, sending_meaning}
+use Rattle.sctp_send.specs.ResetsKept.{base_by, is_resetting_in}
 use Rattle.sctp_send.specs.PartsKept.{changed_at}
 use Rattle.sctp_send.specs.inner.Newcomers.{rest_at, has_rest}
 use Rattle.sctp_send.specs.declared.stock.Stock.{Stock}
@@ -53,9 +53,9 @@ abbrev pub begun_anew : Option TrackFields → StreamReset
 begun_anew None = record { ordered = 0; unordered = 0; sending = Sends }
 begun_anew (Some t) = record { ordered = t.ordered; unordered = t.unordered; sending = Sends }
 
--- a stream joins those that wait for their reset, if it does
-abbrev pub listed_with : StreamReset → (stream : ℕ) → List ℕ → List ℕ
-listed_with r s xs = if is_resetting (sending_meaning r.sending) then xs ++ s ∷ [] else xs
+-- those of these streams that wait for their reset and that a request may name, by rising number
+abbrev pub waiting_of : List StreamReset → List ℕ
+waiting_of rs = filter (is_resetting_in rs) (count_up 0 (min (length rs) STREAM_LIMIT))
 
 -- a stream joins those that a request names, if it is still and they aren't too many
 abbrev pub named_with : (is_still : Bool) → (stream : ℕ) → List ℕ → List ℕ

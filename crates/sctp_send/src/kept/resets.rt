@@ -168,7 +168,7 @@ fn sends_at(streams: &[StreamReset], stream: u16) -> bool
 }
 
 /// Whether a stream waits for its reset, when there is a table.
-fn is_resetting_at(streams: &[StreamReset], stream: u16) -> bool
+pub(crate) fn is_resetting_at(streams: &[StreamReset], stream: u16) -> bool
     ensures { result ≡ is_resetting_in streams.now stream }
 {
     match streams.get(usize::from(stream)) {
@@ -178,7 +178,7 @@ fn is_resetting_at(streams: &[StreamReset], stream: u16) -> bool
 }
 
 /// It waits for its reset.
-pub(crate) fn is_resetting(sending: Sending) -> bool
+fn is_resetting(sending: Sending) -> bool
     ensures { result ≡ model.is_resetting (sending_meaning sending) }
 {
     match sending {

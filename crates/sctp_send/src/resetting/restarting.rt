@@ -1,18 +1,21 @@
 //! What a response leaves of the table of resets (RFC 6525, 5.2.7).
 
-ghost use Rattle.std.specs.Prelude.{◌≡◌, ℕ, ◌<◌, suc, nat_lt, if◌then◌else◌, Some, None, slice_get};
+ghost use Rattle.std.specs.Prelude.{◌≡◌, ℕ, ◌<◌, suc, nat_lt, if◌then◌else◌, filter, Some, None, slice_get};
+ghost use Rattle.std.specs.Vec.{vec_capacity};
 ghost use Rattle.sctp_model.specs.messages.Format.{Lane};
 ghost use Rattle.sctp_model.specs.numbers.Limits.{REQUEST_LIMIT};
 ghost use Rattle.sctp_model.specs.sender.Outgoing as model;
 ghost use Rattle.sctp_model.specs.sender.Outgoing.{Outgoing, lists};
 ghost use Rattle.sctp_model.specs.sender.Resetting.{set_to};
-ghost use Rattle.sctp_send.specs.ResetsKept.{AreResets};
+ghost use Rattle.sctp_send.specs.ResetsKept.{AreResets, is_resetting_in};
 ghost use Rattle.sctp_send.specs.inner.Resetting.{all_changed, begun_anew, restarted_by, number_from, refused_by};
 ghost use Rattle.sctp_send.specs.PartsKept.{changed_at};
 
-use crate::kept::resets::{MOST_REQUESTS, OutgoingResets, ResetTable, Sending, StreamReset};
+use crate::kept::resets::{
+    MOST_REQUESTS, OutgoingResets, ResetTable, Sending, StreamReset, is_resetting_at,
+};
 use crate::kept::track::Track;
-use crate::resetting::table::{list_anew, set_sending};
+use crate::resetting::table::set_sending;
 
 impl OutgoingResets {
     /// The streams of the request that waits are reset: what these tracks count is 0 on the wire from now on.
@@ -24,7 +27,7 @@ impl OutgoingResets {
             let table = &mut **table;
             if let Some(request) = table.pending.take() {
                 restart_all(table, tracks, &request.streams);
-                list_anew(table);
+                unlist(table);
             }
         }
     }
@@ -38,7 +41,7 @@ impl OutgoingResets {
             let table = &mut **table;
             if let Some(request) = table.pending.take() {
                 refuse_all(table, &request.streams);
-                list_anew(table);
+                unlist(table);
             }
         }
     }
@@ -103,4 +106,25 @@ fn refuse_all(table: &mut ResetTable, request: &[u16])
     for at in 0..request.len() {
         set_sending(table, request[at], Sending::Refuses);
     }
+}
+
+/// The streams that don't wait for their reset any more leave the list of those that do.
+fn unlist(table: &mut ResetTable)
+    ensures same { table.new ≡ record table.old { resetting = table.new.resetting } }
+    ensures listed { table.new.resetting.items ≡ filter (is_resetting_in table.old.streams.items) table.old.resetting.items }
+    ensures capacity { vec_capacity table.new.resetting ≡ vec_capacity table.old.resetting }
+{
+    keep_waiting(&mut table.resetting, &table.streams);
+}
+
+/// Keeps of these streams those that wait for their reset.
+fn keep_waiting(resetting: &mut Vec<u16>, streams: &[StreamReset])
+    ensures items { resetting.new.items ≡ filter (is_resetting_in streams.now) resetting.old.items }
+    ensures capacity { vec_capacity resetting.new ≡ vec_capacity resetting.old }
+{
+    resetting.retain(
+        |stream: &u16| -> bool
+            ensures { result ≡ is_resetting_in streams.entry.now stream.now }
+        { is_resetting_at(streams, *stream) },
+    );
 }

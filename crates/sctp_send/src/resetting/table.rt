@@ -1,20 +1,20 @@
 //! The table of resets: made by the first reset, and changed by requests and their responses (RFC 6525, 5.1).
 
-ghost use Rattle.std.specs.Prelude.{◌≡◌, ℕ, suc, ◌+◌, ◌<◌, ◌≤◌, min, length, replicate, filter, None, Some, IfOk, OnOk, IsSome};
+ghost use Rattle.std.specs.Prelude.{◌≡◌, ℕ, suc, ◌<◌, ◌≤◌, ◌&&◌, not, nat_lt, min, length, replicate, None, Some, IfOk, OnOk, IsSome};
 ghost use Rattle.std.specs.List.{AllByRecursion};
-ghost use Rattle.std.specs.Vec.{vec_len, vec_capacity};
+ghost use Rattle.std.specs.Vec.{vec_capacity};
 ghost use Rattle.sctp_model.specs.numbers.Limits.{STREAM_LIMIT, REQUEST_LIMIT};
 ghost use Rattle.sctp_model.specs.numbers.Lists.{at};
 ghost use Rattle.sctp_model.specs.sender.Outgoing as model;
 ghost use Rattle.sctp_model.specs.sender.Outgoing.{Outgoing};
-ghost use Rattle.sctp_model.specs.sender.Words.{count_up};
 ghost use Rattle.sctp_send.specs.PartsKept.{changed_at};
 ghost use Rattle.sctp_send.specs.ResetsKept.{AreResets, is_resetting_in, made_under};
-ghost use Rattle.sctp_send.specs.declared.kept.resets.Sending.TheVariants.{Sends as SendsNow};
-ghost use Rattle.sctp_send.specs.inner.Resetting.{IsFresh, stream_as, listed_with};
+ghost use Rattle.sctp_send.specs.declared.kept.resets.Sending.TheVariants.{Sends as SendsNow, Resets as ResetsNow};
+ghost use Rattle.sctp_send.specs.inner.Ordering.{before, AreInOrder};
+ghost use Rattle.sctp_send.specs.inner.Resetting.{IsFresh, stream_as, waiting_of};
 
 use crate::kept::resets::{
-    OutgoingResets, Request, ResetTable, Sending, StreamReset, is_resetting,
+    OutgoingResets, Request, ResetTable, Sending, StreamReset, is_resetting_at,
 };
 use sctp_values::{NoMemory, STREAM_LIMIT};
 use std::alloc::Global;
@@ -41,8 +41,8 @@ impl OutgoingResets {
     {
         if let Some(table) = &mut self.table {
             let table = &mut **table;
+            list_stream(table, stream);
             set_sending(table, stream, Sending::Resets);
-            list_anew(table);
         }
     }
 
@@ -144,28 +144,37 @@ pub(crate) fn set_sending(table: &mut ResetTable, stream: u16, sending: Sending)
     }
 }
 
-/// Lists the streams that wait for their reset, as far as there is room.
-pub(crate) fn list_anew(table: &mut ResetTable)
+/// Lists a stream whose reset is asked for in its place among those that wait, if it may be listed and isn't yet.
+fn list_stream(table: &mut ResetTable, stream: u16)
     ensures same { table.new ≡ record table.old { resetting = table.new.resetting } }
-    ensures listed { min (length table.old.streams.items) STREAM_LIMIT ≤ vec_capacity table.old.resetting
-        → table.new.resetting.items ≡ filter (is_resetting_in table.old.streams.items) (count_up 0 (min (length table.old.streams.items) STREAM_LIMIT)) }
-    ensures capacity { vec_capacity table.new.resetting ≡ vec_capacity table.old.resetting }
+    ensures listed { min (length table.old.streams.items) STREAM_LIMIT ≤ vec_capacity table.old.resetting → table.old.resetting.items ≡ waiting_of table.old.streams.items
+        → table.new.resetting.items ≡ waiting_of (changed_at (stream_as ResetsNow) stream table.old.streams.items) }
+    ensures capacity { vec_capacity table.old.resetting ≤ vec_capacity table.new.resetting }
 {
-    table.resetting.clear();
-    let most = table.streams.len().min(usize::from(STREAM_LIMIT));
-    for stream in 0..most {
-        list_one(table.streams[stream], stream as u16, &mut table.resetting);
-    }
-}
-
-/// Lists a stream, if it waits for its reset and there is room.
-fn list_one(reset: StreamReset, stream: u16, resetting: &mut Vec<u16>)
-    ensures items { vec_len resetting.old < vec_capacity resetting.old → resetting.new.items ≡ listed_with reset stream resetting.old.items }
-    ensures few { vec_len resetting.new ≤ vec_len resetting.old + 1 }
-    ensures capacity { vec_capacity resetting.new ≡ vec_capacity resetting.old }
-{
-    if !is_resetting(reset.sending) || resetting.len() >= resetting.capacity() {
+    if !is_unlisted(&table.streams, stream) {
         return;
     }
-    resetting.push_reserved(stream);
+    let rank = rank_of(&table.resetting, stream);
+    let _listed = table.resetting.insert(rank, stream);
+}
+
+/// Whether a stream may be listed and isn't yet.
+fn is_unlisted(streams: &[StreamReset], stream: u16) -> bool
+    ensures { result ≡ (nat_lt stream (min (length streams.now) STREAM_LIMIT) && not (is_resetting_in streams.now stream)) }
+{
+    stream < STREAM_LIMIT
+        && usize::from(stream) < streams.len()
+        && !is_resetting_at(streams, stream)
+}
+
+/// How many of the listed streams have lower numbers, by a binary search: they are listed by rising number.
+fn rank_of(resetting: &[u16], stream: u16) -> usize
+    ensures within { result ≤ length resetting.now }
+    ensures rank { AreInOrder (λ s. s) 0 resetting.now → result ≡ before (λ s. s) stream resetting.now }
+{
+    resetting.partition_point(
+        |one: &u16| -> bool
+            ensures { result ≡ nat_lt one.now stream }
+        { *one < stream },
+    )
 }
