@@ -24,12 +24,6 @@ both_off a b x y = rw (x, y) refl
 
 -- ---- messages
 
-pub late_more : (now t : ℕ) (xs ys : List (Option Message)) → some_late now t xs ≡ false → some_late now t ys ≡ false → some_late now t (xs ++ ys) ≡ false
-late_more now t [] ys none more = more
-late_more now t (x ∷ xs) ys none more =
-    let parts = neither (is_late now t x) (some_late now t xs) none in
-    both_off (is_late now t x) (some_late now t (xs ++ ys)) parts.0 (late_more now t xs ys parts.1 more)
-
 -- a message that has another ticket
 pub other_late : (now t : ℕ) (m : Option Message) → has_ticket t m ≡ false → is_late now t m ≡ false
 other_late now t None off = refl
@@ -47,11 +41,6 @@ late_items_more now t b [] ys none more = more
 late_items_more now t b (x ∷ xs) ys none more =
     let parts = neither (is_late now t (standing_message b x)) (some_late now t (standing_messages b xs)) none in
     both_off (is_late now t (standing_message b x)) (some_late now t (standing_messages b (xs ++ ys))) parts.0 (late_items_more now t b xs ys parts.1 more)
-
--- a change that leaves each its message, and what becomes of it
-pub late_same : (now t : ℕ) (b : Bool) (g : Item → Item) (xs : List Item) → ((x : Item) → standing_message b (g x) ≡ standing_message b x) → some_late now t (standing_messages b (map g xs)) ≡ some_late now t (standing_messages b xs)
-late_same now t b g [] same = refl
-late_same now t b g (x ∷ xs) same = rw (same x, late_same now t b g xs same) refl
 
 pub late_gone : (now t at : ℕ) (b : Bool) (xs : List Item) (d : Item) → some_late now t (standing_messages b (set xs at (gone_item (get_or xs at d)))) ≡ some_late now t (standing_messages b xs)
 late_gone now t at b [] d = refl

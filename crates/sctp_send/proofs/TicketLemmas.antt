@@ -12,17 +12,14 @@ use Rattle.sctp_model.specs.sender.Readers.{acknowledged, is_acknowledged}
 use Rattle.sctp_model.proofs.sender.Bounds.{is_bounded}
 use Rattle.sctp_model.proofs.sender.TicketLaws.{is_ticketed, name_of_none, found_owns}
 use Rattle.sctp_model.proofs.sender.NameLaws.{goes_on_with, some_stream, in_part_by_ticket, uncovered_by_ticket}
-use Rattle.sctp_send.specs.SenderKept.{Item, Track, Kept}
-use Rattle.sctp_send.specs.OutstandingFields.{item_meaning}
+use Rattle.sctp_send.specs.SenderKept.{Track, Kept}
 use Rattle.sctp_send.specs.SenderFields.{track_meaning}
 use Rattle.sctp_send.specs.SenderStands.{items_from, table, track_here, rest_here, fate_here, fate_named, Keeps}
-use Rattle.sctp_send.specs.inner.Walks.{is_numbered_fate, any_uncovered, is_item_uncovered, any_rest, rest_has}
+use Rattle.sctp_send.specs.inner.Walks.{is_numbered_fate, any_uncovered, any_rest, rest_has}
 use Rattle.sctp_send.specs.declared.kept.message.Fate.{Fate}
 use Rattle.sctp_send.specs.declared.kept.message.Fate.TheVariants.{Queued as StillQueued, Numbered, Abandoned as WasAbandoned}
-use Rattle.sctp_send.specs.declared.kept.entry.Entry.{Entry as EntryFields}
 use Rattle.sctp_send.specs.declared.kept.track.Track.{Track as TrackFields}
 use Rattle.sctp_send.proofs.TableLemmas.{table-push}
-use Rattle.sctp_send.proofs.kept.ItemLemmas.{item_read}
 use Rattle.sctp_send.proofs.ReaderLemmas.{fate_at}
 use Rattle.sctp_send.proofs.WalkLemmas.{none_behind, track_read}
 use Rattle.sctp_send.proofs.QueueLemmas.{fates_given}
@@ -137,28 +134,10 @@ never_acknowledged f s v t k over = let given = fates_given f s v k in ap (some_
 
 -- ---- walks, entry by entry and stream by stream
 
-step_uncovered : (t : ℕ) (xs : List Item) (at : ℕ) (d : Item) → at < length xs → any_uncovered t (drop at xs) ≡ (is_item_uncovered t (get_or xs at d) || any_uncovered t (drop (suc at) xs))
-step_uncovered t [] at d lt = absurd (omega arith)
-step_uncovered t (x ∷ xs) zero d lt = refl
-step_uncovered t (x ∷ xs) (suc at) d lt = step_uncovered t xs at d (omega arith)
-
 step_rest : (t : ℕ) (xs : List Track) (at : ℕ) (d : Track) → at < length xs → any_rest t (drop at xs) ≡ (rest_has t (get_or xs at d).rest || any_rest t (drop (suc at) xs))
 step_rest t [] at d lt = absurd (omega arith)
 step_rest t (x ∷ xs) zero d lt = refl
 step_rest t (x ∷ xs) (suc at) d lt = step_rest t xs at d (omega arith)
-
-pub walked_uncovered : (t size : ℕ) (es : List EntryFields) (at : ℕ) (x : EntryFields) (b : Bool) → at < length es → x ≡ get_or es at x → b ≡ is_item_uncovered t (item_meaning size x)
-    → any_uncovered t (map (item_meaning size) es) ≡ any_uncovered t (drop at (map (item_meaning size) es)) → any_uncovered t (map (item_meaning size) es) ≡ (b || any_uncovered t (drop (at + 1) (map (item_meaning size) es)))
-walked_uncovered t size es at x b lt read is before =
-    let long = length-map es (item_meaning size) in
-    let step = step_uncovered t (map (item_meaning size) es) at (item_meaning size x) (omega arith) in
-    let one : at + 1 ≡ suc at = omega arith in
-    before ∙ step ∙ rw (item_read size es at x read, ← is, one) refl
-
-pub ended_uncovered : (t size : ℕ) (es : List EntryFields) (at : ℕ) → length es ≤ at → any_uncovered t (map (item_meaning size) es) ≡ any_uncovered t (drop at (map (item_meaning size) es)) → false ≡ any_uncovered t (map (item_meaning size) es)
-ended_uncovered t size es at le before =
-    let long = length-map es (item_meaning size) in
-    sym (before ∙ ap (any_uncovered t) (none_behind at (map (item_meaning size) es) (omega arith)))
 
 pub walked_rest : (t size : ℕ) (ts : List TrackFields) (at : ℕ) (x : TrackFields) (b : Bool) → at < length ts → x ≡ get_or ts at x → b ≡ rest_has t (track_meaning size x).rest
     → any_rest t (map (track_meaning size) ts) ≡ any_rest t (drop at (map (track_meaning size) ts)) → any_rest t (map (track_meaning size) ts) ≡ (b || any_rest t (drop (at + 1) (map (track_meaning size) ts)))

@@ -5,7 +5,6 @@ pub mod MomentLemmas
 pub mod MomentPages
 pub mod LoadLemmas
 pub mod QueuedOnLemmas
-pub mod OrderedLemmas
 pub mod OwedLemmas
 pub mod CursorLemmas
 pub mod WeightLemmas
@@ -21,8 +20,6 @@ pub mod OrderLemmas
 pub mod OrderShortened
 pub mod TicketWalks
 pub mod SpentWalks
-pub mod PartSeatLemmas
-pub mod PartLookLemmas
 pub mod PartStreams
 pub mod FateLemmas
 pub mod GivenUpLemmas

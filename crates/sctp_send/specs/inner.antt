@@ -8,7 +8,6 @@ pub mod Weighing
 pub mod Newcomers
 pub mod Sending
 pub mod Stocking
-pub mod Ordering
 pub mod Counting
 pub mod Seating
 pub mod Undoing

@@ -66,8 +66,8 @@
 //! `kept`, and each part's counts are its invariant: an entry
 //! takes 32 bytes with the count of its retransmissions, which ends at 65,535, as limits do.
 //!
-//! The files of `src` form a path on which each imports only what is before it: `due_pages`, `last_forward`, `message`, `ordered`, `resets`, `sendings`; `blocks`, `by_ticket`,
-//! `due_table`, `entry`, `seats`, `track`; `dues`, `fates`, `part_lists`, `pieces`; `looking`, `queue`, `told`, `wishes`; `counts`, `queued_on`, `streams`; `stretches`;
+//! The files of `src` form a path on which each imports only what is before it: `last_forward`, `message`, `resets`, `sendings`; `blocks`, `by_ticket`,
+//! `due_table`, `entry`, `seats`, `track`; `dues`, `fates`, `pieces`; `looking`, `queue`, `told`, `wishes`; `counts`, `queued_on`, `streams`; `stretches`;
 //! `outstanding`; `by_message`, `entries`, `flying`, `going_out`, `lanes`, `marking`, `pushing`, `repeats`, `run_room`, `searching`, `stock`, `table`, `tally`, `telling`,
 //! `weight`; `assigning`, `covered`, `indexed`, `restarting`, `sender`, `still`, `waking`; `answering`, `at_limit`, `entering`, `fill`, `last`, `laws`, `pace`, `passing`, `queueing`,
 //! `readers`, `resetting`, `sack`, `wear`, `weighing`; `abandon`, `keeping`, `moments`; `expire`, `forward`, `putting`.

@@ -1,6 +1,5 @@
 -- The items of blocks: a block among them, and blocks in its place.
-use Rattle.std.proofs.Common.{◌≡◌, ℕ, suc, ◌+◌, ◌<◌, ◌≤◌, List, [], ◌++◌, ◌∷◌, length, get_or, set, take, drop, refl, sym, ap, ◌∙◌, subst, append_assoc, append-nil, arith, length-append}
-use Rattle.std.specs.List.{insert, remove}
+use Rattle.std.proofs.Common.{◌≡◌, ℕ, suc, ◌+◌, ◌<◌, ◌≤◌, List, [], ◌++◌, ◌∷◌, length, get_or, set, take, drop, sym, ap, ◌∙◌, append-nil, arith, length-append}
 use Rattle.std.specs.declared.collections.VecDeque.{VecDeque}
 use Rattle.sctp_sequence.specs.Blocks.{joined}
 use Rattle.std.proofs.lemmas.List.{set_split, take_more, take_all, take-append-drop, drop_more}
@@ -9,10 +8,6 @@ use Rattle.std.proofs.lemmas.List.Concat.{flat_map-append}
 module _ {X Z : Type 0} where
   pub joined-append : (ds bs : List (VecDeque X Z)) → joined (ds ++ bs) ≡ joined ds ++ joined bs
   joined-append ds bs = flat_map-append (λ (b : VecDeque X Z). b.items) ds bs
-
-  -- the blocks with others in the place of one
-  pub joined_with : (bs cs : List (VecDeque X Z)) (k : ℕ) → joined (take k bs ++ (cs ++ drop (suc k) bs)) ≡ joined (take k bs) ++ (joined cs ++ joined (drop (suc k) bs))
-  joined_with bs cs k = joined-append (take k bs) (cs ++ drop (suc k) bs) ∙ ap (λ (l : List X). joined (take k bs) ++ l) (joined-append cs (drop (suc k) bs))
 
   -- a block amid others
   pub joined_at : (bs : List (VecDeque X Z)) (k : ℕ) (b : VecDeque X Z) → k < length bs → b ≡ get_or bs k b → joined bs ≡ joined (take k bs) ++ (b.items ++ joined (drop (suc k) bs))

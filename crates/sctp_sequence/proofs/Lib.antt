@@ -7,3 +7,6 @@ mod WriteLemmas
 mod RoomLemmas
 mod PointLemmas
 mod SearchLemmas
+mod PairLemmas
+mod TwoWayLemmas
+mod PageLemmas

@@ -1,11 +1,10 @@
 -- Where a test changes its answer in a list that is three lists: in the middle one, if that begins with an item that passes and the last with one that fails.
-use Rattle.std.proofs.Common.{◌≡◌, ℕ, suc, ◌+◌, ◌-◌, ◌<◌, ◌≤◌, Bool, true, false, List, [], ◌++◌, ◌∷◌, length, get_or, take, drop, refl, sym, ap, true≢false, inl, inr, ◌∙◌, subst, arith, length-append}
+use Rattle.std.proofs.Common.{◌≡◌, ℕ, ◌+◌, ◌-◌, ◌<◌, ◌≤◌, Bool, true, false, List, [], ◌++◌, ◌∷◌, length, get_or, refl, sym, ap, true≢false, inl, inr, ◌∙◌, subst, arith, length-append}
 use Rattle.std.specs.Fn.{Mut, Called, AlwaysReturns}
 use Rattle.std.specs.List.Sorted.{IsPartitionedBy, IsPartitionPoint}
 use Rattle.std.specs.declared.collections.VecDeque.{VecDeque}
 use Rattle.std.proofs.lemmas.List.{get_or_append_left, get_or-append_right, get_or-append-add, get_or_default}
 use Rattle.std.proofs.lemmas.Bool.{cases_lt}
-use Rattle.sctp_sequence.specs.Blocks.{joined}
 
 so_false : (b : Bool) → (b ≡ true → ⊥) → b ≡ false
 so_false true h = absurd (h refl)
@@ -84,9 +83,6 @@ module _ {X : Type 0} (p : X → Bool) where
   first_so t bs k b c x less is other some read so d =
       let same : c ≡ b = other ∙ get_or_default bs k c b less ∙ sym is in
       ap (λ (e : VecDeque X _). p (get_or e.items 0 d)) same ∙ ap p (get_or_default b.items 0 d x some ∙ sym read) ∙ so
-
-  pub nothing_narrowed : {Z : Type 0} (bs : List (VecDeque X Z)) → Narrowed bs 0 (length bs)
-  nothing_narrowed bs = record { passes = λ h. absurd (omega arith); fails = λ h. absurd (omega arith) }
 
   pub it_passes : {Z : Type 0} (bs : List (VecDeque X Z)) (low high k : ℕ) (b : VecDeque X Z) (x : X) → k < length bs → b ≡ get_or bs k b → 0 < length b.items → x ≡ get_or b.items 0 x → p x ≡ true → Narrowed bs low high → Narrowed bs (k + 1) high
   it_passes bs low high k b x less is some read so h = record {

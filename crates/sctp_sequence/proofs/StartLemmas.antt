@@ -1,5 +1,5 @@
 -- How many items are before each of the blocks: what a change among them leaves of that.
-use Rattle.std.proofs.Common.{◌≡◌, ℕ, zero, suc, ◌+◌, ◌-◌, ◌<◌, ◌≤◌, List, [], ◌++◌, ◌∷◌, length, get_or, set, take, drop, refl, sym, ap, inl, inr, ◌∙◌, arith, length-append}
+use Rattle.std.proofs.Common.{◌≡◌, ℕ, zero, suc, ◌+◌, ◌-◌, ◌<◌, ◌≤◌, List, [], ◌++◌, ◌∷◌, length, get_or, set, take, drop, sym, ap, inl, inr, ◌∙◌, arith, length-append}
 use Rattle.std.specs.List.{insert, remove}
 use Rattle.std.specs.declared.collections.VecDeque.{VecDeque}
 use Rattle.std.proofs.lemmas.Bool.{cases_lt}

@@ -1,5 +1,5 @@
 -- An item is written in its block: the blocks are as sound as before.
-use Rattle.std.proofs.Common.{◌≡◌, ℕ, ◌+◌, ◌<◌, ◌++◌, List, length, get_or, set, take, sym, ap, ◌∙◌, subst, length-set, length-append, arith}
+use Rattle.std.proofs.Common.{◌≡◌, ℕ, ◌+◌, ◌<◌, length, get_or, set, take, ap, ◌∙◌, length-set, length-append, arith}
 use Rattle.std.specs.Prelude.{Option}
 use Rattle.std.specs.Vec.{with_item, vec_len}
 use Rattle.std.specs.VecDeque.{deque_len, deque_capacity}

@@ -1,5 +1,5 @@
 -- What is kept of a sequence.
-use Rattle.std.specs.Prelude.{◌≡◌, Bool, List, refl}
+use Rattle.std.specs.Prelude.{Bool, List, refl}
 use Rattle.std.specs.Coded.{Coded, code_by, coded×, coded_list, coded_bool}
 
 -- The items in order, and whether one more may come at any place without new memory.

@@ -1,7 +1,11 @@
-//! A list stored in blocks: an insertion or a removal in the middle moves the items of one block at most. It knows nothing of SCTP.
+//! Containers that know nothing of SCTP: a list stored in blocks; pairs of numbers, found by the first one; a map between numbers that is
+//! searched both ways; a list of numbers in which the first one up to a bound is found.
 //!
-//! A [`Sequence`] is used as a `VecDeque` is. As long as it is short it has one block, which grows as a `VecDeque` does; from 512 items on it
-//! has several, each of at most 512, and a full one is split in halves when an item is inserted into it, except at the end of the list.
+//! # `Sequence`: a list in blocks
+//!
+//! An insertion or a removal in the middle moves the items of one block at most. A [`Sequence`] is used as a `VecDeque` is. As long as it is short
+//! it has one block, which grows as a `VecDeque` does; from 512 items on it has several, each of at most 512, and a full one is split in halves
+//! when an item is inserted into it, except at the end of the list.
 //!
 //! A caller sees the list of items and whether there is memory for one more (`specs/Kept`: `items`, `room`); no clause says that there are
 //! blocks.
@@ -19,7 +23,7 @@
 //! | [`Sequence::clear`] | no items; memory for one more item stays |
 //! | [`Sequence::partition_point`] | `partitioned`: how many items at the front satisfy a predicate that none after them satisfies |
 //!
-//! # Cost
+//! ## Cost
 //!
 //! With one block it is a `VecDeque` and one comparison. With more, a position is found by binary search over the number of items before each
 //! block; the partition point by binary search over the blocks' first items and then within one block. An insertion or removal moves items of
@@ -27,16 +31,33 @@
 //! are computed anew. A full block is split into an empty one that `reserve` has allocated, so no step has to be undone; an item appended at
 //! the end begins a block of its own, so a list that grows at its end has full blocks. A block that becomes empty is dropped.
 //!
-//! # Representation
+//! ## Representation
 //!
 //! The items are those of the first block and then of each further one (`joined`, `specs/Blocks`). The invariant is `AreBlocks`: each further
 //! block has an item, no block has more than 512, and each has capacity for 512 as soon as there are several, so that an insertion allocates
 //! only to split. Kept beside them are the number of items and how many items are before each further block (`AreStarts`); capacity for one
 //! count more is part of the memory for one more item.
 //!
+//! # `Pairs`, `TwoWayMap`, `PagedNumbers`
+//!
+//! | public function | what is promised |
+//! |---|---|
+//! | [`Pairs::new`], [`Pairs::reserve`], [`Pairs::insert`], [`Pairs::remove`] | `items`, `gone`: the pairs and one more, or one less, in any order (`AreSame`); `unchanged`, if allocation fails or the pair isn't there; `memory`: `insert` doesn't fail if there was memory for one more |
+//! | [`Pairs::first_from`] | the lowest pair whose first number is a given one or a higher one; None if and only if there is none (`FirstFromAnswer`) |
+//! | [`TwoWayMap::new`], [`TwoWayMap::change`] | the map of no value; that of the values with another one, or none, at a key (`IsMapOf`) |
+//! | [`TwoWayMap::first_from`], [`TwoWayMap::key_with`], [`TwoWayMap::are_above`] | of each list of values by key that a complete map is of: the first key from one on with a value (`FirstKeyAnswer`), a key with a given value (`KeyWithAnswer`), whether all values are above one |
+//! | [`PagedNumbers::new`], [`PagedNumbers::len`], [`PagedNumbers::get`], [`PagedNumbers::reserve`], [`PagedNumbers::push`], [`PagedNumbers::set`], [`PagedNumbers::drop_page`] | the numbers, as of a `VecDeque` that has lost its first 64 |
+//! | [`PagedNumbers::first_upto`] | the first position from one on of a number up to a bound; None if and only if there is none. [`PagedNumbers::look_again`] changes nothing but what a search costs |
+//!
+//! Costs: a pair is found by binary search, the first and the last one by a comparison; a search among numbers is a comparison if the bound is
+//! below all, else one for each page of 64 and one for each number of the pages that may have one; `look_again` makes the pages exact up to a bound.
+//!
+//! Pairs are in a deque, by rising first number and then second number (`AreOrdered`). A map is two of them, with the key first and with the value
+//! first, and incomplete as soon as memory for a pair is refused. Each page has a number that is no more than its own, and so have all (`ArePages`).
+//!
 //! # What a body may still get away with
 //!
-//! `reserve`, and so `insert` and `push_back` without memory reserved, may answer [`NoMemory`] although there was some.
+//! `reserve`, and so `insert` and `push_back` without memory reserved, may answer [`NoMemory`] although there was some. A map may be incomplete.
 #![tactic(auto)]
 
 mod blocks;
@@ -45,9 +66,16 @@ mod coming;
 mod going;
 mod halving;
 mod lending;
+mod paged_numbers;
+mod pages;
+mod pairs;
 mod removing;
 mod searching;
 mod sequence;
+mod two_way_map;
 
+pub use paged_numbers::PagedNumbers;
+pub use pairs::{Pair, Pairs};
 pub use sctp_values::NoMemory;
 pub use sequence::Sequence;
+pub use two_way_map::TwoWayMap;

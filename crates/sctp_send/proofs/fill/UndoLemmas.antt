@@ -63,10 +63,6 @@ cut_behind (x ∷ xs) (y ∷ ys) e is =
     let rest = cut_behind xs ys e tail in
     (rest.0, ap (λ zs. y ∷ zs) rest.1 ∙ ap (λ z. z ∷ xs) head)
 
--- what is told of an entry that was read and goes out
-pub stood_sent : (w : OutstandingKept) (at : ℕ) (x : EntryFields) → x ≡ get_or w.items at x → changed (stood (state_of (went_out x))) at w ≡ changed went_out at w
-stood_sent w at x read = ap (λ (es : List EntryFields). record w { items = es }) (changed_at_like (stood (state_of (went_out x))) went_out at w.items x read refl)
-
 pub stood_nowhere : (f : EntryFields → EntryFields) (w : OutstandingKept) (at : ℕ) → length w.items ≤ at → w ≡ changed f at w
 stood_nowhere f w at le = ap (λ (es : List EntryFields). record w { items = es }) (changed_at_past f at w.items le)
 

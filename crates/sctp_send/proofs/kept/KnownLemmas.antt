@@ -1,5 +1,5 @@
 -- What is known of stretches stays true as entries are added, removed, changed or set.
-use Rattle.std.proofs.Common.{◌≡◌, ℕ, suc, ◌+◌, ◌%◌, ◌^◌, ◌<◌, ◌≤◌, List, [], ◌∷◌, ◌++◌, length, Bool, true, false, Some, inl, inr, sym, ap, ◌∙◌, subst, arith, length-append}
+use Rattle.std.proofs.Common.{◌≡◌, ℕ, suc, ◌+◌, ◌%◌, ◌^◌, ◌<◌, ◌≤◌, List, [], ◌∷◌, ◌++◌, length, Bool, true, false, Some, inl, inr, sym, ap, ◌∙◌, arith, length-append}
 use Rattle.std.specs.Prelude.{slice_get}
 use Rattle.std.proofs.lemmas.Bool.{cases_lt, cases_eq}
 use Rattle.sctp_send.specs.PartsKept.{changed_at}
@@ -8,10 +8,6 @@ use Rattle.sctp_send.specs.declared.kept.stretches.Stretch.{Stretch}
 use Rattle.sctp_send.specs.declared.kept.entry.Entry.{Entry as EntryFields}
 use Rattle.sctp_send.proofs.kept.ChangedLemmas.{count_changed}
 use Rattle.sctp_send.proofs.kept.StretchLemmas.{length-told_run, alike_pushed, alike_cut, alike_before, alike_behind, alike_turned, alike_front, alike_back}
-
--- of no entry
-pub known_none : (size first : ℕ) (ss : List Stretch) → AreKnown size first ss []
-known_none size first ss n s within begins read known = absurd (omega (arith, within))
 
 -- no more is said of any stretch
 abbrev pub SayNoMore : (now before : List Stretch) → Type 0
@@ -78,20 +74,6 @@ one_there first n m long few one two first_begins other_begins same = omega (ari
 -- stretches that begin apart lie apart
 lie_apart : (first n m : ℕ) → n < m → index_at first n % 64 ≡ 0 → index_at first m % 64 ≡ 0 → n + 64 ≤ m
 lie_apart first n m lt one two = omega (arith, lt, one, two)
-
--- of one stretch this is known now
-pub known_more : (size first at : ℕ) (ss now : List Stretch) (new : Stretch) (es : List EntryFields) → length es ≤ 32768 → at + 64 ≤ length es → index_at first at % 64 ≡ 0
-    → SayTheSame (index_at first at) now ss → ((s : Stretch) → slice_get now (slot_at (index_at first at)) ≡ Some s → s ≡ new)
-    → (new.is_known ≡ true → AreAlike size new.covered new.bytes new.plain at 64 es) → AreKnown size first ss es → AreKnown size first now es
-known_more size first at ss now new es few there starts same here alike h n s within begins read known =
-    elim (cases_eq (slot_at (index_at first n)) (slot_at (index_at first at))) [
-      | inl is ↦
-          let one = one_there first n at (length es) few within there begins starts is in
-          let said : s ≡ new = here s (ap (slice_get now) (sym is) ∙ read) in
-          let so = alike (ap (λ (r : Stretch). r.is_known) (sym said) ∙ known) in
-          subst (λ (m : ℕ). AreAlike size s.covered s.bytes s.plain m 64 es) (sym one) (subst (λ (r : Stretch). AreAlike size r.covered r.bytes r.plain at 64 es) (sym said) so)
-      | inr ne ↦ h n s within begins (sym (same (slot_at (index_at first n)) ne) ∙ read) known
-    ]
 
 -- a stretch that is known is told
 pub known_turned : (size first at : ℕ) (b c : Bool) (bytes plain : ℕ) (ss now : List Stretch) (new : Stretch) (es : List EntryFields) → length es ≤ 32768 → at + 64 ≤ length es → index_at first at % 64 ≡ 0

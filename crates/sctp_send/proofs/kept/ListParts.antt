@@ -71,11 +71,6 @@ module _ {A : Type 0} where
   has_at (x ∷ xs) zero d l = inl refl
   has_at (x ∷ xs) (suc k) d l = inr (has_at xs k d (omega arith))
 
-  pub at_same : (xs : List A) (k : ℕ) (d e : A) → k < length xs → get_or xs k d ≡ get_or xs k e
-  at_same [] k d e l = absurd (omega arith)
-  at_same (x ∷ xs) zero d e l = refl
-  at_same (x ∷ xs) (suc k) d e l = at_same xs k d e (omega arith)
-
   -- one rank further, one element more lies before it
   pub taken_one : (xs : List A) (k : ℕ) (x y : A) → k < length xs → x ≡ get_or xs k x → Has (take (suc k) xs) y → Has (take k xs) y ⊎ (x ≡ y)
   taken_one [] k x y l e there = absurd (omega arith)

@@ -1,32 +1,10 @@
--- The moments of tickets in pages: one is passed, or so many have one moment in common.
-use Rattle.std.proofs.Common.{◌≡◌, ℕ, zero, suc, ◌+◌, ◌-◌, ◌/◌, ◌^◌, ◌<◌, ◌≤◌, ◌⊎◌, inl, inr, List, [], ◌∷◌, ◌++◌, length, get_or, drop, Option, None, Some, refl, sym, ap, ◌∙◌, arith, length-drop}
+-- The moments of tickets where the first ones are passed, and where so many have one moment in common.
+use Rattle.std.proofs.Common.{◌≡◌, ℕ, ◌+◌, ◌-◌, ◌^◌, ◌<◌, ◌≤◌, ◌⊎◌, inl, inr, List, ◌++◌, length, get_or, drop, Option, None, Some, sym, ap, ◌∙◌, arith}
 use Rattle.std.specs.Prelude.{replicate, IfSome, IfNone}
 use Rattle.std.proofs.lemmas.Bool.{cases_lt}
 use Rattle.std.proofs.lemmas.List.{length-replicate, get_or-replicate, get_or-append_right, get_or_append_left, get_or-drop}
-use Rattle.sctp_send.specs.inner.Dues.{due_at, AreDues}
+use Rattle.sctp_send.specs.inner.Dues.{due_at}
 use Rattle.sctp_send.proofs.kept.MomentLemmas.{due_passed, due_there, moment_index}
-
--- ---- a page is passed
-
-pub dues_passed : (p : ℕ) (ms ls : List ℕ) (e : ℕ) → AreDues p ms ls e → 64 ≤ length ms → AreDues (p + 64) (drop 64 ms) (drop 1 ls) e
-dues_passed p ms ls e h most =
-    let few = h.few in
-    let many = h.pages.many in
-    let long = length-drop 64 ms in
-    let pages = length-drop 1 ls in
-    record {
-      few = omega (arith, few, long, most);
-      pages = record {
-        many = omega (arith, many, long, pages, most);
-        least = λ k d lt.
-            let next : (64 + k) / 64 ≡ 1 + k / 64 = omega arith in
-            let was = h.pages.least (64 + k) d (omega (arith, long, lt, most)) in
-            let page = get_or-drop 1 ls (k / 64) d ∙ ap (λ (n : ℕ). get_or ls n d) (sym next) in
-            let moment = get_or-drop 64 ms k d in
-            omega (arith, was, page, moment);
-      };
-      first = λ k d lt. let was = h.first (1 + k) d (omega (arith, pages, lt)) in let page = get_or-drop 1 ls k d in omega (arith, was, page);
-    }
 
 -- the other tickets have their moments still
 pub due_behind : (p : ℕ) (ms : List ℕ) (n t now : ℕ) → n ≤ length ms → p + n < t → now < due_at (p + n) (drop n ms) t → now < due_at p ms t
@@ -86,20 +64,6 @@ run_same p n q ms ns t behind = elim (cases_lt p t) [
     | inr upto ↦ due_alike p n q ns t past upto ∙ sym (due_alike p n q ms t past upto)
   ]
 ]
-
--- one more has it
-pub alike_push : (n q : ℕ) → replicate (n + 1) q ++ [] ≡ (replicate n q ++ []) ++ q ∷ []
-alike_push n q = let one : n + 1 ≡ suc n = omega arith in ap (λ (k : ℕ). replicate k q ++ []) one ∙ more n
-  where
-    more : (k : ℕ) → replicate (suc k) q ++ [] ≡ (replicate k q ++ []) ++ q ∷ []
-    more zero = refl
-    more (suc k) = ap (λ (xs : List ℕ). q ∷ xs) (more k)
-
--- so many fewer have it
-pub alike_dropped : (m n q : ℕ) (ms : List ℕ) → m ≤ n → drop m (replicate n q ++ ms) ≡ replicate (n - m) q ++ ms
-alike_dropped zero n q ms le = let same : n ≡ n - 0 = omega arith in ap (λ (k : ℕ). replicate k q ++ ms) same
-alike_dropped (suc m) zero q ms le = absurd (omega (arith, le))
-alike_dropped (suc m) (suc n) q ms le = let same : n - m ≡ suc n - suc m = omega arith in alike_dropped m n q ms (omega (arith, le)) ∙ ap (λ (k : ℕ). replicate k q ++ ms) same
 
 -- the one that is told anew lies behind
 pub run_here : (p n q : ℕ) (ms ns : List ℕ) (A : Type 0) (now t : ℕ) → (p + n < t → now < due_at (p + n) ns t → A ⊎ (now < due_at (p + n) ms t)) → now < due_at p (replicate n q ++ ns) t → A ⊎ (now < due_at p (replicate n q ++ ms) t)

@@ -78,9 +78,6 @@ get_within (t ∷ ts) (suc n) x is = let lt = get_within ts n x is in omega (ari
 
 -- ---- an entry more
 
-pub ordered_none : IsOrderOf [] 0 []
-ordered_none = record { small = omega arith; many = refl; rising = tt; each = λ s there. absurd there; all = λ n lt. absurd (omega arith) }
-
 -- behind all others
 pub rank_last : (ts : List ℕ) (first t highest : ℕ) (ss : List Spot) → highest ≤ t → AreUpTo highest ss → IsOrderOf ts first ss → IsRankOf first t (length ts) ss (length ss)
 rank_last ts first t highest ss low below h = record {

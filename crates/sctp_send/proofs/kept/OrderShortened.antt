@@ -3,10 +3,11 @@ use Rattle.std.proofs.Common.{◌≡◌, ℕ, suc, ◌+◌, ◌%◌, ◌^◌, �
 use Rattle.std.specs.Prelude.{slice_get, OnOk, OnErr, OnSome, IsSome, IfNone}
 use Rattle.std.specs.List.{remove}
 use Rattle.std.proofs.lemmas.Bool.{cases_lt}
+use Rattle.std.proofs.lemmas.List.{get_or_default}
 use Rattle.sctp_model.specs.numbers.Lists.{Has, AreInOrder}
 use Rattle.sctp_send.specs.declared.kept.by_ticket.Spot.{Spot}
 use Rattle.sctp_send.specs.inner.TicketOrder.{offset_of, AreRising, IsOrderOf, IsRankOf, IsGone}
-use Rattle.sctp_send.proofs.kept.ListParts.{in_back, in_part, in_around, in_midst, halves, here_first, front_or_back, none_dropped, at_same, order_front, order_back, order_across, order_join, order_kept}
+use Rattle.sctp_send.proofs.kept.ListParts.{in_back, in_part, in_around, in_midst, halves, here_first, front_or_back, none_dropped, order_front, order_back, order_across, order_join, order_kept}
 use Rattle.sctp_send.proofs.kept.OrderLemmas.{before_is, get_shorter, get_within, is_before}
 
 -- ---- an entry less
@@ -25,7 +26,7 @@ found_gone ts first t n ss k h here p =
     ] in
     let less : k < length ss = elim (cases_lt k (length ss)) [ inl lt ↦ lt | inr le ↦ absurd (none_dropped ss k s le back) ] in
     let z = get_or ss k s in
-    let rest : drop k ss ≡ z ∷ drop (suc k) ss = here_first ss k z less (at_same ss k s z less) in
+    let rest : drop k ss ≡ z ∷ drop (suc k) ss = here_first ss k z less (get_or_default ss k s z less) in
     let was : ss ≡ take k ss ++ z ∷ drop (suc k) ss = sym (halves ss k) ∙ ap (λ (xs : List Spot). take k ss ++ xs) rest in
     let order : AreInOrder (AreRising first) (z ∷ drop (suc k) ss) = order_back (AreRising first) (take k ss) (z ∷ drop (suc k) ss) (subst (λ (xs : List Spot). AreInOrder (AreRising first) xs) was h.rising) in
     let first_there : Has (drop k ss) z = subst (λ (xs : List Spot). Has xs z) (sym rest) (inl refl) in
@@ -127,7 +128,7 @@ ordered_cut t ts first before after was g =
 pub front_first : (first : ℕ) (ss : List Spot) (x s : Spot) → first < 2 ^ 32 → 0 < length ss → x ≡ get_or ss 0 x → x.index ≡ first → offset_of first (get_or ss 0 s) ≡ 0
 front_first first ss x s small lt read same =
     let at : offset_of first x ≡ 0 = omega (arith, small, same) in
-    subst (λ (y : Spot). offset_of first y ≡ 0) (read ∙ at_same ss 0 x s lt) at
+    subst (λ (y : Spot). offset_of first y ≡ 0) (read ∙ get_or_default ss 0 x s lt) at
 
 -- ---- answers
 

@@ -1,19 +1,18 @@
 -- The seats as messages come and go, and what is asked of the messages by their tickets.
-use Rattle.std.proofs.Common.{◌≡◌, ℕ, zero, suc, ◌+◌, ◌<◌, ◌≤◌, ◌^◌, List, [], ◌∷◌, ◌++◌, length, map, take, drop, get_or, Bool, true, false, refl, sym, ap, ◌∙◌, arith, subst}
-use Rattle.std.specs.Prelude.{insert, remove, if◌then◌else◌}
+use Rattle.std.proofs.Common.{◌≡◌, ℕ, zero, suc, ◌+◌, ◌<◌, ◌≤◌, List, [], ◌∷◌, ◌++◌, length, map, take, drop, get_or, Bool, true, refl, sym, ap, ◌∙◌, arith, subst}
+use Rattle.std.specs.Prelude.{insert, remove}
 use Rattle.std.specs.declared.sync.Arc.{Arc}
 use Rattle.std.specs.declared.alloc.Global.{Global}
-use Rattle.std.specs.List.{sum_by}
+use Rattle.std.specs.List.{Contains, sum_by}
 use Rattle.std.proofs.lemmas.List.{length-map, get_or-map}
-use Rattle.std.proofs.lemmas.List.Sums.{sum_by-insert, sum_by-remove}
+use Rattle.std.proofs.lemmas.List.Sums.{sum_by-cons, sum_by-insert, sum_by-remove}
+use Rattle.sctp_sequence.specs.Pairs.{AreSame}
+use Rattle.sctp_sequence.specs.declared.pairs.Pair.{Pair}
 use Rattle.sctp_model.specs.sender.Abandoning.{without}
 use Rattle.sctp_model.specs.sender.SenderView.{Queued}
 use Rattle.sctp_send.specs.SenderFields.{queued_by}
-use Rattle.sctp_send.specs.inner.Ordering.{key, before, AreOrdered}
-use Rattle.sctp_send.specs.inner.Seating.{ticket_in, seat_of, DoTicketsRise, IsBetween, AreLower, AreSeats, IsSeatedOf, IsQueueOf}
+use Rattle.sctp_send.specs.inner.Seating.{ticket_in, seat_of, DoTicketsRise, IsBetween, AreLower, IsSeatedOf, IsQueueOf}
 use Rattle.sctp_send.specs.declared.kept.message.Message.{Message as MessageFields}
-use Rattle.sctp_send.specs.declared.kept.ordered.Seat.{Seat}
-use Rattle.sctp_send.proofs.kept.OrderedLemmas.{in_order, before_below, comes_before, comes_behind, is_small, among, same_numbers}
 use Rattle.sctp_send.proofs.kept.RiseLemmas.{rise_inserted, rise_removed}
 use Rattle.sctp_send.proofs.abandon.WithdrawLemmas.{walked_place}
 
@@ -31,7 +30,7 @@ mapped_removed f (y ∷ xs) zero = refl
 mapped_removed f (y ∷ xs) (suc n) = ap (λ ys. f y ∷ ys) (mapped_removed f xs n)
 
 -- no message waits
-pub seated_fresh : (size : ℕ) (seated : Bool) (ms : List (Arc MessageFields Global)) (ps : List Seat) → 0 < size → ms ≡ [] → ps ≡ [] → IsQueueOf size ms 0 true seated ps 0
+pub seated_fresh : (size : ℕ) (seated : Bool) (ms : List (Arc MessageFields Global)) (ps : List Pair) → 0 < size → ms ≡ [] → ps ≡ [] → IsQueueOf size ms 0 true seated ps 0
 seated_fresh size seated ms ps some none empty = rw (none, empty) (record {
   owed = record { some = some; owed = omega arith };
   seats = record { order = λ on. tt; seats = λ on f. refl };
@@ -39,57 +38,42 @@ seated_fresh size seated ms ps some none empty = rw (none, empty) (record {
 })
 
 -- the same messages and seats
-pub seated_same : (size sum : ℕ) (rises seated : Bool) (ms next : List (Arc MessageFields Global)) (ps qs : List Seat) (bytes : ℕ) → IsQueueOf size ms sum rises seated ps bytes → next ≡ ms → qs ≡ ps → IsQueueOf size next sum rises seated qs bytes
+pub seated_same : (size sum : ℕ) (rises seated : Bool) (ms next : List (Arc MessageFields Global)) (ps qs : List Pair) (bytes : ℕ) → IsQueueOf size ms sum rises seated ps bytes → next ≡ ms → qs ≡ ps → IsQueueOf size next sum rises seated qs bytes
 seated_same size sum rises seated ms next ps qs bytes h is same = rw (is, same) (record { owed = h.owed; seats = h.seats; bytes = h.bytes })
 
 -- one message more
-pub seated_inserted : (was rises had seated : Bool) (n : ℕ) (x : Arc MessageFields Global) (ms next : List (Arc MessageFields Global)) (ps qs : List Seat) (p : Seat) → IsSeatedOf was had ms ps → next ≡ insert ms n x → n ≤ length ms
-    → (rises ≡ true → was ≡ true) → (rises ≡ true → IsBetween n (ticket_in x) ms) → (seated ≡ true → had ≡ true) → (seated ≡ true → qs ≡ insert ps (before key (key p) ps) p) → p ≡ seat_of x → IsSeatedOf rises seated next qs
+pub seated_inserted : (was rises had seated : Bool) (n : ℕ) (x : Arc MessageFields Global) (ms next : List (Arc MessageFields Global)) (ps qs : List Pair) (p : Pair) → IsSeatedOf was had ms ps → next ≡ insert ms n x → n ≤ length ms
+    → (rises ≡ true → was ≡ true) → (rises ≡ true → IsBetween n (ticket_in x) ms) → (seated ≡ true → had ≡ true) → (seated ≡ true → AreSame qs (p ∷ ps)) → p ≡ seat_of x → IsSeatedOf rises seated next qs
 seated_inserted was rises had seated n x ms next ps qs p h is le up between kept taken own = record {
   order = λ on. subst (DoTicketsRise 0) (sym is) (rise_inserted 0 n x ms (omega arith) le (between on) (h.order (up on)));
   seats = λ on f.
       let before_it = h.seats (kept on) f in
-      let one = sum_by-insert f ps (before key (key p) ps) p in
+      let one = sum_by-cons f p ps in
       let other = sum_by-insert f (map seat_of ms) n (seat_of x) in
       let same : f p ≡ f (seat_of x) = ap f own in
-      let left : sum_by f qs ≡ sum_by f ps + f p = ap (sum_by f) (taken on) ∙ one in
+      let left = taken on f in
       let right : sum_by f (map seat_of next) ≡ sum_by f (map seat_of ms) + f (seat_of x) = ap (λ (ys : List (Arc MessageFields Global)). sum_by f (map seat_of ys)) is ∙ ap (sum_by f) (mapped_inserted seat_of ms n x) ∙ other in
-      omega (arith, left, right, before_it, same);
+      omega (arith, left, one, right, before_it, same);
 }
 
 -- one less
-pub seated_removed : (rises seated : Bool) (n : ℕ) (x : Arc MessageFields Global) (ms next : List (Arc MessageFields Global)) (ps qs : List Seat) (p : Seat) → IsSeatedOf rises seated ms ps → (seated ≡ true → AreOrdered ps) → n < length ms → x ≡ get_or ms n x → next ≡ remove ms n
-    → p ≡ seat_of x → (seated ≡ true → before key (key p) ps < length ps → qs ≡ remove ps (before key (key p) ps)) → IsSeatedOf rises seated next qs
-seated_removed rises seated n x ms next ps qs p h o lt read is own taken = record {
+pub seated_removed : (rises seated : Bool) (n : ℕ) (x : Arc MessageFields Global) (ms next : List (Arc MessageFields Global)) (ps qs : List Pair) (p : Pair) → IsSeatedOf rises seated ms ps → n < length ms → x ≡ get_or ms n x → next ≡ remove ms n → p ≡ seat_of x
+    → ((us : List Pair) → seated ≡ true → AreSame ps us → Contains us p → AreSame ps (p ∷ qs)) → IsSeatedOf rises seated next qs
+seated_removed rises seated n x ms next ps qs p h lt read is own gone = record {
   order = λ on. subst (DoTicketsRise 0) (sym is) (rise_removed 0 n ms (h.order on));
   seats = λ on f.
-      let all : AreSeats ms ps = h.seats on in
-      let order = o on in
       let long = length-map ms seat_of in
       let there : get_or (map seat_of ms) n p ≡ p = get_or-map seat_of ms n x p lt ∙ ap seat_of (sym read) ∙ sym own in
-      let found = among p ps (map seat_of ms) n p all (omega (arith, long, lt)) there in
-      let found_key : key (get_or ps found.0 p) ≡ key p = ap key found.2 in
-      let at = before key (key p) ps in
-      let low : at ≤ found.0 = before_below key (key p) found.0 ps p found.1 (omega (arith, found_key)) in
-      let within : at < length ps = omega (arith, low, found.1) in
-      let more = comes_behind key (key p) 0 at ps p order.order (omega arith) within in
-      let less = in_order key 0 at found.0 ps p order.order low found.1 in
-      let here : get_or ps at p ≡ p = same_numbers (get_or ps at p) p (omega (arith, more, less, found_key)) (is_small at ps p order.small within) (subst (λ (q : Seat). q.second < 2 ^ 64) found.2 (is_small found.0 ps p order.small found.1)) in
-      let one = sum_by-remove f ps at p within in
+      let all = h.seats on f in
+      let left = gone (map seat_of ms) on (h.seats on) (n, omega (arith, long, lt), there) f in
+      let one = sum_by-cons f p qs in
       let other = sum_by-remove f (map seat_of ms) n p (omega (arith, long, lt)) in
-      let before_it = all f in
-      let same : f (get_or ps at p) ≡ f (get_or (map seat_of ms) n p) = ap f (here ∙ sym there) in
-      let left : sum_by f qs ≡ sum_by f (remove ps at) = ap (sum_by f) (taken on within) in
+      let same : f (get_or (map seat_of ms) n p) ≡ f p = ap f there in
       let right : sum_by f (map seat_of next) ≡ sum_by f (remove (map seat_of ms) n) = ap (λ (ys : List (Arc MessageFields Global)). sum_by f (map seat_of ys)) is ∙ ap (sum_by f) (mapped_removed seat_of ms n) in
-      omega (arith, left, right, one, other, before_it, same);
+      omega (arith, left, right, one, other, all, same);
 }
 
 -- ---- by ticket
-
--- where the lower ones end, or nowhere
-pub lower_there : (b : Bool) (t n : ℕ) (ms : List (Arc MessageFields Global)) → n ≡ (if b then before ticket_in t ms else 0) → AreLower t n ms
-lower_there true t n ms is = λ k d lt. comes_before ticket_in t k ms d (omega (arith, lt, is))
-lower_there false t n ms is = λ k d lt. absurd (omega (arith, lt, is))
 
 -- a message with a ticket isn't among those with lower ones
 pub place_from : (t size n : ℕ) (ms : List (Arc MessageFields Global)) → n ≤ length ms → AreLower t n ms → without t (map (queued_by size) ms) ≡ take n (map (queued_by size) ms) ++ without t (drop n (map (queued_by size) ms))

@@ -3,6 +3,7 @@ use Rattle.std.proofs.Common.{◌≡◌, ℕ, zero, suc, ◌+◌, ◌^◌, ◌<�
 use Rattle.std.specs.Prelude.{◌==◌, ◌||◌, slice_get}
 use Rattle.std.proofs.lemmas.Bool.Decides.{nat_tests}
 use Rattle.std.proofs.lemmas.Bool.{cases_lt}
+use Rattle.std.proofs.lemmas.List.{get_or_default}
 use Rattle.sctp_model.specs.numbers.Lists.{Has, AreInOrder}
 use Rattle.sctp_send.specs.PartsKept.{changed_at}
 use Rattle.sctp_send.specs.OutstandingFields.{item_meaning}
@@ -17,7 +18,7 @@ use Rattle.sctp_send.specs.declared.kept.entry.Standing.{Standing}
 use Rattle.sctp_send.specs.declared.kept.stretches.Stretch.{Stretch}
 use Rattle.sctp_send.specs.declared.kept.entry.Standing.TheVariants.{Unsent, Sent, Marked}
 use Rattle.sctp_send.specs.declared.kept.entry.Entry.{Entry as EntryFields}
-use Rattle.sctp_send.proofs.kept.ListParts.{has_at, at_same, dropped_more, here_first, taken_has, dropped_has, front_or_back, taken_one, order_back, halves}
+use Rattle.sctp_send.proofs.kept.ListParts.{has_at, dropped_more, here_first, taken_has, dropped_has, front_or_back, taken_one, order_back, halves}
 use Rattle.sctp_send.proofs.kept.OrderLemmas.{before_is, is_before, get_within}
 
 -- ---- entries by offset
@@ -88,7 +89,7 @@ module _ (es : List EntryFields) (first : ℕ) (ss : List Spot) (order : IsOrder
   one_passed P k n s e lt at read holds passed u d there here =
       let x = get_or ss k s in
       let one : k + 1 ≡ suc k = omega arith in
-      elim (taken_one ss k x u lt (at_same ss k s x lt) (subst (λ (m : ℕ). Has (take m ss) u) one there)) [
+      elim (taken_one ss k x u lt (get_or_default ss k s x lt) (subst (λ (m : ℕ). Has (take m ss) u) one there)) [
         | inl early ↦ passed u d early here
         | inr last ↦
             let mine : slice_get es (offset_of first u) ≡ Some e = subst (λ (m : ℕ). slice_get es m ≡ Some e) (at ∙ ap (offset_of first) last) (get_read es n e (spot_within k n s lt at) read) in
@@ -122,7 +123,7 @@ module _ (es : List EntryFields) (first : ℕ) (ss : List Spot) (order : IsOrder
       → (s : Spot) (e : EntryFields) → Has (drop k ss) s → slice_get es (offset_of first s) ≡ Some e → ticket_of x ≤ ticket_of e
   from_left k n d x lt at read s e there here =
       let y = get_or ss k d in
-      let rest : drop k ss ≡ y ∷ drop (suc k) ss = here_first ss k y lt (at_same ss k d y lt) in
+      let rest : drop k ss ≡ y ∷ drop (suc k) ss = here_first ss k y lt (get_or_default ss k d y lt) in
       let mine : slice_get es (offset_of first y) ≡ Some x = subst (λ (m : ℕ). slice_get es m ≡ Some x) at (get_read es n x (spot_within k n d lt at) read) in
       let one = spot_ticket y x (has_at ss k d lt) mine in
       let two = spot_ticket s e (dropped_has ss k s there) here in
@@ -138,7 +139,7 @@ module _ (es : List EntryFields) (first : ℕ) (ss : List Spot) (order : IsOrder
       → ((e : EntryFields) → t < ticket_of e → P e) → (s : Spot) (e : EntryFields) → Has (drop k ss) s → slice_get es (offset_of first s) ≡ Some e → P e
   behind_left P t i k n d x rank le lt at read other holds s e there here =
       let y = get_or ss k d in
-      let rest : drop k ss ≡ y ∷ drop (suc k) ss = here_first ss k y lt (at_same ss k d y lt) in
+      let rest : drop k ss ≡ y ∷ drop (suc k) ss = here_first ss k y lt (get_or_default ss k d y lt) in
       let first_there : Has (drop k ss) y = subst (λ (us : List Spot). Has us y) (sym rest) (inl refl) in
       let mine : slice_get es (offset_of first y) ≡ Some x = subst (λ (m : ℕ). slice_get es m ≡ Some x) at (get_read es n x (spot_within k n d lt at) read) in
       let ticket = spot_ticket y x (has_at ss k d lt) mine in
@@ -226,7 +227,7 @@ abandoned_more t first ss es k n s lt at passed u e there read =
     let one : k + 1 ≡ suc k = omega arith in
     elim (changed_read (as_abandoned t) n (offset_of first u) es e read) [
       | inr new ↦ subst (λ (d : EntryFields). as_abandoned t d ≡ d) (sym new.3) (abandoned_twice t new.0)
-      | inl same ↦ elim (taken_one ss k x u lt (at_same ss k s x lt) (subst (λ (m : ℕ). Has (take m ss) u) one there)) [
+      | inl same ↦ elim (taken_one ss k x u lt (get_or_default ss k s x lt) (subst (λ (m : ℕ). Has (take m ss) u) one there)) [
         | inl early ↦ passed u e early same
         | inr last ↦
             let here : offset_of first u ≡ n = ap (offset_of first) (sym last) ∙ sym at in

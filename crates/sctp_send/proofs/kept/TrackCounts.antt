@@ -9,11 +9,12 @@ use Rattle.sctp_send.specs.SenderKept.{Rest, Track}
 use Rattle.sctp_send.specs.SenderFields.{counts_meaning, rests_meaning, track_meaning}
 use Rattle.sctp_send.specs.inner.Newcomers.{number_in, counted_in, rest_at, has_rest, track_of}
 use Rattle.sctp_send.specs.inner.Stocking.{counted_track, left_track}
-use Rattle.sctp_send.specs.inner.PartSeats.{ticket_left, tickets_left, IsListed, IsStreamsOf}
+use Rattle.sctp_send.specs.inner.PartSeats.{ticket_left, tickets_left, IsStreamsOf}
+use Rattle.sctp_sequence.specs.TwoWays.{IsMapOf}
 use Rattle.sctp_send.specs.inner.Undoing.{count_of, counted_to}
 use Rattle.sctp_send.specs.inner.Walks.{total, one_if_rest, rest_owes}
 use Rattle.sctp_send.specs.declared.kept.message.Message.{Message as MessageFields}
-use Rattle.sctp_send.specs.declared.kept.part_lists.PartLists.{PartLists}
+use Rattle.sctp_sequence.specs.declared.two_way_map.TwoWayMap.{TwoWayMap}
 use Rattle.sctp_send.specs.declared.kept.track.Rest.{Rest as RestFields}
 use Rattle.sctp_send.specs.declared.kept.track.Track.{Track as TrackFields}
 
@@ -107,7 +108,7 @@ long_stays many zero k (t ∷ ts) = refl
 long_stays many (suc at) k (t ∷ ts) = ap suc (long_stays many at k ts)
 
 -- all that is said of the streams
-pub streams_counted : (size many at parts owed : ℕ) (k : Kind) (ts : List TrackFields) (lists : PartLists) → IsStreamsOf size ts parts owed lists → IsStreamsOf size (changed_at (counted_to k many) at ts) parts owed lists
+pub streams_counted : (size many at parts owed : ℕ) (k : Kind) (ts : List TrackFields) (lists : TwoWayMap) → IsStreamsOf size ts parts owed lists → IsStreamsOf size (changed_at (counted_to k many) at ts) parts owed lists
 streams_counted size many at parts owed k ts lists h =
     let long = long_stays many at k ts in
     let few = h.counted.few in
@@ -118,7 +119,7 @@ streams_counted size many at parts owed k ts lists h =
         parts = h.counted.parts ∙ ap (λ (n : ℕ). n % 2 ^ 32) (sym (total_stays one_if_rest size many at k ts one));
         owed = h.counted.owed ∙ ap (λ (n : ℕ). n % 2 ^ 64) (sym (total_stays rest_owes size many at k ts owes));
       };
-      listed = subst (λ (os : List (Option ℕ)). IsListed os lists) (sym (tickets_stay many at k ts)) h.listed;
+      listed = subst (λ (os : List (Option ℕ)). IsMapOf os lists) (sym (tickets_stay many at k ts)) h.listed;
     }
   where
     one : (a b : Track) (o : Option RestFields) → one_if_rest (rests_meaning size a o) ≡ one_if_rest (rests_meaning size b o)

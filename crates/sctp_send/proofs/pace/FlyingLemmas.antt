@@ -1,7 +1,7 @@
 -- What is newly acknowledged where all entries are and nothing is marked for retransmission: what is in flight.
 use Rattle.std.proofs.Common.{◌≡◌, ℕ, zero, suc, ◌+◌, ◌-◌, ◌%◌, ◌^◌, ◌<◌, ◌≤◌, ◌∙◌, List, [], ◌∷◌, length, map, take, take_all, get_or, Bool, true, false, Option, Some, None, refl, sym, ap, arith}
 use Rattle.std.proofs.lemmas.List.{length-map}
-use Rattle.std.specs.Prelude.{if◌then◌else◌, option_map, ◌&&◌}
+use Rattle.std.specs.Prelude.{if◌then◌else◌, option_map}
 use Rattle.sctp_model.specs.sender.Words.{sum_below, last_that}
 use Rattle.sctp_send.specs.SenderKept.{Item}
 use Rattle.sctp_send.specs.declared.pace.tally.Tally.{Tally}

@@ -64,13 +64,6 @@ repeats_past f room at [] x read off = absurd (cc)
 repeats_past f room zero (y ∷ xs) x read off = let same : y ≡ x = cc in rw (same, off) refl
 repeats_past f room (suc at) (y ∷ xs) x read off = repeats_past f room at xs x read off
 
--- behind all items
-pub repeats_end : (f : Format) (room at : ℕ) (xs : List Item) → length xs ≤ at → repeats_room f room (drop at xs) ≡ 0
-repeats_end f room zero [] le = refl
-repeats_end f room (suc at) [] le = refl
-repeats_end f room zero (x ∷ xs) le = absurd (omega arith)
-repeats_end f room (suc at) (x ∷ xs) le = repeats_end f room at xs (omega arith)
-
 -- none is marked
 repeats_none : (f : Format) (room : ℕ) (xs : List Item) → first_offset is_item_marked xs ≡ None → repeats_room f room xs ≡ 0
 repeats_none f room [] none = refl

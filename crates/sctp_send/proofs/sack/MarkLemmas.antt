@@ -30,10 +30,6 @@ lt_off a b h = grind (arith, nat_tests)
 
 -- ---- each by its offset
 
-pub length-each_changed : (g : ℕ → EntryFields → EntryFields) (i : ℕ) (es : List EntryFields) → length (each_changed g i es) ≡ length es
-length-each_changed g i [] = refl
-length-each_changed g i (e ∷ es) = ap suc (length-each_changed g (suc i) es)
-
 -- changes that agree where there are entries
 pub each_same : (g h : ℕ → EntryFields → EntryFields) (i : ℕ) (es : List EntryFields) → ((k : ℕ) (e : EntryFields) → i ≤ k → k < i + length es → g k e ≡ h k e) → each_changed g i es ≡ each_changed h i es
 each_same g h i [] same = refl

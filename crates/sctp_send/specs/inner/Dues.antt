@@ -1,5 +1,5 @@
--- From which moment on the message of a ticket may be past its time: ticket by ticket, and in pages of 64.
-use Rattle.std.specs.Prelude.{◌≡◌, ℕ, suc, ◌+◌, ◌-◌, ◌/◌, ◌^◌, ◌<◌, ◌≤◌, min, nat_le, ◌==◌, ◌&&◌, ◌||◌, not, ◌⊎◌, Bool, true, false, if◌then◌else◌, List, map, length, slice_index_or, slice_get, Option, None, Some, unwrap_or, option_and_then}
+-- From which moment on the message of a ticket may be past its time: ticket by ticket.
+use Rattle.std.specs.Prelude.{◌≡◌, ℕ, suc, ◌+◌, ◌-◌, ◌^◌, ◌<◌, ◌≤◌, min, nat_le, ◌==◌, ◌&&◌, ◌||◌, not, ◌⊎◌, Bool, true, false, if◌then◌else◌, List, map, length, slice_index_or, slice_get, Option, None, Some, unwrap_or, option_and_then}
 use Rattle.std.specs.List.{list_any}
 use Rattle.std.specs.declared.sync.Arc.{Arc}
 use Rattle.std.specs.declared.alloc.Global.{Global}
@@ -24,21 +24,6 @@ use Rattle.sctp_send.specs.declared.kept.track.Rest.{Rest as RestFields}
 -- so many of the first tickets are passed, and of those behind each has its moment; of a ticket that is passed or was not given it never comes
 unfoldable pub due_at : (passed : ℕ) → (moments : List ℕ) → (ticket : ℕ) → ℕ
 due_at p ms t = if nat_le t p then 2 ^ 64 else slice_index_or ms (t - suc p) (2 ^ 64)
-
--- Each page of 64 tickets has a moment that is no later than theirs.
-pub record AreLeast (ms leasts : List ℕ) : Type 0 where
-  pub many : length leasts ≡ (length ms + 63) / 64
-  pub least : (k d : ℕ) → k < length ms → slice_index_or leasts (k / 64) d ≤ slice_index_or ms k d
-
--- one moment is no later than any of these
-abbrev pub IsEarliest : (moment : ℕ) → List ℕ → Type 0
-IsEarliest m ms = (k d : ℕ) → k < length ms → m ≤ slice_index_or ms k d
-
--- What is kept of the moments: of each ticket, of each page, and of all.
-pub record AreDues (passed : ℕ) (ms leasts : List ℕ) (earliest : ℕ) : Type 0 where
-  pub few : passed + length ms < 2 ^ 64
-  pub pages : AreLeast ms leasts
-  pub first : IsEarliest earliest leasts
 
 -- How many of the first tickets are passed together: of those with one moment up to 64; where there is none, a page.
 abbrev pub front_of : (alike : ℕ) → ℕ

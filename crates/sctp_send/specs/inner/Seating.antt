@@ -3,12 +3,13 @@ use Rattle.std.specs.Prelude.{◌≡◌, ℕ, suc, ◌-◌, ◌%◌, ◌^◌, sl
 use Rattle.std.specs.List.{sum_by}
 use Rattle.std.specs.declared.sync.Arc.{Arc}
 use Rattle.std.specs.declared.alloc.Global.{Global}
+use Rattle.sctp_sequence.specs.Pairs.{AreSame}
+use Rattle.sctp_sequence.specs.declared.pairs.Pair.{Pair}
 use Rattle.sctp_model.specs.sender.SenderView.{Queued}
 use Rattle.sctp_model.specs.sender.Assigning.{first_on}
 use Rattle.sctp_send.specs.inner.Counting.{IsOwedOf}
 use Rattle.sctp_send.specs.inner.Newcomers.{IsFirstOn}
 use Rattle.sctp_send.specs.declared.kept.message.Message.{Message as MessageFields}
-use Rattle.sctp_send.specs.declared.kept.ordered.Seat.{Seat}
 use Rattle.sctp_send.specs.declared.kept.seats.Found.{Found}
 
 -- a message's ticket
@@ -16,7 +17,7 @@ abbrev pub ticket_in : Arc MessageFields Global → ℕ
 ticket_in m = m.value.ticket
 
 -- a message by its stream and its ticket
-abbrev pub seat_of : Arc MessageFields Global → Seat
+abbrev pub seat_of : Arc MessageFields Global → Pair
 seat_of m = record { first = m.value.stream; second = m.value.ticket }
 
 -- each ticket is above those in front of it, the first no lower than here
@@ -28,17 +29,23 @@ DoTicketsRise n (m ∷ ms) = (n ≤ ticket_in m) × DoTicketsRise (suc (ticket_i
 abbrev pub AreLower : (ticket many : ℕ) → List (Arc MessageFields Global) → Type 0
 AreLower t n ms = (k : ℕ) (d : Arc MessageFields Global) → k < n → ticket_in (slice_index_or ms k d) < t
 
+-- the first so many messages have lower tickets, and the others don't
+pub record IsPlaceOf (ticket place : ℕ) (ms : List (Arc MessageFields Global)) : Type 0 where
+  pub within : place ≤ length ms
+  pub lower : AreLower ticket place ms
+  pub others : (k : ℕ) (d : Arc MessageFields Global) → place ≤ k → k < length ms → ticket ≤ ticket_in (slice_index_or ms k d)
+
 -- a ticket lies between the neighbours' at a place
 pub record IsBetween (place ticket : ℕ) (ms : List (Arc MessageFields Global)) : Type 0 where
   pub behind : (d : Arc MessageFields Global) → 0 < place → ticket_in (slice_index_or ms (place - 1) d) < ticket
   pub ahead : (d : Arc MessageFields Global) → place < length ms → ticket < ticket_in (slice_index_or ms place d)
 
--- The messages' seats are these: whatever is summed over the ones and over the others is the same.
-abbrev pub AreSeats : List (Arc MessageFields Global) → List Seat → Type 0
-AreSeats ms ps = (f : Seat → ℕ) → sum_by f ps ≡ sum_by f (map seat_of ms)
+-- the messages' seats are these, in any order
+abbrev pub AreSeats : List (Arc MessageFields Global) → List Pair → Type 0
+AreSeats ms ps = AreSame ps (map seat_of ms)
 
 -- Tickets rise, and the seats are those of the messages, where it is said so.
-pub record IsSeatedOf (rises seated : Bool) (ms : List (Arc MessageFields Global)) (ps : List Seat) : Type 0 where
+pub record IsSeatedOf (rises seated : Bool) (ms : List (Arc MessageFields Global)) (ps : List Pair) : Type 0 where
   pub order : rises ≡ true → DoTicketsRise 0 ms
   pub seats : seated ≡ true → AreSeats ms ps
 
@@ -47,7 +54,7 @@ abbrev pub bytes_of : Arc MessageFields Global → ℕ
 bytes_of m = length m.value.bytes.items
 
 -- What is counted of the messages that wait, and where they stand.
-pub record IsQueueOf (size : ℕ) (ms : List (Arc MessageFields Global)) (sum : ℕ) (rises seated : Bool) (ps : List Seat) (load : ℕ) : Type 0 where
+pub record IsQueueOf (size : ℕ) (ms : List (Arc MessageFields Global)) (sum : ℕ) (rises seated : Bool) (ps : List Pair) (load : ℕ) : Type 0 where
   pub owed : IsOwedOf size ms sum
   pub seats : IsSeatedOf rises seated ms ps
   pub bytes : load ≡ sum_by bytes_of ms % 2 ^ 64

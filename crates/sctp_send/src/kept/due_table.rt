@@ -1,16 +1,17 @@
-//! The deadline of the message of each ticket (RFC 3758, 3.5), one by one, in pages.
+//! The deadline of the message of each ticket (RFC 3758, 3.5), one by one.
 
 ghost use Rattle.std.specs.Prelude.{◌≡◌, ℕ, ◌+◌, ◌^◌, ◌<◌, ◌≤◌, ◌++◌, ◌∷◌, ◌⊎◌, [], true, false, drop, length, unwrap_or, OnOk, IfSome, IfNone};
 ghost use Rattle.sctp_model.specs.numbers.Limits.{LAST_MOMENT};
 ghost use Rattle.sctp_send.specs.inner.Dues.{due_at};
 
-use crate::kept::due_pages::{
-    PAGE, drop_first, drop_page, first_due, look_at, lower_at, lower_page, moment_in,
-};
+use crate::kept::message::moment_in;
+use sctp_sequence::PagedNumbers;
 use sctp_values::NoMemory;
 use std::alloc::Global;
-use std::collections::VecDeque;
 use std::marker::Model;
+
+/// How many tickets are passed together.
+pub(crate) const PAGE: u64 = 64;
 
 /// The moments of the tickets behind those that are passed: before its own, no message has to be looked at.
 #[derive(Drop)]
@@ -18,28 +19,20 @@ pub(crate) struct DueTable {
     // so many of the first tickets are passed: none of them is late any more
     passed: u64,
     // those of the tickets behind, one by one
-    moments: VecDeque<u64>,
-    // of each page of them, one that is no later
-    leasts: Vec<u64>,
-    // no later than any of these
-    earliest: u64,
+    moments: PagedNumbers,
     // a message was found late and not to be abandoned as it stood, so that its ticket has the last moment
     asleep: bool,
 }
 
 impl Model for DueTable {
-    ghost use Rattle.std.specs.Prelude.{◌-◌, ◌*◌, ◌^◌, min};
-    ghost use Rattle.std.specs.Vec.{vec_capacity};
-    ghost use Rattle.std.specs.VecDeque.{deque_capacity};
+    ghost use Rattle.std.specs.Prelude.{◌+◌, ◌-◌, ◌^◌, ◌<◌, min, length};
     ghost use Rattle.sctp_send.specs.PartsKept.{DueTableKept};
 
     ghost Value = { DueTableKept };
 
-    ghost use Rattle.sctp_send.specs.inner.Dues.{AreDues};
+    ghost view = { λ w. record { passed = w.passed; moments = w.moments.items; asleep = w.asleep; capacity = min (2 ^ 64 - 1 - w.passed) w.moments.capacity } };
 
-    ghost view = { λ w. record { passed = w.passed; moments = w.moments.items; asleep = w.asleep; capacity = min (2 ^ 64 - 1 - w.passed) (min (deque_capacity w.moments) (64 * vec_capacity w.leasts)) } };
-
-    ghost invariant = { λ w. AreDues w.passed w.moments.items w.leasts.items w.earliest };
+    ghost invariant = { λ w. w.passed + length w.moments.items < 2 ^ 64 };
 }
 
 impl DueTable {
@@ -51,9 +44,7 @@ impl DueTable {
     {
         DueTable {
             passed: 0,
-            moments: VecDeque::new(alloc),
-            leasts: Vec::new(alloc),
-            earliest: u64::MAX,
+            moments: PagedNumbers::new(alloc),
             asleep: false,
         }
     }
@@ -71,13 +62,7 @@ impl DueTable {
         if self.passed.saturating_add(self.moments.len() as u64) >= u64::MAX - 1 {
             return Err(NoMemory);
         }
-        if self.moments.reserve(1).is_err() {
-            return Err(NoMemory);
-        }
-        if self.moments.len() / PAGE >= self.leasts.capacity() && self.leasts.reserve(1).is_err() {
-            return Err(NoMemory);
-        }
-        Ok(())
+        self.moments.reserve()
     }
 
     /// A ticket comes behind the others. Its moment is the one that its message has, or the last.
@@ -89,18 +74,7 @@ impl DueTable {
         ensures small { unwrap_or until LAST_MOMENT < 2 ^ 64 }
         ensures asleep { self.new.asleep ≡ self.old.asleep }
     {
-        let moment = moment_in(until);
-        let many = self.moments.len();
-        let page = many / PAGE;
-        if many % PAGE == 0 {
-            self.leasts.push_reserved(moment);
-            self.earliest = self.earliest.min(moment);
-        } else if moment < self.leasts[page] {
-            // Else the page's moment is no later, and so the earliest isn't.
-            self.leasts[page] = moment;
-            self.earliest = self.earliest.min(moment);
-        }
-        self.moments.push_back_reserved(moment);
+        self.moments.push(moment_in(until));
     }
 
     /// The first ticket above the last one whose moment has come.
@@ -111,15 +85,11 @@ impl DueTable {
         ensures before { IfSome result (λ ticket. (t : ℕ) → last < t → t < ticket → now < due_at self.now.passed self.now.moments t) }
         ensures none { IfNone result ((t : ℕ) → last < t → now < due_at self.now.passed self.now.moments t) }
     {
-        if now < self.earliest {
-            return None;
-        }
         let from = last.saturating_sub(self.passed) as usize;
-        let at = first_due(&self.moments, &self.leasts, from, now);
-        if at < self.moments.len() {
-            return Some(self.passed + 1 + at as u64);
+        match self.moments.first_upto(from, now) {
+            Some(at) => Some(self.passed + 1 + at as u64),
+            None => None,
         }
-        None
     }
 
     /// The moment of a ticket is this one from now on.
@@ -131,9 +101,7 @@ impl DueTable {
         ensures asleep { self.new.asleep ≡ self.old.asleep }
     {
         if let Some(at) = self.index_of(ticket) {
-            lower_page(&mut self.leasts, at / PAGE, moment);
-            self.earliest = self.earliest.min(moment);
-            self.moments[at] = moment;
+            self.moments.set(at, moment);
         }
     }
 
@@ -158,9 +126,9 @@ impl DueTable {
         ensures asleep { self.new.asleep ≡ self.old.asleep }
     {
         if let Some(at) = self.index_of(ticket) {
-            lower_page(&mut self.leasts, at / PAGE, moment);
-            self.earliest = self.earliest.min(moment);
-            lower_at(&mut self.moments, at, moment);
+            if moment < self.moments.get(at) {
+                self.moments.set(at, moment);
+            }
         }
     }
 
@@ -176,15 +144,12 @@ impl DueTable {
         None
     }
 
-    /// Pages of which a moment may have come are looked at anew. It changes no moment.
+    /// Moments that may have come are looked at anew. It changes none.
     #[inline(always)]
     pub(crate) fn look_again(&mut self, now: u64)
         ensures { self.new ≡ self.old }
     {
-        if now < self.earliest {
-            return;
-        }
-        self.earliest = look_at(&self.moments, &mut self.leasts, now);
+        self.moments.look_again(now);
     }
 
     /// Some moment doesn't count what is covered.
@@ -212,7 +177,7 @@ impl DueTable {
     pub(crate) fn is_empty(&self) -> bool
         ensures { result ≡ true → self.now.moments ≡ [] }
     {
-        self.moments.is_empty()
+        self.moments.len() == 0
     }
 
     /// How many tickets there are, with those that are passed.
@@ -242,8 +207,7 @@ impl DueTable {
         ensures moments { self.new.moments ≡ drop 64 self.old.moments }
         ensures asleep { self.new.asleep ≡ self.old.asleep }
     {
-        drop_first(&mut self.moments, PAGE);
-        drop_page(&mut self.leasts);
-        self.passed += PAGE as u64;
+        self.moments.drop_page();
+        self.passed += PAGE;
     }
 }

@@ -5,8 +5,8 @@ ghost use Rattle.std.specs.Prelude.{◌≡◌, ℕ, ◌+◌, ◌^◌, ◌<◌, �
 ghost use Rattle.sctp_model.specs.numbers.Limits.{LAST_MOMENT};
 ghost use Rattle.sctp_send.specs.inner.Dues.{due_at, front_of};
 
-use crate::kept::due_pages::{PAGE, moment_in};
-use crate::kept::due_table::DueTable;
+use crate::kept::due_table::{DueTable, PAGE};
+use crate::kept::message::moment_in;
 use sctp_values::NoMemory;
 use std::alloc::Global;
 use std::marker::Model;
@@ -164,9 +164,9 @@ impl Dues {
         ensures { result ≡ front_of self.now.alike }
     {
         if self.alike == 0 {
-            return PAGE as u64;
+            return PAGE;
         }
-        self.alike.min(PAGE as u64)
+        self.alike.min(PAGE)
     }
 
     /// The last of the tickets that are passed together, where a page was begun behind it and it is time to look.
@@ -175,7 +175,7 @@ impl Dues {
     {
         let passed = self.behind.passed() - self.alike;
         let many = self.behind.given() - passed;
-        if many > PAGE as u64 && many % PAGE as u64 == 1 {
+        if many > PAGE && many % PAGE == 1 {
             return Some(passed + self.front());
         }
         None
@@ -192,6 +192,6 @@ impl Dues {
             self.behind.pass_page();
             return;
         }
-        self.alike -= self.alike.min(PAGE as u64);
+        self.alike -= self.alike.min(PAGE);
     }
 }

@@ -1,6 +1,7 @@
 //! A message as it was handed in, and what became of it.
 
-ghost use Rattle.std.specs.Prelude.{◌≡◌, ℕ, Some, IfOk, ◌<◌, ◌%◌, ◌^◌, length};
+ghost use Rattle.std.specs.Prelude.{◌≡◌, ℕ, Some, IfOk, ◌<◌, ◌%◌, ◌^◌, length, unwrap_or};
+ghost use Rattle.sctp_model.specs.numbers.Limits.{LAST_MOMENT};
 ghost use Rattle.sctp_model.specs.sender.Queueing.{cut, owed_for};
 ghost use Rattle.sctp_send.specs.OutstandingFields.{message_meaning};
 ghost use Rattle.sctp_send.specs.inner.Counting.{moment_from};
@@ -27,8 +28,15 @@ pub(crate) struct Message {
 pub(crate) fn moment_of(message: &Message) -> u64
     ensures { (size : ℕ) → result ≡ moment_from (Some (message_meaning size message.now)) }
 {
-    match message.until {
-        Some(until) => until,
+    moment_in(message.until)
+}
+
+/// The moment that is given; the last one, if none is.
+pub(crate) fn moment_in(until: Option<u64>) -> u64
+    ensures { result ≡ unwrap_or until LAST_MOMENT }
+{
+    match until {
+        Some(moment) => moment,
         None => u64::MAX,
     }
 }

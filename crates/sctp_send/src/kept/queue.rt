@@ -9,11 +9,11 @@ ghost use Rattle.sctp_send.specs.Waiting.{waiting_bytes};
 ghost use Rattle.sctp_send.specs.inner.Seating.{AreLower, NextOnAnswer};
 
 use crate::kept::message::{Message, bytes_of, owed_by_message};
-use crate::kept::ordered::{Ordered, Seat};
 use crate::kept::seats::{
     Found, add_seat, first_from, fits_at, free_seat, is_in_front, make_room, next_by_looking,
     remove_at, seat_of,
 };
+use sctp_sequence::Pairs;
 use sctp_values::NoMemory;
 use std::alloc::Global;
 use std::collections::VecDeque;
@@ -33,7 +33,7 @@ pub(crate) struct Queue {
     // tickets rise from the front on: so it is where `queue` gives them
     pub(crate) rises: bool,
     // where streams take turns, each message by its stream and its ticket
-    pub(crate) seats: Ordered,
+    pub(crate) seats: Pairs,
     pub(crate) is_seated: bool,
 }
 
@@ -58,7 +58,7 @@ impl Queue {
         ensures items { result.items ≡ [] }
     {
         let messages = VecDeque::new(alloc);
-        let seats = Ordered::new(alloc);
+        let seats = Pairs::new(alloc);
         Queue {
             size,
             messages,
@@ -206,20 +206,17 @@ impl Queue {
         if !rises || !is_seated {
             return next_by_looking(&self.messages, from, below);
         }
-        let at = self.seats.rank_of(Seat {
-            first: u64::from(from),
-            second: 0,
-        });
-        if at >= self.seats.len() {
-            return None;
+        match self.seats.first_from(u64::from(from)) {
+            Some(seat) => {
+                let place = first_from(&self.messages, rises, seat.second);
+                let message = &self.messages[place];
+                let stream = message.stream;
+                if stream >= below {
+                    return None;
+                }
+                Some(Found { stream, place })
+            }
+            None => None,
         }
-        let seat = self.seats.get(at);
-        let place = first_from(&self.messages, rises, seat.second);
-        let message = &self.messages[place];
-        let stream = message.stream;
-        if stream >= below {
-            return None;
-        }
-        Some(Found { stream, place })
     }
 }

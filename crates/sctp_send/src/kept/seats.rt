@@ -1,14 +1,16 @@
 //! Where a message that waits stands: by its ticket among the others, and by its stream.
 
-ghost use Rattle.std.specs.Prelude.{◌≡◌, ℕ, ◌+◌, ◌-◌, ◌<◌, ◌≤◌, ◌↔◌, true, map, length, insert, remove, slice_index_or, if◌then◌else◌, IfSome, IfNone, OnSome, IsSome};
+ghost use Rattle.std.specs.Prelude.{◌≡◌, ℕ, ◌+◌, ◌-◌, ◌<◌, ◌≤◌, ◌↔◌, ◌∷◌, true, List, nat_lt, map, length, remove, slice_index_or, IfSome, IfNone, OnSome, IsSome};
+ghost use Rattle.std.specs.List.{Contains};
 ghost use Rattle.std.specs.VecDeque.{deque_len, deque_capacity};
 ghost use Rattle.sctp_send.specs.SenderFields.{queued_by};
 ghost use Rattle.sctp_send.specs.inner.Newcomers.{FirstOnAnswer, IsFirstOn};
-ghost use Rattle.sctp_send.specs.inner.Ordering.{key, before, AreOrdered};
-ghost use Rattle.sctp_send.specs.inner.Seating.{ticket_in, DoTicketsRise, IsBetween, NextOnAnswer};
+ghost use Rattle.sctp_send.specs.inner.Seating.{ticket_in, AreLower, DoTicketsRise, IsBetween, IsPlaceOf, NextOnAnswer};
+ghost use Rattle.sctp_sequence.specs.Pairs.{AreSame};
+ghost use Rattle.sctp_sequence.specs.declared.pairs.Pair.{Pair};
 
 use crate::kept::message::Message;
-use crate::kept::ordered::{Ordered, Seat};
+use sctp_sequence::{Pair, Pairs};
 use sctp_values::NoMemory;
 use std::collections::VecDeque;
 use std::sync::Arc;
@@ -21,11 +23,11 @@ pub(crate) struct Found {
 }
 
 /// A message by its stream and its ticket.
-pub(crate) fn seat_of(message: &Message) -> Seat
+pub(crate) fn seat_of(message: &Message) -> Pair
     ensures first { result.first ≡ message.now.stream }
     ensures second { result.second ≡ message.now.ticket }
 {
-    Seat {
+    Pair {
         first: u64::from(message.stream),
         second: message.ticket,
     }
@@ -52,7 +54,8 @@ pub(crate) fn fits_at(
 #[inline(always)]
 pub(crate) fn first_from(messages: &VecDeque<Arc<Message>>, rises: bool, ticket: u64) -> usize
     requires { rises ≡ true → DoTicketsRise 0 messages.now.items }
-    ensures place { result ≡ (if rises then before ticket_in ticket messages.now.items else 0) }
+    ensures place { rises ≡ true → IsPlaceOf ticket result messages.now.items }
+    ensures lower { AreLower ticket result messages.now.items }
     ensures within { result ≤ length messages.now.items }
 {
     if !rises || messages.len() == 0 {
@@ -65,33 +68,25 @@ pub(crate) fn first_from(messages: &VecDeque<Arc<Message>>, rises: bool, ticket:
     first_by_halves(messages, ticket)
 }
 
-/// How many of the first messages have lower tickets, by a binary search, when tickets rise and the first one is lower. A function of its own,
-/// since the first one is asked for most often.
+/// How many of the first messages have lower tickets, by a binary search, when tickets rise. A function of its own, since the first one is
+/// asked for most often.
 #[inline(never)]
 fn first_by_halves(messages: &VecDeque<Arc<Message>>, ticket: u64) -> usize
-    requires rise { DoTicketsRise 0 messages.now.items }
-    requires lower { 0 < before ticket_in ticket messages.now.items }
-    ensures place { result ≡ before ticket_in ticket messages.now.items }
-    ensures within { result ≤ length messages.now.items }
+    requires { DoTicketsRise 0 messages.now.items }
+    ensures { IsPlaceOf ticket result messages.now.items }
 {
-    let mut low = 1;
-    let mut high = messages.len();
-    while low < high {
-        let middle = low + (high - low) / 2;
-        if messages[middle].ticket < ticket {
-            low = middle + 1;
-        } else {
-            high = middle;
-        }
-    }
-    low
+    messages.partition_point(
+        |message: &Arc<Message>| -> bool
+            ensures { result ≡ nat_lt (ticket_in message.now) ticket }
+        { message.ticket < ticket },
+    )
 }
 
 /// There is room for one seat more, where the seats are kept.
 ///
 /// # Errors
 /// `NoMemory`.
-pub(crate) fn make_room(seats: &mut Ordered, is_seated: bool) -> Result<(), NoMemory>
+pub(crate) fn make_room(seats: &mut Pairs, is_seated: bool) -> Result<(), NoMemory>
     ensures { seats.new.items ≡ seats.old.items }
 {
     if is_seated { seats.reserve(1) } else { Ok(()) }
@@ -99,37 +94,20 @@ pub(crate) fn make_room(seats: &mut Ordered, is_seated: bool) -> Result<(), NoMe
 
 /// A seat is taken, where the seats are kept and there is memory for it: whether they still are those of all messages.
 #[inline(always)]
-pub(crate) fn add_seat(seats: &mut Ordered, is_seated: bool, seat: Seat) -> bool
+pub(crate) fn add_seat(seats: &mut Pairs, is_seated: bool, seat: Pair) -> bool
     ensures kept { result ≡ true → is_seated ≡ true }
-    ensures seats { result ≡ true → seats.new.items ≡ insert seats.old.items (before key (key seat) seats.old.items) seat }
+    ensures seats { result ≡ true → AreSame seats.new.items (seat ∷ seats.old.items) }
 {
-    if !is_seated {
-        return false;
-    }
-    take_seat(seats, seat)
-}
-
-/// A seat is taken, where there is memory for it. It stands apart, so that it costs little where no seats are kept.
-#[inline(never)]
-fn take_seat(seats: &mut Ordered, seat: Seat) -> bool
-    ensures { result ≡ true → seats.new.items ≡ insert seats.old.items (before key (key seat) seats.old.items) seat }
-{
-    if seats.reserve(1).is_err() {
-        return false;
-    }
-    seats.insert(seat);
-    true
+    is_seated && seats.insert(seat).is_ok()
 }
 
 /// A seat is free again, where the seats are kept.
 #[inline(always)]
-pub(crate) fn free_seat(seats: &mut Ordered, is_seated: bool, seat: Seat)
-    ensures order { is_seated ≡ true → AreOrdered seats.old.items }
-    ensures seats { is_seated ≡ true → before key (key seat) seats.old.items < length seats.old.items
-        → seats.new.items ≡ remove seats.old.items (before key (key seat) seats.old.items) }
+pub(crate) fn free_seat(seats: &mut Pairs, is_seated: bool, seat: Pair)
+    ensures { (ps : List Pair) → is_seated ≡ true → AreSame seats.old.items ps → Contains ps seat → AreSame seats.old.items (seat ∷ seats.new.items) }
 {
     if is_seated {
-        seats.remove(seat);
+        let _was_there = seats.remove(seat);
     }
 }
 

@@ -10,8 +10,8 @@ ghost use Rattle.sctp_send.specs.PartsKept.{changed_at};
 use crate::kept::looking::{
     are_past, goes_on_at, next_part_by_looking, stream_by_looking, ticket_of_track,
 };
-use crate::kept::part_lists::PartLists;
 use crate::kept::track::{Track, owed_by_track};
+use sctp_sequence::TwoWayMap;
 use sctp_values::{Kind, NoMemory};
 use std::alloc::Global;
 use std::marker::Model;
@@ -27,8 +27,8 @@ pub(crate) struct Streams {
     parts: u32,
     // the TSNs that they may take, modulo 2^64
     owed: u64,
-    // which streams have a message in part
-    lists: PartLists,
+    // of each stream with a message in part its ticket
+    lists: TwoWayMap,
 }
 
 impl Model for Streams {
@@ -59,7 +59,8 @@ impl Streams {
         ensures items { IfOk result (λ made. made.items ≡ replicate streams (record { ordered = 0; unordered = 0; rest = None })) }
     {
         let tracks = fresh_tracks(alloc, streams)?;
-        let lists = PartLists::new(alloc, streams, takes_turns)?;
+        let room = if takes_turns { Some(streams) } else { None };
+        let lists = TwoWayMap::new(alloc, room)?;
         Ok(Streams {
             size,
             tracks,
@@ -132,10 +133,10 @@ impl Streams {
     fn next_listed(&self, from: u16, below: u16) -> u16
         ensures { (size : ℕ) → IsNextPart from below (map (track_meaning size) self.now.items) result }
     {
-        if !self.lists.is_listed() {
+        if !self.lists.is_complete() {
             return next_part_by_looking(&self.tracks, from, below);
         }
-        match self.lists.first_from(from) {
+        match self.lists.first_from(u64::from(from)) {
             Some(part) => part.first.min(u64::from(below)) as u16,
             None => below,
         }
@@ -159,8 +160,8 @@ impl Streams {
         if self.parts == 0 {
             return true;
         }
-        if self.lists.is_listed() {
-            return self.lists.are_behind(last);
+        if self.lists.is_complete() {
+            return self.lists.are_above(last);
         }
         are_past(&self.tracks, last)
     }
@@ -174,10 +175,10 @@ impl Streams {
         if self.parts == 0 {
             return None;
         }
-        if !self.lists.is_listed() {
+        if !self.lists.is_complete() {
             return stream_by_looking(&self.tracks, ticket);
         }
-        match self.lists.stream_with(ticket) {
+        match self.lists.key_with(ticket) {
             Some(stream) => Some(stream as usize),
             None => None,
         }

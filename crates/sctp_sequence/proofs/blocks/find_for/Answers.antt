@@ -1,4 +1,4 @@
-use Rattle.std.proofs.Common.{◌≡◌, ◌+◌, ◌<◌, length, get_or, arith}
+use Rattle.std.proofs.Common.{◌≡◌, ◌+◌, ◌<◌, get_or, arith}
 use Rattle.std.specs.Vec.{vec_len}
 use Rattle.sctp_sequence.proofs.StartLemmas.{lies_within}
 use Rattle.sctp_sequence.proofs.blocks.find_for.Goals as goal

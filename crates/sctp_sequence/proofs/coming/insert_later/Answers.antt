@@ -1,5 +1,4 @@
-use Rattle.std.proofs.Common.{◌≡◌, ℕ, [], ◌∷◌, ◌+◌, ◌<◌, ◌≤◌, List, length, get_or, set, take, sym, ap, subst, ◌∙◌, length-set, arith}
-use Rattle.std.specs.List.{insert}
+use Rattle.std.proofs.Common.{◌≡◌, ℕ, ◌+◌, ◌<◌, ◌≤◌, List, length, get_or, set, take, sym, ap, subst, ◌∙◌, length-set, arith}
 use Rattle.std.specs.Vec.{vec_len}
 use Rattle.std.specs.VecDeque.{deque_len}
 use Rattle.std.specs.declared.collections.VecDeque.{VecDeque}

@@ -1,7 +1,7 @@
 use Rattle.std.proofs.Common.{◌≡◌, ◌∙◌, ℕ, ◌+◌, ◌%◌, ◌^◌, ◌<◌, suc, List, [], ◌∷◌, ◌++◌, length, map, take, get_or, remove, refl, sym, ap, subst, arith, length-append}
 use Rattle.std.specs.Prelude.{OnOk}
 use Rattle.std.proofs.lemmas.Grind.{common_steps}
-use Rattle.std.proofs.lemmas.List.{map-append}
+use Rattle.std.proofs.lemmas.List.{map-append, get_or_default}
 use Rattle.std.specs.declared.sync.Arc.{Arc}
 use Rattle.std.specs.declared.alloc.Global.{Global}
 use Rattle.sctp_values.specs.Meanings.{kind_meaning}
@@ -17,7 +17,6 @@ use Rattle.sctp_send.specs.declared.stock.Stock.{Stock}
 use Rattle.sctp_send.specs.declared.kept.entry.Entry.{Entry as EntryFields}
 use Rattle.sctp_send.specs.declared.kept.entry.Standing.TheVariants.{Sent}
 use Rattle.sctp_send.specs.declared.kept.message.Message.{Message as MessageFields}
-use Rattle.sctp_send.proofs.kept.SeatLemmas.{any_default}
 use Rattle.sctp_send.proofs.fill.EnterLemmas.{begun_is, latest_counted, taken_out, last_read, on_ok}
 use Rattle.sctp_send.proofs.kept.TrackCounts.{long_stays, entered_tracks}
 use Rattle.sctp_send.proofs.fill.BehindLemmas.{begun_behind}
@@ -52,7 +51,7 @@ returns-clause-kept c = λ m is small.
     let tracks = ap (λ (d : Stock). d.streams) same in
     let low : place < length old.queue.items = subst (λ (w : QueueKept). place < length w.items) queue lowR in
     let read : x ≡ get_or old.queue.items place x = c.in-Some.ensures.message.1 ∙ ap (λ (w : QueueKept). get_or w.items place x) queue in
-    let own : m ≡ x = is ∙ any_default old.queue.items place m x low ∙ sym read in
+    let own : m ≡ x = is ∙ get_or_default old.queue.items place m x low ∙ sym read in
     let k = kind_meaning x.value.kind in
     let n = c.number_one-number.result in
     let many = (n + 1) % 2 ^ 64 in

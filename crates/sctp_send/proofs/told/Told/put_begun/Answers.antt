@@ -2,6 +2,7 @@ use Rattle.std.proofs.Common.{ℕ, suc, ◌+◌, length, map, true, false, Some,
 use Rattle.std.specs.Prelude.{nat_lt}
 use Rattle.std.specs.declared.sync.Arc.{Arc}
 use Rattle.std.specs.declared.alloc.Global.{Global}
+use Rattle.std.proofs.lemmas.List.{get_or_default}
 use Rattle.sctp_model.specs.messages.Plan.{Part}
 use Rattle.sctp_send.specs.OutstandingFields.{lane_meaning, message_meaning}
 use Rattle.sctp_values.specs.Meanings.{kind_meaning}
@@ -9,7 +10,6 @@ use Rattle.sctp_send.specs.SenderFields.{latest_in, rests_meaning, track_meaning
 use Rattle.sctp_send.specs.inner.Newcomers.{number_on}
 use Rattle.sctp_send.specs.inner.Stocking.{bare, stocked, let_in, rest_from, IsRefused}
 use Rattle.sctp_send.specs.declared.kept.message.Message.{Message as MessageFields}
-use Rattle.sctp_send.proofs.kept.SeatLemmas.{any_default}
 use Rattle.sctp_send.proofs.fill.NewMayLemmas.{left_over, of_ok, on_err, of_err, no_item}
 use Rattle.sctp_send.proofs.fill.BegunPut.{begun_message, begun_there, window_read, begun_few, begun_held, begun_full, begun_put, begun_refused}
 use Rattle.sctp_send.proofs.told.Told.put_begun.Goals as goal
@@ -17,7 +17,7 @@ use Rattle.sctp_send.proofs.told.Told.put_begun.Goals as goal
 pub begin-requires-clause-stream : goal.begin-requires-clause-stream
 begin-requires-clause-stream g c = λ m read.
     let x = c.get-message.result.now in
-    let same = read ∙ any_default c.args.stock.now.queue.items c.args.next.place m x c.requires.place ∙ sym c.get-message.ensures in
+    let same = read ∙ get_or_default c.args.stock.now.queue.items c.args.next.place m x c.requires.place ∙ sym c.get-message.ensures in
     let stream = ap (λ (y : Arc MessageFields Global). y.value.stream) same in
     let first = c.from.ensures ∙ ap (λ (y : MessageFields). y.stream) c.deref.ensures in
     let wide = ap length c.tracks.ensures in
@@ -68,7 +68,7 @@ pub begin-requires-clause-rest : goal.begin-requires-clause-rest
 begin-requires-clause-rest g c = λ m t read.
     let size = c.args.self.now.fragment in
     let x = c.get-message.result.now in
-    let same = read ∙ any_default c.args.stock.now.queue.items c.args.next.place m x c.requires.place ∙ sym c.get-message.ensures in
+    let same = read ∙ get_or_default c.args.stock.now.queue.items c.args.next.place m x c.requires.place ∙ sym c.get-message.ensures in
     let more = left_over c.args.next.count size size c.fragments_of.result c.deref-3.result.now x.value c.deref-2.result.now c.fragments_of.ensures refl c.deref-3.ensures.value c.deref-2.ensures in
     subst (λ (y : Arc MessageFields Global). rests_meaning size t c.in_ok-rest.rest ≡ rest_from size y.value (latest_in (kind_meaning y.value.kind) t) c.args.next.count) (sym same) (c.in_ok-rest.ensures size t more)
 

@@ -1,5 +1,4 @@
-use Rattle.std.proofs.Common.{◌≡◌, ℕ, ◌+◌, ◌-◌, ◌/◌, ◌<◌, ◌≤◌, ◌++◌, true, false, length, take, refl, sym, subst, length-append, of_calls, ◌∙◌, arith}
-use Rattle.std.specs.List.Sorted.{IsPartitionedBy}
+use Rattle.std.proofs.Common.{◌≡◌, ◌+◌, ◌-◌, ◌/◌, ◌<◌, length, take, sym, length-append, of_calls, ◌∙◌, arith}
 use Rattle.sctp_sequence.specs.Blocks.{joined}
 use Rattle.sctp_sequence.proofs.JoinedLemmas.{count_within}
 use Rattle.sctp_sequence.proofs.PointLemmas.{next_answer, it_passes, it_fails, parted_front}

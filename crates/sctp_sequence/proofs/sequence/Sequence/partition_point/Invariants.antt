@@ -1,4 +1,4 @@
-use Rattle.std.proofs.Common.{◌-◌, ◌≡◌, ◌≤◌, Bool, length}
+use Rattle.std.proofs.Common.{◌-◌, ◌≤◌, Bool, length}
 use denote.Param.Always.{always_mut}
 use Rattle.std.specs.Fn.{ComputesKey}
 use Rattle.sctp_sequence.proofs.PointLemmas.{Narrowed}

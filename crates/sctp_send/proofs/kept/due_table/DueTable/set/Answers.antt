@@ -7,13 +7,15 @@ use Rattle.sctp_send.proofs.kept.due_table.DueTable.set.Goals as goal
 pub returns-in-Some-clause-here : goal.returns-in-Some-clause-here
 returns-in-Some-clause-here c = λ now lt.
     let s = c.self.inside in
+    let p = c.args.self.now.passed in
     let some = c.in-Some.ensures.some in
     let same = ap (λ (w : DueTableKept). length w.moments) c.self.view_is in
-    let is = due_set_same c.args.self.now.passed s.moments.items c.in-Some.at c.args.moment c.args.ticket some.1 (omega (arith, same, some.0)) in
-    inl (omega (arith, is, lt))
+    let set_is = ap (λ (ms : List ℕ). due_at p ms c.args.ticket) c.set.ensures in
+    let is = due_set_same p s.moments.items c.in-Some.at c.args.moment c.args.ticket some.1 (omega (arith, same, some.0)) in
+    inl (omega (arith, set_is, is, lt))
 
 pub returns-in-Some-clause-others : goal.returns-in-Some-clause-others
 returns-in-Some-clause-others c = λ t other.
     let s = c.self.inside in
-    due_set_other c.args.self.now.passed s.moments.items c.in-Some.at c.args.moment t (λ same. other (same ∙ sym c.in-Some.ensures.some.1))
-    ∙ ap (λ (ms : List ℕ). due_at c.args.self.now.passed ms t) (ap (λ (w : DueTableKept). w.moments) c.self.view_is)
+    let p = c.args.self.now.passed in
+    ap (λ (ms : List ℕ). due_at p ms t) c.set.ensures ∙ due_set_other p s.moments.items c.in-Some.at c.args.moment t (λ same. other (same ∙ sym c.in-Some.ensures.some.1)) ∙ ap (λ (w : DueTableKept). due_at p w.moments t) c.self.view_is

@@ -1,6 +1,5 @@
-use Rattle.std.proofs.Common.{◌≡◌, ◌∙◌, ◌<◌, map, false, sym, ap, arith}
+use Rattle.std.proofs.Common.{arith}
 use Rattle.sctp_model.specs.sender.SackTaken.{sack_covers}
-use Rattle.sctp_send.specs.OutstandingFields.{item_meaning}
 use Rattle.sctp_send.proofs.pace.BlockLemmas.{covers_passed, covers_none}
 use Rattle.sctp_send.proofs.pace.tally.Tally.of_blocks.Goals as goal
 

@@ -1,4 +1,4 @@
-use Rattle.std.proofs.Common.{◌≡◌, length, map, refl, arith, ◌∙◌}
+use Rattle.std.proofs.Common.{map, refl, arith}
 use Rattle.sctp_send.specs.OutstandingFields.{item_meaning}
 use Rattle.sctp_send.proofs.pace.TallyLemmas.{tally_none}
 use Rattle.sctp_send.proofs.pace.FlyingLemmas.{tally_flying}

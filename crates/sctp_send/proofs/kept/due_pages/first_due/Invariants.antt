@@ -1,5 +1,0 @@
-use Rattle.std.proofs.Common.{ℕ, ◌*◌, ◌<◌, ◌≤◌, length, get_or}
-use Rattle.sctp_send.proofs.kept.due_pages.first_due.Given as goal
-
-abbrev pub invariant-loop-page : goal.invariant-loop-page
-invariant-loop-page l = (k d : ℕ) → l.fn.from ≤ k → k < l.page * 64 → k < length l.moments.items → l.now < get_or l.moments.items k d

@@ -1,0 +1,5 @@
+use Rattle.std.proofs.Common.{ℕ, ◌<◌, ◌≤◌, get_or}
+use Rattle.sctp_sequence.proofs.pages.first_in.Given as goal
+
+abbrev pub invariant-loop-at : goal.invariant-loop-at
+invariant-loop-at l = (k d : ℕ) → l.fn.from ≤ k → k < l.at → l.bound < get_or l.numbers k d
