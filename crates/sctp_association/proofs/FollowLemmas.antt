@@ -1,30 +1,42 @@
 -- `hear_sack`, `hear_shutdown` at an endpoint with a pace: what the sender says of an acknowledgement, and the pace and the data timer after it.
 use Rattle.std.proofs.Common.{◌≡◌, ◌∙◌, ℕ, Bool, true, false, nat_lt, refl, sym, ap, subst}
 use Rattle.std.proofs.lemmas.Bool.{and_parts}
-use Rattle.std.specs.Prelude.{Option, None, Some, IfSome, ◌||◌, unwrap_or, option_map, nat_le, ◌&&◌, not}
+use Rattle.std.specs.Prelude.{Option, None, Some, IfSome, ◌||◌, unwrap_or, option_map, nat_le, ◌&&◌, not, ◌==◌, suc, if◌then◌else◌}
+use Rattle.sctp_model.specs.numbers.Limits.{FIRST_WAIT}
+use Rattle.sctp_model.specs.wire.Chunk.{SackMeaning}
 use Rattle.sctp_model.specs.sender.SenderView.{SenderView}
 use Rattle.sctp_model.specs.sender.Entries.{in_flight}
 use Rattle.sctp_model.specs.sender.Abandoning.{marking}
+use Rattle.sctp_model.specs.sender.Readers.{unsettled}
+use Rattle.sctp_model.specs.sender.SackTaken.{sack_fault, sack_taken, sack_after}
+use Rattle.sctp_model.specs.sender.Words.{some_passes}
 use Rattle.sctp_model.specs.end.Trips.{Timed, was_given_up}
-use Rattle.sctp_model.specs.end.Misses.{Misses, last_sent}
+use Rattle.sctp_model.specs.end.Misses.{Misses, last_sent, first_missed}
 use Rattle.sctp_model.specs.end.Pacing.{Pace, Heard, misses_heard, heard, wait_heard}
 use Rattle.sctp_model.specs.end.EndView.{EndView, Configuration, Alarm, InitAlarm, CookieAlarm, DataAlarm, ShutdownAlarm, AckAlarm, ResetAlarm, Timer, format_for}
-use Rattle.sctp_model.specs.end.Clock.{replaced, with_timer, timer_heard, sender_heard, paced}
+use Rattle.sctp_model.specs.end.Acting.{sack_heard}
+use Rattle.sctp_model.specs.end.Clock.{replaced, with_timer, timer_heard, sender_heard, paced, paced_expiry, renewed, renewed_expiry, after_wait, is_point_past}
 use Rattle.sctp_send.specs.PaceAnswers.{first_in_flight}
 use Rattle.sctp_congestion.specs.Numbers.{is_measured}
 use Rattle.sctp_congestion.specs.Weighs.{Weighs}
 use Rattle.sctp_congestion.specs.declared.pacing.Reply.{Reply}
-use Rattle.sctp_association.specs.TimersMean.{timers_meaning}
+use Rattle.sctp_association.specs.TimersMean.{timers_meaning, kept_if}
 use Rattle.sctp_association.specs.TrafficStands.{TrafficStands}
+use Rattle.sctp_association.specs.DueStands.{DueStands}
 use Rattle.sctp_association.specs.MachineStands.{KeepsMachine}
+use Rattle.sctp_association.specs.SackLeaves.{IsLeft}
 use Rattle.sctp_association.specs.Weighing.{IsBefore, AreBefore, IsReply, followed}
 use Rattle.sctp_association.specs.declared.peer.pacing.Before.{Before}
 use Rattle.sctp_association.specs.declared.state.life.Association.{Association}
 use Rattle.sctp_association.specs.declared.state.life.Life.TheVariants as life
 use Rattle.sctp_association.specs.declared.traffic.Traffic.{Traffic}
+use Rattle.sctp_association.specs.declared.traffic.acknowledging.Acknowledged.{Acknowledged}
+use Rattle.sctp_association.specs.declared.state.due.Due.{Due}
 use Rattle.sctp_association.specs.declared.time.timers.Timers.{Timers}
 use Rattle.sctp_association.specs.declared.machine.Machine.{Machine}
-use Rattle.sctp_association.proofs.MachineLemmas.{at_view, with_timers, with_pace, with_traffic}
+use Rattle.sctp_association.proofs.MachineLemmas.{at_view, with_timers, with_pace, with_traffic, with_both}
+use Rattle.sctp_association.proofs.MomentLemmas.{owed_due}
+use Rattle.sctp_association.proofs.HearingLemmas.{sack_counts, counted_in}
 use Rattle.sctp_association.proofs.MeasureLemmas.{asked}
 
 -- ---- what is known before
@@ -58,7 +70,7 @@ over_acked u (Some t) acked on covers = sym (ap (λ (b : Bool). u.marked t.index
 
 -- the numbers of an acknowledgement, by those before it
 pub weighs : (v u : SenderView) (p : Pace) (b : Before) (m : Misses) (from below : ℕ) (lost : Option ℕ) (sent left : ℕ) (over : Bool) → IsBefore v u p b → m ≡ misses_heard v u p.misses
-    → from ≡ m.passed → below ≡ m.third → lost ≡ first_in_flight u from below → sent ≡ last_sent u → left ≡ in_flight (marking u (λ i. nat_le from i && nat_lt i below))
+    → from ≡ m.passed → below ≡ m.third → lost ≡ first_in_flight u from below → IfSome lost (λ i. sent ≡ last_sent u) → left ≡ in_flight (marking u (λ i. nat_le from i && nat_lt i below))
     → IfSome p.trips.timed (λ t. over ≡ ((marking u (λ i. nat_le from i && nat_lt i below)).marked t.index || u.covered t.index))
     → Weighs v u p (record { moved = b.weight.moved; cum = b.weight.cum; lost = lost; last_sent = sent; flight = b.flight; bytes = b.weight.bytes; left = left; acked = b.weight.acked; over = over })
 weighs v u p b m from below lost sent left over before heard passed third is_lost is_sent is_left is_over =
@@ -126,3 +138,83 @@ follows m a v x t p q traffic s r b rto least flies is k paces (o, own, known, w
     let taken = with_traffic m a traffic (with_timer DataAlarm t x) h.sender x.receiver is k stands refl refl in
     at_view _ _ _ (paced_some v.sender (v.timers DataAlarm).wait t x p there ∙ ap (λ (o : Pace). record x { timers = f; sender = h.sender; pace = Some o }) (sym pace))
     (with_pace _ _ (Some q) (with_timers _ _ s f taken same) (asked m (with_timer DataAlarm t x) p q k there))
+
+-- ---- a SACK: its data timer is put once
+
+-- a timer that is restarted is restarted whatever its expiry was
+anew_expiry : (now rto : ℕ) (restarts flies : Bool) (o : Option ℕ) → restarts ≡ true → paced_expiry now rto restarts flies o ≡ paced_expiry now rto restarts flies (renewed_expiry now o)
+anew_expiry now rto restarts flies None on = refl
+anew_expiry now rto restarts flies (Some m) on =
+    ap (λ (b : Bool). Some (if b then after_wait now rto else m)) on ∙ sym (ap (λ (b : Bool). Some (if b then after_wait now rto else after_wait now FIRST_WAIT)) on)
+
+pub heard_anew : (now rto : ℕ) (restarts flies moved : Bool) (t : Timer) → (moved ≡ true → restarts ≡ true)
+    → record (followed now rto restarts flies t) { repeats = 0 } ≡ followed now rto restarts flies (renewed now moved t)
+heard_anew now rto restarts flies false t anew = refl
+heard_anew now rto restarts flies true t anew = ap (λ (o : Option ℕ). record { wait = rto; repeats = 0; expiry = o }) (anew_expiry now rto restarts flies t.expiry (anew refl))
+
+-- the data timer after it, beside the pace
+abbrev timer_left : EndView → SenderView → Timer
+timer_left v u = renewed v.moment (nat_lt v.sender.cum u.cum) (kept_if (unsettled u) (v.timers DataAlarm))
+
+-- the end after it, but for its data timer and its pace
+abbrev rests_left : EndView → SenderView → EndView
+rests_left v u = record v { sender = u; due = record v.due { forward = is_point_past u } }
+
+abbrev paced_left : EndView → SenderView → EndView
+paced_left v u = paced v.sender (v.timers DataAlarm).wait (timer_left v u) (rests_left v u)
+
+heard_left : (v : EndView) (x : SackMeaning) → None ≡ sack_fault v.sender x → sack_heard v x ≡ paced_left v (sack_after v.sender x)
+heard_left v x none =
+    let u = sack_taken v.sender x in
+    let t = timer_heard v.pace v.moment v.configuration.least_wait (v.timers DataAlarm).wait v.sender u (timer_left v u) in
+    (λ i. record v {
+      sender = sender_heard v.pace v.moment v.sender u;
+      due = record v.due { forward = is_point_past u };
+      timers = λ a. twice_at a (kept_if (unsettled u) (v.timers DataAlarm)) t v.timers i;
+      pace = option_map (λ p. (heard v.moment v.sender u p).pace) v.pace;
+    }) ∙ ap (λ (y : EndView). paced_left v y.sender) (sack_counts v x none)
+
+-- timers of which the data timer is this one
+abbrev with_data : Timers → Timer → Timers
+with_data s t = record s { fragments = record { wait = t.wait; repeats = t.repeats; expiry = t.expiry } }
+
+data_at : (s : Timers) (t : Timer) (a : Alarm) → timers_meaning (with_data s t) a ≡ replaced DataAlarm t (timers_meaning s) a
+data_at s t InitAlarm = refl
+data_at s t CookieAlarm = refl
+data_at s t DataAlarm = refl
+data_at s t ShutdownAlarm = refl
+data_at s t AckAlarm = refl
+data_at s t ResetAlarm = refl
+
+again_at : (s : Timers) (t x : Timer) (a : Alarm) → replaced DataAlarm x (timers_meaning s) a ≡ replaced DataAlarm x (timers_meaning (with_data s t)) a
+again_at s t x InitAlarm = refl
+again_at s t x CookieAlarm = refl
+again_at s t x DataAlarm = refl
+again_at s t x ShutdownAlarm = refl
+again_at s t x AckAlarm = refl
+again_at s t x ResetAlarm = refl
+
+pub sack_follows : (m : Machine) (a : Association) (v : EndView) (x : SackMeaning) (p q : Pace) (taken traffic : Traffic) (d : Due) (s : Timers) (l : Acknowledged) (r : Reply) (b : Before)
+    (rto least : ℕ) (flies : Bool) → m.life ≡ life.Joined a → KeepsMachine m v → m.pace ≡ Some p → None ≡ sack_fault v.sender x
+    → TrafficStands taken (format_for v.terms.interleave) (sack_after v.sender x) v.receiver → IsLeft v.sender (sack_after v.sender x) l → DueStands d (record v.due { forward = l.past })
+    → IsBefore v.sender (sack_after v.sender x) p b → b.rto ≡ (timers_meaning m.timers DataAlarm).wait → least ≡ m.config.least_wait
+    → q ≡ (heard m.moment v.sender (sack_after v.sender x) p).pace
+    → TrafficStands traffic (format_for v.terms.interleave) (heard m.moment v.sender (sack_after v.sender x) p).sender v.receiver
+    → IsReply (heard m.moment v.sender (sack_after v.sender x) p) r → ((h : Heard) → q ≡ h.pace → r.trip ≡ h.trip → r.moved ≡ h.moved → rto ≡ wait_heard least b.rto h)
+    → flies ≡ nat_lt 0 (in_flight (heard m.moment v.sender (sack_after v.sender x) p).sender)
+    → ((moved : Bool) → (moved ≡ true → r.restarts ≡ true) → timers_meaning s
+    ≡ replaced DataAlarm (followed m.moment rto r.restarts flies (renewed m.moment moved (kept_if l.wanted (timers_meaning m.timers DataAlarm)))) (timers_meaning m.timers))
+    → KeepsMachine (record m { life = life.Joined (record a { traffic = traffic }); due = d; pace = Some q; timers = s }) (sack_heard v x)
+sack_follows m a v x p q taken traffic d s l r b rto least flies is k paces none stands left due before waits config pace_is now reply says flown timers =
+    let u : SenderView = sack_after v.sender x in
+    let moved : Bool = nat_lt v.sender.cum u.cum in
+    let t : Timer = renewed m.moment moved (kept_if l.wanted (timers_meaning m.timers DataAlarm)) in
+    let after : Timers = with_data m.timers t in
+    let took = with_traffic m a taken v u v.receiver is k stands refl refl in
+    let counted = with_both _ (record v { sender = u }) d _ after _ took (owed_due d v.due _ _ due left.past)
+    (counted_in _ _ _ _ _ _ _ _ _ (λ i y. data_at m.timers t y i) left.wanted refl took.clock took.timers) in
+    let anew = λ (on : moved ≡ true). reply.restarts ∙ ap (λ (c : Bool). c || some_passes (λ i. i == suc u.cum) (first_missed (misses_heard v.sender u p.misses) u)) on in
+    let put = timers moved anew ∙ (λ i y. again_at m.timers t (followed m.moment rto r.restarts flies t) y i) in
+    at_view _ _ _ (heard_left v x none)
+    (follows _ (record a { traffic = taken }) v (rests_left v u) (timer_left v u) p q traffic s r b rto least flies refl counted paces
+    (p, sym k.pace ∙ paces, before, waits ∙ ap (λ (g : Alarm → Timer). (g DataAlarm).wait) k.timers) config pace_is now reply says flown put)

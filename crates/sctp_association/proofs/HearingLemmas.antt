@@ -14,7 +14,6 @@ use Rattle.sctp_model.specs.end.Clock.{replaced, renewed, with_timer, is_point_p
 use Rattle.sctp_model.specs.end.Closing.{with_due}
 use Rattle.sctp_model.specs.end.Reports.{with_causes}
 use Rattle.sctp_model.specs.end.Acting.{piece_causes, heartbeat_heard, shut_timer, sack_heard, shutdown_counted}
-use Rattle.sctp_wire.specs.ChunkTree.{sack_meaning}
 use Rattle.sctp_model.specs.sender.Readers.{unsettled}
 use Rattle.sctp_model.proofs.sender.HeardLaws.{unpaced}
 use Rattle.sctp_values.specs.declared.no_memory.NoMemory.{NoMemory}
@@ -28,9 +27,7 @@ use Rattle.sctp_recv.specs.declared.forward.ForwardAnswer.{ForwardAnswer}
 use Rattle.sctp_outcomes.proofs.Buffers.{piece_keeps_buffer, forward_keeps_buffer}
 use Rattle.sctp_association.specs.TimersMean.{kept_if}
 use Rattle.sctp_association.specs.SackLeaves.{left_with, sack_counted}
-use Rattle.sctp_association.specs.Acknowledges.{rests_after, timer_after, shut_rests, shut_timer_of, fault_said, after_said, rests_said}
-use Rattle.sctp_association.specs.declared.peer.pacing.Acknowledging.{Acknowledging}
-use Rattle.sctp_association.specs.declared.peer.pacing.Acknowledging.TheVariants.{Sack, Shutdown}
+use Rattle.sctp_association.specs.Acknowledges.{rests_after, timer_after, shut_rests, shut_timer_of}
 use Rattle.sctp_association.specs.PhaseMeans.{phase_unjoined, phase_of}
 use Rattle.sctp_association.specs.TrafficStands.{TrafficStands}
 use Rattle.sctp_association.specs.MachineStands.{KeepsMachine}
@@ -147,23 +144,9 @@ counts_as v x none =
       timers = λ a. twice_at (timer_after v x) (kept_if (unsettled u) (v.timers DataAlarm)) v.timers a i;
     }) ∙ ap (λ (y : EndView). left_with v y.sender) (sack_counts v x none)
 
-pub counts_sack : (r : Result (Unit {0}) code.SackFault) (m : Machine) (v : EndView) (x : SackMeaning) → reason_meaning r ≡ sack_fault v.sender x → OnOk r (KeepsMachine m (sack_counted v x))
-    → OnOk r (KeepsMachine m (with_timer DataAlarm (timer_after v x) (rests_after v x)))
-counts_sack (Ok u) m v x none keeps = at_view m _ (sack_counted v x) (counts_as v x none) keeps
-counts_sack (Err fault) m v x some keeps = tt
-
--- what either leaves beside the pace: the pace, the phase, and the sender that has taken it
-pub pace_said : (v : EndView) (said : Acknowledging) → (rests_said v said).pace ≡ v.pace
-pace_said v (Sack x) = refl
-pace_said v (Shutdown tsn) = refl
-
-pub phase_said : (v : EndView) (said : Acknowledging) → (rests_said v said).phase ≡ v.phase
-phase_said v (Sack x) = refl
-phase_said v (Shutdown tsn) = refl
-
-pub sender_said : (v : EndView) (said : Acknowledging) → None ≡ fault_said v.sender said → after_said v.sender said ≡ (rests_said v said).sender
-sender_said v (Sack x) none = sym (ap (λ (y : EndView). y.sender) (sack_counts v (sack_meaning x.now) none))
-sender_said v (Shutdown tsn) none = sym (ap (λ (y : EndView). y.sender) (shutdown_counts v tsn none))
+-- what a SHUTDOWN leaves beside the pace: the sender that has taken it
+pub sender_shut : (v : EndView) (tsn : ℕ) → None ≡ shutdown_fault v.sender tsn → shutdown_after v.sender tsn ≡ (shut_rests v tsn).sender
+sender_shut v tsn none = sym (ap (λ (y : EndView). y.sender) (shutdown_counts v tsn none))
 
 -- a SHUTDOWN at an end without a pace
 pub shut_unpaced : (r : Result (Unit {0}) code.SackFault) (m : Machine) (v : EndView) (tsn : ℕ) → v.pace ≡ None → OnOk r (KeepsMachine m (with_timer DataAlarm (shut_timer_of v tsn) (shut_rests v tsn)))

@@ -18,7 +18,7 @@ pub record Weighs (v u : SenderView) (p : Pace) (x : Weighed) : Type 0 where
   pub moved : x.moved ≡ moves v u
   pub cum : x.cum ≡ u.cum
   pub lost : x.lost ≡ first_missed (misses_heard v u p.misses) u
-  pub last_sent : x.last_sent ≡ last_sent u
+  pub last_sent : IfSome x.lost (λ i. x.last_sent ≡ last_sent u)
   pub flight : x.flight ≡ in_flight v
   pub bytes : x.bytes ≡ newly_acked v u
   pub left : x.left ≡ in_flight (remarked v u p)

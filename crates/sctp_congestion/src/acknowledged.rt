@@ -60,6 +60,7 @@ impl CongestionControl {
     }
 
     /// The window grows by slow start up to ssthresh, by congestion avoidance above it (RFC 9260, 7.2.1).
+    #[inline(always)]
     pub fn grow(&mut self, flight: u64, bytes: u64)
         ensures { self.new ≡ grown flight bytes self.old }
     {
@@ -72,6 +73,7 @@ impl CongestionControl {
 
     /// Sets the limit of bursts: while `flight` bytes are in flight, Max.Burst packets may be sent (RFC 9260, 6.1, rule D). An acknowledgement of no
     /// new bytes leaves it. With nothing in flight the count of acknowledged bytes is 0 (7.2.2).
+    #[inline(always)]
     pub fn set_burst_limit(&mut self, flight: u64, bytes: u64)
         ensures { self.new ≡ bursting flight bytes self.old }
     {
@@ -85,6 +87,7 @@ impl CongestionControl {
     }
 
     /// All that an acknowledgement does to congestion control (RFC 9260, 7.2 and 6.1): the window grows, Fast Recovery begins, the limit of bursts is set.
+    #[inline(always)]
     pub fn acknowledge(&mut self, said: Acknowledged)
         ensures { self.new ≡ control_heard said.grows said.lost said.flight said.bytes said.left self.old }
     {

@@ -51,7 +51,11 @@ impl RttEstimate {
     {
         let trip = trip.ms();
         let srtt = self.eight_srtt / 8;
-        let distance = srtt.saturating_sub(trip) + trip.saturating_sub(srtt);
+        let distance = if srtt < trip {
+            trip - srtt
+        } else {
+            srtt - trip
+        };
         RttEstimate {
             eight_srtt: self.eight_srtt - srtt + trip,
             four_rttvar: self.four_rttvar - self.four_rttvar / 4 + distance,

@@ -1,6 +1,6 @@
 //! Miss indications, and Fast Recovery.
 
-ghost use Rattle.std.specs.Prelude.{◌≡◌, is_some};
+ghost use Rattle.std.specs.Prelude.{◌≡◌, is_some, IfSome};
 ghost use Rattle.sctp_model.specs.sender.SenderView.{SenderView};
 ghost use Rattle.sctp_model.specs.end.Misses.{fresh_misses, noticed, is_missed, last_sent, recovery_at, missed_once};
 ghost use Rattle.sctp_model.specs.end.Pacing.{misses_heard};
@@ -124,6 +124,17 @@ impl MissIndications {
             self.notice(said.newest_in_recovery);
         } else {
             self.notice(said.newest);
+        }
+    }
+
+    /// `miss_once` by the lowest index in flight that has its third miss indication now, if there is one; without one the highest index that was sent
+    /// is not read.
+    pub(crate) fn miss(&mut self, lost: Option<u64>, highest: u64)
+        ensures { (u : SenderView) → IfSome lost (λ i. highest ≡ last_sent u) → self.new ≡ missed_once u (is_some lost) self.old }
+    {
+        match lost {
+            None => self.passed = self.passed.max(self.third),
+            Some(_) => self.miss_once(true, highest),
         }
     }
 

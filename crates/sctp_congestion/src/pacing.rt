@@ -49,7 +49,7 @@ pub struct Weighed {
     pub cum: u64,
     /// The lowest index in flight that has its third miss indication by it.
     pub lost: Option<u64>,
-    /// The highest index that was sent.
+    /// The highest index that was sent; without such a lost one this is not read.
     pub last_sent: u64,
     /// The bytes in flight before it.
     pub flight: u64,
@@ -140,6 +140,7 @@ impl Pacing {
 
     /// The second step after an acknowledgement, at the time `now` in milliseconds, once what was missed is marked for retransmission: the round trip is
     /// measured, Fast Recovery may begin, the congestion window grows or shrinks (RFC 9260, 6.3.1, 7.2 and 6.1).
+    #[inline(always)]
     pub fn hear(&mut self, now: u64, said: Weighed) -> Reply
         ensures step { (v u : SenderView) (p : Pace) → self.old ≡ record p { misses = misses_heard v u p.misses } → Weighs v u p said → self.new ≡ (heard now v u p).pace }
         ensures trip { (v u : SenderView) (p : Pace) → self.old ≡ record p { misses = misses_heard v u p.misses } → Weighs v u p said → result.trip ≡ (heard now v u p).trip }
@@ -151,7 +152,7 @@ impl Pacing {
         let trip = self.trips.trip(now, said.acked);
         self.trips.stop_timing(said.over);
         self.trips.measure(trip);
-        self.misses.miss_once(lost, said.last_sent);
+        self.misses.miss(said.lost, said.last_sent);
         if let Some(control) = &mut self.control {
             control.acknowledge(Acknowledged {
                 grows: said.moved && outside,

@@ -21,7 +21,6 @@ ghost use Rattle.sctp_association.specs.SackLeaves.{fault_of, IsLeft, sack_count
 ghost use Rattle.sctp_association.specs.Acknowledges.{shut_timer_of, shut_rests};
 
 use crate::machine::Machine;
-use crate::peer::pacing::Acknowledging;
 use crate::state::life::Life;
 use crate::time::timer::Alarm;
 use crate::traffic::acknowledging::Acknowledged;
@@ -112,7 +111,7 @@ impl Machine {
             → OnErr result (MachineStands self.new v) }
     {
         if self.pace.is_some() {
-            return self.hear_paced(Acknowledging::Sack(sack));
+            return self.hear_sack_paced(sack);
         }
         self.count_sack(sack)
     }
@@ -186,7 +185,7 @@ impl Machine {
             → OnErr result (MachineStands self.new v) }
     {
         if self.pace.is_some() {
-            return self.hear_paced(Acknowledging::Shutdown(tsn));
+            return self.hear_shutdown_paced(tsn);
         }
         self.count_shutdown(tsn)
     }

@@ -6,16 +6,18 @@ ghost use Rattle.sctp_model.specs.messages.Format.{Format};
 ghost use Rattle.sctp_model.specs.sender.SenderView.{SenderView};
 ghost use Rattle.sctp_model.specs.receiver.ReceiverView.{ReceiverView};
 ghost use Rattle.sctp_model.specs.sender.Abandoning.{marking};
+ghost use Rattle.sctp_model.specs.sender.SackTaken.{sack_fault, shutdown_fault, shutdown_after};
 ghost use Rattle.sctp_model.specs.end.Pacing.{heard};
 ghost use Rattle.sctp_model.specs.end.EndView.{EndView};
 ghost use Rattle.sctp_model.specs.end.EndView as model;
 ghost use Rattle.sctp_model.specs.end.Clock.{with_timer, paced};
+ghost use Rattle.sctp_model.specs.end.Acting.{sack_heard, shutdown_counted};
+ghost use Rattle.sctp_wire.specs.ChunkTree.{sack_meaning};
 ghost use Rattle.sctp_send.specs.SenderAnswers.{reason_meaning};
 ghost use Rattle.sctp_send.specs.PaceAnswers.{first_in_flight};
 ghost use Rattle.sctp_association.specs.TrafficStands.{TrafficStands};
 ghost use Rattle.sctp_association.specs.MachineStands.{MachineStands};
 ghost use Rattle.sctp_association.specs.Weighing.{timed_of, IsBefore, AreBefore, IsReply};
-ghost use Rattle.sctp_association.specs.Acknowledges.{fault_said, after_said, timer_said, rests_said, heard_said};
 
 use crate::machine::Machine;
 use crate::state::life::Life;
@@ -24,15 +26,6 @@ use crate::traffic::Traffic;
 use sctp_congestion::{Highest, Pacing, Reply, Weighed};
 use sctp_send::{SackFault, Weight};
 use sctp_wire::Sack;
-
-/// What acknowledges user data.
-#[derive(Clone, Copy)]
-pub(crate) enum Acknowledging<'a> {
-    /// A SACK.
-    Sack(&'a Sack<'a>),
-    /// The cumulative TSN of a SHUTDOWN.
-    Shutdown(u32),
-}
 
 /// What an endpoint with a pace knows of an acknowledgement before its sender takes it.
 #[derive(Clone, Copy)]
@@ -47,21 +40,64 @@ pub(crate) struct Before {
 
 #[tactic(auto, unfolding(crate::specs::MachineStands::MachineStands))]
 impl Machine {
-    /// `hear_sack` and `hear_shutdown` at an endpoint with a pace: one function for both, so that all it calls is inlined once.
+    /// `hear_sack` at an endpoint with a pace. It isn't inlined, so that all it calls is inlined once.
     ///
     /// # Errors
     /// Its first fault; nothing changed then.
     #[inline(never)]
-    pub(crate) fn hear_paced(&mut self, said: Acknowledging<'_>) -> Result<(), SackFault>
+    pub(crate) fn hear_sack_paced(&mut self, sack: &Sack<'_>) -> Result<(), SackFault>
         ensures answer { (v : EndView) (t : model.Tags) (g : model.Stage) → MachineStands self.old v → v.phase ≡ model.Open t g
-            → reason_meaning result ≡ fault_said v.sender said.entry }
+            → reason_meaning result ≡ sack_fault v.sender (sack_meaning sack.now) }
         ensures step { (v : EndView) (t : model.Tags) (g : model.Stage) → MachineStands self.old v → v.phase ≡ model.Open t g
-            → OnOk result (MachineStands self.new (heard_said v said.entry)) }
+            → OnOk result (MachineStands self.new (sack_heard v (sack_meaning sack.now))) }
         ensures refused { (v : EndView) (t : model.Tags) (g : model.Stage) → MachineStands self.old v → v.phase ≡ model.Open t g
             → OnErr result (MachineStands self.new v) }
     {
-        let weighed = self.weigh(said);
-        match self.count_said(said) {
+        match &mut self.pace {
+            None => self.count_sack(sack),
+            Some(pace) => match &mut self.life {
+                Life::Unjoined(_) => Ok(()),
+                Life::Joined(association) => {
+                    let traffic = &mut association.traffic;
+                    let before = Before {
+                        weight: traffic.weigh(sack, timed_by(pace)),
+                        flight: traffic.in_flight(),
+                        rto: self.timers.get(Alarm::Fragments).wait,
+                    };
+                    match traffic.on_sack(sack) {
+                        Ok(left) => {
+                            self.due.owe_forward(left.past);
+                            let now = self.moment;
+                            let reply = respond(pace, traffic, now, before);
+                            let rto = pace.rto_after(&reply, self.config.rto_min(), before.rto);
+                            let flies = 0 < traffic.in_flight();
+                            let restarts = reply.restarts;
+                            self.timers
+                                .follow_sack(left.wanted, now, rto, restarts, flies);
+                            Ok(())
+                        }
+                        Err(fault) => Err(fault),
+                    }
+                }
+            },
+        }
+    }
+
+    /// `hear_shutdown` at an endpoint with a pace.
+    ///
+    /// # Errors
+    /// Its first fault; nothing changed then.
+    #[inline(never)]
+    pub(crate) fn hear_shutdown_paced(&mut self, tsn: u32) -> Result<(), SackFault>
+        ensures answer { (v : EndView) (t : model.Tags) (g : model.Stage) → MachineStands self.old v → v.phase ≡ model.Open t g
+            → reason_meaning result ≡ shutdown_fault v.sender tsn }
+        ensures step { (v : EndView) (t : model.Tags) (g : model.Stage) → MachineStands self.old v → v.phase ≡ model.Open t g
+            → OnOk result (MachineStands self.new (shutdown_counted v tsn)) }
+        ensures refused { (v : EndView) (t : model.Tags) (g : model.Stage) → MachineStands self.old v → v.phase ≡ model.Open t g
+            → OnErr result (MachineStands self.new v) }
+    {
+        let weighed = self.weigh_shutdown(tsn);
+        match self.count_shutdown(tsn) {
             Ok(()) => {
                 self.follow(weighed);
                 Ok(())
@@ -70,41 +106,22 @@ impl Machine {
         }
     }
 
-    /// What is known of an acknowledgement before the sender takes it; None without a pace.
+    /// What is known of the cumulative TSN of a SHUTDOWN before the sender takes it; None without a pace.
     #[inline(always)]
-    fn weigh(&self, said: Acknowledging<'_>) -> Option<Before>
-        ensures { (v : EndView) (t : model.Tags) (g : model.Stage) → MachineStands self.now v → v.phase ≡ model.Open t g → fault_said v.sender said.entry ≡ None
-            → AreBefore v (after_said v.sender said.entry) result }
+    fn weigh_shutdown(&self, tsn: u32) -> Option<Before>
+        ensures { (v : EndView) (t : model.Tags) (g : model.Stage) → MachineStands self.now v → v.phase ≡ model.Open t g → shutdown_fault v.sender tsn ≡ None
+            → AreBefore v (shutdown_after v.sender tsn) result }
     {
         match &self.pace {
             None => None,
             Some(pace) => match &self.life {
                 Life::Unjoined(_) => None,
                 Life::Joined(association) => Some(Before {
-                    weight: association.traffic.weigh_said(said, timed_by(pace)),
+                    weight: association.traffic.weigh_shutdown(tsn, timed_by(pace)),
                     flight: association.traffic.in_flight(),
                     rto: self.timers.get(Alarm::Fragments).wait,
                 }),
             },
-        }
-    }
-
-    /// What an acknowledgement does beside the pace.
-    ///
-    /// # Errors
-    /// Its first fault; nothing changed then.
-    #[inline(always)]
-    fn count_said(&mut self, said: Acknowledging<'_>) -> Result<(), SackFault>
-        ensures answer { (v : EndView) (t : model.Tags) (g : model.Stage) → MachineStands self.old v → v.phase ≡ model.Open t g
-            → reason_meaning result ≡ fault_said v.sender said.entry }
-        ensures step { (v : EndView) (t : model.Tags) (g : model.Stage) → MachineStands self.old v → v.phase ≡ model.Open t g
-            → OnOk result (MachineStands self.new (with_timer model.DataAlarm (timer_said v said.entry) (rests_said v said.entry))) }
-        ensures refused { (v : EndView) (t : model.Tags) (g : model.Stage) → MachineStands self.old v → v.phase ≡ model.Open t g
-            → OnErr result (MachineStands self.new v) }
-    {
-        match said {
-            Acknowledging::Sack(sack) => self.count_sack(sack),
-            Acknowledging::Shutdown(tsn) => self.count_shutdown(tsn),
         }
     }
 
@@ -171,8 +188,8 @@ fn respond(pace: &mut Pacing, traffic: &mut Traffic, now: u64, before: Before) -
     });
     let misses = pace.misses();
     let (from, below) = (misses.passed(), misses.third());
-    let last_sent = traffic.last_sent();
     let lost = mark_missed(traffic, weight.cum, from, below);
+    let last_sent = traffic.last_sent_if(lost);
     let over = is_over(weight.acked, pace, traffic);
     pace.hear(
         now,

@@ -1,7 +1,7 @@
 //! One retransmission timer, and its kind: each repeats one kind of packet until it is answered (RFC 9260, 5.1, 6.3 and 9.2). Pure arithmetic on
 //! times in milliseconds: it doesn't know what a timer repeats.
 
-ghost use Rattle.std.specs.Prelude.{◌≡◌, ◌<◌, ◌≤◌, ◌^◌, nat_lt, true};
+ghost use Rattle.std.specs.Prelude.{◌≡◌, Bool, ◌<◌, ◌≤◌, ◌^◌, nat_lt, true};
 ghost use Rattle.sctp_model.specs.end.EndView.{unused_timer};
 ghost use Rattle.sctp_model.specs.end.Clock.{running, stopped, expired_timer, is_over_at, repeats_of, renewed, renewed_expiry};
 ghost use Rattle.sctp_association.specs.TimersMean.{alarm_meaning, timer_meaning, kept_if};
@@ -120,6 +120,25 @@ impl Timer {
                 self.expiry
             },
             ..self
+        }
+    }
+
+    /// The data timer after a SACK at an endpoint with a pace: it stops unless it is wanted, counts its retransmissions anew, and is `followed`. A SACK that
+    /// acknowledged something new by its cumulative TSN restarts it (`restarts`), so that no other expiry is to be computed (RFC 9260, 6.3.2).
+    pub(crate) fn heard(
+        self,
+        wanted: bool,
+        now: u64,
+        rto: u64,
+        restarts: bool,
+        flies: bool,
+    ) -> Timer
+        ensures { (moved : Bool) → (moved ≡ true → restarts ≡ true)
+            → timer_meaning result ≡ followed now rto restarts flies (renewed now moved (kept_if wanted (timer_meaning self))) }
+    {
+        Timer {
+            repeats: 0,
+            ..self.kept_if(wanted).followed(now, rto, restarts, flies)
         }
     }
 

@@ -1,6 +1,6 @@
 //! The six timers of an endpoint: which start and stop together, and which expires first (RFC 9260, 6.3 and 9.2).
 
-ghost use Rattle.std.specs.Prelude.{◌≡◌, Bool};
+ghost use Rattle.std.specs.Prelude.{◌≡◌, Bool, true};
 ghost use Rattle.sctp_model.specs.end.EndView as model;
 ghost use Rattle.sctp_model.specs.end.EndView.{unused_timer};
 ghost use Rattle.sctp_model.specs.end.Clock.{stopped, renewed, replaced};
@@ -117,6 +117,22 @@ impl Timers {
         ensures { timers_meaning self.new ≡ replaced model.DataAlarm (followed now rto restarts flies (timers_meaning self.old model.DataAlarm)) (timers_meaning self.old) }
     {
         let timer = self.fragments.followed(now, rto, restarts, flies);
+        self.put(Alarm::Fragments, timer);
+    }
+
+    /// The data timer after a SACK at an endpoint with a pace, as `Timer::heard` says.
+    pub(crate) fn follow_sack(
+        &mut self,
+        wanted: bool,
+        now: u64,
+        rto: u64,
+        restarts: bool,
+        flies: bool,
+    )
+        ensures { (moved : Bool) → (moved ≡ true → restarts ≡ true)
+            → timers_meaning self.new ≡ replaced model.DataAlarm (followed now rto restarts flies (renewed now moved (kept_if wanted (timers_meaning self.old model.DataAlarm)))) (timers_meaning self.old) }
+    {
+        let timer = self.fragments.heard(wanted, now, rto, restarts, flies);
         self.put(Alarm::Fragments, timer);
     }
 

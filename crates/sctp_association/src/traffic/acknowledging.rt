@@ -1,12 +1,13 @@
-//! What a SACK does at the sender, and what it leaves there, in either format (RFC 9260, 6.2.1 and 6.3.2; RFC 3758, 3.5).
+//! What a SACK does at the sender, and what it leaves there, and what a SHUTDOWN does, in either format (RFC 9260, 6.2.1, 6.3.2 and 9.2; RFC 3758, 3.5).
 
 ghost use Rattle.std.specs.Prelude.{◌≡◌, IfOk};
 ghost use Rattle.sctp_model.specs.messages.Format.{Format};
 ghost use Rattle.sctp_model.specs.sender.SenderView.{SenderView};
 ghost use Rattle.sctp_model.specs.receiver.ReceiverView.{ReceiverView};
-ghost use Rattle.sctp_model.specs.sender.SackTaken.{sack_fault, sack_after};
+ghost use Rattle.sctp_model.specs.sender.SackTaken.{sack_fault, sack_after, shutdown_fault, shutdown_after};
 ghost use Rattle.sctp_wire.specs.ChunkTree.{sack_meaning};
 ghost use Rattle.sctp_send.specs.SenderStands.{StandsFor};
+ghost use Rattle.sctp_send.specs.SenderAnswers.{reason_meaning};
 ghost use Rattle.sctp_association.specs.TrafficStands.{TrafficStands};
 ghost use Rattle.sctp_association.specs.SackLeaves.{fault_of, IsLeft};
 
@@ -40,6 +41,20 @@ impl Traffic {
         match self {
             Traffic::Plain(directions) => take_sack(&mut directions.sender, sack),
             Traffic::Interleaved(directions) => take_sack(&mut directions.sender, sack),
+        }
+    }
+
+    /// Processes the cumulative TSN of a SHUTDOWN (RFC 9260, 9.2).
+    ///
+    /// # Errors
+    /// Its first fault; nothing changed.
+    pub(crate) fn on_shutdown(&mut self, tsn: u32) -> Result<(), SackFault>
+        ensures answer { (f : Format) (s : SenderView) (r : ReceiverView) → TrafficStands self.old f s r → reason_meaning result ≡ shutdown_fault s tsn }
+        ensures step { (f : Format) (s : SenderView) (r : ReceiverView) → TrafficStands self.old f s r → TrafficStands self.new f (shutdown_after s tsn) r }
+    {
+        match self {
+            Traffic::Plain(directions) => directions.sender.on_shutdown(tsn),
+            Traffic::Interleaved(directions) => directions.sender.on_shutdown(tsn),
         }
     }
 }

@@ -1,6 +1,6 @@
 //! What the pace of an association reads of its sender, and changes in it, in either format (RFC 9260, 6.1, 6.3.1 and 7.2).
 
-ghost use Rattle.std.specs.Prelude.{◌≡◌, ℕ, ◌<◌, ◌≤◌, ◌||◌, ◌&&◌, nat_le, nat_lt, None};
+ghost use Rattle.std.specs.Prelude.{◌≡◌, ℕ, ◌<◌, ◌≤◌, ◌||◌, ◌&&◌, nat_le, nat_lt, None, IfSome};
 ghost use Rattle.sctp_model.specs.messages.Format.{Format};
 ghost use Rattle.sctp_model.specs.sender.SenderView.{SenderView};
 ghost use Rattle.sctp_model.specs.receiver.ReceiverView.{ReceiverView};
@@ -13,9 +13,7 @@ ghost use Rattle.sctp_model.specs.end.Control.{room_of_repeats};
 ghost use Rattle.sctp_wire.specs.ChunkTree.{sack_meaning};
 ghost use Rattle.sctp_send.specs.PaceAnswers.{first_in_flight, IsWeight};
 ghost use Rattle.sctp_association.specs.TrafficStands.{TrafficStands};
-ghost use Rattle.sctp_association.specs.Acknowledges.{fault_said, after_said};
 
-use crate::peer::pacing::Acknowledging;
 use crate::traffic::Traffic;
 use sctp_send::Weight;
 use sctp_wire::Sack;
@@ -39,6 +37,17 @@ impl Traffic {
         match self {
             Traffic::Plain(directions) => directions.sender.last_sent(),
             Traffic::Interleaved(directions) => directions.sender.last_sent(),
+        }
+    }
+
+    /// The highest index that was sent, if something is lost; else it is not asked for.
+    #[inline(always)]
+    pub(crate) fn last_sent_if(&self, lost: Option<u64>) -> u64
+        ensures { (f : Format) (s : SenderView) (r : ReceiverView) → TrafficStands self.now f s r → IfSome lost (λ i. result ≡ last_sent s) }
+    {
+        match lost {
+            None => 0,
+            Some(_) => self.last_sent(),
         }
     }
 
@@ -76,7 +85,7 @@ impl Traffic {
 
     /// What a SACK without a fault does, before it is taken; `timed` is the index of the chunk that is timed, if there is one (RFC 9260, 6.3.1 and 7.2).
     #[inline(always)]
-    fn weigh(&self, sack: &Sack<'_>, timed: Option<u64>) -> Weight
+    pub(crate) fn weigh(&self, sack: &Sack<'_>, timed: Option<u64>) -> Weight
         ensures { (f : Format) (s : SenderView) (r : ReceiverView) → TrafficStands self.now f s r → sack_fault s (sack_meaning sack.now) ≡ None
             → IsWeight s (sack_after s (sack_meaning sack.now)) timed result }
     {
@@ -87,24 +96,13 @@ impl Traffic {
     }
 
     /// What the cumulative TSN of a SHUTDOWN without a fault does, before it is taken.
-    fn weigh_shutdown(&self, tsn: u32, timed: Option<u64>) -> Weight
+    pub(crate) fn weigh_shutdown(&self, tsn: u32, timed: Option<u64>) -> Weight
         ensures { (f : Format) (s : SenderView) (r : ReceiverView) → TrafficStands self.now f s r → shutdown_fault s tsn ≡ None
             → IsWeight s (shutdown_after s tsn) timed result }
     {
         match self {
             Traffic::Plain(directions) => directions.sender.weigh_shutdown(tsn, timed),
             Traffic::Interleaved(directions) => directions.sender.weigh_shutdown(tsn, timed),
-        }
-    }
-
-    /// What an acknowledgement without a fault does, before it is taken.
-    #[inline(always)]
-    pub(crate) fn weigh_said(&self, said: Acknowledging<'_>, timed: Option<u64>) -> Weight
-        ensures { (f : Format) (s : SenderView) (r : ReceiverView) → TrafficStands self.now f s r → fault_said s said.entry ≡ None → IsWeight s (after_said s said.entry) timed result }
-    {
-        match said {
-            Acknowledging::Sack(sack) => self.weigh(sack, timed),
-            Acknowledging::Shutdown(tsn) => self.weigh_shutdown(tsn, timed),
         }
     }
 

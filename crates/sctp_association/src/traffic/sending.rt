@@ -7,14 +7,13 @@ ghost use Rattle.sctp_model.specs.sender.SenderView.{SenderView};
 ghost use Rattle.sctp_model.specs.receiver.ReceiverView.{ReceiverView};
 ghost use Rattle.sctp_model.specs.sender.Reached.{IsReached};
 ghost use Rattle.sctp_model.specs.sender.Readers.{drained, unsettled, point, outstanding, acknowledged, abandoned};
-ghost use Rattle.sctp_model.specs.sender.SackTaken.{shutdown_fault, shutdown_after};
 ghost use Rattle.sctp_model.specs.sender.Abandoning.{has_late, expired, worn, timed_out, abandon_answer, abandon_after};
 ghost use Rattle.sctp_model.specs.end.Clock.{is_point_past};
-ghost use Rattle.sctp_send.specs.SenderAnswers.{reason_meaning, answer_meaning, QueueAnswer, queue_after, lane_for, next_late, next_at_limit, abandoned_messages};
+ghost use Rattle.sctp_send.specs.SenderAnswers.{answer_meaning, QueueAnswer, queue_after, lane_for, next_late, next_at_limit, abandoned_messages};
 ghost use Rattle.sctp_association.specs.TrafficStands.{TrafficStands};
 
 use crate::traffic::Traffic;
-use sctp_send::{Abandoned, SackFault, SendFault};
+use sctp_send::{Abandoned, SendFault};
 use sctp_values::Ticket;
 
 impl Traffic {
@@ -157,20 +156,6 @@ impl Traffic {
         match self {
             Traffic::Plain(directions) => directions.sender.abandoned(ticket),
             Traffic::Interleaved(directions) => directions.sender.abandoned(ticket),
-        }
-    }
-
-    /// Processes the cumulative TSN of a SHUTDOWN (RFC 9260, 9.2).
-    ///
-    /// # Errors
-    /// Its first fault; nothing changed.
-    pub(crate) fn on_shutdown(&mut self, tsn: u32) -> Result<(), SackFault>
-        ensures answer { (f : Format) (s : SenderView) (r : ReceiverView) → TrafficStands self.old f s r → reason_meaning result ≡ shutdown_fault s tsn }
-        ensures step { (f : Format) (s : SenderView) (r : ReceiverView) → TrafficStands self.old f s r → TrafficStands self.new f (shutdown_after s tsn) r }
-    {
-        match self {
-            Traffic::Plain(directions) => directions.sender.on_shutdown(tsn),
-            Traffic::Interleaved(directions) => directions.sender.on_shutdown(tsn),
         }
     }
 

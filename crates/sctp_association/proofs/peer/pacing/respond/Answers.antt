@@ -20,7 +20,7 @@ said : (c : goal.After-hear) (f : Format) (v u : SenderView) (r : ReceiverView) 
       moved = c.args.before.weight.moved;
       cum = c.args.before.weight.cum;
       lost = c.mark_missed-lost.result;
-      last_sent = c.last_sent-last_sent.result;
+      last_sent = c.last_sent_if-last_sent.result;
       flight = c.args.before.flight;
       bytes = c.args.before.weight.bytes;
       left = c.in_flight.result;
@@ -30,9 +30,9 @@ said : (c : goal.After-hear) (f : Format) (v u : SenderView) (r : ReceiverView) 
 said c f v u r stands before =
     let w : SenderView = marking u (λ i. nat_le c.passed-from.result i && nat_lt i c.third-below.result) in
     let marked = c.mark_missed-lost.ensures.marked f u r stands before.weight.cum in
-    weighs v u c.args.pace.now c.args.before c.misses-misses.result c.passed-from.result c.third-below.result c.mark_missed-lost.result c.last_sent-last_sent.result c.in_flight.result c.is_over-over.result
+    weighs v u c.args.pace.now c.args.before c.misses-misses.result c.passed-from.result c.third-below.result c.mark_missed-lost.result c.last_sent_if-last_sent.result c.in_flight.result c.is_over-over.result
     before (c.misses-misses.ensures ∙ ap (λ (p : Pace). p.misses) (noticed c v u before)) c.passed-from.ensures c.third-below.ensures
-    (c.mark_missed-lost.ensures.lost f u r stands before.weight.cum) (c.last_sent-last_sent.ensures f u r stands) (c.in_flight.ensures f w r marked)
+    (c.mark_missed-lost.ensures.lost f u r stands before.weight.cum) (c.last_sent_if-last_sent.ensures f w r marked) (c.in_flight.ensures f w r marked)
     (subst (λ (p : Pace). IfSome p.trips.timed (λ t. c.is_over-over.result ≡ (w.marked t.index || w.covered t.index))) (noticed c v u before)
     (c.is_over-over.ensures f w r marked (subst (λ (p : Pace). IfSome p.trips.timed (λ t. c.args.before.weight.acked ≡ true → u.covered t.index ≡ true)) (sym (noticed c v u before))
     (covers_acked v u c.args.pace.now.trips.timed c.args.before.weight.acked before.weight.acked))))
