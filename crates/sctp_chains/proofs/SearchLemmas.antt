@@ -135,6 +135,21 @@ module _ (cs : List ChainKept) (h : AreChains cs) where
         ],
       )
 
+  -- the first chain, if it is whole and within bounds
+  pub found_first : (from last : ℕ) (x : ChainKept) (w : Found) → 0 < length cs → x ≡ get_or cs 0 x → from ≤ x.first → x.first ≤ last → IsWholeHere cs 0 (Some w) → IsFirstWhole cs from last (Some w)
+  found_first from last x w less at low high found =
+      let first = ap (λ (z : ChainKept). z.first) (found_here 0 x w less at found.0 found.1.0 found.1.1) in (
+        found.1.0,
+        found.1.1,
+        omega (arith, first, low),
+        omega (arith, first, high),
+        λ d there from_on below. absurd (let lowest = not_lower 0 x less at d there in omega (arith, lowest, below, first)),
+      )
+
+  -- if it begins past them, none does
+  pub past_first : (from last : ℕ) (x : ChainKept) → 0 < length cs → x ≡ get_or cs 0 x → last < x.first → IsFirstWhole cs from last None
+  past_first from last x less at past = λ c there low high. absurd (let lowest = not_lower 0 x less at c there in omega (arith, lowest, past, high))
+
   pub none_further : (from last k : ℕ) (x : ChainKept) → k < length cs → x ≡ get_or cs k x → IsPassed from k → last < x.first → IsFirstWhole cs from last None
   none_further from last k x less at p past = λ c there low high. elim (front_or_back k c there) [
     | inl front ↦ p.none c front low

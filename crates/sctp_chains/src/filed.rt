@@ -14,7 +14,7 @@ ghost use Rattle.sctp_chains.specs.inner.LettingGo.{LetsGo, Removes};
 use crate::chain::{Chain, Part};
 use crate::filing::file;
 use crate::letting_go::{drop_upto, remove};
-use crate::search::{Found, Looked, first_whole};
+use crate::search::{Found, Looked, at_front, first_whole};
 use sctp_sequence::Sequence;
 use sctp_values::NoMemory;
 use std::alloc::Global;
@@ -113,13 +113,17 @@ impl Filed {
         first_whole(&self.chains, self.passed, from, last)
     }
 
-    /// The first complete message that begins with one of these ranks; which chains needn't be looked at again is recorded.
+    /// The first complete message that begins with one of these ranks. If the first chain doesn't say which, they are searched, and which chains needn't
+    /// be looked at again is recorded.
     #[inline(always)]
     pub(crate) fn find(&mut self, from: u128, last: u128) -> Option<Found>
         ensures same { self.new.chains.items ≡ self.old.chains.items }
         ensures whole { self.new.whole ≡ self.old.whole }
         ensures found { AreChains (map chain_of self.old.chains.items) → IsFirstWhole (map chain_of self.old.chains.items) from last result }
     {
+        if let Some(found) = at_front(&self.chains, from, last) {
+            return found;
+        }
         let looked = self.first_whole(from, last);
         self.passed = looked.passed;
         looked.found

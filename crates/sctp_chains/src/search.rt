@@ -1,6 +1,6 @@
 //! Searching for complete messages among chains.
 
-ghost use Rattle.std.specs.Prelude.{◌≡◌, ◌≤◌, ◌<◌, nat_lt, length, map};
+ghost use Rattle.std.specs.Prelude.{◌≡◌, ◌≤◌, ◌<◌, nat_lt, length, map, IfSome};
 ghost use Rattle.sctp_chains.specs.Links.{chain_of, AreChains};
 ghost use Rattle.sctp_chains.specs.inner.Finding.{IsStart, IsWholeHere, IsWholeWithRank, IsFirstWhole, IsStop, AreOpen};
 
@@ -62,6 +62,28 @@ pub(crate) fn whole_with(chains: &Sequence<Chain>, rank: u128) -> Option<Found>
         return whole_at(chains, at);
     }
     None
+}
+
+/// The first complete message that begins with one of these ranks, or that there is none, if the first chain alone says which: it is the message, or it
+/// begins past these ranks. So messages that are taken in their order, and one that waits for an earlier one, cost no search.
+#[inline(always)]
+pub(crate) fn at_front(chains: &Sequence<Chain>, from: u128, last: u128) -> Option<Option<Found>>
+    ensures { AreChains (map chain_of chains.now.items) → IfSome result (IsFirstWhole (map chain_of chains.now.items) from last) }
+{
+    if chains.is_empty() {
+        return None;
+    }
+    let first = chains.get(0).first();
+    if first > last {
+        return Some(None);
+    }
+    if first < from {
+        return None;
+    }
+    match whole_at(chains, 0) {
+        Some(found) => Some(Some(found)),
+        None => None,
+    }
 }
 
 /// The position of the first chain, from `from` on, that is a complete message or begins past a rank; the number of chains, if there is none.

@@ -10,7 +10,8 @@ ghost use Rattle.sctp_sequence.specs.declared.sequence.TheConstants.{BLOCK};
 use crate::blocks::{find, lower, recount};
 use std::collections::VecDeque;
 
-/// If the first block is empty, the next becomes the first.
+/// If the first block is empty, the next becomes the first. It is inlined, since items are removed one after another and it mostly isn't.
+#[inline(always)]
 pub(crate) fn move_up<T: Drop>(
     first: &mut VecDeque<T>,
     rest: &mut Vec<VecDeque<T>>,
