@@ -78,7 +78,7 @@ pub(crate) fn remove(chains: &mut Sequence<Chain>, held: &mut u32, at: usize) ->
     Some(chain)
 }
 
-/// From a position on, drops all fragments of ranks up to this one: if no chain stays, all at once, and then no byte is held.
+/// From a position on, drops all fragments of ranks up to this one: if no chain stays, all at once, and then no byte is held, and memory is given back.
 pub(crate) fn drop_upto(chains: &mut Sequence<Chain>, held: u32, at: usize, upto: u128) -> u32
     ensures fewer { length chains.new.items ≤ length chains.old.items }
     ensures whole { whole_in (map chain_of chains.new.items) ≤ whole_in (map chain_of chains.old.items) }
@@ -88,6 +88,7 @@ pub(crate) fn drop_upto(chains: &mut Sequence<Chain>, held: u32, at: usize, upto
     let before = chains.len();
     if at == 0 && before > 0 && chains.get(before - 1).last() <= upto {
         chains.clear();
+        chains.give_back();
         return 0;
     }
     drop_each(chains, held, at, upto)

@@ -1,7 +1,8 @@
 //! Memory of messages that the user returned, reused for the data of the next ones. It doesn't affect what is kept or delivered.
 //!
 //! Memory is kept message by message, the last one returned first to be used: at most as many as waited at once, as far as they were counted, since the
-//! first one was returned, and only as long as their blocks have no more bytes together than are given (a receiver gives the size of its buffer). A block is
+//! first one was returned, and only as long as their blocks have no more bytes together than are given (a receiver gives the size of its buffer). If of these
+//! messages fewer than an eighth wait while twice as many are taken, half of the memory is freed; so a link that fills and drains its window keeps it. A block is
 //! used for data that fits in it and fills at least half of it; one that isn't used is freed. Its bytes are overwritten, which for a block of the
 //! same length is a copy and no more. Until a message is returned nothing is allocated for any, and one for which allocation fails is freed.
 
@@ -22,9 +23,14 @@ pub struct Spare {
     used: bool,
     /// How many messages wait.
     waiting: usize,
-    /// The most that waited at once, since the first one was returned: the blocks of no more are kept.
+    /// The most that waited at once, since the first one was returned, or half of that: the blocks of no more are kept.
     most: usize,
+    /// How many were taken in a row while fewer than an eighth of `most` waited.
+    quiet: usize,
 }
+
+/// The blocks of so many messages are kept however few wait.
+const FEW: usize = 1_024;
 
 impl Spare {
     /// No blocks. Nothing is allocated.
@@ -35,6 +41,7 @@ impl Spare {
             used: false,
             waiting: 0,
             most: 0,
+            quiet: 0,
         }
     }
 
@@ -65,10 +72,40 @@ impl Spare {
         }
     }
 
-    /// Counts a message that waited and was taken.
+    /// Counts a message that waited and was taken. Of the blocks of many messages half are freed where few of them wait for long.
     #[inline(always)]
     pub fn taken(&mut self) {
         self.waiting = self.waiting.saturating_sub(1);
+        if self.most > FEW {
+            self.count_quiet();
+        }
+    }
+
+    /// Counts a message that was taken, if fewer than an eighth wait of those whose blocks are kept. Of twice as many in a row half of the blocks are freed.
+    #[inline(never)]
+    fn count_quiet(&mut self) {
+        if self.waiting >= self.most / 8 {
+            self.quiet = 0;
+            return;
+        }
+        self.quiet = self.quiet.saturating_add(1);
+        if self.quiet / 2 >= self.most {
+            self.halve();
+        }
+    }
+
+    /// Frees the blocks of all messages but half as many as may be kept.
+    #[inline(never)]
+    fn halve(&mut self) {
+        self.quiet = 0;
+        self.most /= 2;
+        for _ in self.most..self.messages.len() {
+            if let Some(parts) = self.messages.pop() {
+                self.bytes = self.bytes.saturating_sub(size_of(&parts));
+                let_go(parts);
+            }
+        }
+        self.messages.shrink_to(self.most);
     }
 
     /// Returns the blocks of a message that was taken. They are kept, unless those of as many are kept as waited at once, or all would have more bytes than

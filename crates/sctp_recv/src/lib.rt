@@ -38,7 +38,9 @@
 //! | `len` is the number of bytes, 2^64 - 1 if there are more; `copy_into` copies them to the beginning of a buffer whose rest stays, or leaves a buffer that is too small, and returns how many they are | [`Message::len`], [`Message::copy_into`] |
 //!
 //! Only `new`, `on_data`, `on_forward`, `on_requests`, `sack` and `copy_to` allocate. Everything that allocates is done first: a call that fails has changed
-//! capacity alone, and under DATA a bound (`lows.rt`).
+//! capacity alone, and under DATA a bound (`lows.rt`). Memory that thousands of messages or chunks took is given back as soon as none of them is left
+//! (`stream.rt`, `Sequence::give_back`), that of messages that were returned little by little (`spare.rt` of `sctp_chains`): a smaller block takes the place of
+//! a large one, which stays if there is none.
 //! Laws of the steps, for crates above: [`cumulative_is_one`], [`piece_is_one`] and [`forward_is_one`] (each step has one result),
 //! [`due_is_in_words`] and [`words_are_one`] (which messages are due), [`nothing_is_given`], [`resets_stay`],
 //! [`stands_for_ordinary`], [`stands_for_bounded`].

@@ -5,7 +5,7 @@
 //! search among those. A message's data isn't copied when it is delivered. What allocates is done first, and if it fails only capacity
 //! (and a bound of `lows.rt`) has changed: for an index that isn't the next one; for the messages that may be delivered, for an ordered chunk
 //! one more than there are complete ones; for the chunk itself; and on a stream's first chunk for its state (`stream.rt`). Capacity that
-//! isn't used stays with the stream.
+//! isn't used stays with the stream, unless it is for thousands of messages, and none waits.
 //!
 //! From an ordered chunk's stream the message of the next number is taken, and so on until one isn't complete (`give.rt`). A chunk that is the next message
 //! by itself isn't kept first: it is delivered, and what follows it is looked for only if something kept may be due. Of an unordered chunk the

@@ -173,7 +173,9 @@ impl<F: Framing> Receiver<F> {
         self.duplicates.truncate(0);
     }
 
-    /// Takes the first message that waits on a stream: None if and only if none waits, as on a stream that doesn't exist.
+    /// Takes the first message that waits on a stream: None if and only if none waits, as on a stream that doesn't exist. It is inlined, since it runs for each
+    /// message.
+    #[inline(always)]
     pub fn take(&mut self, stream: u16) -> Option<Message>
         ensures { (v : ReceiverView) → StandsFor F.format self.old v
             → (t : ReceiverView) × TakeLeaves v stream (option_map handed_of result) t × StandsFor F.format self.new t }
@@ -197,7 +199,8 @@ impl<F: Framing> Receiver<F> {
 
     /// Returns a message that was taken, for its memory to be reused for the data of chunks that are received. The receiver keeps the memory of at most
     /// as many messages as waited at once since the first one was returned (those delivered by a FORWARD aren't counted), in blocks of no more bytes
-    /// than its buffer, and frees the rest, and a block that the next chunk doesn't fit or would fill by less than half. Nothing is allocated.
+    /// than its buffer, and of half as many where for long few wait. It frees the rest, and a block that the next chunk doesn't fit or would fill by less
+    /// than half. Nothing is allocated.
     pub fn give_back(&mut self, message: Message)
         ensures { (v : ReceiverView) → StandsFor F.format self.old v → StandsFor F.format self.new v }
     {

@@ -201,7 +201,7 @@ fn advance(cumulative: &mut u64, runs: &mut Sequence<SeenRun>, index: u64)
     pass(cumulative, runs, index);
 }
 
-/// Moves the cumulative index as `advance` does; called only if there are runs.
+/// Moves the cumulative index as `advance` does; called only if there are runs. If none is left, memory is given back.
 #[inline(never)]
 fn pass(cumulative: &mut u64, runs: &mut Sequence<SeenRun>, index: u64)
     requires { AreSpaced runs.old.items }
@@ -215,4 +215,5 @@ fn pass(cumulative: &mut u64, runs: &mut Sequence<SeenRun>, index: u64)
     for _ in 0..passed {
         let _ = runs.pop_front();
     }
+    runs.give_back();
 }

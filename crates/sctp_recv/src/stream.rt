@@ -21,6 +21,14 @@ use sctp_framing::Framing;
 use sctp_values::{Kind, NoMemory};
 use sctp_wire::Piece;
 use std::alloc::Global;
+use std::collections::VecDeque;
+
+/// Memory for so many messages is given back when none waits. That for fewer stays: what an allocator does at a large block would be dear beside their
+/// own cost on a link that fills and drains its window each round trip.
+const MANY: usize = 2_048;
+
+/// Memory for so many is kept then.
+const FEW: usize = 64;
 
 /// A stream. Until a chunk of it is kept or a FORWARD goes to it, it has no state, and is a null pointer: its numbers count from 0.
 #[derive(Drop)]
@@ -187,7 +195,7 @@ fn begin<F: Framing>(alloc: Global) -> Result<Box<Inbound<F>>, NoMemory>
     Box::new(alloc, Inbound::fresh(alloc)).map_err(|_| NoMemory)
 }
 
-/// Takes the first message that waits, if one does.
+/// Takes the first message that waits, if one does. If none waits then, memory is given back.
 pub(crate) fn take_first<F: Framing>(stream: &mut Stream<F>) -> Option<Message>
     ensures first { MatchOption result
         (((stream_of stream.old).waiting ≡ []) × (stream_of stream.new ≡ stream_of stream.old))
@@ -196,7 +204,30 @@ pub(crate) fn take_first<F: Framing>(stream: &mut Stream<F>) -> Option<Message>
     ensures chunks { SameLanes F.format stream.old stream.new }
 {
     match &mut stream.inbound {
-        Some(inbound) => inbound.waiting.pop_front(),
+        Some(inbound) => {
+            let waiting = &mut inbound.waiting;
+            let first = waiting.pop_front();
+            give_back(waiting);
+            first
+        }
         None => None,
     }
+}
+
+/// Gives memory back if it is for many messages, and none waits.
+#[inline(always)]
+fn give_back(waiting: &mut VecDeque<Message>)
+    ensures { waiting.new.items ≡ waiting.old.items }
+{
+    if waiting.is_empty() && waiting.capacity() >= MANY {
+        shrink(waiting);
+    }
+}
+
+/// Keeps memory for a few messages; if that can't be allocated, all memory stays.
+#[inline(never)]
+fn shrink(waiting: &mut VecDeque<Message>)
+    ensures { waiting.new.items ≡ waiting.old.items }
+{
+    waiting.shrink_to(FEW);
 }

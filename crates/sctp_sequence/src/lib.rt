@@ -21,6 +21,7 @@
 //! | [`Sequence::get_mut`] | `writes_back` (`specs/Lending`): the item at the position is what was last written there, the others and the memory stay; `value`: what it is at first |
 //! | [`Sequence::remove`], [`Sequence::pop_front`] | the item at a position, or the first one, is taken out; None if and only if there is none; memory for one more item stays |
 //! | [`Sequence::clear`] | no items; memory for one more item stays |
+//! | [`Sequence::give_back`] | changes no item; of an empty list that had many blocks memory is given back |
 //! | [`Sequence::partition_point`] | `partitioned`: how many items at the front satisfy a predicate that none after them satisfies |
 //!
 //! ## Cost
@@ -57,7 +58,8 @@
 //!
 //! # What a body may still get away with
 //!
-//! `reserve`, and so `insert` and `push_back` without memory reserved, may answer [`NoMemory`] although there was some. A map may be incomplete.
+//! `reserve`, and so `insert` and `push_back` without memory reserved, may answer [`NoMemory`] although there was some; `give_back` may give nothing
+//! back. A map may be incomplete.
 #![tactic(auto)]
 
 mod blocks;

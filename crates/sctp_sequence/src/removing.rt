@@ -6,6 +6,12 @@ ghost use Rattle.std.specs.List.{remove};
 use crate::going::{move_up, remove_later};
 use crate::sequence::Sequence;
 
+/// An empty list that had memory for more blocks behind the first one gives it back.
+const MANY: usize = 4;
+
+/// It keeps memory for so many items then.
+const FEW: usize = 32;
+
 impl<T: Drop> Sequence<T> {
     /// Removes the item at a position, and returns it; None if there is none.
     pub fn remove(&mut self, at: usize) -> Option<T>
@@ -53,5 +59,28 @@ impl<T: Drop> Sequence<T> {
         self.first.clear();
         self.rest.clear();
         self.starts.clear();
+    }
+
+    /// Gives memory back that an empty list keeps, if it had many blocks: the first one stays, with memory for 32 items, or as it is if a smaller one can't
+    /// be allocated. It is inlined, since callers ask after each item that is removed.
+    #[inline(always)]
+    pub fn give_back(&mut self)
+        ensures { self.new.items ≡ self.old.items }
+    {
+        if self.count == 0 && self.rest.capacity() > MANY {
+            self.shrink();
+        }
+    }
+
+    /// Gives back the memory of an empty list.
+    #[inline(never)]
+    fn shrink(&mut self)
+        requires { self.old.items ≡ [] }
+        ensures { self.new.items ≡ self.old.items }
+    {
+        self.first.shrink_to(FEW);
+        self.rest.shrink_to_fit();
+        self.starts.shrink_to_fit();
+        self.spare = None;
     }
 }

@@ -19,7 +19,7 @@ pub returns : goal.returns
 returns c =
     let runs = c.args.runs.now.items in
     let end : c.loop.counter ≡ c.upto-passed.result = omega (arith, c.loop.auto.counter-end, c.loop-test.false) in
-    let left = c.loop.invariant.left ∙ ap (λ (n : ℕ). drop n runs) end in
+    let left = c.give_back.ensures ∙ c.loop.invariant.left ∙ ap (λ (n : ℕ). drop n runs) end in
     let place = c.upto-passed.ensures.place c.requires in
     elim c.match-passed.branch [
       | in-0 w ↦
