@@ -1,4 +1,5 @@
 pub mod CountedUp
+pub mod RankLemmas
 pub mod PassingLists
 pub mod WaitingLemmas
 pub mod StillLemmas

@@ -18,4 +18,5 @@ pub mod FateBlocks
 pub mod Stretching
 pub mod Dues
 pub mod Wearing
+pub mod Ordering
 pub mod Resetting

@@ -1,7 +1,7 @@
 use Rattle.std.proofs.Common.{ℕ, rules, of_calls}
 use Rattle.std.specs.Prelude.{nat_lt}
 use Rattle.std.proofs.lemmas.Fn.{always_returns_same}
-use Rattle.sctp_send.proofs.kept.OrderedLemmas.{can_search, searched}
+use Rattle.sctp_send.proofs.resetting.RankLemmas.{can_search, searched}
 use Rattle.sctp_send.proofs.resetting.table.rank_of.Goals as goal
 
 pub returns-clause-rank : goal.returns-clause-rank
