@@ -111,6 +111,10 @@ class Timer:
     def renew(self, now):
         """No expiry counts any more, and the wait begins anew where it runs."""
         self.count, self.wait = 0, FIRST_WAIT
+        self.begin_anew(now)
+
+    def begin_anew(self, now):
+        """With the same wait, where it runs."""
         if self.expiry is not None:
             self.restart(now)
 
@@ -745,9 +749,10 @@ class Endpoint:
                 self.response(*struct.unpack('>II', value[:8]))
 
     def response(self, number, result):
-        """RFC 6525 section 5.2.7: the timer of a request that is answered is as it was at first. That of one in progress runs
-        on, and its expiry counts (section 5.1.1)."""
-        self.sender.resets.on_response(number, result)
+        """RFC 6525 section 5.2.7: the timer of a request that is in progress begins anew where it runs, and its expiry counts
+        (section 5.1.1); that of one that is answered is as it was at first."""
+        if self.sender.resets.on_response(number, result):
+            self.timers['request'].begin_anew(self.now)
         if self.sender.resets.pending is None:
             self.due.discard('request')
             self.timers['request'] = Timer(OTHER_REPEATS)

@@ -72,11 +72,11 @@ def own():
     moment, wait = 100, 1000
     for turn in range(11):
         made.at(moment + 600).responds(1000 + turn, 6).line('next')
-        moment, wait = moment + wait, min(2 * wait, 60_000)
+        moment, wait = moment + 600 + wait, min(2 * wait, 60_000)
         made.at(moment - 1).build().at(moment).build().line('next')
     yield made.look().responds(1010, 1).look()
-    made = Resetting('a request in progress: its timer runs on, and it goes once that expires').resets(2).build()
-    yield made.at(3000).line('next').build().line('next').at(3500).responds(1000, 6).line('next').build().at(4999).build().at(5000).build().line('next')
+    made = Resetting('a request in progress: its timer starts again, with the same wait, and it goes once that expires').resets(2).build()
+    yield made.at(3000).line('next').build().line('next').at(3500).responds(1000, 6).line('next').build().at(5499).build().at(5500).build().line('next')
     made = Resetting('a request that is due, and is in progress, goes at once with the next number').resets(2).build().at(1100).line('next')
     yield made.responds(1000, 6).line('next').build().line('next')
     made = Resetting('a request that is due, and is answered, goes no more').resets(2).build().at(1100).responds(1000, 1).build().look()

@@ -234,15 +234,18 @@ def timer():
         moment, wait = moment + wait, min(2 * wait, 60000)
         made.says('at %d' % (moment - 1), 'ok').build('A').says('at %d' % moment, 'ok').build('A', 36, request(1, 0, 1, 0))
     made.says('at %d' % (moment + wait - 1), 'ok').build('A').says('at %d' % (moment + wait), 'ok').build('A').says('reset A 0', 'refused 1').says('send A 0 o 0 - 61', 'refused 7')
-    made = reset_begins('a peer whose response is in progress for ever: ten repeats, and the association is over').build('A', 36)
+    made = reset_begins('a peer whose response is in progress for ever: each starts the timer again, and after ten repeats the association is over').build('A', 36)
     moment, wait = 0, 1000
     for number in range(1, 11):
-        moment, wait = moment + wait, min(2 * wait, 60000)
-        made.foreign('A', responses((number, 6))).says('at %d' % (moment - 1), 'ok').build('A')
+        made.says('at %d' % (moment + 500), 'ok').foreign('A', responses((number, 6)))
+        moment, wait = moment + 500 + wait, min(2 * wait, 60000)
+        made.says('at %d' % (moment - 1), 'ok').build('A')
         made.says('at %d' % moment, 'ok').build('A', 36, request(number + 1, 0, 1, 0))
-    made.foreign('A', responses((11, 6))).says('at %d' % (moment + wait), 'ok').build('A').says('reset A 0', 'refused 1').says('send A 0 o 0 - 61', 'refused 7')
-    made = reset_begins('in progress once, and then silence: ten repeats, and the association is over').build('A', 36).foreign('A', responses((1, 6)))
-    moment, wait = 0, 1000
+    made.says('at %d' % (moment + 500), 'ok').foreign('A', responses((11, 6))).says('at %d' % (moment + 500 + wait - 1), 'ok').build('A')
+    made.says('at %d' % (moment + 500 + wait), 'ok').build('A').says('reset A 0', 'refused 1').says('send A 0 o 0 - 61', 'refused 7')
+    made = reset_begins('in progress once, and then silence: ten repeats, and the association is over').build('A', 36).says('at 600', 'ok')
+    made.foreign('A', responses((1, 6)))
+    moment, wait = 600, 1000
     for _ in range(10):
         moment, wait = moment + wait, min(2 * wait, 60000)
         made.says('at %d' % moment, 'ok').build('A', 36, request(2, 0, 1, 0))

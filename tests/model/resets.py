@@ -95,18 +95,19 @@ class Outgoing:
         return True
 
     def on_response(self, number, result):
-        """One to another request changes nothing (section 5.2.7)."""
+        """One to another request changes nothing (section 5.2.7). True where the one that waits is in progress."""
         if self.pending is None or number != self.number():
-            return
+            return False
         if result == IN_PROGRESS:
             self.ask_again()
-            return
+            return True
         for stream in self.pending.streams:
             if result in (NOTHING_TO_DO, PERFORMED):
                 self.begin_anew(stream)
             else:
                 self.sending[stream] = REFUSES
         self.pending = None
+        return False
 
     def ask_again(self):
         """With the next number: a request with one that was taken may have the same response (sections 5.2.1 and 5.2.7)."""

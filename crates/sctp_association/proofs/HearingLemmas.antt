@@ -10,7 +10,7 @@ use Rattle.sctp_model.specs.sender.SenderView.{SenderView}
 use Rattle.sctp_model.specs.sender.SackTaken.{SackFault, sack_fault, sack_taken, sack_after, shutdown_fault, shutdown_taken, shutdown_after}
 use Rattle.sctp_model.specs.end.EndView.{EndView, Alarm, DataAlarm, Timer, format_of}
 use Rattle.sctp_model.specs.end.EndView as model
-use Rattle.sctp_model.specs.end.Clock.{replaced, renewed, with_timer, is_point_past}
+use Rattle.sctp_model.specs.end.Clock.{replaced, renewed, restarted, with_timer, is_point_past}
 use Rattle.sctp_model.specs.end.Closing.{with_due}
 use Rattle.sctp_model.specs.end.Reports.{with_causes}
 use Rattle.sctp_model.specs.end.Acting.{piece_causes, heartbeat_heard, shut_timer, sack_heard, shutdown_counted}
@@ -115,6 +115,12 @@ pub renewed_in : (a : Alarm) (n f g : Alarm → Timer) (t x : Timer) (m k : ℕ)
 renewed_in a n f g t x m k b is made at same clock =
     is ∙ ap (λ (z : Timer). replaced a z f) (made ∙ ap (λ (z : Timer). renewed m b z) at ∙ ap (λ (j : ℕ). renewed j b (f a)) clock)
     ∙ ap (λ (h : Alarm → Timer). replaced a (renewed k b (h a)) h) same
+
+pub restarted_in : (a : Alarm) (n f g : Alarm → Timer) (t x : Timer) (m k : ℕ) → n ≡ replaced a t f → t ≡ restarted m x → x ≡ f a → f ≡ g → m ≡ k
+    → n ≡ replaced a (restarted k (g a)) g
+restarted_in a n f g t x m k is made at same clock =
+    is ∙ ap (λ (z : Timer). replaced a z f) (made ∙ ap (λ (z : Timer). restarted m z) at ∙ ap (λ (j : ℕ). restarted j (f a)) clock)
+    ∙ ap (λ (h : Alarm → Timer). replaced a (restarted k (h a)) h) same
 
 -- the data timer in its own place
 own_at : (f : Alarm → Timer) (a : Alarm) → replaced DataAlarm (f DataAlarm) f a ≡ f a

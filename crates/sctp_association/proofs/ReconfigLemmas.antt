@@ -4,14 +4,14 @@ use Rattle.std.proofs.lemmas.Bool.{false≢true}
 use Rattle.std.specs.Prelude.{◌&&◌, if◌then◌else◌, is_some, unwrap_or, Option, None, Some, Result, Ok, Err, OnOk, MatchOption}
 use Rattle.std.specs.List.{list_any}
 use Rattle.sctp_model.specs.wire.Typed.{typed_in}
-use Rattle.sctp_model.specs.wire.Reconfig.{ResetResult, Performed, Denied, WrongStream, BadNumber, InProgress}
-use Rattle.sctp_model.specs.sender.Resetting.{response_taken}
+use Rattle.sctp_model.specs.wire.Reconfig.{ResetResult, Performed, Denied, WrongStream, BadNumber, InProgress, is_progress_code}
+use Rattle.sctp_model.specs.sender.Resetting.{is_open_number, response_taken}
 use Rattle.sctp_model.specs.receiver.ReceiverView.{ReceiverView, IsCumulative}
 use Rattle.sctp_model.specs.receiver.ResetTaken.{names, reset_answer, is_in_turn, with_answer, renumbered_by}
 use Rattle.sctp_model.specs.end.EndView.{EndView, Configuration, ResetAlarm, unused_timer, format_for}
 use Rattle.sctp_model.specs.end.Clock.{with_timer}
 use Rattle.sctp_model.specs.end.Closing.{with_due}
-use Rattle.sctp_model.specs.end.Reconfiguring.{asking_on, response_heard, request_heard, other_heard, parameters_heard}
+use Rattle.sctp_model.specs.end.Reconfiguring.{in_progress, asking_on, response_heard, request_heard, other_heard, parameters_heard}
 use Rattle.sctp_reconfig.specs.Reading.{ParameterMeaning, ResetRequested, Responded, OtherRequested, Ignored, parameters_of}
 use Rattle.sctp_reconfig.specs.Laws.{all_heard}
 use Rattle.sctp_recv.specs.Requests.{requested, all_requested}
@@ -31,6 +31,10 @@ use Rattle.sctp_association.proofs.MachineLemmas.{with_resets}
 abbrev pub rests : EndView → EndView
 rests e = with_timer ResetAlarm unused_timer (with_due (record e.due { request = false }) e)
 
+progress_beside : (b : Bool) (e : EndView) (r : ReceiverView) → in_progress b (record e { receiver = r }) ≡ record (in_progress b e) { receiver = r }
+progress_beside true e r = refl
+progress_beside false e r = refl
+
 rests_beside : (b : Bool) (e : EndView) (r : ReceiverView) → (if b then record e { receiver = r } else rests (record e { receiver = r })) ≡ record (if b then e else rests e) { receiver = r }
 rests_beside true e r = refl
 rests_beside false e r = refl
@@ -39,9 +43,20 @@ asking_beside : (e : EndView) (r : ReceiverView) → asking_on (record e { recei
 asking_beside e r = rests_beside (is_some e.sender.resets.pending) e r
 
 response_beside : (e : EndView) (r : ReceiverView) (n k : ℕ) → response_heard (record e { receiver = r }) n k ≡ record (response_heard e n k) { receiver = r }
-response_beside e r n k = asking_beside (record e { sender = response_taken e.sender n k }) r
+response_beside e r n k =
+    let u : EndView = record e { sender = response_taken e.sender n k } in
+    let b = is_open_number e.sender n && is_progress_code k in
+    ap asking_on (progress_beside b u r) ∙ asking_beside (in_progress b u) r
 
 -- ---- it leaves the receiver and the configuration
+
+progress_receiver : (b : Bool) (e : EndView) → (in_progress b e).receiver ≡ e.receiver
+progress_receiver true e = refl
+progress_receiver false e = refl
+
+progress_configuration : (b : Bool) (e : EndView) → (in_progress b e).configuration ≡ e.configuration
+progress_configuration true e = refl
+progress_configuration false e = refl
 
 rests_receiver : (b : Bool) (e : EndView) → (if b then e else rests e).receiver ≡ e.receiver
 rests_receiver true e = refl
@@ -54,12 +69,14 @@ rests_configuration false e = refl
 response_receiver : (e : EndView) (n k : ℕ) → (response_heard e n k).receiver ≡ e.receiver
 response_receiver e n k =
     let u : EndView = record e { sender = response_taken e.sender n k } in
-    rests_receiver (is_some u.sender.resets.pending) u
+    let b = is_open_number e.sender n && is_progress_code k in
+    rests_receiver (is_some (in_progress b u).sender.resets.pending) (in_progress b u) ∙ progress_receiver b u
 
 response_configuration : (e : EndView) (n k : ℕ) → (response_heard e n k).configuration ≡ e.configuration
 response_configuration e n k =
     let u : EndView = record e { sender = response_taken e.sender n k } in
-    rests_configuration (is_some u.sender.resets.pending) u
+    let b = is_open_number e.sender n && is_progress_code k in
+    rests_configuration (is_some (in_progress b u).sender.resets.pending) (in_progress b u) ∙ progress_configuration b u
 
 -- requests that come behind it may as well come before it
 response_later : (c : ℕ) (e : EndView) (n k : ℕ) (ps : List ParameterMeaning) → requests_heard c (response_heard e n k) ps ≡ response_heard (requests_heard c e ps) n k

@@ -1,16 +1,17 @@
 //! RE-CONFIG (RFC 6525): the requests of the peer act at the receiver, its responses at the sender. These are two halves of an endpoint, so all requests of
 //! a chunk act first, which alone may need memory, and then all of its responses.
 
-ghost use Rattle.std.specs.Prelude.{◌≡◌, ℕ, true, false, is_some, OnOk, OnErr, MatchOption};
+ghost use Rattle.std.specs.Prelude.{◌≡◌, ℕ, ◌&&◌, true, false, is_some, OnOk, OnErr, MatchOption};
 ghost use Rattle.std.specs.List.{list_any};
 ghost use Rattle.sctp_model.specs.wire.Typed.{typed_in};
+ghost use Rattle.sctp_model.specs.wire.Reconfig.{is_progress_code};
 ghost use Rattle.sctp_model.specs.messages.Format.{Format};
 ghost use Rattle.sctp_model.specs.sender.SenderView.{SenderView};
-ghost use Rattle.sctp_model.specs.sender.Resetting.{response_taken};
+ghost use Rattle.sctp_model.specs.sender.Resetting.{is_open_number, response_taken};
 ghost use Rattle.sctp_model.specs.receiver.ReceiverView.{ReceiverView, IsCumulative};
 ghost use Rattle.sctp_model.specs.end.EndView.{EndView};
 ghost use Rattle.sctp_model.specs.end.Closing.{hears, takes_data};
-ghost use Rattle.sctp_model.specs.end.Reconfiguring.{takes_reconfig, parameters_heard, asking_on, response_heard};
+ghost use Rattle.sctp_model.specs.end.Reconfiguring.{takes_reconfig, parameters_heard, in_progress, asking_on, response_heard};
 ghost use Rattle.sctp_reconfig.specs.Meanings.{parameter_meaning};
 ghost use Rattle.sctp_association.specs.Reconfigured.{is_request, parameters_in, requests_heard, responded, responses_heard};
 ghost use Rattle.sctp_recv.specs.Requests.{all_requested};
@@ -22,7 +23,8 @@ use crate::state::life::Life;
 use crate::time::timer::{Alarm, Timer};
 use crate::traffic::Traffic;
 use sctp_reconfig::{
-    Parameter, Parameters, RECONFIG, codes_are_the_definitions, parameters_act, read_parameters,
+    Parameter, Parameters, RECONFIG, codes_are_the_definitions, is_in_progress, parameters_act,
+    read_parameters,
 };
 use sctp_values::NoMemory;
 
@@ -107,8 +109,27 @@ impl Machine {
     fn hear_response(&mut self, number: u32, code: u32)
         ensures { (v : EndView) → MachineStands self.old v → MachineStands self.new (response_heard v number code) }
     {
+        let retries = self.is_retried(number, code);
         self.respond(number, code);
+        self.retry(retries);
         self.ask_on();
+    }
+
+    /// The response is to the request that waits, and says that it is in progress.
+    fn is_retried(&self, number: u32, code: u32) -> bool
+        ensures { (v : EndView) → MachineStands self.now v → result ≡ (is_open_number v.sender number && is_progress_code code) }
+    {
+        self.is_asked(number) && is_in_progress(code)
+    }
+
+    /// The timer of a request that is in progress starts again (RFC 6525, 5.2.7); its expiries count (5.1.1).
+    fn retry(&mut self, retries: bool)
+        ensures { (v : EndView) → MachineStands self.old v → MachineStands self.new (in_progress retries v) }
+    {
+        if retries {
+            let timer = self.timers.get(Alarm::Reset).restarted(self.moment);
+            self.timers.put(Alarm::Reset, timer);
+        }
     }
 
     /// If no request waits for its response, none is due, and its timer is as one that never ran (RFC 9260, 8.1).
@@ -120,6 +141,16 @@ impl Machine {
         }
         self.due.owe_request(false);
         self.timers.put(Alarm::Reset, Timer::unused());
+    }
+
+    /// A request with this sequence number waits for its response.
+    fn is_asked(&self, number: u32) -> bool
+        ensures { (v : EndView) → MachineStands self.now v → result ≡ is_open_number v.sender number }
+    {
+        match &self.life {
+            Life::Unjoined(_) => false,
+            Life::Joined(association) => is_request_of(&association.traffic, number),
+        }
     }
 
     /// A request waits for its response.
@@ -140,6 +171,16 @@ impl Machine {
             Life::Unjoined(_) => {}
             Life::Joined(association) => association.traffic.on_response(number, code),
         }
+    }
+}
+
+/// The request that waits has this sequence number.
+fn is_request_of(traffic: &Traffic, number: u32) -> bool
+    ensures { (f : Format) (s : SenderView) (r : ReceiverView) → TrafficStands traffic.now f s r → result ≡ is_open_number s number }
+{
+    match traffic.request() {
+        Some(request) => number == request.number,
+        None => false,
     }
 }
 

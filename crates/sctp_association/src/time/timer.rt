@@ -3,7 +3,7 @@
 
 ghost use Rattle.std.specs.Prelude.{◌≡◌, Bool, ◌<◌, ◌≤◌, ◌^◌, nat_lt, true};
 ghost use Rattle.sctp_model.specs.end.EndView.{unused_timer};
-ghost use Rattle.sctp_model.specs.end.Clock.{running, stopped, expired_timer, is_over_at, repeats_of, renewed, renewed_expiry};
+ghost use Rattle.sctp_model.specs.end.Clock.{running, stopped, expired_timer, is_over_at, repeats_of, renewed, renewed_expiry, restarted};
 ghost use Rattle.sctp_association.specs.TimersMean.{alarm_meaning, timer_meaning, kept_if};
 ghost use Rattle.sctp_association.specs.StartsMean.{started_if};
 ghost use Rattle.sctp_association.specs.Weighing.{followed};
@@ -168,6 +168,22 @@ impl Timer {
             wait: FIRST_WAIT,
             repeats: 0,
             expiry: expiry_after(now, self.expiry),
+        }
+    }
+
+    /// The timer, started again at this time if it runs: its timeout and its count stay (RFC 6525, 5.2.7 and 5.1.1).
+    pub(crate) fn restarted(self, now: u64) -> Timer
+        ensures { timer_meaning result ≡ restarted now (timer_meaning self) }
+    {
+        match self.expiry {
+            Some(_) => {
+                let next = now.saturating_add(self.wait);
+                Timer {
+                    expiry: Some(next),
+                    ..self
+                }
+            }
+            None => self,
         }
     }
 }

@@ -125,6 +125,17 @@ abbrev pub renewed : ℕ → Bool → Timer → Timer
 renewed now false t = record t { repeats = 0 }
 renewed now true t = record { wait = FIRST_WAIT; repeats = 0; expiry = renewed_expiry now t.expiry }
 
+-- ---- the timer of a request that is in progress
+
+-- a timer that runs expires one wait after this moment; one that rests still rests
+abbrev pub restarted_expiry : (now wait : ℕ) → Option ℕ → Option ℕ
+restarted_expiry now wait None = None
+restarted_expiry now wait (Some m) = Some (after_wait now wait)
+
+-- The timer, started again if it runs (RFC 6525, 5.2.7): its wait and its count of repeats stay, so that its expiries count (5.1.1).
+abbrev pub restarted : ℕ → Timer → Timer
+restarted now t = record t { expiry = restarted_expiry now t.wait t.expiry }
+
 -- ---- the data timer of an endpoint with a pace
 
 -- The data timer's expiry after an acknowledgement, with this RTO: a running timer is restarted if that is asked for (`anew`), one that doesn't run is started if data is in flight

@@ -2,12 +2,12 @@
 use Rattle.std.specs.Prelude.{ℕ, ◌==◌, Bool, true, false, ◌&&◌, if◌then◌else◌, List, [], ◌∷◌, ◌++◌, drop, is_some}
 use Rattle.sctp_model.specs.numbers.Numbers.{u32_at}
 use Rattle.sctp_model.specs.wire.Typed.{Typed}
-use Rattle.sctp_model.specs.wire.Reconfig.{RECONFIG, OUTGOING_RESET, RECONFIG_RESPONSE, reconfig_chunk, ResetMeaning, reset_read, is_parameter, is_other_request, response_item, ResetResult, Denied}
-use Rattle.sctp_model.specs.sender.Resetting.{may_ask, asked, response_taken}
+use Rattle.sctp_model.specs.wire.Reconfig.{RECONFIG, OUTGOING_RESET, RECONFIG_RESPONSE, reconfig_chunk, ResetMeaning, reset_read, is_parameter, is_other_request, response_item, ResetResult, Denied, is_progress_code}
+use Rattle.sctp_model.specs.sender.Resetting.{is_open_number, may_ask, asked, response_taken}
 use Rattle.sctp_model.specs.receiver.ReceiverView.{ReceiverView}
 use Rattle.sctp_model.specs.receiver.ResetTaken.{reset_answer, answer_in_turn, reset_taken, denied, with_answers}
 use Rattle.sctp_model.specs.end.EndView.{ResetAlarm, EndView, unused_timer}
-use Rattle.sctp_model.specs.end.Clock.{is_home, with_timer}
+use Rattle.sctp_model.specs.end.Clock.{is_home, with_timer, restarted}
 use Rattle.sctp_model.specs.end.Closing.{with_due, takes_data, hears}
 use Rattle.sctp_model.specs.end.Reports.{fits_alone}
 
@@ -35,9 +35,15 @@ other_heard e number = answering e number (answer_in_turn e.receiver number Deni
 abbrev pub asking_on : EndView → EndView
 asking_on e = if is_some e.sender.resets.pending then e else with_timer ResetAlarm unused_timer (with_due (record e.due { request = false }) e)
 
--- A Re-configuration Response (5.2.7). If the request is in progress, its timer runs on: it is sent again when that expires, which counts as any expiry (5.1.1).
+-- If the request is in progress, its timer starts again (5.2.7); its expiries count (5.1.1).
+abbrev pub in_progress : Bool → EndView → EndView
+in_progress false e = e
+in_progress true e = with_timer ResetAlarm (restarted e.moment (e.timers ResetAlarm)) e
+
+-- a Re-configuration Response (5.2.7)
 abbrev pub response_heard : EndView → (number code : ℕ) → EndView
-response_heard e number code = asking_on (record e { sender = response_taken e.sender number code })
+response_heard e number code =
+    asking_on (in_progress (is_open_number e.sender number && is_progress_code code) (record e { sender = response_taken e.sender number code }))
 
 -- a parameter; those of other types, or too short, are skipped
 abbrev pub parameter_heard : (c : ℕ) → EndView → Typed → EndView

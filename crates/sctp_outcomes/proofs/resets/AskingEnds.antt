@@ -9,7 +9,7 @@ use Rattle.sctp_model.specs.sender.Queueing.{Refusal, refusal}
 use Rattle.sctp_model.specs.sender.Readers.{point}
 use Rattle.sctp_model.specs.sender.Abandoning.{abandon_after, expired, worn}
 use Rattle.sctp_model.specs.end.EndView.{Draw, Aborted, Established, ShutdownPending, ShutdownSent, ShutdownReceived, ShutdownAckSent, Phase, Idle, Listening, Calling, Echoing, Open, Over, Alarm, InitAlarm, CookieAlarm, DataAlarm, ShutdownAlarm, AckAlarm, EndView, has_association, ResetAlarm, Timer, format_of, unused_timer}
-use Rattle.sctp_model.specs.end.Clock.{repeats_of, is_over_at, is_home, running, sender_heard, with_timer, closed, at_moment, settled, turned}
+use Rattle.sctp_model.specs.end.Clock.{repeats_of, is_over_at, is_home, running, restarted_expiry, sender_heard, with_timer, closed, at_moment, settled, turned}
 use Rattle.sctp_model.specs.end.Pacing.{Pace}
 use Rattle.sctp_model.specs.end.Closing.{rested, hears, with_due}
 use Rattle.sctp_model.specs.end.PeerFaults.{GoesOn, Ends, Replies, Note, Unnoted}
@@ -24,7 +24,7 @@ use Rattle.sctp_model.specs.end.Moments.{after_abandoning, is_data_due, given_up
 use Rattle.sctp_model.specs.end.UserCalls.{is_established, answer_for, send_answer, send_leaves, NotOpen, is_open, abandoned_at, shut_in, shut, AbortAnswer, Aborts, NoPeer, TooLong, abort_leaves, ResetCall, Begun, NotAgreed, NoStream, reset_leaves, told_leaves}
 use Rattle.sctp_safety.proofs.machine.EndWords.{rested_cases, ended_cases}
 use Rattle.sctp_safety.proofs.machine.Sides.{unknown_goes, unknown_ends, unknown_never_replies}
-use Rattle.sctp_model.specs.end.Reconfiguring.{request_heard, other_heard, response_heard, asking_on, parameter_heard, parameters_heard, asking_now, asking}
+use Rattle.sctp_model.specs.end.Reconfiguring.{request_heard, other_heard, response_heard, asking_on, in_progress, parameter_heard, parameters_heard, asking_now, asking}
 use Rattle.sctp_model.specs.wire.Typed.{Typed, typed_in}
 use Rattle.sctp_model.specs.numbers.Numbers.{u32_at}
 use Rattle.sctp_model.specs.messages.Format.{Format}
@@ -37,7 +37,7 @@ use Rattle.sctp_model.proofs.sender.HeardLaws.{heard_cases}
 use Rattle.sctp_model.proofs.sender.WornLaws.{wears_each}
 use Rattle.sctp_model.proofs.sender.FillLaws.{fill_is_fill}
 use Rattle.sctp_safety.proofs.runs.Sending.{abandon_resets, expire_resets, follows_resets}
-use Rattle.sctp_model.specs.wire.Reconfig.{OUTGOING_RESET, RECONFIG_RESPONSE, reset_read, is_parameter, is_other_request}
+use Rattle.sctp_model.specs.wire.Reconfig.{OUTGOING_RESET, RECONFIG_RESPONSE, reset_read, is_parameter, is_other_request, is_progress_code}
 
 -- ---- an end
 
@@ -112,6 +112,14 @@ asking_rested e r = rested_cases IsAskingAt e r (λ t is d. tt) (λ t is d. tt)
 
 -- ---- a RE-CONFIG
 
+restarts : (now wait : ℕ) (o : Option ℕ) → is_some (restarted_expiry now wait o) ≡ is_some o
+restarts now wait None = refl
+restarts now wait (Some m) = refl
+
+progress_goes : (b : Bool) (e : EndView) → IsAskingAt e → IsAskingAt (in_progress b e)
+progress_goes false e r = r
+progress_goes true e r = subst (λ (b : Bool). Goes e.phase (is_some e.sender.resets.pending) e.due.request b) (sym (restarts e.moment (e.timers ResetAlarm).wait (e.timers ResetAlarm).expiry)) r
+
 resting_goes : (e : EndView) → IsAskingAt e → IsAskingAt (asking_on e)
 resting_goes e r = go (is_some e.sender.resets.pending) refl
   where
@@ -133,9 +141,10 @@ response_fewer v number code on = go (is_open_number v number) v.resets.pending 
 response_goes : (e : EndView) (number code : ℕ) → IsAskingAt e → IsAskingAt (response_heard e number code)
 response_goes e number code r =
     let t = record e { sender = response_taken e.sender number code } in
-    resting_goes t
+    let u = in_progress (is_open_number e.sender number && is_progress_code code) t in
+    resting_goes u (progress_goes (is_open_number e.sender number && is_progress_code code) t
     (fewer e.phase (is_some e.sender.resets.pending) e.due.request (runs (e.timers ResetAlarm)) (is_some (response_taken e.sender number code).resets.pending) e.due.request (runs (e.timers ResetAlarm))
-    (λ on. (response_fewer e.sender number code on, refl, refl)) r)
+    (λ on. (response_fewer e.sender number code on, refl, refl)) r))
 
 parameter_goes : (c : ℕ) (e : EndView) (x : Typed) → IsAskingAt e → IsAskingAt (parameter_heard c e x)
 parameter_goes c e x r = go (is_parameter OUTGOING_RESET 12 x) (is_parameter RECONFIG_RESPONSE 8 x) (is_other_request x)

@@ -4,9 +4,9 @@ use Rattle.std.specs.Prelude.{drop}
 use Rattle.sctp_model.specs.numbers.Numbers.{u32_at}
 use Rattle.sctp_model.specs.wire.Packet.{Packet}
 use Rattle.sctp_model.specs.wire.Typed.{Typed, typed_in}
-use Rattle.sctp_model.specs.wire.Reconfig.{ResetMeaning, OUTGOING_RESET, RECONFIG_RESPONSE, reset_read, is_parameter, is_other_request}
+use Rattle.sctp_model.specs.wire.Reconfig.{ResetMeaning, OUTGOING_RESET, RECONFIG_RESPONSE, reset_read, is_parameter, is_other_request, is_progress_code}
 use Rattle.sctp_model.specs.wire.Chunk.{ChunkMeaning, Data, IData, Init, InitAck, Sack, Heartbeat, HeartbeatAck, Abort, Shutdown, ShutdownAck, Error, CookieEcho, CookieAck, ShutdownComplete, ForwardTsn, IForwardTsn, Unknown}
-use Rattle.sctp_model.specs.sender.Resetting.{response_taken}
+use Rattle.sctp_model.specs.sender.Resetting.{is_open_number, response_taken}
 use Rattle.sctp_model.specs.receiver.ReceiverView.{ReceiverView, handed}
 use Rattle.sctp_model.specs.end.EndView.{Draw, Aborted, ResetAlarm, EndView, unused_timer}
 use Rattle.sctp_model.specs.end.Clock.{closed, with_timer}
@@ -14,7 +14,7 @@ use Rattle.sctp_model.specs.end.Closing.{rested, with_due}
 use Rattle.sctp_model.specs.end.PeerFaults.{GoesOn, Ends, Replies, Note}
 use Rattle.sctp_model.specs.end.Opening.{AcceptedAck, RefusedAck, EchoedAgain, CookieAcked, begun}
 use Rattle.sctp_model.specs.end.Acting.{Acts, ForwardComes, PieceComes, IsOld, SackStale, ShutdownStale, HeartbeatCounts, SackCounts, ShutdownCounts, Closes, SaysNothing, Crosses, Again, AckCompletes, CompleteCompleted, PieceEmpty, WrongFormat, SackWrong, ShutdownWrong, WrongKind, IsBad, ReconfigComes, IsUnknown}
-use Rattle.sctp_model.specs.end.Reconfiguring.{request_heard, other_heard, response_heard, asking_on, parameter_heard, parameters_heard}
+use Rattle.sctp_model.specs.end.Reconfiguring.{request_heard, other_heard, response_heard, asking_on, in_progress, parameter_heard, parameters_heard}
 use Rattle.sctp_model.specs.end.Wearing.{missed_below, wearing}
 use Rattle.sctp_model.specs.end.Strays.{Verdict}
 use Rattle.sctp_model.specs.end.Arriving.{AllAct, NoneLeft, Next, Passes, Last, EndsAnswered, Stopped, noted, Arrives, Elsewhere, NotOurs, Stray, CookieBegins, Heard, Notes, no_notes, urged, packet_ended}
@@ -46,9 +46,15 @@ asking_on_receiver e = go (is_some e.sender.resets.pending)
     go true = refl
     go false = refl
 
+progress_receiver : (b : Bool) (e : EndView) → (in_progress b e).receiver ≡ e.receiver
+progress_receiver true e = refl
+progress_receiver false e = refl
+
 response_receiver : (e : EndView) (number code : ℕ) → (response_heard e number code).receiver ≡ e.receiver
 response_receiver e number code =
-    asking_on_receiver (record e { sender = response_taken e.sender number code })
+    let t = record e { sender = response_taken e.sender number code } in
+    let b = is_open_number e.sender number && is_progress_code code in
+    asking_on_receiver (in_progress b t) ∙ progress_receiver b t
 
 -- the requests of these parameters, all at one cumulative index
 abbrev OfParameters : ℕ → EndView → List Typed → ReceiverView → ℕ → ResetMeaning → Type 0

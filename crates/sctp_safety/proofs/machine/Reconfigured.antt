@@ -13,7 +13,7 @@ use Rattle.sctp_model.specs.receiver.ResetTaken.{names, reset_answer, is_in_turn
 use Rattle.sctp_model.specs.end.EndView.{ShutdownAlarm, AckAlarm, ResetAlarm, EndView, DataAlarm, unused_timer}
 use Rattle.sctp_model.specs.end.Closing.{with_due}
 use Rattle.sctp_model.specs.end.Clock.{is_home, with_timer}
-use Rattle.sctp_model.specs.end.Reconfiguring.{answers_with, request_heard, other_heard, response_heard, asking_on, parameter_heard, parameters_heard, asking_now, asking}
+use Rattle.sctp_model.specs.end.Reconfiguring.{answers_with, request_heard, other_heard, response_heard, asking_on, in_progress, parameter_heard, parameters_heard, asking_now, asking}
 
 -- ---- a sender and a receiver
 
@@ -126,6 +126,24 @@ of_sender e v is = record {
   receiver = (e.receiver.resets, refl);
 }
 
+progress_same : (b : Bool) (e : EndView) → IsReconfigured e (in_progress b e)
+progress_same false e = reconfigured_same e
+progress_same true e = record {
+  configuration = refl;
+  role = refl;
+  phase = refl;
+  moment = refl;
+  terms = refl;
+  shutdown = refl;
+  ack = refl;
+  shutdown_timer = refl;
+  ack_timer = refl;
+  data_timer = refl;
+  pace = refl;
+  sender = (e.sender.resets, refl);
+  receiver = (e.receiver.resets, refl);
+}
+
 asking_on_same : (e : EndView) → IsReconfigured e (asking_on e)
 asking_on_same e = go (is_some e.sender.resets.pending)
   where
@@ -150,7 +168,9 @@ asking_on_same e = go (is_some e.sender.resets.pending)
 response_same : (e : EndView) (number code : ℕ) → IsReconfigured e (response_heard e number code)
 response_same e number code =
     let t = record e { sender = response_taken e.sender number code } in
-    reconfigured_on e t (asking_on t) (of_sender e (response_taken e.sender number code) (response_of e.sender number code)) (asking_on_same t)
+    let u = in_progress (is_open_number e.sender number && is_progress_code code) t in
+    reconfigured_on e t (asking_on u) (of_sender e (response_taken e.sender number code) (response_of e.sender number code))
+    (reconfigured_on t u (asking_on u) (progress_same (is_open_number e.sender number && is_progress_code code) t) (asking_on_same u))
 
 pub parameter_same : (c : ℕ) (e : EndView) (x : Typed) → IsReconfigured e (parameter_heard c e x)
 parameter_same c e x = go (is_parameter OUTGOING_RESET 12 x) (is_parameter RECONFIG_RESPONSE 8 x) (is_other_request x)

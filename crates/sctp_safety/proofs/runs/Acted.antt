@@ -9,7 +9,7 @@ use Rattle.sctp_model.specs.sender.Resetting.{is_open_number, response_taken}
 use Rattle.sctp_model.specs.receiver.ResetTaken.{reset_answer, answer_in_turn, reset_taken, with_answers}
 use Rattle.sctp_model.specs.end.Reports.{fits_alone}
 use Rattle.sctp_model.specs.end.Closing.{with_due, hears, takes_data}
-use Rattle.sctp_model.specs.end.Reconfiguring.{answers_with, request_heard, response_heard, other_heard, asking_on, parameter_heard, parameters_heard}
+use Rattle.sctp_model.specs.end.Reconfiguring.{answers_with, request_heard, response_heard, other_heard, asking_on, in_progress, parameter_heard, parameters_heard}
 use Rattle.sctp_model.specs.numbers.Lists.{Has}
 use Rattle.sctp_model.specs.wire.Chunk.{PieceMeaning, ForwardMeaning, ChunkMeaning, Data, IData, Init, InitAck, Sack, Heartbeat, HeartbeatAck, Abort, Shutdown, ShutdownAck, Error, CookieEcho, CookieAck, ShutdownComplete, ForwardTsn, IForwardTsn, Unknown}
 use Rattle.sctp_model.specs.messages.Format.{Format}
@@ -119,6 +119,10 @@ module _ (p : EndView) (u v : Asked) (out back : List Dated) (many : ℕ) where
       with_receiver e (with_answers (reset_taken e.receiver c x) (answers_with e item)) m
       (after_request (format_of p) p.terms.outbound p.sender v e.receiver back out m.met.coming c cumulative x ask (answers_with e item) (fits_alone e (reconfig_chunk (e.receiver.resets.answers ++ item ∷ []))) refl)
 
+  in_progress_still : (b : Bool) (e : EndView) → Met e → Met (in_progress b e)
+  in_progress_still false e m = m
+  in_progress_still true e m = still e (in_progress true e) m (record { terms = refl; sender = refl; receiver = refl; moment = refl }) m.met.phase
+
   asking_on_still : (e : EndView) → Met e → Met (asking_on e)
   asking_on_still e m = go (is_some e.sender.resets.pending)
     where
@@ -132,9 +136,10 @@ module _ (p : EndView) (u v : Asked) (out back : List Dated) (many : ℕ) where
       let code = u32_at (drop 4 x.value) in
       let t = record e { sender = response_taken e.sender n code } in
       let same = response_of e.sender n code in
-      asking_on_still t
+      asking_on_still (in_progress (is_open_number e.sender n && is_progress_code code) t)
+      (in_progress_still (is_open_number e.sender n && is_progress_code code) t
       (with_sender e (response_taken e.sender n code) m (ap (λ (a : SenderView). a.plan) same.1)
-      (after_response (format_of e) e.terms.outbound e.sender u p.receiver out back m.met.going x answer))
+      (after_response (format_of e) e.terms.outbound e.sender u p.receiver out back m.met.going x answer)))
 
   pub by_parameter : (c : ℕ) (e : EndView) (x : Typed) → (is_parameter OUTGOING_RESET 12 x ≡ true → IsAskedBy p.sender.initial p.sender (reset_read x)) → is_other_request x ≡ false →
       (is_parameter RECONFIG_RESPONSE 8 x ≡ true → IsAnsweredBy p.receiver.initial p.receiver x) → Met e → IsCumulative e.receiver c → Met (parameter_heard c e x)

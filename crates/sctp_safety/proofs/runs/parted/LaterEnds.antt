@@ -29,7 +29,7 @@ use Rattle.sctp_model.specs.end.Closing.{with_due, hears, takes_data, rested}
 use Rattle.sctp_model.specs.end.Reports.{fits_alone}
 use Rattle.sctp_model.specs.end.PeerFaults.{GoesOn, Ends, Replies, Note}
 use Rattle.sctp_model.specs.end.Opening.{AcceptedAck, RefusedAck, EchoedAgain, CookieAcked}
-use Rattle.sctp_model.specs.end.Reconfiguring.{answers_with, request_heard, response_heard, other_heard, asking_on, parameter_heard, parameters_heard, asking_now, asking}
+use Rattle.sctp_model.specs.end.Reconfiguring.{answers_with, request_heard, response_heard, other_heard, asking_on, in_progress, parameter_heard, parameters_heard, asking_now, asking}
 use Rattle.sctp_model.specs.end.Acting.{ReconfigComes, IsUnknown, Acts, PieceEmpty, WrongFormat, ForwardComes, PieceComes, WrongKind, IsBad, IsOld, SackStale, ShutdownStale, SackWrong, ShutdownWrong, HeartbeatCounts, SackCounts, ShutdownCounts, Closes, SaysNothing, Crosses, Again, AckCompletes, CompleteCompleted}
 use Rattle.sctp_model.specs.end.Arriving.{Arrives, Elsewhere, NotOurs, Stray, CookieBegins, Heard, Notes, no_notes, urged, packet_ended}
 use Rattle.sctp_model.specs.end.Strays.{Verdict}
@@ -198,6 +198,10 @@ module _ (p : EndView) (u v : Asked) (out back : List Dated) (many : ℕ) where
       (request_onward (format_of p) p.terms.outbound p.sender v e.receiver back out m.met.coming c cumulative x ask
       (answers_with e (response_item x.number (answer_in_turn e.receiver x.number (reset_answer e.receiver c x)))))
 
+  in_progress_same : (b : Bool) (e : EndView) → LaterEnd p e (in_progress b e)
+  in_progress_same false e = later_itself p e
+  in_progress_same true e = later_same p e (in_progress true e) refl refl
+
   asking_on_same : (e : EndView) → LaterEnd p e (asking_on e)
   asking_on_same e = go (is_some e.sender.resets.pending)
     where
@@ -208,8 +212,10 @@ module _ (p : EndView) (u v : Asked) (out back : List Dated) (many : ℕ) where
   by_response : (e : EndView) (number code : ℕ) → Met e → LaterEnd p e (response_heard e number code)
   by_response e number code m =
       let t = record e { sender = response_taken e.sender number code } in
+      let b = is_open_number e.sender number && is_progress_code code in
       let first : LaterEnd p e t = later_sender p e t (response_goes e.sender number code (λ q waits s listed. (m.met.going.step.waiting q waits).shut s listed)) refl in
-      later_on p e t (response_heard e number code) first (asking_on_same t)
+      later_on p e t (response_heard e number code) first
+      (later_on p t (in_progress b t) (response_heard e number code) (in_progress_same b t) (asking_on_same (in_progress b t)))
 
   by_parameter_later : (c : ℕ) (e : EndView) (x : Typed) → (is_parameter OUTGOING_RESET 12 x ≡ true → IsAskedBy p.sender.initial p.sender (reset_read x)) → is_other_request x ≡ false →
       Met e → IsCumulative e.receiver c → LaterEnd p e (parameter_heard c e x)
