@@ -117,7 +117,7 @@ came_as a role r n m s k j y z is roles many said kept =
     ∙ (ap (λ (p : Said). comes_saying r m s p y) said ∙ ap (λ (p : Stream). comes_saying r m s j p) kept)))
 
 -- the report on it
-reported : (v : EndView) (x : Table) (s : ℕ) (h : Handed) (rest : List Handed) (a : After) → v.receiver.waiting s ≡ h ∷ rest → a ≡ comes x.role (outgoing v x) s h (stream_at x s)
+pub reported : (v : EndView) (x : Table) (s : ℕ) (h : Handed) (rest : List Handed) (a : After) → v.receiver.waiting s ≡ h ∷ rest → a ≡ comes x.role (outgoing v x) s h (stream_at x s)
     → reports_message s (v.receiver.waiting s) v x ≡ reports_after s h rest a v x
 reported v x s h rest a waits came = ap (λ (hs : List Handed). reports_message s hs v x) waits ∙ ap (λ (b : After). reports_after s h rest b v x) (sym came)
 

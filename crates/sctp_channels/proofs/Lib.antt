@@ -1,7 +1,9 @@
 pub mod FirstLemmas
+pub mod TurnLemmas
 pub mod SettlingLemmas
 pub mod NotingLemmas
 pub mod HearingLemmas
+pub mod ContentLemmas
 pub mod RefusingLemmas
 pub mod TableLemmas
 pub mod SpanLemmas

@@ -1,22 +1,25 @@
 //! What is reported to the user next (RFC 8831, 6.4 to 6.7).
 
-ghost use Rattle.std.specs.Prelude.{◌≡◌, List, length, option_map, Some, IfOk, OnErr};
+ghost use Rattle.std.specs.Prelude.{◌≡◌, List, ◌∷◌, length, option_map, Some, IfOk, OnErr};
 ghost use Rattle.sctp_model.specs.receiver.ReceiverView.{Handed};
 ghost use Rattle.sctp_model.specs.end.EndView.{EndView};
 ghost use Rattle.sctp_recv.specs.HandedOf.{handed_of};
-ghost use Rattle.sctp_channels.specs.Streams.{Table, first_from};
+ghost use Rattle.sctp_channels.specs.Streams.{Table, stream_at, first_from};
 ghost use Rattle.sctp_channels.specs.Settling.{is_closed};
-ghost use Rattle.sctp_channels.specs.Events.{readable_from, turn, reports_message, reports_over, next_report};
+ghost use Rattle.sctp_channels.specs.Events.{readable_from, turn, reports_taken, reports_message, reports_over, next_report};
 ghost use Rattle.sctp_channels.specs.Meanings.{event_meaning};
 ghost use Rattle.sctp_channels.specs.ChannelsStand.{ChannelsStand};
 ghost use Rattle.sctp_channels.specs.Telling.{Tells};
-ghost use Rattle.sctp_channels.specs.inner.Telling.{IsEventOf};
+ghost use Rattle.sctp_channels.specs.Told.{Message as Shows};
+ghost use Rattle.sctp_channels.specs.Coming.{tells};
+ghost use Rattle.sctp_channels.specs.inner.SaidMeans.{kind_meaning};
+ghost use Rattle.sctp_channels.specs.inner.Telling.{IsContentOf, IsEventOf};
 
 use crate::channels::Channels;
 use crate::coming::{Side, Told, comes};
 use crate::event::Event;
-use crate::said::read_message;
-use crate::stream::{Due, State};
+use crate::said::{ContentKind, content_told, read_message};
+use crate::stream::{Due, State, Stream};
 use sctp_endpoint::Message;
 use sctp_values::NoMemory;
 
@@ -80,13 +83,20 @@ impl Channels {
             && !self.endpoint.is_resetting(stream)
     }
 
-    /// The stream whose turn it is, of those with a message to be reported.
+    /// The stream whose turn it is, of those with a message to be reported. The lowest of all is looked for first: mostly there is none, or no other.
     fn turn(&self) -> Option<u16>
         ensures { (v : EndView) (x : Table) → ChannelsStand self.now v x → result ≡ turn v x }
     {
-        match self.readable_from(self.table.next) {
+        let Some(lowest) = self.readable_from(0) else {
+            return None;
+        };
+        let next = self.table.next;
+        if next <= lowest {
+            return Some(lowest);
+        }
+        match self.readable_from(next) {
             Some(stream) => Some(stream),
-            None => self.readable_from(0),
+            None => Some(lowest),
         }
     }
 
@@ -122,20 +132,36 @@ impl Channels {
         let Some(message) = self.endpoint.waiting(stream, 0) else {
             return Ok(None);
         };
+        let kept = self.table.at(stream);
+        if let Some(kind) = content_told(kept.state, message.payload_id) {
+            return Ok(Some(self.take_content(stream, kept, kind)));
+        }
         let said = read_message(self.alloc, message)?;
         let side = Side {
             role: self.table.role,
             outgoing: self.outgoing(),
         };
-        let after = comes(side, stream, said, self.table.at(stream));
+        let after = comes(side, stream, said, kept);
         if !after.taken {
             self.table.set(stream, after.stream);
             return Ok(Some(Event::Opened { stream }));
         }
         let message = self.endpoint.take(stream);
         self.table.set(stream, after.stream.one_taken());
-        self.table.next = stream.wrapping_add(1);
+        self.table.turn_past(stream);
         Ok(Some(event(stream, after.told, message)))
+    }
+
+    /// The first message that waits on a stream is taken, and reported as a content of this kind. Nearly every message is heard so: what `comes` says of
+    /// one, with the parameters of a channel in its place, is too much to copy for each.
+    fn take_content(&mut self, stream: u16, kept: Stream, kind: ContentKind) -> Event
+        ensures { (v : EndView) (x : Table) (h : Handed) (rest : List Handed) → ChannelsStand self.old v x → v.receiver.waiting stream ≡ h ∷ rest
+            → kept ≡ stream_at x stream → Tells (reports_taken stream h rest (tells (Shows (kind_meaning h.bytes kind)) kept) v x) (Some result) self.new }
+    {
+        let message = self.endpoint.take(stream);
+        self.table.count_taken(stream, kept);
+        self.table.turn_past(stream);
+        content_event(stream, kind, message)
     }
 
     /// Once the association is over, a channel that is left is closed.
@@ -148,6 +174,17 @@ impl Channels {
         let stream = self.table.first_used()?;
         self.table.free(stream);
         Some(Event::Closed { stream })
+    }
+}
+
+/// The event by which a message that was taken on a stream is reported as a content of this kind.
+fn content_event(stream: u16, kind: ContentKind, message: Option<Message>) -> Event
+    ensures { IsContentOf stream kind message result }
+{
+    Event::Message {
+        stream,
+        text: kind.text,
+        message: if kind.empty { None } else { message },
     }
 }
 

@@ -1,14 +1,16 @@
 //! What a message says (RFC 8831, 6.6 and 8; RFC 8832, 5).
 
-ghost use Rattle.std.specs.Prelude.{◌≡◌, ◌++◌, IfOk, Some, option_map};
+ghost use Rattle.std.specs.Prelude.{◌≡◌, ℕ, List, ◌++◌, IfOk, Some, option_map};
 ghost use Rattle.sctp_recv.specs.HandedOf.{message_bytes, handed_of};
 ghost use Rattle.sctp_dcep.specs.Dcep.{control_of, Opens};
 ghost use Rattle.sctp_dcep.specs.Meanings.{opening_meaning};
 ghost use Rattle.sctp_channels.specs.Meanings.{parameters_meaning};
 ghost use Rattle.sctp_channels.specs.Coming.{said_in, OfDcep};
-ghost use Rattle.sctp_channels.specs.inner.SaidMeans.{said_meaning, SaysContent};
+ghost use Rattle.sctp_dcep.specs.Content.{content_of};
+ghost use Rattle.sctp_channels.specs.inner.SaidMeans.{said_meaning, SaysContent, kind_meaning, content_told};
 
 use crate::event::Parameters;
+use crate::stream::State;
 use sctp_dcep::{Content, Control, ControlFault, DCEP, Opening, read_content, read_control};
 use sctp_endpoint::Message;
 use sctp_values::NoMemory;
@@ -32,6 +34,15 @@ pub(crate) enum Said {
     },
     /// It has a payload protocol identifier of none of these.
     Other,
+}
+
+/// What kind of content a message is.
+#[derive(Clone, Copy)]
+pub(crate) struct ContentKind {
+    /// It is text.
+    pub(crate) text: bool,
+    /// It is empty, whatever bytes the message has.
+    pub(crate) empty: bool,
 }
 
 /// What this message says. Only a message of DCEP is copied.
@@ -84,15 +95,39 @@ fn parameters_of(alloc: Global, opening: &Opening<'_>) -> Result<Parameters, NoM
 fn content_said(payload_id: u32) -> Said
     ensures { SaysContent payload_id result }
 {
-    match read_content(payload_id, &[0]) {
-        Some(Content::Text(bytes)) => Said::Content {
-            text: true,
-            empty: bytes.is_empty(),
-        },
-        Some(Content::Binary(bytes)) => Said::Content {
-            text: false,
-            empty: bytes.is_empty(),
+    match content_kind(payload_id) {
+        Some(kind) => Said::Content {
+            text: kind.text,
+            empty: kind.empty,
         },
         None => Said::Other,
+    }
+}
+
+/// What kind of content a message with this payload protocol identifier is; None if it is none.
+fn content_kind(payload_id: u32) -> Option<ContentKind>
+    ensures { (bytes : List ℕ) → option_map (kind_meaning bytes) result ≡ content_of payload_id bytes }
+{
+    match read_content(payload_id, &[0]) {
+        Some(Content::Text(bytes)) => Some(ContentKind {
+            text: true,
+            empty: bytes.is_empty(),
+        }),
+        Some(Content::Binary(bytes)) => Some(ContentKind {
+            text: false,
+            empty: bytes.is_empty(),
+        }),
+        None => None,
+    }
+}
+
+/// What kind of content is told of a message with this payload protocol identifier on a stream in this state; None unless a content is all that it
+/// tells, and nothing else of the stream changes.
+pub(crate) fn content_told(state: State, payload_id: u32) -> Option<ContentKind>
+    ensures { (bytes : List ℕ) → option_map (kind_meaning bytes) result ≡ content_told state payload_id bytes }
+{
+    match state {
+        State::Unanswered | State::Open | State::Closing => content_kind(payload_id),
+        State::Unused | State::Connecting | State::Refused => None,
     }
 }

@@ -1,18 +1,20 @@
 //! The next event is reported to C.
 
-ghost use Rattle.std.specs.Prelude.{◌≡◌, None};
+ghost use Rattle.std.specs.Prelude.{◌≡◌, Some, None, Ok};
 ghost use Rattle.sctp_model.specs.end.EndView.{EndView};
 ghost use Rattle.sctp_channels.specs.Streams.{Table};
 ghost use Rattle.sctp_channels.specs.ChannelsStand.{ChannelsStand};
+ghost use Rattle.sctp_channels.specs.declared.event.Event.TheVariants as kind;
 ghost use Rattle.sctp_c.specs.channels.Holds.{HoldsChannels};
 ghost use Rattle.sctp_c.specs.channels.Events.{EventTold, waits_after, TellsNext};
 
 use crate::channels::crossing::SctpChannelEvent;
 use crate::channels::handle::SctpChannels;
 use crate::channels::held::Held;
-use crate::channels::telling::{event_numbers, put_event};
+use crate::channels::telling::{event_numbers, message_numbers, put_content, put_event};
 use crate::codes::{MISUSE, NEEDS_ROOM, NO_MEMORY, NOTHING, OK};
 use sctp_channels::Event;
+use sctp_endpoint::Message;
 use sctp_values::NoMemory;
 
 impl Held {
@@ -27,30 +29,69 @@ impl Held {
         ensures waits { self.new.waiting ≡ waits_after answer result self.old.waiting }
         ensures keeps { (v : EndView) (x : Table) → ChannelsStand self.old.channels v x → ChannelsStand self.new.channels v x }
     {
-        let next = match answer {
-            Ok(Some(next)) => next,
-            Ok(None) => return NOTHING,
-            Err(NoMemory) => return NO_MEMORY,
-        };
+        match answer {
+            Ok(
+                Some(
+                    Event::Message {
+                        stream,
+                        text,
+                        message,
+                    },
+                ),
+            ) => self.tell_message(stream, text, message, event, buffer),
+            Ok(Some(next)) => self.tell_event(next, event, buffer),
+            Ok(None) => NOTHING,
+            Err(NoMemory) => NO_MEMORY,
+        }
+    }
+
+    /// Writes a message for C. It waits if the buffer has no space for it; else its memory goes back to the endpoint. An event is large, for the
+    /// parameters that one may have, and isn't made again of a message that is told.
+    fn tell_message(
+        &mut self,
+        stream: u16,
+        text: bool,
+        message: Option<Message>,
+        event: &mut SctpChannelEvent,
+        buffer: &mut [u8],
+    ) -> u32
+        ensures told { EventTold (Ok (Some (kind.Message stream text message))) result event.old event.new buffer.old buffer.new }
+        ensures waits { self.new.waiting ≡ waits_after (Ok (Some (kind.Message stream text message))) result self.old.waiting }
+        ensures keeps { (v : EndView) (x : Table) → ChannelsStand self.old.channels v x → ChannelsStand self.new.channels v x }
+    {
+        *event = message_numbers(stream, text, &message);
+        if put_content(&message, buffer) {
+            self.give_back(message);
+            return OK;
+        }
+        self.waiting = Some(Event::Message {
+            stream,
+            text,
+            message,
+        });
+        NEEDS_ROOM
+    }
+
+    /// Writes another event for C. It waits if the buffer has no space for its bytes.
+    fn tell_event(&mut self, next: Event, event: &mut SctpChannelEvent, buffer: &mut [u8]) -> u32
+        ensures told { EventTold (Ok (Some next)) result event.old event.new buffer.old buffer.new }
+        ensures waits { self.new.waiting ≡ waits_after (Ok (Some next)) result self.old.waiting }
+        ensures keeps { (v : EndView) (x : Table) → ChannelsStand self.old.channels v x → ChannelsStand self.new.channels v x }
+    {
         *event = event_numbers(&next);
         if put_event(&next, buffer) {
-            self.give_back(next);
             return OK;
         }
         self.waiting = Some(next);
         NEEDS_ROOM
     }
 
-    /// Gives the memory of an event that was reported back to the endpoint.
-    fn give_back(&mut self, event: Event)
+    /// Gives the memory of a message that was reported back to the endpoint.
+    fn give_back(&mut self, message: Option<Message>)
         ensures waits { self.new.waiting ≡ self.old.waiting }
         ensures keeps { (v : EndView) (x : Table) → ChannelsStand self.old.channels v x → ChannelsStand self.new.channels v x }
     {
-        if let Event::Message {
-            message: Some(message),
-            ..
-        } = event
-        {
+        if let Some(message) = message {
             self.channels.give_back(message);
         }
     }

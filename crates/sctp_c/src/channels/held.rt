@@ -28,9 +28,9 @@ impl Held {
         ensures refused { (v : EndView) (x : Table) → ChannelsStand self.old.channels v x → OnErr result (ChannelsStand self.new.channels v x) }
         ensures waits { self.new.waiting ≡ rest_of result self.old.waiting }
     {
-        match self.waiting.take() {
-            Some(event) => Ok(Some(event)),
+        match &self.waiting {
             None => self.channels.next_event(),
+            Some(_) => Ok(self.waiting.take()),
         }
     }
 }

@@ -75,11 +75,7 @@ pub(crate) fn event_numbers(event: &Event) -> SctpChannelEvent
             stream,
             text,
             message,
-        } => SctpChannelEvent {
-            length: content_length(message),
-            text: *text,
-            ..plain_event(*stream, 3)
-        },
+        } => message_numbers(*stream, *text, message),
         Event::Closed { stream } => plain_event(*stream, 4),
         Event::Refused { stream, why } => SctpChannelEvent {
             reason: refusal_number(*why),
@@ -90,6 +86,21 @@ pub(crate) fn event_numbers(event: &Event) -> SctpChannelEvent
             ..plain_event(*stream, 6)
         },
         Event::BufferedAmountLow { stream } => plain_event(*stream, 7),
+    }
+}
+
+/// The numbers of a message.
+pub(crate) fn message_numbers(
+    stream: u16,
+    text: bool,
+    message: &Option<Message>,
+) -> SctpChannelEvent
+    ensures { result ≡ record (plain_event stream 3) { length = capped (content_bytes message.now); text = text } }
+{
+    SctpChannelEvent {
+        length: content_length(message),
+        text,
+        ..plain_event(stream, 3)
     }
 }
 
@@ -117,11 +128,18 @@ pub(crate) fn put_event(event: &Event, buffer: &mut [u8]) -> bool
         Event::Incoming { parameters, .. } => {
             put_both(&parameters.label, &parameters.protocol, buffer)
         }
-        Event::Message {
-            message: Some(message),
-            ..
-        } => copy_whole(message, buffer).is_ok(),
+        Event::Message { message, .. } => put_content(message, buffer),
         _ => true,
+    }
+}
+
+/// Copies the bytes of a message to the beginning of a buffer, and returns whether it has space for them.
+pub(crate) fn put_content(message: &Option<Message>, buffer: &mut [u8]) -> bool
+    ensures { PutsAll (content_bytes message.now) result buffer.old buffer.new }
+{
+    match message {
+        Some(message) => copy_whole(message, buffer).is_ok(),
+        None => true,
     }
 }
 
