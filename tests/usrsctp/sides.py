@@ -116,7 +116,7 @@ class Ours:
         answer = self.program.ask('packet ' + packet.hex())[0]
         while self.listens and self.program.ask('take 0')[0].startswith('message'):
             self.came += 1
-        packets = [bytes.fromhex(answer[7:])] * answer.startswith('answer') + self.built()
+        packets = ([bytes.fromhex(answer[7:])] if answer.startswith('answer') else []) + self.built()
         if self.burst is not None:
             self.burst = max(self.burst, self.flight() - before)
         return packets

@@ -110,7 +110,7 @@ class OurEnd(Ours):
     def hear(self, packet, now):
         answer = self.program.ask('at %d' % now, 'packet ' + packet.hex())[1]
         self.read()
-        return [bytes.fromhex(answer[7:])] * answer.startswith('answer') + self.act()
+        return ([bytes.fromhex(answer[7:])] if answer.startswith('answer') else []) + self.act()
 
 
 class TheirEnd(Usrsctp):

@@ -110,6 +110,7 @@ impl Spare {
 
     /// Returns the blocks of a message that was taken. They are kept, unless those of as many are kept as waited at once, or all would have more bytes than
     /// `most_bytes`. Nothing is allocated.
+    #[inline(always)]
     pub fn give_back(&mut self, parts: Fragments, most_bytes: u32) {
         self.used = true;
         let bytes = self.bytes.saturating_add(size_of(&parts));

@@ -1,6 +1,6 @@
 //! Pairs of numbers in rising order, so that one is found by binary search.
 
-ghost use Rattle.std.specs.Prelude.{◌≡◌, ◌+◌, ◌^◌, ◌<◌, ◌≤◌, ◌∷◌, [], true, false, List, nat_lt, length, OnOk, OnErr, IsOk};
+ghost use Rattle.std.specs.Prelude.{◌≡◌, ◌+◌, ◌^◌, ◌<◌, ◌≤◌, ◌∷◌, [], true, false, List, nat_lt, length, slice_index_or, OnOk, OnErr, IsOk};
 ghost use Rattle.std.specs.List.{Contains};
 ghost use Rattle.sctp_sequence.specs.Pairs.{AreSame, FirstFromAnswer, IsRank, key};
 ghost use Rattle.sctp_sequence.specs.declared.pairs.Pair.{Pair};
@@ -76,8 +76,35 @@ impl Pairs {
         self.pairs.insert(rank, pair).map_err(|_| NoMemory)
     }
 
-    /// Removes a pair, and returns whether it was there.
+    /// Removes a pair, and returns whether it was there. The first one is looked at before others, since it is the one mostly.
+    #[inline(always)]
     pub fn remove(&mut self, pair: Pair) -> bool
+        ensures gone { result ≡ true → AreSame self.old.items (pair ∷ self.new.items) }
+        ensures unchanged { result ≡ false → self.new ≡ self.old }
+        ensures there { (ps : List Pair) → AreSame self.old.items ps → Contains ps pair → result ≡ true }
+    {
+        if self.is_first(pair) {
+            let _ = self.pairs.pop_front();
+            return true;
+        }
+        self.remove_at_rank(pair)
+    }
+
+    /// The pair is the first one.
+    #[inline(always)]
+    fn is_first(&self, pair: Pair) -> bool
+        ensures { result ≡ true → (0 < length self.now.items) × (slice_index_or self.now.items 0 pair ≡ pair) }
+    {
+        if self.pairs.len() == 0 {
+            return false;
+        }
+        let first = self.pairs[0];
+        first.first == pair.first && first.second == pair.second
+    }
+
+    /// Removes a pair at its rank, and returns whether it was there.
+    #[inline(never)]
+    fn remove_at_rank(&mut self, pair: Pair) -> bool
         ensures gone { result ≡ true → AreSame self.old.items (pair ∷ self.new.items) }
         ensures unchanged { result ≡ false → self.new ≡ self.old }
         ensures there { (ps : List Pair) → AreSame self.old.items ps → Contains ps pair → result ≡ true }

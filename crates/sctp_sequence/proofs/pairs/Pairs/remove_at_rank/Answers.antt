@@ -5,8 +5,8 @@ use Rattle.std.proofs.lemmas.List.Sorted.{IsNonDecreasingBy-drop}
 use Rattle.sctp_sequence.specs.Pairs.{PairsKept, AreSame, AreOrdered, IsRank, key}
 use Rattle.sctp_sequence.specs.declared.pairs.Pair.{Pair}
 use Rattle.sctp_sequence.proofs.PairLemmas.{rank_there}
-use Rattle.sctp_sequence.proofs.pairs.Pairs.remove.Goals as goal
-use Rattle.sctp_sequence.proofs.pairs.Pairs.remove.Goals.{then-rank-len-via-then-rank-len, then-rank-len-via-else-rank-len+then-key_of}
+use Rattle.sctp_sequence.proofs.pairs.Pairs.remove_at_rank.Goals as goal
+use Rattle.sctp_sequence.proofs.pairs.Pairs.remove_at_rank.Goals.{then-rank-len-via-then-rank-len, then-rank-len-via-else-rank-len+then-key_of}
 
 pub returns-then-rank-len-clause-there : goal.returns-then-rank-len-clause-there
 returns-then-rank-len-clause-there c = λ qs same there.
