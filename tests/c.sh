@@ -121,7 +121,7 @@ if there valgrind "valgrind"; then
     compare "16 KiB" "$(($(cost 1 16384) - $(cost 1 16384 b)))" 12500
     "$cc" "${flags[@]}" -o "$at/channels_cost" tests/c/channels_cost.c "${static[@]}"
     counted() { valgrind --tool=callgrind --callgrind-out-file=/dev/null "$at/channels_cost" "$@" 2>&1 | sed -n 's/.*Collected : \([0-9]*\).*/\1/p'; }
-    for row in "19 1 330" "19 1024 330" "1 1 480" "1 1024 480"; do
+    for row in "19 1 330" "19 1024 350" "1 1 480" "1 1024 500"; do
         read -r many streams most <<< "$row"
         more=$((($(counted "$many" 64 300 "$streams") - $(counted "$many" 64 100 "$streams")) / 200 / many - $(cost "$many" 64)))
         say "64 bytes, $many at once, on the last of $streams channels: $more instructions more than over an endpoint; $most more at most, 150 are aimed at"

@@ -45,7 +45,7 @@
 //! |---|---|
 //! | [`Pairs::new`], [`Pairs::reserve`], [`Pairs::insert`], [`Pairs::remove`] | `items`, `gone`: the pairs and one more, or one less, in any order (`AreSame`); `unchanged`, if allocation fails or the pair isn't there; `memory`: `insert` doesn't fail if there was memory for one more |
 //! | [`Pairs::first_from`] | the lowest pair whose first number is a given one or a higher one; None if and only if there is none (`FirstFromAnswer`) |
-//! | [`TwoWayMap::new`], [`TwoWayMap::change`] | the map of no value; that of the values with another one, or none, at a key (`IsMapOf`) |
+//! | [`TwoWayMap::new`], [`TwoWayMap::change`] | the map of no value, complete if and only if memory was asked for; that of the values with another one, or none, at a key (`IsMapOf`) |
 //! | [`TwoWayMap::first_from`], [`TwoWayMap::key_with`], [`TwoWayMap::are_above`] | of each list of values by key that a complete map is of: the first key from one on with a value (`FirstKeyAnswer`), a key with a given value (`KeyWithAnswer`), whether all values are above one |
 //! | [`PagedNumbers::new`], [`PagedNumbers::len`], [`PagedNumbers::get`], [`PagedNumbers::reserve`], [`PagedNumbers::push`], [`PagedNumbers::set`], [`PagedNumbers::drop_page`] | the numbers, as of a `VecDeque` that has lost its first 64 |
 //! | [`PagedNumbers::first_upto`] | the first position from one on of a number up to a bound; None if and only if there is none. [`PagedNumbers::look_again`] changes nothing but what a search costs |
@@ -59,7 +59,7 @@
 //! # What a body may still get away with
 //!
 //! `reserve`, and so `insert` and `push_back` without memory reserved, may answer [`NoMemory`] although there was some; `give_back` may give nothing
-//! back. A map may be incomplete.
+//! back. A map may become incomplete.
 #![tactic(auto)]
 
 mod blocks;

@@ -1,6 +1,6 @@
 //! Which keys have values, both numbers: found by key, and by value.
 
-ghost use Rattle.std.specs.Prelude.{◌≡◌, ℕ, ◌<◌, ◌≤◌, ◌∷◌, true, false, List, Option, None, Some, length, replicate, set, IfOk};
+ghost use Rattle.std.specs.Prelude.{◌≡◌, ℕ, ◌<◌, ◌≤◌, ◌∷◌, true, false, List, Option, None, Some, length, replicate, set, IfOk, is_some};
 ghost use Rattle.sctp_sequence.specs.Pairs.{AreSame};
 ghost use Rattle.sctp_sequence.specs.TwoWays.{value_of, is_complete, IsMapOf, FirstKeyAnswer, KeyWithAnswer};
 
@@ -25,7 +25,8 @@ impl TwoWayMap {
     /// # Errors
     /// Allocation failed.
     pub fn new(alloc: Global, room: Option<u16>) -> Result<TwoWayMap, NoMemory>
-        ensures { (n : ℕ) → IfOk result (λ made. IsMapOf (replicate n None) made) }
+        ensures map { (n : ℕ) → IfOk result (λ made. IsMapOf (replicate n None) made) }
+        ensures complete { IfOk result (λ made. is_complete made ≡ is_some room) }
     {
         let mut by_key = Pairs::new(alloc);
         let mut by_value = Pairs::new(alloc);
