@@ -385,8 +385,8 @@ class Case:
         self.of(self.receiver).resets.answers_sent()
         return 'ok'
 
-    def on_last_request(self):
-        return str(self.of(self.receiver).resets.last_request())
+    def on_last_finished(self):
+        return str(self.of(self.receiver).resets.last_finished())
 
     def on_take_reset(self):
         found = self.of(self.receiver).resets.take_reset()

@@ -244,7 +244,7 @@ class Endpoint:
             return self.receiver.resets.answers_said()
         if name == 'request':
             number, last, streams = self.sender.resets.request()
-            return wire.reconfig_chunk([wire.reset_request(number, self.receiver.resets.last_request(), last, streams)])
+            return wire.reconfig_chunk([wire.reset_request(number, self.receiver.resets.last_finished(), last, streams)])
         if name == 'shutdown':
             return chunk(wire.SHUTDOWN, struct.pack('>I', self.receiver.tsn(self.receiver.c)))
         return chunk(wire.SHUTDOWN_ACK)

@@ -141,6 +141,10 @@ class Incoming:
         """The sequence number of the last request that was taken."""
         return self.receiver.tsn(self.taken)
 
+    def last_finished(self):
+        """The sequence number of the last request that isn't in progress: that is expected again (section 4.1)."""
+        return self.receiver.tsn(self.taken - (self.result == IN_PROGRESS))
+
     def is_next(self, number):
         return number == self.receiver.tsn(self.taken + 1)
 

@@ -7,10 +7,9 @@ use Rattle.sctp_model.specs.wire.Chunk.{ChunkMeaning, Unknown}
 use Rattle.sctp_model.specs.wire.Packet.{size_of_chunks, size_of_packet}
 use Rattle.sctp_model.specs.wire.Typed.{Typed, written_typed, WritesTyped}
 use Rattle.sctp_model.specs.wire.Reconfig.{RECONFIG, ResetMeaning, reconfig_chunk, reset_item}
-use Rattle.sctp_model.specs.numbers.Serial.{tsn}
 use Rattle.sctp_model.specs.sender.Outgoing.{Request}
 use Rattle.sctp_model.specs.receiver.ReceiverView.{ReceiverView}
-use Rattle.sctp_model.specs.receiver.ResetTaken.{with_answers}
+use Rattle.sctp_model.specs.receiver.ResetTaken.{last_finished, with_answers}
 use Rattle.sctp_model.specs.end.EndView.{EndView}
 use Rattle.sctp_model.specs.end.Building.{AnswerSlot, RequestSlot, is_due, has_causes, Wants, AnswerReset, AskReset, once_built}
 use Rattle.sctp_model.proofs.TypedLemmas.{length-item}
@@ -109,20 +108,20 @@ answers_gone e m due =
     let r = receiver_left e.due.sack m.sack e.receiver in
     ap (λ (b : Bool). record (drafted (record m { answers = false }) e) { receiver = with_answers (answers_left b r) [] }) due
 
-still_taken : (b was is : Bool) (r : ReceiverView) → tsn (answers_left b (receiver_left was is r)).initial (answers_left b (receiver_left was is r)).resets.taken ≡ tsn r.initial r.resets.taken
-still_taken true true false r = refl
-still_taken true true true r = refl
-still_taken true false is r = refl
-still_taken false true false r = refl
-still_taken false true true r = refl
-still_taken false false is r = refl
+still_finished : (b was is : Bool) (r : ReceiverView) → last_finished (answers_left b (receiver_left was is r)) ≡ last_finished r
+still_finished true true false r = refl
+still_finished true true true r = refl
+still_finished true false is r = refl
+still_finished false true false r = refl
+still_finished false true true r = refl
+still_finished false false is r = refl
 
 -- the request goes out that waits for its response
-pub request_goes : (e : EndView) (m : Marks) (a : ℕ) (q : ResetRequest) → a ≡ tsn e.receiver.initial e.receiver.resets.taken → IsRequest e.sender q.number q.last q.streams.now
+pub request_goes : (e : EndView) (m : Marks) (a : ℕ) (q : ResetRequest) → a ≡ last_finished e.receiver → IsRequest e.sender q.number q.last q.streams.now
     → Wants (drafted m e) RequestSlot (request_chunk a q)
-request_goes e m a q taken is =
-    let n = tsn (drafted m e).receiver.initial (drafted m e).receiver.resets.taken in
-    let same : n ≡ a = still_taken m.answers e.due.sack m.sack e.receiver ∙ sym taken in
+request_goes e m a q finished is =
+    let n = last_finished (drafted m e).receiver in
+    let same : n ≡ a = still_finished m.answers e.due.sack m.sack e.receiver ∙ sym finished in
     subst (λ (k : ℕ). Wants (drafted m e) RequestSlot (reconfig_chunk (reset_item k (said_by q) ∷ []))) same
     (subst (λ (x : ResetMeaning). Wants (drafted m e) RequestSlot (reconfig_chunk (reset_item n x ∷ []))) is.says (AskReset is.request is.waits))
 

@@ -15,6 +15,6 @@ asks e = e.terms.reset && (is_home ResetAlarm e.phase && may_ask e.sender)
 abbrev pub said_by : ResetRequest → ResetMeaning
 said_by q = record { number = q.number; last = q.last; streams = q.streams.now }
 
--- its RE-CONFIG; `answered` is the sequence number of the peer's last request
+-- its RE-CONFIG; `answered` is the sequence number of the peer's last request that is finished
 abbrev pub request_chunk : (answered : ℕ) → ResetRequest → ChunkMeaning
 request_chunk answered q = reconfig_chunk (reset_item answered (said_by q) ∷ [])

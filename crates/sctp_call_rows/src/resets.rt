@@ -34,7 +34,7 @@ pub enum ResetCall<'a> {
     Responses,
     ResponsesSent,
     /// The number of the last request that was taken.
-    LastRequest,
+    LastFinished,
     /// A reset of the peer.
     TakeReset,
     /// The sender's request arrives at the receiver.
@@ -72,7 +72,7 @@ pub fn read_reset_call<'a>(name: &str, words: &mut Words<'a>) -> Option<ResetCal
         },
         "responses" => ResetCall::Responses,
         "responses-sent" => ResetCall::ResponsesSent,
-        "last-request" => ResetCall::LastRequest,
+        "last-finished" => ResetCall::LastFinished,
         "take-reset" => ResetCall::TakeReset,
         "carry-request" => ResetCall::CarryRequest,
         "carry-responses" => ResetCall::CarryResponses,
@@ -171,7 +171,7 @@ fn make_at_receiver<F: Framing>(
             receiver.answers_sent();
             write!(out, "ok")?;
         }
-        ResetCall::LastRequest => write!(out, "{}", receiver.last_request())?,
+        ResetCall::LastFinished => write!(out, "{}", receiver.last_finished_request())?,
         ResetCall::TakeReset => show_reset(receiver.take_reset(), out)?,
         _ => {}
     }

@@ -2,6 +2,7 @@
 use Rattle.std.proofs.Common.{◌≡◌, ℕ, Bool, true, false, List, [], ◌∷◌, ◌++◌, Some, refl, sym, subst, ap, ◌∙◌}
 use Rattle.sctp_model.specs.wire.Chunk.{SackMeaning, ChunkMeaning, Sack, HeartbeatAck, Shutdown, CookieEcho}
 use Rattle.sctp_model.specs.numbers.Serial.{tsn}
+use Rattle.sctp_model.specs.receiver.ResetTaken.{last_finished}
 use Rattle.sctp_model.proofs.receiver.OneStep.{cumulative_only}
 use Rattle.sctp_model.proofs.receiver.OneSack.{sack_only}
 use Rattle.sctp_model.specs.end.EndView.{Tags, Draw, Stage, Phase, Calling, Echoing, Open, EndView, has_association}
@@ -32,7 +33,7 @@ one_wanted e s x y AnswerReset AnswerReset = refl
 one_wanted e s x y (AskReset q i) (AskReset r j) =
     let both : Some q ≡ Some r = sym i ∙ j in
     let request : q ≡ r = cc in
-    ap (λ (z : Request). reconfig_chunk (reset_item (tsn e.receiver.initial e.receiver.resets.taken) (request_said e.sender z) ∷ [])) request
+    ap (λ (z : Request). reconfig_chunk (reset_item (last_finished e.receiver) (request_said e.sender z) ∷ [])) request
 one_wanted e s x y (SayShutdown c p) (SayShutdown d q) = ap (λ (z : ℕ). Shutdown (tsn e.receiver.initial z)) (cumulative_only e.receiver c d p q)
 one_wanted e s x y AnswerShutdown AnswerShutdown = refl
 

@@ -1,7 +1,6 @@
 -- Stream reset at each endpoint (RFC 6525, 5): no request is forgotten, a stream that is ready is asked for, and what is reported of a reset was so when a request was performed.
 use Rattle.std.specs.Prelude.{◌≡◌, ◌⊎◌, ℕ, ◌≤◌, true, false, List, [], ◌∷◌, ◌++◌, length, drop, Option, Some, is_some}
 use Rattle.sctp_model.specs.numbers.Lists.{Has}
-use Rattle.sctp_model.specs.numbers.Serial.{tsn}
 use Rattle.sctp_model.specs.wire.Chunk.{ChunkMeaning, Unknown}
 use Rattle.sctp_model.specs.wire.Packet.{Packet}
 use Rattle.sctp_model.specs.wire.Typed.{Typed, typed_in}
@@ -9,7 +8,7 @@ use Rattle.sctp_model.specs.wire.Reconfig.{OUTGOING_RESET, ResetMeaning, Perform
 use Rattle.sctp_model.specs.sender.Outgoing.{Request}
 use Rattle.sctp_model.specs.sender.Resetting.{ready, may_ask, asked, request_said}
 use Rattle.sctp_model.specs.receiver.ReceiverView.{ReceiverView, handed, IsCumulative}
-use Rattle.sctp_model.specs.receiver.ResetTaken.{names, reset_answer, is_in_turn, old_waiting}
+use Rattle.sctp_model.specs.receiver.ResetTaken.{names, reset_answer, is_in_turn, last_finished, old_waiting}
 use Rattle.sctp_model.specs.end.Sealing.{Body}
 use Rattle.sctp_model.specs.end.EndView.{Tags, Established, Open, ResetAlarm, EndView, has_association}
 use Rattle.sctp_model.specs.end.Closing.{rested}
@@ -42,9 +41,9 @@ pub record IsFilled (xs : List ChunkMeaning) (t : EndView) : Type 0 where
   pub wants : Wants t slot chunk
   pub room : has_room t xs chunk ≡ false
 
--- The packet has this request, with its number and its last TSN, and acknowledges the peer's last one; or it is full without it: then it is due still.
+-- The packet has this request, with its number and its last TSN, and repeats the number of the last one of the peer that is finished; or it is full without it: then it is due still.
 pub data IsSaidOrDue (e : EndView) (q : Request) (xs : List ChunkMeaning) (t : EndView) : Type 0 where
-  IsInPacket : Has xs (reconfig_chunk (reset_item (tsn e.receiver.initial e.receiver.resets.taken) (request_said (asked e.sender) q) ∷ [])) → IsSaidOrDue e q xs t
+  IsInPacket : Has xs (reconfig_chunk (reset_item (last_finished e.receiver) (request_said (asked e.sender) q) ∷ [])) → IsSaidOrDue e q xs t
   IsDueStill : IsFilled xs t → t.due.request ≡ true → IsSaidOrDue e q xs t
 
 -- This endpoint builds this packet, and is left so: it makes this request, for the streams that are ready, up to the last index assigned; that is outstanding, and said or due.

@@ -74,6 +74,7 @@ module _ (f : Format) (v : ReceiverView) where
   cleared k l s h low is = record {
     last = is.last ∙ h.last;
     result = is.result ∙ h.result;
+    begun = h.begun;
     answers = h.answers ∙ sym is.answers;
     ordered = λ q. h.ordered q ∙ sym (same (λ (x : Restart). x.ordered) (λ x. refl) q);
     unordered = λ q e. h.unordered q e ∙ sym (same (λ (x : Restart). x.unordered) (λ x. refl) q);

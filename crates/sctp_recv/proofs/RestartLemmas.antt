@@ -146,6 +146,7 @@ module _ (f : Format) (k : ReceiverKept) (v : ReceiverView) (named : ℕ → Boo
   renumbered_kept = record {
     last = h.last ∙ was.last;
     result = h.result ∙ was.result;
+    begun = was.begun;
     answers = was.answers ∙ sym h.answers;
     ordered = λ s. chosen v.next (λ (q : ℕ). v.resets.base (ordered_lane q)) (λ (x : Restart). x.ordered) w.next was.ordered refl s;
     unordered = unordered_now;

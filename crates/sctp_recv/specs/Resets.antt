@@ -1,5 +1,5 @@
 -- What is kept of the peer's resets says what a view knows of them (RFC 6525, 5.2).
-use Rattle.std.specs.Prelude.{◌≡◌, ℕ, ◌-◌, ◌*◌, ◌<◌, ◌≤◌, if◌then◌else◌, List, [], map, length, slice_index_or, Option, None, Some, is_some, unwrap_or}
+use Rattle.std.specs.Prelude.{◌≡◌, ℕ, ◌-◌, ◌*◌, ◌<◌, ◌≤◌, if◌then◌else◌, true, List, [], map, length, slice_index_or, Option, None, Some, is_some, unwrap_or}
 use Rattle.std.specs.declared.alloc.Global.{Global}
 use Rattle.std.specs.declared.boxed.Box.{Box}
 use Rattle.sctp_model.specs.numbers.Serial.{tsn}
@@ -8,6 +8,7 @@ use Rattle.sctp_model.specs.wire.Reconfig.{ResetResult, BadNumber, response_item
 use Rattle.sctp_model.specs.messages.Format.{Format, Interleaved, Kind, Ordered, Unordered, ordered_lane, unordered_lane}
 use Rattle.sctp_model.specs.receiver.Incoming.{Incoming}
 use Rattle.sctp_model.specs.receiver.ReceiverView.{Handed}
+use Rattle.sctp_model.specs.receiver.ResetTaken.{is_in_progress}
 use Rattle.sctp_reconfig.specs.Meanings.{result_meaning}
 use Rattle.sctp_recv.specs.declared.restart.Restart.{Restart}
 use Rattle.sctp_recv.specs.declared.restart.ResetResponse.{ResetResponse}
@@ -95,6 +96,7 @@ AreAllIn streams (Some r) = AreAll streams r
 pub record KeepsResets (f : Format) (k : Option ResetsKept) (initial streams : ℕ) (taken : ℕ → List Handed) (r : Incoming) : Type 0 where
   pub last : last_in k initial ≡ tsn initial r.taken
   pub result : result_in k ≡ r.result
+  pub begun : is_in_progress r.result ≡ true → 0 < r.taken
   pub answers : r.answers ≡ answers_in k
   pub ordered : (s : ℕ) → r.base (ordered_lane s) ≡ (restart_in k s).ordered
   pub unordered : (s : ℕ) → f ≡ Interleaved → r.base (unordered_lane s) ≡ (restart_in k s).unordered

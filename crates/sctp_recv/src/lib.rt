@@ -32,7 +32,7 @@
 //! | all requests of a RE-CONFIG act, one after another, at the cumulative TSN: one to reset streams gets the result of the first row that applies (wrong stream, in progress, performed), if it is the next one, or the last one again after "in progress"; the last one again gets the same result, any other number is a bad one; requests of other kinds are denied; a performed one sets the base of both kinds of each stream that it lists, or of all. Each response waits for a packet if the limit has space for all that wait | [`Receiver::on_requests`]: `step`, `all_requested` |
 //! | if allocation fails, no request acted, and the receiver represents the same views as before | `on_requests`: `refused` |
 //! | the responses that wait; after `answers_sent` none does, and all else is as before | [`Receiver::answers`], [`Receiver::answers_sent`]: `with_answers` |
-//! | the sequence number of the peer's last request that was taken | [`Receiver::last_request`] |
+//! | the sequence number of the peer's last request that is finished | [`Receiver::last_finished_request`] |
 //! | each reset is reported once: the lowest stream of which one wasn't reported, and how many of the messages that wait there were delivered before it; None if and only if there is none | [`Receiver::take_reset`]: `reset_there`, `old_waiting`, `told_of` |
 //! | a message's parts joined are its bytes; `copy_to` appends them, or nothing if allocation fails, which it can't with enough capacity | [`Message::parts`], [`Message::copy_to`] |
 //! | `len` is the number of bytes, 2^64 - 1 if there are more; `copy_into` copies them to the beginning of a buffer whose rest stays, or leaves a buffer that is too small, and returns how many they are | [`Message::len`], [`Message::copy_into`] |

@@ -9,7 +9,7 @@ ghost use Rattle.std.specs.List.{list_any};
 ghost use Rattle.sctp_model.specs.numbers.Serial.{tsn};
 ghost use Rattle.sctp_model.specs.wire.Reconfig.{Performed};
 ghost use Rattle.sctp_model.specs.receiver.ReceiverView.{ReceiverView, IsCumulative};
-ghost use Rattle.sctp_model.specs.receiver.ResetTaken.{names, reset_answer, with_answers, old_waiting, told_of};
+ghost use Rattle.sctp_model.specs.receiver.ResetTaken.{names, reset_answer, last_finished, with_answers, old_waiting, told_of};
 ghost use Rattle.sctp_reconfig.specs.Reading.{ResetRequested};
 ghost use Rattle.sctp_reconfig.specs.Meanings.{request_meaning, parameter_meaning, result_meaning};
 ghost use Rattle.sctp_recv.specs.Fields.{stream_of};
@@ -221,13 +221,13 @@ impl<F: Framing> Receiver<F> {
         }
     }
 
-    /// The sequence number of the peer's last request that was taken; before the first, the number before its initial TSN
-    /// (the Re-configuration Response Sequence Number of RFC 6525, 4.1).
-    pub fn last_request(&self) -> u32
-        ensures { (v : ReceiverView) → StandsFor F.format self.now v → result ≡ tsn v.initial v.resets.taken }
+    /// The sequence number of the peer's last request that is finished: not of one in progress, which is expected again. Before the first, the number before
+    /// its initial TSN (the Re-configuration Response Sequence Number of RFC 6525, 4.1).
+    pub fn last_finished_request(&self) -> u32
+        ensures { (v : ReceiverView) → StandsFor F.format self.now v → result ≡ last_finished v }
     {
         match &self.resets {
-            Some(resets) => resets.last,
+            Some(resets) => resets.last_finished(),
             None => tsn_of(self.initial, 0),
         }
     }

@@ -4,7 +4,7 @@ ghost use Rattle.std.specs.Prelude.{◌≡◌, ℕ, ◌-◌, ◌/◌, List, map,
 ghost use Rattle.sctp_model.specs.messages.Format.{Format};
 ghost use Rattle.sctp_model.specs.receiver.Incoming.{Incoming};
 ghost use Rattle.sctp_model.specs.receiver.ReceiverView.{Handed, ReceiverView};
-ghost use Rattle.sctp_model.specs.receiver.ResetTaken.{is_in_turn, answer_in_turn};
+ghost use Rattle.sctp_model.specs.receiver.ResetTaken.{is_in_turn, last_finished, answer_in_turn};
 ghost use Rattle.sctp_reconfig.specs.Meanings.{result_meaning};
 ghost use Rattle.sctp_recv.specs.Requests.{answers_within, answered};
 ghost use Rattle.sctp_recv.specs.Resets.{UNRESET, restart_at, restart_in, response_of, resets_of, resets_in, KeepsResets};
@@ -140,6 +140,16 @@ impl Resets {
     {
         number == self.last.wrapping_add(1)
             || (number == self.last && matches!(self.result, ResetResult::InProgress))
+    }
+
+    /// The number of the last request that is finished: one in progress is expected again, under its number.
+    pub(crate) fn last_finished(&self) -> u32
+        ensures { (f : Format) (v : ReceiverView) → KeepsResets f (Some (resets_of self.now)) v.initial v.streams v.taken v.resets → result ≡ last_finished v }
+    {
+        match self.result {
+            ResetResult::InProgress => self.last.wrapping_sub(1),
+            _ => self.last,
+        }
     }
 
     /// Notes a request with this number and this answer, if it is in its turn. It returns the answer that it gets.

@@ -1,7 +1,7 @@
 //! RE-CONFIG goes into a packet: the responses that wait, and the request that is due, each as a chunk of its own (RFC 6525, 3.1 and 5).
 
 ghost use Rattle.std.specs.Prelude.{◌≡◌, true, [], ◌∷◌, map, IfOk};
-ghost use Rattle.sctp_model.specs.numbers.Serial.{tsn};
+ghost use Rattle.sctp_model.specs.receiver.ResetTaken.{last_finished};
 ghost use Rattle.sctp_model.specs.wire.Chunk.{Unknown};
 ghost use Rattle.sctp_model.specs.wire.Typed.{WritesTyped};
 ghost use Rattle.sctp_model.specs.wire.Reconfig as model;
@@ -92,11 +92,11 @@ fn put_request(alloc: Global, traffic: &Traffic, packing: &mut Packing) -> Resul
     }
     match traffic.request() {
         None => Ok(true),
-        Some(request) => put_due_request(alloc, traffic.last_request(), request, packing),
+        Some(request) => put_due_request(alloc, traffic.last_finished_request(), request, packing),
     }
 }
 
-/// RE-CONFIG with this request, which is due; `answered` is the sequence number of the peer's last one.
+/// RE-CONFIG with this request, which is due; `answered` is the sequence number of the peer's last one that is finished.
 ///
 /// # Errors
 /// `NoMemory` if an allocation was refused.
@@ -106,7 +106,7 @@ fn put_due_request(
     request: ResetRequest<'_>,
     packing: &mut Packing,
 ) -> Result<bool, NoMemory>
-    ensures { (e : EndView) → answered ≡ tsn e.receiver.initial e.receiver.resets.taken
+    ensures { (e : EndView) → answered ≡ last_finished e.receiver
         → IsRequest e.sender request.entry.number request.entry.last request.entry.streams.now → packing.old.marks.request ≡ true → IsOf e packing.old
         → IfOk result (λ room. PutsAt (RequestSlot ∷ []) e packing.old packing.new room) }
 {

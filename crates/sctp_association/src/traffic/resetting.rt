@@ -1,13 +1,12 @@
 //! Stream reset at the sender and at the receiver, in either format (RFC 6525, 5).
 
 ghost use Rattle.std.specs.Prelude.{◌≡◌, true, ℕ, ◌&&◌, nat_lt, if◌then◌else◌, [], map, Some, None, OnOk, OnErr, MatchOption};
-ghost use Rattle.sctp_model.specs.numbers.Serial.{tsn};
 ghost use Rattle.sctp_model.specs.messages.Format.{Format};
 ghost use Rattle.sctp_model.specs.sender.Outgoing.{is_resetting};
 ghost use Rattle.sctp_model.specs.sender.Resetting.{resetting, may_ask, asked, response_taken};
 ghost use Rattle.sctp_model.specs.sender.SenderView.{SenderView};
 ghost use Rattle.sctp_model.specs.receiver.ReceiverView.{ReceiverView, IsCumulative};
-ghost use Rattle.sctp_model.specs.receiver.ResetTaken.{with_answers, old_waiting, told_of};
+ghost use Rattle.sctp_model.specs.receiver.ResetTaken.{last_finished, with_answers, old_waiting, told_of};
 ghost use Rattle.sctp_send.specs.ResetAnswers.{IsRequest, resetting_streams};
 ghost use Rattle.sctp_recv.specs.Requests.{all_requested, reset_there};
 ghost use Rattle.sctp_recv.specs.Resets.{response_of};
@@ -161,13 +160,13 @@ impl Traffic {
         }
     }
 
-    /// The sequence number of the peer's last request; before the first, the number before its initial TSN (RFC 6525, 4.1).
-    pub(crate) fn last_request(&self) -> u32
-        ensures { (f : Format) (s : SenderView) (r : ReceiverView) → TrafficStands self.now f s r → result ≡ tsn r.initial r.resets.taken }
+    /// The sequence number of the peer's last request that is finished; before the first, the number before its initial TSN (RFC 6525, 4.1).
+    pub(crate) fn last_finished_request(&self) -> u32
+        ensures { (f : Format) (s : SenderView) (r : ReceiverView) → TrafficStands self.now f s r → result ≡ last_finished r }
     {
         match self {
-            Traffic::Plain(directions) => directions.receiver.last_request(),
-            Traffic::Interleaved(directions) => directions.receiver.last_request(),
+            Traffic::Plain(directions) => directions.receiver.last_finished_request(),
+            Traffic::Interleaved(directions) => directions.receiver.last_finished_request(),
         }
     }
 

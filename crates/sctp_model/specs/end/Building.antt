@@ -11,7 +11,7 @@ use Rattle.sctp_model.specs.sender.Resetting.{request_said}
 use Rattle.sctp_model.specs.sender.Filling.{Wish, Fill, fill}
 use Rattle.sctp_model.specs.sender.SentChunks.{chunk_of, forward_chunk_of}
 use Rattle.sctp_model.specs.receiver.SackMade.{IsSack, sack_sent}
-use Rattle.sctp_model.specs.receiver.ResetTaken.{with_answers}
+use Rattle.sctp_model.specs.receiver.ResetTaken.{last_finished, with_answers}
 use Rattle.sctp_model.specs.end.EndView.{format_of, Draw, Tags, Stage, Phase, Calling, Echoing, Open, InitAlarm, CookieAlarm, DataAlarm, ShutdownAlarm, AckAlarm, ResetAlarm, Timer, EndView, has_association}
 use Rattle.sctp_model.specs.end.Clock.{running, with_timer, started, is_point_past}
 use Rattle.sctp_model.specs.end.Closing.{with_due}
@@ -67,7 +67,7 @@ pub data Wants (e : EndView) : Slot → ChunkMeaning → Type 0 where
   PassOn : Wants e ForwardSlot (forward_chunk_of (format_of e) e.configuration.limit e.sender)
   AnswerReset : Wants e AnswerSlot (reconfig_chunk e.receiver.resets.answers)
   AskReset : (q : Request) → e.sender.resets.pending ≡ Some q →
-      Wants e RequestSlot (reconfig_chunk (reset_item (tsn e.receiver.initial e.receiver.resets.taken) (request_said e.sender q) ∷ []))
+      Wants e RequestSlot (reconfig_chunk (reset_item (last_finished e.receiver) (request_said e.sender q) ∷ []))
   SayShutdown : (c : ℕ) → IsCumulative e.receiver c → Wants e ShutdownSlot (Shutdown (tsn e.receiver.initial c))
   AnswerShutdown : Wants e ShutdownAckSlot ShutdownAck
 

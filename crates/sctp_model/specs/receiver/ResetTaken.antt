@@ -75,6 +75,14 @@ is_in_progress BadNumber = false
 abbrev pub is_in_turn : ReceiverView → (number : ℕ) → Bool
 is_in_turn r number = is_next r number || (is_again r number && is_in_progress r.resets.result)
 
+-- how many requests are finished: not the last one while it is in progress, since it is expected again, under its number
+abbrev pub requests_finished : ReceiverView → ℕ
+requests_finished r = if is_in_progress r.resets.result then r.resets.taken - 1 else r.resets.taken
+
+-- the number of the last one that is, so the one expected next, less one: a request of one's own repeats it (4.1)
+abbrev pub last_finished : ReceiverView → ℕ
+last_finished r = tsn r.initial (requests_finished r)
+
 -- The result of a request with this number, `a` if it is in its turn; the last one has the same result as before (5.2.1).
 abbrev pub answer_in_turn : ReceiverView → (number : ℕ) → ResetResult → ResetResult
 answer_in_turn r number a = first_of ((is_in_turn r number, a) ∷ (is_again r number, r.resets.result) ∷ []) BadNumber

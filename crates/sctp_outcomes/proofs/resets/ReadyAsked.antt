@@ -3,7 +3,7 @@ use Rattle.std.proofs.Common.{◌≡◌, ◌⊎◌, ℕ, suc, length, Bool, true
 use Rattle.sctp_model.specs.numbers.Lists.{Has}
 use Rattle.sctp_model.specs.wire.Chunk.{ChunkMeaning}
 use Rattle.sctp_model.specs.wire.Reconfig.{reconfig_chunk, reset_item}
-use Rattle.sctp_model.specs.numbers.Serial.{tsn}
+use Rattle.sctp_model.specs.receiver.ResetTaken.{last_finished}
 use Rattle.sctp_model.specs.sender.Outgoing.{Request}
 use Rattle.sctp_model.specs.sender.SenderView.{SenderView}
 use Rattle.sctp_model.specs.sender.Resetting.{ready, may_ask, asked, request_said}
@@ -41,9 +41,9 @@ puts_sender ss e xs zs full t (NotDue _ more _ _ _ _ _ off rest) = puts_sender m
 puts_sender ss e xs zs full t (Put s more _ y _ _ _ _ due wants room rest) = puts_sender more (once_built s e) (xs ++ y ∷ []) zs full t rest ∙ once_sender s e
 puts_sender ss e xs zs full t (IsFull _ _ _ _ _ due wants room) = refl
 
--- the number of the peer's last request
+-- what a request says of those of the peer
 abbrev answered : EndView → ℕ
-answered e = tsn e.receiver.initial e.receiver.resets.taken
+answered e = last_finished e.receiver
 
 -- what a request says of an endpoint stays so, and is due
 record IsAskingAs (o e : EndView) : Type 0 where

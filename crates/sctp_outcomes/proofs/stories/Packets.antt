@@ -1,6 +1,7 @@
 -- The packet that an open end builds, computed: what is due at each place, in their order, and then fragments.
 use Rattle.std.proofs.Common.{◌≡◌, ℕ, Bool, true, false, List, [], ◌∷◌, ◌++◌, Option, Some, None, refl, if◌then◌else◌, sym, subst}
 use Rattle.sctp_model.specs.numbers.Serial.{tsn}
+use Rattle.sctp_model.specs.receiver.ResetTaken.{last_finished}
 use Rattle.sctp_model.specs.wire.Chunk.{ChunkMeaning, Sack, HeartbeatAck, Shutdown, ShutdownAck, Error, CookieEcho, CookieAck}
 use Rattle.sctp_model.specs.sender.SentChunks.{forward_chunk_of}
 use Rattle.sctp_model.specs.receiver.SackMade.{sack_of}
@@ -30,7 +31,7 @@ info_of (Some info) = info
 -- the chunk of a request
 abbrev request_chunk : EndView → Option Request → ChunkMeaning
 request_chunk e None = reconfig_chunk []
-request_chunk e (Some q) = reconfig_chunk (reset_item (tsn e.receiver.initial e.receiver.resets.taken) (request_said e.sender q) ∷ [])
+request_chunk e (Some q) = reconfig_chunk (reset_item (last_finished e.receiver) (request_said e.sender q) ∷ [])
 
 -- the chunk that is due at a place; no index past the bound was recorded
 abbrev chunk_at : Slot → EndView → (bound : ℕ) → ChunkMeaning

@@ -18,10 +18,9 @@ use Rattle.sctp_model.proofs.sender.FillLaws.{fill_is_fill}
 use Rattle.sctp_model.proofs.sender.OwedLaws.{is_windowed}
 use Rattle.sctp_model.specs.end.EndView.{Terms, Phase, ResetAlarm, EndView, format_for, format_of}
 use Rattle.sctp_model.specs.end.Building.{Slot, Wants, EchoCookie, AckCookie, AckHeartbeat, ReportCauses, Acknowledge, PassOn, SayShutdown, AnswerShutdown, Puts, NoMore, NotDue, Put, IsFull, echoing_slots, open_slots, filled_behind, sent, fragments, Builds, Sleeps, Waits, Calls, Echoes, EndsFull, Fills, EchoSlot, CookieAckSlot, HeartbeatSlot, ErrorSlot, SackSlot, ForwardSlot, AnswerSlot, RequestSlot, AnswerReset, AskReset, ShutdownSlot, ShutdownAckSlot, once_built, room_behind}
-use Rattle.sctp_model.specs.numbers.Serial.{tsn}
 use Rattle.std.proofs.lemmas.Bool.{and_parts}
 use Rattle.sctp_model.specs.sender.Resetting.{may_ask, asked, request_said}
-use Rattle.sctp_model.specs.receiver.ResetTaken.{with_answers}
+use Rattle.sctp_model.specs.receiver.ResetTaken.{last_finished, with_answers}
 use Rattle.sctp_model.specs.end.Clock.{is_home}
 use Rattle.sctp_model.specs.end.Reconfiguring.{asking_now, asking}
 use Rattle.sctp_safety.proofs.machine.Reconfigured.{asking_same}
@@ -127,7 +126,7 @@ module _ (p : EndView) (u v : Asked) (back : List Dated) (k : Date) (by_then : k
       (answers_ask_nothing (format_of e) e.terms.outbound e.sender u p.receiver out back m.met.going k e.receiver.resets.answers m.met.coming.step.typed)
       (after_answers (format_of p) p.terms.outbound p.sender v e.receiver back out m.met.coming k) (record { terms = refl; sender = refl; receiver = refl; moment = refl }) refl
   put_one s out e x m (AskReset q is) =
-      let answered = tsn e.receiver.initial e.receiver.resets.taken in
+      let answered = last_finished e.receiver in
       put out e (once_built RequestSlot e) x m e.receiver
       (after_request_built (format_of e) e.terms.outbound e.sender u p.receiver out back m.met.going k q is answered)
       (request_answers_nothing (format_of p) p.terms.outbound p.sender v e.receiver back out m.met.coming k answered (request_said e.sender q) (m.met.going.step.waiting q is).few)

@@ -10,4 +10,4 @@ returns-in-None c = λ e stands packet. none_requested e c.args.packing.now (c.i
 
 pub returns-in-Some : goal.returns-in-Some
 returns-in-Some c = λ e stands packet.
-    c.put_due_request.ensures e (c.last_request.ensures (format_of e) e.sender e.receiver stands) (c.in-Some.ensures (format_of e) e.sender e.receiver stands) c.if-not-packing.false packet
+    c.put_due_request.ensures e (c.last_finished_request.ensures (format_of e) e.sender e.receiver stands) (c.in-Some.ensures (format_of e) e.sender e.receiver stands) c.if-not-packing.false packet
