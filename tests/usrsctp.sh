@@ -9,7 +9,7 @@
 #                                    of sctp-end or none: how long they take, beside usrsctp and what is wanted (figures.py): some minutes
 #   tests/usrsctp.sh --shares congestion-control    two associations through one queue, 120 s (shares.py): some ten minutes
 #   tests/usrsctp.sh --streams       fifty streams, reset again and again by the endpoint, by usrsctp and by both, 10 percent lost,
-#                                    and as channels that either closes (streams.py): a minute; --lost 5 --seeds 8 likewise
+#                                    and as channels that either closes (streams.py): a minute; --lost 5 --seeds 8 --first 9 likewise
 #   tests/usrsctp.sh --figures --model, --program PATH    the model, or this program, in place of sctp-end
 # Without libusrsctp the figures and shares have the model as the receiver. Status of these and of the streams: 0 if all is as wanted, 1 if not,
 # 3 as below. Of the closings:

@@ -1,14 +1,14 @@
 #!/usr/bin/env python3
 """Fifty streams between an endpoint and usrsctp, reset again and again (RFC 6525) while packets are lost, in virtual time.
 
-streams.py PEER [--model] [--program P] [--lost PERCENT] [--seeds N] [WORD ..]: PEER is the built peer.c. The endpoint is `sctp-end` with these
-words behind MODE and `reset`, or the model; with an even seed it listens. On each of its streams an end sends three messages, resets the
-stream, sends three more once that is done, and so on: five times; an end that resets nothing sends its messages once. Either end resets; or
-both do, each by itself; or each stream is a channel (RFC 8831 section 6.7), which one end closes, and the other end then too. What arrives on
-each stream must be exactly that: each message once and in order, the SSNs from 0 on behind each reset, and between the messages of two turns
-a report of the reset; usrsctp reports one twice if its first response was "in progress". It prints how long each run took, how many reports
-were doubled, and what was wrong. Status 0 if nothing was in the runs in which one end resets, else 1: with both, usrsctp takes a request for
-a response (docs/PEERS.md), which is told and not counted.
+streams.py PEER [--model] [--program P] [--lost PERCENT] [--seeds N] [--first SEED] [WORD ..]: PEER is the built peer.c. The endpoint is
+`sctp-end` with these words behind MODE and `reset`, or the model; with an even seed it listens. On each of its streams an end sends three
+messages, resets the stream, sends three more once that is done, and so on: five times; an end that resets nothing sends its messages once.
+Either end resets; or both do, each by itself; or each stream is a channel (RFC 8831 section 6.7), which one end closes, and the other end
+then too. What arrives on each stream must be exactly that: each message once and in order, the SSNs from 0 on behind each reset, and between
+the messages of two turns a report of the reset; usrsctp reports one twice if its first response was "in progress". It prints how long each
+run took, how many reports were doubled, and what was wrong. Of a hundred seeds with a tenth of the packets lost usrsctp gets eight runs
+wrong by itself (docs/PEERS.md), none of the first fourteen seeds. Status 0 if nothing was wrong, else 1.
 """
 
 import argparse
@@ -203,18 +203,19 @@ def main():
     parser.add_argument('--program', default=PROGRAM)
     parser.add_argument('--lost', type=int, default=10)
     parser.add_argument('--seeds', type=int, default=4)
+    parser.add_argument('--first', type=int, default=1)
     parser.add_argument('words', nargs='*')
     asked = parser.parse_intermixed_args()
     faulty = 0
     for named, *how in RUNS:
-        for seed in range(1, asked.seeds + 1):
+        for seed in range(asked.first, asked.first + asked.seeds):
             took, doubled, faults = run(asked, *how, seed)
             resets = STREAMS * (TURNS - 1) * (2 - how.count(NEVER))
             said = 'as wanted' if not faults else '%d faults' % len(faults)
             print('%s, seed %d: %d resets, %d %% lost, %.1f s, %d reported twice, %s' % (
                 named, seed, resets, asked.lost, took / 1_000, doubled, said), flush=True)
             print(''.join('    %s\n' % fault for fault in faults[:5]), end='')
-            faulty += bool(faults) and NEVER in how
+            faulty += bool(faults)
     print('as wanted' if not faulty else '%d runs aren\'t as wanted' % faulty)
     return 1 if faulty else 0
 
