@@ -1,11 +1,11 @@
-/* What stays of messages that are over: kept MANY. After MANY messages of a byte, each acknowledged and taken, it prints how many bytes both ends
- * hold more than after the first 19 of them. The allocator is the program's own, which counts, so no libsctp_endpoint_malloc.a is linked. */
+/* What stays of messages that are over: kept MANY [AT ONCE]. After MANY messages of a byte, each acknowledged and taken, 19 at a time or so many at once, it
+ * prints how many bytes both ends hold more than after the first 19 of them. The allocator is the program's own, which counts, so no libsctp_endpoint_malloc.a is linked. */
 #include "sctp_endpoint.h"
 #include <stdio.h>
 #include <stdlib.h>
 #include <string.h>
 
-enum { AT_A_TIME = 19, HEAD = 16 }; /* messages; bytes before a block, which hold its size */
+enum { AT_A_TIME = 19, QUEUE = 1024, HEAD = 16 }; /* messages, and how many wait at most; bytes before a block, which hold its size */
 
 struct sctp_endpoint_block rattle_alloc(size_t size, size_t alignment);
 struct sctp_endpoint_block rattle_realloc(void *at, size_t old_size, size_t size, size_t alignment);
@@ -50,14 +50,17 @@ static bool carry(struct sctp_endpoint *from, struct sctp_endpoint *to) {
         && sctp_endpoint_handle_packet(to, 0, packet, sent.length, &draw, answer, sizeof answer, &verdict) == SCTP_EP_OK;
 }
 
-/* So many messages go, are taken and are acknowledged; how many were. */
+/* So many messages go, are taken and are acknowledged; how many were. No SACK is sent before all of them have gone. */
 static long turn(long many) {
     struct sctp_endpoint_message told = { 0 };
     uint8_t byte = 7;
     uint64_t ticket = 0;
     long taken = 0;
-    for (long i = 0; i < many; i++)
+    for (long i = 0; i < many; i++) {
+        if (i % QUEUE == 0)
+            while (carry(&ends[0], &ends[1])) {}
         if (sctp_endpoint_send(&ends[0], 0, true, 0, &byte, 1, SCTP_EP_NEVER, &ticket)) return 0;
+    }
     while (carry(&ends[0], &ends[1]) || carry(&ends[1], &ends[0])) {}
     while (sctp_endpoint_take(&ends[1], 0, &told, &byte, 1) == SCTP_EP_OK) taken++;
     return taken;
@@ -66,14 +69,14 @@ static long turn(long many) {
 int main(int argc, char **argv) {
     static const struct sctp_endpoint_draw draws[2] = { { 7, 100, 0 }, { 9, 500, 0 } };
     struct sctp_endpoint_config config = SCTP_ENDPOINT_CONFIG(5000, 5001);
-    long many = argc > 1 ? atol(argv[1]) : 0, taken;
+    long many = argc > 1 ? atol(argv[1]) : 0, at_once = argc > 2 ? atol(argv[2]) : AT_A_TIME, taken;
     if (sctp_endpoint_opened(&ends[0], &config, &draws[0], &draws[1])) return 1;
     config.own_port = 5001, config.peer_port = 5000;
     if (sctp_endpoint_opened(&ends[1], &config, &draws[1], &draws[0])) return 1;
     taken = turn(AT_A_TIME);
     long first = held;
     while (taken < many) {
-        long more = turn(many - taken < AT_A_TIME ? many - taken : AT_A_TIME);
+        long more = turn(many - taken < at_once ? many - taken : at_once);
         if (more == 0) return 1;
         taken += more;
     }

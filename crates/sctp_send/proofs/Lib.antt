@@ -12,3 +12,4 @@ pub mod WalkLemmas
 pub mod TicketLemmas
 pub mod DueKept
 pub mod OverKept
+pub mod RoomKept

@@ -25,6 +25,7 @@ pub mod due_table;
 pub mod dues;
 pub mod entry;
 pub mod fates;
+pub mod giving_back;
 pub mod going_out;
 pub mod last_forward;
 pub mod looking;

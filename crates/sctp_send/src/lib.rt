@@ -36,9 +36,13 @@
 //! | [`Sender::reached`] | a law: each view that a sender stands for is one that its calls reach |
 //! | [`Sender::limited`] | laws: an abandoned message isn't at its limit (`gone`), and `wear` and `wear_between` abandon only messages that `next_at_limit` gives (`only`) |
 //!
-//! Only `new`, `queue`, `queue_limited`, `fill`, `put_forward`, `reset` and `ask` return NoMemory; `keep_forward` may allocate, and the others don't. So that
-//! `abandon`, `expire`, `wear` and SACKs needn't, a message that begins reserves one entry for its end mark, besides those of the messages in part
-//! (`room` of `Holds`), and the first entry reserves the space for the runs of SACKs.
+//! Only `new`, `queue`, `queue_limited`, `fill`, `put_forward`, `reset` and `ask` return NoMemory; `keep_forward` may allocate, `on_sack` and `on_shutdown`
+//! allocate nothing but smaller blocks in place of larger ones, which stay if that fails, and the others don't allocate. So that `abandon`, `expire`, `wear`
+//! and SACKs needn't, a message that begins reserves one entry for its end mark, besides those of the messages in part (`room` of `Holds`), and the first
+//! entry reserves the space for the runs of SACKs. Neither is given back.
+//!
+//! Memory that a burst took is given back by the SACK (or SHUTDOWN) after which less than an eighth of it is used, if it is for more than 128 entries or
+//! messages: of entries and their order by ticket, the queue and its seats, fates and deadlines (`kept/giving_back.rt`, `queueing/passing.rt`).
 //!
 //! Laws of every view that calls reach, by induction over the calls (`sctp_model/proofs/sender`): CUM is no more than the TSNs assigned, all up to it
 //! is acknowledged, nothing beyond the last TSN is said (`Bounds`); TSNs after CUM and messages in part are at most 32,767, TSNs assigned and owed at
@@ -68,7 +72,7 @@
 //!
 //! The files of `src` form a path on which each imports only what is before it: `last_forward`, `message`, `resets`, `sendings`; `blocks`, `by_ticket`,
 //! `due_table`, `entry`, `seats`, `track`; `dues`, `fates`, `pieces`; `looking`, `queue`, `told`, `wishes`; `counts`, `queued_on`, `streams`; `stretches`;
-//! `outstanding`; `by_message`, `entries`, `flying`, `going_out`, `lanes`, `marking`, `pushing`, `repeats`, `run_room`, `searching`, `stock`, `table`, `tally`, `telling`,
+//! `outstanding`; `by_message`, `entries`, `flying`, `giving_back`, `going_out`, `lanes`, `marking`, `pushing`, `repeats`, `run_room`, `searching`, `stock`, `table`, `tally`, `telling`,
 //! `weight`; `assigning`, `covered`, `indexed`, `restarting`, `sender`, `still`, `waking`; `answering`, `at_limit`, `entering`, `fill`, `last`, `laws`, `pace`, `passing`, `queueing`,
 //! `readers`, `resetting`, `sack`, `wear`, `weighing`; `abandon`, `keeping`, `moments`; `expire`, `forward`, `putting`.
 //!

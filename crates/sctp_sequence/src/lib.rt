@@ -1,5 +1,5 @@
 //! Containers that know nothing of SCTP: a list stored in blocks; pairs of numbers, found by the first one; a map between numbers that is
-//! searched both ways; a list of numbers in which the first one up to a bound is found.
+//! searched both ways; a list of numbers in which the first one up to a bound is found; and when memory is given back.
 //!
 //! # `Sequence`: a list in blocks
 //!
@@ -48,6 +48,7 @@
 //! | [`TwoWayMap::new`], [`TwoWayMap::change`] | the map of no value, complete if and only if memory was asked for; that of the values with another one, or none, at a key (`IsMapOf`) |
 //! | [`TwoWayMap::first_from`], [`TwoWayMap::key_with`], [`TwoWayMap::are_above`] | of each list of values by key that a complete map is of: the first key from one on with a value (`FirstKeyAnswer`), a key with a given value (`KeyWithAnswer`), whether all values are above one |
 //! | [`PagedNumbers::new`], [`PagedNumbers::len`], [`PagedNumbers::get`], [`PagedNumbers::reserve`], [`PagedNumbers::push`], [`PagedNumbers::set`], [`PagedNumbers::drop_page`] | the numbers, as of a `VecDeque` that has lost its first 64 |
+//! | [`Pairs::give_back`], [`PagedNumbers::give_back`], [`give_back`] of a `VecDeque`, [`PagedNumbers::is_roomy`] | change no item; if there is memory for more than 128 and less than an eighth of it is used ([`is_roomy`]), all is given back but what twice as many items take, or 64 ([`kept_for`]) |
 //! | [`PagedNumbers::first_upto`] | the first position from one on of a number up to a bound; None if and only if there is none. [`PagedNumbers::look_again`] changes nothing but what a search costs |
 //!
 //! Costs: a pair is found by binary search, the first and the last one by a comparison; a search among numbers is a comparison if the bound is
@@ -65,6 +66,7 @@
 mod blocks;
 mod changing;
 mod coming;
+mod giving_back;
 mod going;
 mod halving;
 mod lending;
@@ -76,6 +78,7 @@ mod searching;
 mod sequence;
 mod two_way_map;
 
+pub use giving_back::{give_back, is_roomy, kept_for};
 pub use paged_numbers::PagedNumbers;
 pub use pairs::{Pair, Pairs};
 pub use sctp_values::NoMemory;

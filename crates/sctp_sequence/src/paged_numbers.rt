@@ -2,6 +2,7 @@
 
 ghost use Rattle.std.specs.Prelude.{◌≡◌, ℕ, ◌<◌, ◌≤◌, ◌++◌, ◌∷◌, [], drop, set, length, slice_index_or, OnOk, IfSome, IfNone};
 
+use crate::giving_back::{give_back, is_roomy, kept_for};
 use crate::pages::{PAGE, drop_first, drop_page, first_due, look_at, lower_page};
 use sctp_values::NoMemory;
 use std::alloc::Global;
@@ -129,6 +130,23 @@ impl PagedNumbers {
             return;
         }
         self.lowest = look_at(&self.numbers, &mut self.leasts, bound);
+    }
+
+    /// Less than an eighth of the memory is used, if it is for many numbers.
+    #[inline(always)]
+    pub fn is_roomy(&self) -> bool {
+        is_roomy(self.numbers.capacity(), self.numbers.len())
+    }
+
+    /// Gives memory back if there is much of it and little is used.
+    pub fn give_back(&mut self)
+        ensures { self.new.items ≡ self.old.items }
+    {
+        give_back(&mut self.numbers);
+        let pages = self.leasts.len();
+        if is_roomy(self.leasts.capacity(), pages) {
+            self.leasts.shrink_to(kept_for(pages));
+        }
     }
 
     /// Removes the first page, 64 numbers.

@@ -5,6 +5,7 @@ ghost use Rattle.std.specs.List.{Contains};
 ghost use Rattle.sctp_sequence.specs.Pairs.{AreSame, FirstFromAnswer, IsRank, key};
 ghost use Rattle.sctp_sequence.specs.declared.pairs.Pair.{Pair};
 
+use crate::giving_back::give_back;
 use sctp_values::NoMemory;
 use std::alloc::Global;
 use std::collections::VecDeque;
@@ -57,6 +58,13 @@ impl Pairs {
         ensures room { OnOk result (length self.new.items + more ≤ self.new.capacity) }
     {
         self.pairs.reserve(more).map_err(|_| NoMemory)
+    }
+
+    /// Gives memory back if there is much of it and little is used.
+    pub fn give_back(&mut self)
+        ensures { self.new.items ≡ self.old.items }
+    {
+        give_back(&mut self.pairs);
     }
 
     /// Inserts a pair. It is not inlined, so that a caller's test before it stays small.

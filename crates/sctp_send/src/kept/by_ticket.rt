@@ -1,6 +1,6 @@
 //! The order of the outstanding entries by their tickets: those of one message stand side by side in it, and are found by halves.
 
-ghost use Rattle.std.specs.Prelude.{◌≡◌, ℕ, ◌+◌, ◌<◌, ◌≤◌, ◌%◌, ◌^◌, ◌++◌, ◌∷◌, [], true, List, length, slice_get, slice_index_or, Some, OnOk};
+ghost use Rattle.std.specs.Prelude.{◌≡◌, ℕ, ◌+◌, ◌<◌, ◌≤◌, ◌%◌, ◌^◌, ◌++◌, ◌∷◌, [], true, List, min, length, slice_get, slice_index_or, Some, OnOk};
 ghost use Rattle.std.specs.VecDeque.{deque_len, deque_capacity};
 ghost use Rattle.sctp_send.specs.inner.TicketOrder.{offset_of, comes_before, IsOrderOf, IsRankOf, IsGone, AreUpTo};
 ghost use Rattle.sctp_send.specs.inner.Stretching.{index_at};
@@ -78,6 +78,16 @@ impl ByTicket {
         ensures room { OnOk result (length self.new.spots.items + more ≤ deque_capacity self.new.spots) }
     {
         self.spots.reserve(more).map_err(|_| NoMemory)
+    }
+
+    /// Gives memory back, but for so many entries; all of it stays if a smaller block can't be allocated.
+    pub(crate) fn shrink_to(&mut self, kept: usize)
+        ensures same { self.new.spots.items ≡ self.old.spots.items }
+        ensures first { self.new.first ≡ self.old.first }
+        ensures highest { self.new.highest ≡ self.old.highest }
+        ensures room { min kept (deque_capacity self.old.spots) ≤ deque_capacity self.new.spots }
+    {
+        self.spots.shrink_to(kept);
     }
 
     /// An entry of this ticket comes behind the others.

@@ -13,6 +13,9 @@ use std::marker::Model;
 /// How many tickets are passed together.
 pub(crate) const PAGE: u64 = 64;
 
+/// Of no more than so many tickets the moments aren't passed for the sake of memory.
+const MANY: usize = 128;
+
 /// The moments of the tickets behind those that are passed: before its own, no message has to be looked at.
 #[derive(Drop)]
 pub(crate) struct DueTable {
@@ -198,6 +201,18 @@ impl DueTable {
         ensures asleep { self.new.asleep ≡ self.old.asleep }
     {
         self.passed += 1;
+    }
+
+    /// There are the moments of many tickets.
+    pub(crate) fn is_large(&self) -> bool {
+        self.moments.len() > MANY
+    }
+
+    /// Gives memory back, if little of it is used.
+    pub(crate) fn give_back(&mut self)
+        ensures { self.new ≡ record self.old { capacity = self.new.capacity } }
+    {
+        self.moments.give_back();
     }
 
     /// The tickets of the first page are passed.

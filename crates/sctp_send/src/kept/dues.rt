@@ -169,16 +169,37 @@ impl Dues {
         self.alike.min(PAGE)
     }
 
-    /// The last of the tickets that are passed together, where a page was begun behind it and it is time to look.
+    /// A page was begun behind the first tickets, and it is time to look whether they are passed.
+    pub(crate) fn is_due(&self) -> bool {
+        let many = self.behind.given() - (self.behind.passed() - self.alike);
+        many > PAGE && many % PAGE == 1
+    }
+
+    /// The last of the tickets that are passed together, if there are so many.
     pub(crate) fn first_page(&self) -> Option<u64>
         ensures { IfSome result (λ last. (last ≡ self.now.passed + front_of self.now.alike) × (front_of self.now.alike ≤ length self.now.moments)) }
     {
         let passed = self.behind.passed() - self.alike;
         let many = self.behind.given() - passed;
-        if many > PAGE && many % PAGE == 1 {
+        if many >= PAGE {
             return Some(passed + self.front());
         }
         None
+    }
+
+    /// How often tickets may be passed together, if there is much memory of which little is needed once they are.
+    pub(crate) fn pages_left(&self) -> u64 {
+        if !self.behind.is_large() {
+            return 0;
+        }
+        (self.behind.given() - (self.behind.passed() - self.alike)) / PAGE + 1
+    }
+
+    /// Gives memory back, if little of it is used.
+    pub(crate) fn give_back(&mut self)
+        ensures { self.new ≡ record self.old { capacity = self.new.capacity } }
+    {
+        self.behind.give_back();
     }
 
     /// The first tickets are passed.

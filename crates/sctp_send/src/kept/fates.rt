@@ -13,6 +13,12 @@ use std::marker::Model;
 /// After so many tickets more it is looked at again whether a block is over.
 const AGAIN: usize = 256;
 
+/// Memory for no more than so many fates is never given back.
+const MANY: usize = 4_096;
+
+/// Memory for at least so many is kept.
+const FEW: usize = 256;
+
 /// Fates by ticket, from 1 on.
 #[derive(Drop)]
 pub(crate) struct Fates {
@@ -137,15 +143,37 @@ impl Fates {
         self.abandoned = self.abandoned.wrapping_add(1);
     }
 
-    /// The last ticket of the next block that may be over, where it is time to look.
+    /// It is time to look whether the next block is over.
+    pub(crate) fn is_due(&self) -> bool {
+        let many = self.recent.len();
+        many >= BLOCK && many % AGAIN == 0
+    }
+
+    /// How many blocks may be over.
+    pub(crate) fn blocks_left(&self) -> usize {
+        self.recent.len() / BLOCK
+    }
+
+    /// The last ticket of the next block that may be over.
     pub(crate) fn next_end(&self) -> Option<u64>
         ensures { IfSome result (λ last. last ≡ self.now.ended + 4096) }
     {
-        let many = self.recent.len();
-        if many < BLOCK || many % AGAIN != 0 {
+        if self.recent.len() < BLOCK {
             return None;
         }
         Some((self.ended + BLOCK) as u64)
+    }
+
+    /// Gives memory back of tickets that are over, if less than an eighth of it is used.
+    pub(crate) fn give_back(&mut self)
+        ensures items { self.new.items ≡ self.old.items }
+        ensures ended { self.new.ended ≡ self.old.ended }
+        ensures abandoned { self.new.abandoned ≡ self.old.abandoned }
+    {
+        let (room, used) = (self.recent.capacity(), self.recent.len());
+        if room > MANY && used < room / 8 {
+            self.recent.shrink_to(used.saturating_mul(2).max(FEW));
+        }
     }
 
     /// The next block of tickets is over, if there is one of which none waits, and memory for it.

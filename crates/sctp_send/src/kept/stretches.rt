@@ -2,7 +2,7 @@
 //! acknowledged), and all or none are acknowledged, the stretch is acknowledged, or not any more, as a whole: its flags are set and two
 //! sums are changed by what is known of it, without a look at its entries (RFC 9260, 6.2.1).
 
-ghost use Rattle.std.specs.Prelude.{◌≡◌, ℕ, ◌+◌, ◌*◌, ◌/◌, ◌%◌, ◌<◌, ◌≤◌, true, false, not, length, slice_get, Some};
+ghost use Rattle.std.specs.Prelude.{◌≡◌, ℕ, ◌+◌, ◌*◌, ◌/◌, ◌%◌, ◌<◌, ◌≤◌, [], true, false, not, length, slice_get, Some};
 ghost use Rattle.std.specs.VecDeque.{deque_capacity};
 ghost use Rattle.sctp_send.specs.declared.kept.stretches.Stretch.{Stretch};
 ghost use Rattle.sctp_send.specs.OutstandingFields.{item_meaning};
@@ -95,6 +95,14 @@ pub(crate) fn keep_stretches(stretches: &mut Vec<Stretch>, entries: usize)
     if entries >= FEW && stretches.is_empty() {
         let _kept = stretches.resize(SLOTS, UNKNOWN);
     }
+}
+
+/// Frees the slots, so that nothing is known.
+pub(crate) fn forget_all(stretches: &mut Vec<Stretch>)
+    ensures { stretches.new.items ≡ [] }
+{
+    stretches.clear();
+    stretches.shrink_to_fit();
 }
 
 /// Looks at the entries of the stretch that begins at an offset. It is known if all of them are quiet, and all or none acknowledged.

@@ -14,8 +14,17 @@ use sctp_framing::Framing;
 
 #[tactic(auto, unfolding(crate::specs::SenderStands::StandsFor))]
 impl<F: Framing> Sender<F> {
-    /// Where nothing is kept of a block of tickets but their fates, these stand for good, and take less room where they are alike.
+    /// From time to time the first block of tickets ends, if nothing is kept of it but their fates.
     pub(crate) fn end_tickets(&mut self)
+        ensures { (v : SenderView) → StandsFor F.format self.old v → StandsFor F.format self.new v }
+    {
+        if self.told.fates.is_due() {
+            self.end_first_tickets();
+        }
+    }
+
+    /// Where nothing is kept of the first block of tickets but their fates, these stand for good, and take less room where they are alike.
+    fn end_first_tickets(&mut self)
         ensures { (v : SenderView) → StandsFor F.format self.old v → StandsFor F.format self.new v }
     {
         let Some(last) = self.told.fates.next_end() else {
@@ -24,11 +33,64 @@ impl<F: Framing> Sender<F> {
         if !is_past(&self.parts.streams, &self.parts.outstanding, last) {
             return;
         }
+        if !self.parts.queue.is_past(last) {
+            return;
+        }
         self.told.fates.end_block();
     }
 
-    /// Where nothing is kept of the messages of a page of tickets, these are passed: they are never late.
+    /// Ends all blocks of tickets of which nothing is kept but their fates, one by one.
+    fn end_all_tickets(&mut self)
+        ensures { (v : SenderView) → StandsFor F.format self.old v → StandsFor F.format self.new v }
+    {
+        for _ in 0..self.told.fates.blocks_left() {
+            self.end_first_tickets();
+        }
+    }
+
+    /// Gives memory back that a burst took, if little of it is used now.
+    #[inline(always)]
+    pub(crate) fn give_back(&mut self)
+        ensures { (v : SenderView) → StandsFor F.format self.old v → StandsFor F.format self.new v }
+    {
+        if self.parts.outstanding.is_roomy() || self.parts.queue.is_roomy() {
+            self.give_all_back();
+        }
+    }
+
+    /// Gives back what isn't used of the memory for entries, messages and tickets. That for the end marks of messages in part stays. It is not inlined,
+    /// since few SACKs leave so little outstanding.
+    #[inline(never)]
+    fn give_all_back(&mut self)
+        ensures { (v : SenderView) → StandsFor F.format self.old v → StandsFor F.format self.new v }
+    {
+        self.give_entries_back();
+        self.parts.queue.give_back();
+        self.end_all_tickets();
+        self.told.fates.give_back();
+        self.pass_all_tickets();
+        self.told.dues.give_back();
+    }
+
+    /// Gives back what isn't used of the memory for entries, but for end marks.
+    fn give_entries_back(&mut self)
+        ensures { (v : SenderView) → StandsFor F.format self.old v → StandsFor F.format self.new v }
+    {
+        let ends = self.parts.streams.in_part() as usize;
+        self.parts.outstanding.give_back(ends);
+    }
+
+    /// From time to time the first tickets are passed, if nothing is kept of their messages.
     pub(crate) fn pass_tickets(&mut self)
+        ensures { (v : SenderView) → StandsFor F.format self.old v → StandsFor F.format self.new v }
+    {
+        if self.told.dues.is_due() {
+            self.pass_first_tickets();
+        }
+    }
+
+    /// Where nothing is kept of the messages of a page of tickets, these are passed: they are never late.
+    fn pass_first_tickets(&mut self)
         ensures { (v : SenderView) → StandsFor F.format self.old v → StandsFor F.format self.new v }
     {
         let Some(last) = self.told.dues.first_page() else {
@@ -41,6 +103,15 @@ impl<F: Framing> Sender<F> {
             return;
         }
         self.told.dues.pass_page();
+    }
+
+    /// Passes all tickets of whose messages nothing is kept, page by page, if they have moments of their own.
+    fn pass_all_tickets(&mut self)
+        ensures { (v : SenderView) → StandsFor F.format self.old v → StandsFor F.format self.new v }
+    {
+        for _ in 0..self.told.dues.pages_left() {
+            self.pass_first_tickets();
+        }
     }
 }
 

@@ -3,7 +3,7 @@ use Rattle.sctp_send.specs.SenderKept.{Kept}
 use Rattle.sctp_send.specs.SenderStands.{StandsFor, Keeps}
 use Rattle.sctp_send.specs.declared.kept.message.Fate.TheVariants.{Queued as StillQueued}
 use Rattle.sctp_send.proofs.OverKept.{keeps_over}
-use Rattle.sctp_send.proofs.sender.Sender.end_tickets.Goals as goal
+use Rattle.sctp_send.proofs.sender.Sender.end_first_tickets.Goals as goal
 
 pub returns : goal.returns
 unfolding StandsFor

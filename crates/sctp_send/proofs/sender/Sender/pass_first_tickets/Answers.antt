@@ -3,7 +3,7 @@ use Rattle.sctp_send.specs.SenderKept.{Kept}
 use Rattle.sctp_send.specs.SenderStands.{StandsFor, Keeps}
 use Rattle.sctp_send.specs.inner.Dues.{front_of}
 use Rattle.sctp_send.proofs.DueKept.{keeps_passed}
-use Rattle.sctp_send.proofs.sender.Sender.pass_tickets.Goals as goal
+use Rattle.sctp_send.proofs.sender.Sender.pass_first_tickets.Goals as goal
 
 pub returns : goal.returns
 unfolding StandsFor
