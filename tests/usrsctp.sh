@@ -7,6 +7,7 @@
 #   tests/usrsctp.sh --lost 5 --buffer 65536    5 percent lost; so large a receive buffer of usrsctp's, 262,144 bytes else
 #   tests/usrsctp.sh --figures fast-retransmit rto-min 100    1,000 messages without a limit of the rate and over 10 Mbit/s, with these words
 #                                    of sctp-end or none: how long they take, beside usrsctp and what is wanted (figures.py): some minutes
+#   tests/usrsctp.sh --figures --buffer 1317012 --chunks 1048576    likewise, and usrsctp has room for all messages after a missing one
 #   tests/usrsctp.sh --shares congestion-control    two associations through one queue, 120 s (shares.py): some ten minutes
 #   tests/usrsctp.sh --streams       fifty streams, reset again and again by the endpoint, by usrsctp and by both, 10 percent lost,
 #                                    and as channels that either closes (streams.py): a minute; --lost 5 --seeds 8 --first 9 likewise

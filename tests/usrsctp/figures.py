@@ -1,14 +1,16 @@
 #!/usr/bin/env python3
 """How long 1,000 messages of 1,000 bytes take to usrsctp, in virtual time, and how many packets of them are sent again.
 
-figures.py PEER [--model] [--program P] [--seeds N] [WORD ..]: PEER is the built peer.c, or `-` if there is none:
-then the model receives. `sctp-end` sends, with these words behind MODE, or the model; usrsctp does beside it.
-50 ms one way, without a limit of the rate, and over 10 Mbit/s with a drop-tail queue of 32 packets; 0, 1 and 5
-percent of the packets lost each way; packets of at most 1,200 bytes, a receive buffer of 1,048,576. Of the seeds
-it prints the middle run and the slowest. Time is counted from the opening, in which nothing is lost, until all
-messages have arrived. At the end it says whether all is as wanted with these words: the middle within what is
-wanted, the slowest within 1.5 times that, and with congestion-control the bytes in
-flight at most 4 packets more after one that arrives. Status 0 if so, else 1.
+figures.py PEER [--model] [--program P] [--seeds N] [--buffer BYTES] [--chunks N] [WORD ..]: PEER is the built
+peer.c, or `-` if there is none: then the model receives. `sctp-end` sends, with these words behind MODE, or the
+model; usrsctp does beside it. 50 ms one way, without a limit of the rate, and over 10 Mbit/s with a drop-tail
+queue of 32 packets; 0, 1 and 5 percent of the packets lost each way; packets of at most 1,200 bytes, a receive
+buffer of 1,048,576. Of these messages usrsctp then holds 512 after a missing one, and drops others: it holds so
+many chunks (--chunks), and counts 256 bytes a chunk more than it advertised. It holds all of them with
+--buffer 1317012 --chunks 1048576. Of the seeds it prints the middle run and the slowest. Time is counted from the
+opening, in which nothing is lost, until all messages have arrived. At the end it says whether all is as wanted
+with these words: the middle within what is wanted, the slowest within 1.5 times that, and with congestion-control
+the bytes in flight at most 4 packets more after one that arrives. Status 0 if so, else 1.
 """
 
 import argparse
@@ -18,7 +20,7 @@ import statistics
 import sys
 
 import path
-from sides import PACKET, Ours, Usrsctp
+from sides import BUFFER, PACKET, Ours, Usrsctp
 
 PROGRAM = os.path.join(os.path.dirname(os.path.abspath(__file__)), '..', '..', 'sctp-end')
 MESSAGES, DELAY, LAST = 1_000, 50, 600_000             # milliseconds
@@ -44,7 +46,7 @@ class Ends:
         return Usrsctp(self.asked.peer, seed)
 
     def receiver(self, seed):
-        return Usrsctp(self.asked.peer, 100 + seed, True) if self.has_usrsctp else Ours(None, listens=True)
+        return Usrsctp(self.asked.peer, 100 + seed, True, self.asked.buffer, self.asked.chunks) if self.has_usrsctp else Ours(None, listens=True)
 
 
 def transfer(sender, receiver, rate, lost, seed):
@@ -114,6 +116,8 @@ def main():
     parser.add_argument('--model', action='store_true')
     parser.add_argument('--program', default=PROGRAM)
     parser.add_argument('--seeds', type=int, default=5)
+    parser.add_argument('--buffer', type=int, default=BUFFER)
+    parser.add_argument('--chunks', type=int)
     parser.add_argument('words', nargs='*')
     ends = Ends(parser.parse_intermixed_args())
     faults = print_table(ends)

@@ -7,6 +7,7 @@
  * send COUNT LENGTH  its user sends so many messages of this length on stream 0, which must fit its buffer
  * offer COUNT LENGTH so many more, now and behind each line as its buffer takes them
  * streams COUNT      before it calls, or is called: so many streams each way, which may be reset (RFC 6525), and of which it tells
+ * chunks COUNT       before it calls, or is called: so many chunks it holds at most, and drops others: 512 otherwise
  * say STREAM TEXT    its user sends this message on that stream
  * reset STREAM       its user resets its outgoing stream
  * shut               its user has no more to send
@@ -209,6 +210,8 @@ static void perform(const char *line, const char *peer) {
         offered_length = length;
     } else if (sscanf(line, "streams %u", &count) == 1) {
         set_streams(count);
+    } else if (sscanf(line, "chunks %u", &count) == 1) {
+        usrsctp_sysctl_set_sctp_max_chunks_on_queue(count);
     } else if (sscanf(line, "say %u %63s", &count, text) == 2) {
         say(count, text);
     } else if (sscanf(line, "reset %u", &count) == 1) {

@@ -134,11 +134,14 @@ class Usrsctp:
 
     burst = None
 
-    def __init__(self, program, seed, listens=False):
+    def __init__(self, program, seed, listens=False, buffer=BUFFER, chunks=None):
+        """Its receive buffer in bytes; how many chunks it holds at most, if not its own number."""
         ports = [RECEIVING] if listens else [SENDING]
-        words = [program, ports[0], BUFFER, seed, PACKET, *[RECEIVING] * (not listens)]
+        words = [program, ports[0], buffer, seed, PACKET, *[RECEIVING] * (not listens)]
         self.program = Program([str(word) for word in words], lambda answer: not answer.startswith('done'))
         self.came, self.moment = 0, TICK
+        if chunks is not None:
+            self.program.ask('chunks %d' % chunks)
 
     def next(self):
         return self.moment
