@@ -4,7 +4,7 @@ import collections, os, subprocess, sys, tempfile
 from pathlib import Path
 
 ROOT = Path(__file__).resolve().parent.parent.parent
-STARVED = ["wire", "packet", "send", "send-i", "receive", "receive-i", "three", "ends", "bundles", "closing", "skipped", "end-mark", "full"]
+STARVED = ["wire", "packet", "send", "send-i", "burst", "burst-i", "receive", "receive-i", "three", "ends", "bundles", "closing", "skipped", "end-mark", "full"]
 KINDS = {"REFUSE": 0, "FAIL": 1, "SHORT": 2}  # what the shim is told, and the place of its number in what it tells
 room = Path(tempfile.mkdtemp())
 failed = 0
