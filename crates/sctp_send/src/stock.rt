@@ -1,6 +1,6 @@
 //! The stock of a sender, which filling a packet changes: where memory runs out, the changes are taken back.
 
-ghost use Rattle.std.specs.Prelude.{◌≡◌, ℕ, ◌<◌, ◌≤◌, ◌+◌, ◌++◌, ◌∷◌, [], length, OnOk};
+ghost use Rattle.std.specs.Prelude.{◌≡◌, ◌<◌, ◌≤◌, ◌+◌, ◌++◌, ◌∷◌, [], length, OnOk};
 ghost use Rattle.std.specs.Vec.{vec_len, vec_capacity};
 ghost use Rattle.sctp_send.specs.PartsKept.{changed_at, changed};
 ghost use Rattle.sctp_send.specs.inner.Changes.{stood};

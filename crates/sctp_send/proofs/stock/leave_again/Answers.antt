@@ -1,4 +1,4 @@
-use Rattle.std.proofs.Common.{◌≡◌, ◌∙◌, List, get_or, set, length, ap, arith}
+use Rattle.std.proofs.Common.{◌∙◌, List, length, ap, arith}
 use Rattle.sctp_send.specs.PartsKept.{changed_at}
 use Rattle.sctp_send.specs.inner.Undoing.{resting}
 use Rattle.sctp_send.specs.declared.kept.track.Track.{Track}

@@ -1,7 +1,6 @@
-use Rattle.std.proofs.Common.{◌≡◌, ◌∙◌, List, None, map, get_or, set, ap}
+use Rattle.std.proofs.Common.{◌≡◌, ◌∙◌, None, get_or, set, ap}
 use Rattle.sctp_send.specs.PartsKept.{StreamsKept, changed_at}
 use Rattle.sctp_send.specs.inner.Undoing.{resting}
-use Rattle.sctp_send.specs.declared.kept.track.Track.{Track}
 use Rattle.sctp_send.proofs.fill.EnterLemmas.{left_on}
 use Rattle.sctp_send.proofs.fill.UndoLemmas.{left_again}
 use Rattle.sctp_send.proofs.kept.TrackCounts.{nothing, left_none, idle_again}

@@ -1,11 +1,11 @@
-use Rattle.std.proofs.Common.{◌≡◌, ◌∙◌, ℕ, suc, ◌+◌, ◌%◌, List, [], ◌∷◌, ◌++◌, length, map, get_or, set, Option, Some, None, true, false, ap, refl, sym, subst, arith, length-append}
+use Rattle.std.proofs.Common.{◌≡◌, ◌∙◌, ℕ, suc, ◌+◌, ◌%◌, List, [], ◌∷◌, ◌++◌, map, get_or, set, Some, false, ap, refl, sym, subst, arith}
 use Rattle.std.proofs.lemmas.List.{map-append}
 use Rattle.sctp_send.specs.PartsKept.{OutstandingKept, StreamsKept, changed_at}
 use Rattle.sctp_send.specs.SenderKept.{Rest as KeptRest}
 use Rattle.sctp_send.specs.OutstandingFields.{item_meaning}
 use Rattle.sctp_send.specs.SenderFields.{track_meaning, rests_meaning, ending_meaning}
 use Rattle.sctp_send.specs.inner.Newcomers.{has_rest, rest_after, rest_at, track_of, gone_on}
-use Rattle.sctp_send.specs.inner.Stocking.{bare, stocked, ends_of}
+use Rattle.sctp_send.specs.inner.Stocking.{bare, stocked}
 use Rattle.sctp_send.specs.inner.Undoing.{fragment_entry, resting}
 use Rattle.sctp_send.specs.declared.kept.entry.Entry.{Entry as EntryFields}
 use Rattle.sctp_send.specs.declared.kept.entry.Standing.TheVariants.{Sent}

@@ -5,7 +5,7 @@ use Rattle.sctp_model.specs.sender.Queueing.{cut}
 use Rattle.sctp_send.specs.OutstandingFields.{lane_meaning, message_meaning}
 use Rattle.sctp_send.specs.SenderFields.{number_left, track_meaning, rest_meaning}
 use Rattle.sctp_send.specs.inner.Newcomers.{rest_at, has_rest, track_of}
-use Rattle.sctp_send.specs.inner.Stocking.{bare, stocked, let_in, rest_from, IsRefused}
+use Rattle.sctp_send.specs.inner.Stocking.{bare, let_in, rest_from, IsRefused}
 use Rattle.sctp_send.specs.declared.kept.message.Message.{Message as MessageFields}
 use Rattle.sctp_send.specs.declared.kept.track.Track.{Track as TrackFields}
 use Rattle.sctp_send.proofs.fill.NewMayLemmas.{more_read, of_ok, on_err, of_err, no_item}
