@@ -68,7 +68,7 @@ receiver() {
 }
 
 sender() {
-    build sender sctp_model sctp_values sctp_safety sctp_serial sctp_wire sctp_framing sctp_packet sctp_send
+    build sender sctp_model sctp_values sctp_safety sctp_sequence sctp_serial sctp_wire sctp_framing sctp_packet sctp_send
     for range in '1000 2000' '10000 20000' '100000 200000'; do
         # shellcheck disable=SC2086
         each "a message of 64 bytes queued, sent and acknowledged ($range)" $range 1 "$built" sent
@@ -220,7 +220,7 @@ receiver_growth() {
 
 # calls of a sender
 sender_growth() {
-    build sender_growth sctp_model sctp_values sctp_safety sctp_serial sctp_wire sctp_framing sctp_packet sctp_send
+    build sender_growth sctp_model sctp_values sctp_safety sctp_sequence sctp_serial sctp_wire sctp_framing sctp_packet sctp_send
     for format in data i-data; do
         grows "$format: expire, all of so many late, by message" 1024 1 kept "$built" "$format" late
         grows "$format: expire, none of so many late" 1024 100 call "$built" "$format" early

@@ -20,7 +20,7 @@ use crate::kept::message::Fate;
 use crate::kept::outstanding::Outstanding;
 use crate::kept::queue::Queue;
 use crate::kept::streams::Streams;
-use crate::kept::track::{Ending, Track, ending_of};
+use crate::kept::track::{Ending, ending_of};
 use crate::readers::is_all_covered;
 use crate::sender::Sender;
 use sctp_framing::Framing;
@@ -173,13 +173,7 @@ fn end(streams: &mut Streams, ticket: u64) -> Option<Ending>
     ensures some { (size : ℕ) → IfSome result (λ ending. EndsAt ticket (ending_meaning size ending) (map (track_meaning size) streams.old.items) (map (track_meaning size) streams.new.items)) }
 {
     let at = streams.stream_of(ticket)?;
-    let track = &streams.tracks()[at];
-    let next = Track {
-        ordered: track.ordered,
-        unordered: track.unordered,
-        rest: None,
-    };
-    ending_of(streams.replace(at, next))
+    ending_of(streams.leave(at, None))
 }
 
 /// Appends the end mark of a message. Its space was reserved when the message took its number.

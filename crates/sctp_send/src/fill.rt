@@ -26,7 +26,7 @@ use crate::fill::sendings::{Resent, Sendings};
 use crate::kept::fates::Fates;
 use crate::kept::message::Fate;
 use crate::sender::Sender;
-use crate::stock::{Stock, begin_anew, forget_changes, take_tickets, undo_all};
+use crate::stock::{Stock, begin_anew, take_tickets, undo_all};
 use crate::told::Told;
 use sctp_framing::Framing;
 use sctp_packet::PacketWriter;
@@ -114,7 +114,7 @@ impl<F: Framing> Sender<F> {
         begin_anew(&mut self.parts);
         match self.told.put_all::<F>(&mut self.parts, missed, packet) {
             Ok(sendings) => {
-                forget_changes(&mut self.parts.log);
+                self.parts.log.clear();
                 let tickets = take_tickets(self.told.alloc, &mut self.parts.tickets);
                 number_all(&mut self.told.fates, &tickets);
                 Ok(Filled { tickets, sendings })

@@ -1,18 +1,18 @@
 //! The stock of a sender, which filling a packet changes: where memory runs out, the changes are taken back.
 
-ghost use Rattle.std.specs.Prelude.{◌≡◌, ℕ, ◌<◌, ◌≤◌, ◌+◌, ◌++◌, ◌∷◌, [], set, length, OnOk};
+ghost use Rattle.std.specs.Prelude.{◌≡◌, ◌<◌, ◌≤◌, ◌+◌, ◌++◌, ◌∷◌, [], length, OnOk};
 ghost use Rattle.std.specs.Vec.{vec_len, vec_capacity};
 ghost use Rattle.sctp_send.specs.PartsKept.{changed_at, changed};
 ghost use Rattle.sctp_send.specs.inner.Changes.{stood};
-ghost use Rattle.sctp_send.specs.inner.Undoing.{parts_of, undone, origin, waits_again, counted_to, IsKeptRoom};
-ghost use Rattle.sctp_send.specs.declared.stock.Change.TheVariants.{Begun};
+ghost use Rattle.sctp_send.specs.inner.Undoing.{parts_of, undone, origin, waits_again, counted_to, resting, IsKeptRoom};
+ghost use Rattle.sctp_send.specs.declared.stock.Change.TheVariants.{Begun, Continued};
 
 use crate::kept::entry::{Entry, State};
 use crate::kept::message::Message;
 use crate::kept::outstanding::Outstanding;
 use crate::kept::queue::Queue;
 use crate::kept::streams::Streams;
-use crate::kept::track::Track;
+use crate::kept::track::Rest;
 use sctp_values::{Kind, NoMemory, Ticket};
 use std::alloc::Global;
 use std::mem;
@@ -31,7 +31,7 @@ pub(crate) struct Stock {
 }
 
 /// One change, with what was before it.
-#[derive(Drop)]
+#[derive(Clone, Copy)]
 pub(crate) enum Change {
     /// The entry at an offset went out; this was before.
     Out {
@@ -44,15 +44,10 @@ pub(crate) enum Change {
         from: usize,
         turn: u16,
     },
-    /// What was left on a stream changed; the stream was so.
-    Left {
-        stream: u16,
-        track: Track,
-    },
-    /// The message of a stream that is sent in part took its next index; the stream and the turn before that.
+    /// The message of a stream that is sent in part took its next index for this fragment; the turn was so.
     Continued {
         stream: u16,
-        track: Track,
+        fragment: u32,
         turn: u16,
     },
 }
@@ -69,37 +64,19 @@ pub(crate) fn begin_anew(stock: &mut Stock)
 {
     let _waiting = stock.queue.len();
     stock.tickets.clear();
-    forget_changes(&mut stock.log);
+    stock.log.clear();
 }
 
-/// Nothing is noted any more.
+/// Room for a change more. Where there is such, it costs one test.
 #[inline(always)]
-pub(crate) fn forget_changes(log: &mut Vec<Change>)
-    ensures { log.new.items ≡ [] }
-{
-    if !log.is_empty() {
-        clear_changes(log);
-    }
-}
-
-/// Empties a list of changes that isn't empty. A function of its own, so that the test before it stays cheap.
-#[inline(never)]
-fn clear_changes(log: &mut Vec<Change>)
-    ensures { log.new.items ≡ [] }
-{
-    log.clear();
-}
-
-/// Room for two changes more. Where there is such, it costs one test.
-#[inline(always)]
-pub(crate) fn reserve_changes(log: &mut Vec<Change>) -> Result<(), NoMemory>
+pub(crate) fn reserve_change(log: &mut Vec<Change>) -> Result<(), NoMemory>
     ensures items { log.new.items ≡ log.old.items }
-    ensures room { OnOk result (vec_len log.new + 2 ≤ vec_capacity log.new) }
+    ensures room { OnOk result (vec_len log.new < vec_capacity log.new) }
 {
-    if log.capacity() - log.len() >= 2 {
+    if log.len() < log.capacity() {
         return Ok(());
     }
-    log.reserve(2).map_err(|_| NoMemory)
+    log.reserve(1).map_err(|_| NoMemory)
 }
 
 /// Room for a ticket more. Where there is such, it costs one test.
@@ -162,16 +139,11 @@ fn undo(stock: &mut Stock, change: Change)
     match change {
         Change::Out { at, state } => stand_again(&mut stock.outstanding, at, state),
         Change::Begun { place, from, turn } => wait_again(stock, place, from, turn),
-        Change::Left { stream, track } => go_on_again(&mut stock.streams, stream, track),
         Change::Continued {
             stream,
-            track,
+            fragment,
             turn,
-        } => {
-            let _last = stock.outstanding.pop_back();
-            go_on_again(&mut stock.streams, stream, track);
-            stock.turn = turn;
-        }
+        } => go_on_again(stock, stream, fragment, turn),
     }
 }
 
@@ -202,6 +174,7 @@ fn wait_again(stock: &mut Stock, place: usize, from: usize, turn: u16)
             number,
             ..
         } = entry;
+        leave_again(&mut stock.streams, message.stream, None);
         number_again(&mut stock.streams, message.stream, message.kind, number);
         queue_again(&mut stock.queue, place, message);
         stock.turn = turn;
@@ -230,12 +203,26 @@ fn queue_again(queue: &mut Queue, place: usize, message: Arc<Message>)
     }
 }
 
-/// A stream, where there is such a one, goes on as before.
-fn go_on_again(streams: &mut Streams, stream: u16, track: Track)
-    ensures { streams.new ≡ record streams.old { items = set streams.old.items stream track } }
+/// The fragment that took the last index, where there is such, is left of its message again.
+fn go_on_again(stock: &mut Stock, stream: u16, fragment: u32, turn: u16)
+    ensures parts { parts_of stock.new ≡ undone (Continued stream fragment turn) (parts_of stock.old) }
+    ensures log { stock.new.log ≡ stock.old.log }
+    ensures tickets { stock.new.tickets ≡ stock.old.tickets }
+    ensures room { IsKeptRoom stock.old stock.new }
+{
+    if let Some(entry) = stock.outstanding.pop_back() {
+        let Entry { message, .. } = entry;
+        leave_again(&mut stock.streams, stream, Some(Rest { message, fragment }));
+    }
+    stock.turn = turn;
+}
+
+/// So much is left of the message in part of a stream again, where there is such a stream.
+fn leave_again(streams: &mut Streams, stream: u16, rest: Option<Rest>)
+    ensures { streams.new ≡ record streams.old { items = changed_at (resting rest) stream streams.old.items } }
 {
     let at = usize::from(stream);
     if at < streams.tracks().len() {
-        let _later = streams.replace(at, track);
+        let _later = streams.leave(at, rest);
     }
 }

@@ -15,13 +15,14 @@ use Rattle.sctp_model.specs.sender.PieceSaid.{is_unordered}
 use Rattle.sctp_send.specs.PartsKept.{OutstandingKept, IsSameRoom}
 use Rattle.sctp_send.specs.SenderKept.{Item, Rest, Track, Kept}
 use Rattle.sctp_send.specs.OutstandingFields.{item_meaning, queued_meaning, lane_meaning, message_meaning, entry_meaning, no_base}
-use Rattle.sctp_send.specs.inner.Newcomers.{gone_item, new_item, new_items, begun_items, fresh_track, track_of, number_on, without_place, number_in, counted_in, begun, gone_on}
+use Rattle.sctp_send.specs.inner.Newcomers.{gone_item, new_item, new_items, begun_items, fresh_track, track_of, number_on, without_place, number_in, counted_in, rest_after, begun, gone_on}
 use Rattle.sctp_send.specs.inner.Stocking.{numbers_of, all_numbered, AreOpen, stocked, fragment_chunk, fragment_item, rest_from, counted_track, left_track}
-use Rattle.sctp_send.specs.SenderFields.{queued_by, latest_in, number_left, track_meaning, rest_meaning}
+use Rattle.sctp_send.specs.SenderFields.{queued_by, latest_in, track_meaning, rests_meaning, ending_meaning}
 use Rattle.std.specs.declared.alloc.Global.{Global}
 use Rattle.std.specs.declared.sync.Arc.{Arc}
 use Rattle.sctp_send.specs.declared.kept.track.Track.{Track as TrackFields}
 use Rattle.sctp_send.specs.declared.stock.Stock.{Stock}
+use Rattle.sctp_send.specs.declared.kept.track.Ending.{Ending as EndingFields}
 use Rattle.sctp_send.specs.declared.kept.track.Rest.{Rest as RestFields}
 use Rattle.sctp_send.specs.declared.kept.entry.Standing.TheVariants.{Sent}
 use Rattle.sctp_send.specs.declared.kept.entry.Entry.{Entry as EntryFields}
@@ -193,13 +194,13 @@ latest_counted Ordered t = omega arith
 latest_counted Unordered t = omega arith
 
 -- a message in part went on
-pub gone_on_is : (s : Kept) (old new : Stock) (t : Track) (r : RestFields) (stream turn : ℕ) (left : Option Rest)
-    → map (item_meaning s.fragment) new.outstanding.items ≡ map (item_meaning s.fragment) old.outstanding.items ++ fragment_item s.fragment r.message.value (number_left t r) r.fragment Sent ∷ []
+pub gone_on_is : (s : Kept) (old new : Stock) (e : EndingFields) (stream turn : ℕ) (left : Option Rest)
+    → map (item_meaning s.fragment) new.outstanding.items ≡ map (item_meaning s.fragment) old.outstanding.items ++ fragment_item s.fragment e.rest.message.value e.number e.rest.fragment Sent ∷ []
     → new.queue ≡ old.queue
     → map (track_meaning s.fragment) new.streams.items ≡ set (map (track_meaning s.fragment) old.streams.items) stream (left_track left (track_of (map (track_meaning s.fragment) old.streams.items) stream))
-    → left ≡ rest_from s.fragment r.message.value (number_left t r) (suc r.fragment) → new.tickets ≡ old.tickets → new.turn ≡ turn
-    → stocked s new ≡ gone_on (stocked s old) (rest_meaning s.fragment t r) stream turn (new.outstanding.capacity)
-gone_on_is s old new t r stream turn left items queue tracks rest told turned = rw (items, queue, tracks, told, turned, rest) refl
+    → left ≡ rest_after (ending_meaning s.fragment e).entry (ending_meaning s.fragment e).message → new.tickets ≡ old.tickets → new.turn ≡ turn
+    → stocked s new ≡ gone_on (stocked s old) (ending_meaning s.fragment e) stream turn (new.outstanding.capacity)
+gone_on_is s old new e stream turn left items queue tracks rest told turned = rw (items, queue, tracks, told, turned, rest) refl
 
 -- a place of the queue is empty now
 pub taken_out : (size place : ℕ) (ms : List (Arc MessageFields Global)) → map (queued_by size) (remove ms place) ≡ without_place place (map (queued_by size) ms)
@@ -209,15 +210,12 @@ taken_out size place ms = map-append (queued_by size) (take place ms) (drop (suc
 pub set_on : (size at stream : ℕ) (ts : List TrackFields) (y : TrackFields) (z : Track) → at ≡ stream → track_meaning size y ≡ z → map (track_meaning size) (set ts at y) ≡ set (map (track_meaning size) ts) stream z
 set_on size at stream ts y z same is = map-set (track_meaning size) ts at y ∙ rw (same, is) refl
 
--- a stream that is replaced, and replaced by what it was
-pub replaced : (at stream : ℕ) (ts us : List TrackFields) (y before : TrackFields) → at ≡ stream → us ≡ set ts at y → before ≡ get_or ts at before → set us stream before ≡ ts
-replaced at stream ts us y before same is read = rw (is, ← same) (twice at ts read)
-  where
-    twice : (n : ℕ) (xs : List TrackFields) → before ≡ get_or xs n before → set (set xs n y) n before ≡ xs
-    twice n [] here = refl
-    twice zero (x ∷ xs) here = ap (λ (z : TrackFields). z ∷ xs) here
-    twice (suc n) (x ∷ xs) here = ap (λ (zs : List TrackFields). x ∷ zs) (twice n xs here)
-
 -- the track that was read
 pub track_there : (size at stream : ℕ) (ts : List TrackFields) (x : TrackFields) → at ≡ stream → stream < length ts → x ≡ get_or ts at x → track_of (map (track_meaning size) ts) stream ≡ track_meaning size x
 track_there size at stream ts x same low read = ap (track_of (map (track_meaning size) ts)) (sym same) ∙ read_at (track_meaning size) ts at x fresh_track (omega arith) read
+
+-- so much is left on a stream now
+pub left_on : (size at stream : ℕ) (ts us : List TrackFields) (x : TrackFields) (rest : Option RestFields) → at ≡ stream → stream < length ts → x ≡ get_or ts at x → us ≡ set ts at (record x { rest = rest })
+    → map (track_meaning size) us ≡ set (map (track_meaning size) ts) stream (left_track (rests_meaning size (track_of (map (track_meaning size) ts) stream) rest) (track_of (map (track_meaning size) ts) stream))
+left_on size at stream ts us x rest same low read is =
+    ap (map (track_meaning size)) is ∙ set_on size at stream ts (record x { rest = rest }) _ same (ap (λ (t : Track). left_track (rests_meaning size t rest) t) (sym (track_there size at stream ts x same low read)))

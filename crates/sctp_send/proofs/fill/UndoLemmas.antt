@@ -1,19 +1,22 @@
 -- What a fill noted is taken back, the last change first: then the parts are as they were.
-use Rattle.std.proofs.Common.{◌≡◌, ℕ, zero, suc, ◌+◌, ◌<◌, ◌≤◌, List, [], ◌∷◌, ◌++◌, length, get_or, take, remove, insert, Bool, true, false, Option, Some, None, refl, sym, ap, ◌∙◌, subst, arith, length-append}
+use Rattle.std.proofs.Common.{◌≡◌, ℕ, zero, suc, ◌+◌, ◌-◌, ◌<◌, ◌≤◌, List, [], ◌∷◌, ◌++◌, length, get_or, set, take, remove, insert, Bool, true, false, Option, Some, None, refl, sym, ap, ◌∙◌, subst, arith, length-append}
 use Rattle.std.specs.Prelude.{nat_le, slice_get, if◌then◌else◌}
 use Rattle.std.proofs.lemmas.Bool.Decides.{nat_tests}
+use Rattle.std.proofs.lemmas.List.{take_all}
 use Rattle.std.proofs.lemmas.List.Edits.{length-insert, length-remove}
 use Rattle.std.specs.declared.sync.Arc.{Arc}
 use Rattle.std.specs.declared.alloc.Global.{Global}
 use Rattle.sctp_send.specs.PartsKept.{OutstandingKept, changed_at, changed}
 use Rattle.sctp_send.specs.inner.Changes.{state_of, stood}
 use Rattle.sctp_send.specs.inner.Stocking.{went_out}
-use Rattle.sctp_send.specs.inner.Undoing.{Parts, parts_of, waits_again, waiting_again, undone, before_all, origin, IsSized, IsKeptRoom, IsBehind}
+use Rattle.sctp_send.specs.inner.Undoing.{Parts, parts_of, resting, waits_again, waiting_again, going_on_again, undone, before_all, origin, IsSized, IsKeptRoom, IsBehind}
 use Rattle.sctp_send.specs.declared.stock.Change.{Change}
-use Rattle.sctp_send.specs.declared.stock.Change.TheVariants.{Out, Begun, Left, Continued}
+use Rattle.sctp_send.specs.declared.stock.Change.TheVariants.{Out, Begun, Continued}
 use Rattle.sctp_send.specs.declared.stock.Stock.{Stock}
 use Rattle.sctp_send.specs.declared.kept.message.Message.{Message}
 use Rattle.sctp_send.specs.declared.kept.entry.Entry.{Entry as EntryFields}
+use Rattle.sctp_send.specs.declared.kept.track.Rest.{Rest}
+use Rattle.sctp_send.specs.declared.kept.track.Track.{Track}
 
 -- ---- one element
 
@@ -63,6 +66,26 @@ cut_behind (x ∷ xs) (y ∷ ys) e is =
     let rest = cut_behind xs ys e tail in
     (rest.0, ap (λ zs. y ∷ zs) rest.1 ∙ ap (λ z. z ∷ xs) head)
 
+-- the last of a list
+pub last_of : {A : Type 0} (xs : List A) (e : A) → (slice_get (xs ++ e ∷ []) (length (xs ++ e ∷ []) - 1) ≡ Some e) × (take (length (xs ++ e ∷ []) - 1) (xs ++ e ∷ []) ≡ xs)
+last_of xs e =
+    let long = length-append xs (e ∷ []) in
+    let one : length (xs ++ e ∷ []) - 1 ≡ length xs = omega (arith, long) in
+    let cut = cut_behind xs (xs ++ e ∷ []) e (take_all (suc (length xs)) (xs ++ e ∷ []) (omega (arith, long))) in
+    (ap (slice_get (xs ++ e ∷ [])) one ∙ cut.0, ap (λ (n : ℕ). take n (xs ++ e ∷ [])) one ∙ cut.1)
+
+-- so much is left on a stream that was replaced
+pub left_set : (n : ℕ) (ts : List Track) (x : Track) (rest : Option Rest) → x ≡ get_or ts n x → set ts n (record x { rest = rest }) ≡ changed_at (resting rest) n ts
+left_set n [] x rest read = refl
+left_set zero (t ∷ ts) x rest read = ap (λ (y : Track). resting rest y ∷ ts) read
+left_set (suc n) (t ∷ ts) x rest read = ap (λ (us : List Track). t ∷ us) (left_set n ts x rest read)
+
+-- what was left on a stream is left there again
+pub left_again : (n : ℕ) (ts : List Track) (x : Track) (was now : Option Rest) → x ≡ get_or ts n x → x.rest ≡ was → changed_at (resting was) n (set ts n (record x { rest = now })) ≡ ts
+left_again n [] x was now read is = refl
+left_again zero (t ∷ ts) x was now read is = ap (λ (o : Option Rest). record x { rest = o } ∷ ts) (sym is) ∙ ap (λ (y : Track). y ∷ ts) read
+left_again (suc n) (t ∷ ts) x was now read is = ap (λ (us : List Track). t ∷ us) (left_again n ts x was now read is)
+
 pub stood_nowhere : (f : EntryFields → EntryFields) (w : OutstandingKept) (at : ℕ) → length w.items ≤ at → w ≡ changed f at w
 stood_nowhere f w at le = ap (λ (es : List EntryFields). record w { items = es }) (changed_at_past f at w.items le)
 
@@ -85,8 +108,11 @@ queue_grows (Begun place from turn) p = by_entry (slice_get p.items from)
     by_entry : (o : Option EntryFields) → length p.queue ≤ length (waiting_again place from turn o p).queue
     by_entry None = omega arith
     by_entry (Some e) = by_test e.message (nat_le place (length p.queue)) refl
-queue_grows (Left stream track) p = omega arith
-queue_grows (Continued stream track turn) p = omega arith
+queue_grows (Continued stream fragment turn) p = by_last (slice_get p.items (length p.items - 1))
+  where
+    by_last : (o : Option EntryFields) → length p.queue ≤ length (going_on_again stream fragment turn o p).queue
+    by_last None = omega arith
+    by_last (Some e) = omega arith
 
 pub queue_grown : (cs : List Change) (p : Parts) → length p.queue ≤ length (before_all cs p).queue
 queue_grown [] p = omega arith

@@ -1,6 +1,6 @@
 -- A message takes its number on a stream: one more is counted there, and so much is left of it.
-use Rattle.std.proofs.Common.{◌≡◌, ℕ, zero, suc, ◌+◌, ◌%◌, ◌^◌, ◌<◌, List, [], ◌∷◌, length, map, set, get_or, Bool, true, false, Option, Some, None, refl, sym, ap, ◌∙◌, subst, arith}
-use Rattle.std.specs.Prelude.{is_some, not}
+use Rattle.std.proofs.Common.{◌≡◌, ℕ, zero, suc, ◌+◌, ◌%◌, ◌^◌, ◌<◌, List, [], ◌∷◌, length, map, set, get_or, Bool, false, Option, Some, None, refl, sym, ap, ◌∙◌, subst, arith}
+use Rattle.std.specs.Prelude.{is_some}
 use Rattle.sctp_values.specs.Meanings.{kind_meaning}
 use Rattle.sctp_values.specs.declared.kind.Kind.{Kind}
 use Rattle.sctp_values.specs.declared.kind.Kind.TheVariants.{Ordered, Unordered}
@@ -11,7 +11,7 @@ use Rattle.sctp_send.specs.inner.Newcomers.{number_in, counted_in, rest_at, has_
 use Rattle.sctp_send.specs.inner.Stocking.{counted_track, left_track}
 use Rattle.sctp_send.specs.inner.PartSeats.{ticket_left, tickets_left, IsStreamsOf}
 use Rattle.sctp_sequence.specs.TwoWays.{IsMapOf}
-use Rattle.sctp_send.specs.inner.Undoing.{count_of, counted_to}
+use Rattle.sctp_send.specs.inner.Undoing.{count_of, counted_to, resting}
 use Rattle.sctp_send.specs.inner.Walks.{total, one_if_rest, rest_owes}
 use Rattle.sctp_send.specs.declared.kept.message.Message.{Message as MessageFields}
 use Rattle.sctp_sequence.specs.declared.two_way_map.TwoWayMap.{TwoWayMap}
@@ -53,21 +53,33 @@ entered_tracks size n many m x y ts us vs rest one two low now next number left 
     ∙ counted_on size many m.stream m.kind ts rest low (next ∙ ap suc number)
 
 -- there is nothing
-pub nothing : {A : Type 0} (o : Option A) (b : Bool) → is_some o ≡ not b → b ≡ true → o ≡ None
-nothing None b is on = refl
-nothing (Some x) true is on = absurd (cc)
-nothing (Some x) false is on = absurd (cc)
+pub nothing : {A : Type 0} (o : Option A) (b : Bool) → b ≡ is_some o → b ≡ false → o ≡ None
+nothing None b is off = refl
+nothing (Some x) b is off = absurd (cc)
+
+-- what is left on a stream, as it was read
+pub rest_there : (size stream : ℕ) (ts : List TrackFields) (x : TrackFields) → stream < length ts → x ≡ get_or ts stream x → rest_at (map (track_meaning size) ts) stream ≡ (track_meaning size x).rest
+rest_there size stream [] x low read = absurd (omega arith)
+rest_there size zero (t ∷ ts) x low read = ap (λ (y : TrackFields). (track_meaning size y).rest) (sym read)
+rest_there size (suc stream) (t ∷ ts) x low read = rest_there size stream ts x (omega arith) read
+
+-- there is nothing
+pub no_rest : (size : ℕ) (t : Track) (o : Option RestFields) → has_rest (rests_meaning size t o) ≡ false → o ≡ None
+no_rest size t None off = refl
+no_rest size t (Some r) off = absurd (cc)
+
+-- nothing is left on a stream, again
+pub idle_again : (stream : ℕ) (ts : List TrackFields) → ((t : TrackFields) → t ≡ get_or ts stream t → t.rest ≡ None) → changed_at (resting None) stream ts ≡ ts
+idle_again stream [] idle = refl
+idle_again zero (t ∷ ts) idle = ap (λ (o : Option RestFields). record t { rest = o } ∷ ts) (sym (idle t refl))
+idle_again (suc stream) (t ∷ ts) idle = ap (λ (us : List TrackFields). t ∷ us) (idle_again stream ts idle)
 
 -- nothing is left on a stream, as before
-pub left_none : (size stream : ℕ) (ts : List TrackFields) (rest : Option RestFields) → stream < length ts → rest ≡ None → has_rest (rest_at (map (track_meaning size) ts) stream) ≡ false
+pub left_none : (size stream : ℕ) (ts : List TrackFields) (rest : Option RestFields) → stream < length ts → rest ≡ None → ((t : TrackFields) → t ≡ get_or ts stream t → t.rest ≡ None)
     → map (track_meaning size) ts ≡ set (map (track_meaning size) ts) stream (left_track (rests_meaning size (track_of (map (track_meaning size) ts) stream) rest) (track_of (map (track_meaning size) ts) stream))
-left_none size stream [] rest low none off = absurd (omega arith)
-left_none size zero (t ∷ ts) rest low none off = ap (λ (x : Track). x ∷ map (track_meaning size) ts) (rw none (by_rest (track_meaning size t).rest refl off))
-  where
-    by_rest : (o : Option Rest) → (track_meaning size t).rest ≡ o → has_rest o ≡ false → track_meaning size t ≡ left_track None (track_meaning size t)
-    by_rest None is never = ap (λ (p : Option Rest). left_track p (track_meaning size t)) is
-    by_rest (Some r) is never = absurd (cc)
-left_none size (suc stream) (t ∷ ts) rest low none off = ap (λ (xs : List Track). track_meaning size t ∷ xs) (left_none size stream ts rest (omega arith) none off)
+left_none size stream [] rest low none idle = absurd (omega arith)
+left_none size zero (t ∷ ts) rest low none idle = ap (λ (x : Track). x ∷ map (track_meaning size) ts) (rw none (ap (λ (o : Option RestFields). left_track (rests_meaning size (counts_meaning t) o) (track_meaning size t)) (idle t refl)))
+left_none size (suc stream) (t ∷ ts) rest low none idle = ap (λ (xs : List Track). track_meaning size t ∷ xs) (left_none size stream ts rest (omega arith) none idle)
 
 -- a stream on which a message more was counted has as many as before
 pub counted_back : (k : Kind) (many at : ℕ) (ts : List TrackFields) (x : TrackFields) → x ≡ get_or ts at x → changed_at (counted_to k (count_of k x)) at (changed_at (counted_to k many) at ts) ≡ ts
@@ -101,6 +113,15 @@ tickets_stay : (many at : ℕ) (k : Kind) (ts : List TrackFields) → tickets_le
 tickets_stay many at k [] = refl
 tickets_stay many zero k (t ∷ ts) = ap (λ (o : Option RestFields). ticket_left o ∷ tickets_left ts) (fields_stay many k t)
 tickets_stay many (suc at) k (t ∷ ts) = ap (λ (os : List (Option ℕ)). ticket_left t.rest ∷ os) (tickets_stay many at k ts)
+
+-- and where nothing was, nothing is
+pub idle_stays : (many at : ℕ) (k : Kind) (ts us : List TrackFields) → us ≡ changed_at (counted_to k many) at ts → ((t : TrackFields) → t ≡ get_or ts at t → t.rest ≡ None) → (t : TrackFields) → t ≡ get_or us at t → t.rest ≡ None
+idle_stays many at k ts us is idle t read = by_list at ts idle (read ∙ ap (λ (xs : List TrackFields). get_or xs at t) is)
+  where
+    by_list : (n : ℕ) (xs : List TrackFields) → ((y : TrackFields) → y ≡ get_or xs n y → y.rest ≡ None) → t ≡ get_or (changed_at (counted_to k many) n xs) n t → t.rest ≡ None
+    by_list n [] idle here = idle t refl
+    by_list zero (x ∷ xs) idle here = ap (λ (y : TrackFields). y.rest) here ∙ fields_stay many k x ∙ idle x refl
+    by_list (suc n) (x ∷ xs) idle here = by_list n xs idle here
 
 pub long_stays : (many at : ℕ) (k : Kind) (ts : List TrackFields) → length (changed_at (counted_to k many) at ts) ≡ length ts
 long_stays many at k [] = refl

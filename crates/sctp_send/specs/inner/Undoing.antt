@@ -1,12 +1,12 @@
 -- What a fill changed, and how it is taken back.
-use Rattle.std.specs.Prelude.{◌≡◌, ℕ, ◌-◌, ◌<◌, ◌≤◌, nat_le, if◌then◌else◌, false, List, [], ◌∷◌, length, take, set, insert, slice_get, Option, None, Some}
+use Rattle.std.specs.Prelude.{◌≡◌, ℕ, ◌-◌, ◌<◌, ◌≤◌, nat_le, if◌then◌else◌, false, List, [], ◌∷◌, length, take, insert, slice_get, Option, None, Some}
 use Rattle.std.specs.declared.sync.Arc.{Arc}
 use Rattle.std.specs.declared.alloc.Global.{Global}
 use Rattle.sctp_model.specs.numbers.Limits.{GREATEST_FRAGMENT}
 use Rattle.sctp_send.specs.PartsKept.{changed_at}
 use Rattle.sctp_send.specs.inner.Changes.{stood}
 use Rattle.sctp_send.specs.declared.stock.Change.{Change}
-use Rattle.sctp_send.specs.declared.stock.Change.TheVariants.{Out, Begun, Left, Continued}
+use Rattle.sctp_send.specs.declared.stock.Change.TheVariants.{Out, Begun, Continued}
 use Rattle.sctp_send.specs.declared.stock.Stock.{Stock}
 use Rattle.sctp_send.specs.declared.kept.message.Message.{Message}
 use Rattle.sctp_send.specs.declared.kept.entry.Entry.{Entry as EntryFields}
@@ -14,6 +14,7 @@ use Rattle.sctp_send.specs.declared.kept.entry.Standing.{Standing}
 use Rattle.sctp_send.specs.declared.kept.entry.Content.TheVariants.{Fragment}
 use Rattle.sctp_values.specs.declared.kind.Kind.{Kind}
 use Rattle.sctp_values.specs.declared.kind.Kind.TheVariants.{Ordered, Unordered}
+use Rattle.sctp_send.specs.declared.kept.track.Rest.{Rest}
 use Rattle.sctp_send.specs.declared.kept.track.Track.{Track}
 
 -- what a fill may change
@@ -45,13 +46,27 @@ abbrev pub counted_to : Kind → ℕ → Track → Track
 counted_to Ordered n t = record t { ordered = n }
 counted_to Unordered n t = record t { unordered = n }
 
--- the parts before a message took its number, of whose entries this is the first one, at this offset: it waits again at its place
+-- a stream on which so much is left of the message in part
+abbrev pub resting : Option Rest → Track → Track
+resting rest t = record t { rest = rest }
+
+-- the parts before a message took its number, of whose entries this is the first one, at this offset: it waits again at its place, and nothing is
+-- left of it on its stream
 abbrev pub waiting_again : (place from turn : ℕ) → Option EntryFields → Parts → Parts
 waiting_again place from turn None p = p
 waiting_again place from turn (Some e) p = record {
   items = take from p.items;
   queue = waits_again place e.message p.queue;
-  tracks = changed_at (counted_to e.message.value.kind e.number) e.message.value.stream p.tracks;
+  tracks = changed_at (counted_to e.message.value.kind e.number) e.message.value.stream (changed_at (resting None) e.message.value.stream p.tracks);
+  turn = turn;
+}
+
+-- the parts before the message in part of a stream took its next index, for this fragment, of which this is the entry: it is left again
+abbrev pub going_on_again : (stream fragment turn : ℕ) → Option EntryFields → Parts → Parts
+going_on_again stream fragment turn None p = record p { turn = turn }
+going_on_again stream fragment turn (Some e) p = record p {
+  items = take (length p.items - 1) p.items;
+  tracks = changed_at (resting (Some (record { message = e.message; fragment = fragment }))) stream p.tracks;
   turn = turn;
 }
 
@@ -59,8 +74,7 @@ waiting_again place from turn (Some e) p = record {
 abbrev pub undone : Change → Parts → Parts
 undone (Out at state) p = record p { items = changed_at (stood state) at p.items }
 undone (Begun place from turn) p = waiting_again place from turn (slice_get p.items from) p
-undone (Left stream track) p = record p { tracks = set p.tracks stream track }
-undone (Continued stream track turn) p = record p { items = take (length p.items - 1) p.items; tracks = set p.tracks stream track; turn = turn }
+undone (Continued stream fragment turn) p = going_on_again stream fragment turn (slice_get p.items (length p.items - 1)) p
 
 -- the parts before all of these changes, of which the last is undone first
 abbrev pub before_all : List Change → Parts → Parts

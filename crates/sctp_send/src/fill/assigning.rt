@@ -1,24 +1,24 @@
 //! What takes an index next, found among what waits and what is in part (RFC 9260, 6.9; RFC 8260, 2.2.2 and 3.2).
 
-ghost use Rattle.std.specs.Prelude.{◌≡◌, ℕ, suc, ◌+◌, ◌<◌, ◌≤◌, ◌%◌, ◌^◌, true, None, Some, map, length, nat_le, IfOk, IfSome, MatchOption};
+ghost use Rattle.std.specs.Prelude.{◌≡◌, ℕ, suc, ◌+◌, ◌<◌, ◌≤◌, ◌%◌, ◌^◌, true, None, Some, map, length, nat_le, IfSome, MatchOption};
 ghost use Rattle.sctp_model.specs.messages.Format.{Plain, Interleaved};
 ghost use Rattle.sctp_model.specs.numbers.Limits.{WINDOW};
 ghost use Rattle.sctp_model.specs.sender.Assigning.{first_on};
 ghost use Rattle.sctp_model.specs.sender.SenderView.{SenderView};
-ghost use Rattle.sctp_send.specs.SenderKept.{Kept, Track as KeptTrack};
+ghost use Rattle.sctp_send.specs.SenderKept.{Kept};
 ghost use Rattle.sctp_send.specs.SenderStands.{Keeps};
 ghost use Rattle.sctp_send.specs.SenderFields.{track_meaning, rest_meaning};
 ghost use Rattle.sctp_send.specs.inner.Walks.{total, one_if_rest};
 ghost use Rattle.sctp_send.specs.inner.Stocking.{stocked, NewAnswer, FirstTurnAnswer, IsNextWithin};
 ghost use Rattle.sctp_send.specs.inner.Newcomers.{rest_at, has_rest, one_if, track_of};
 
-use crate::kept::message::{fragments_of, shared};
+use crate::kept::message::fragments_of;
 use crate::kept::outstanding::Outstanding;
 use crate::kept::streams::Streams;
 use crate::kept::track::{Rest, Track};
 use crate::stock::Stock;
 use sctp_framing::Framing;
-use sctp_values::{NoMemory, WINDOW};
+use sctp_values::WINDOW;
 
 /// A message that takes its number: it stands at this place of the queue, so many of its fragments take their indexes, and this stream's turn
 /// is next then.
@@ -145,17 +145,6 @@ pub(crate) fn rest_of(tracks: &[Track], stream: u16) -> Option<&Rest>
         Some(track) => track.rest.as_ref(),
         None => None,
     }
-}
-
-/// A copy of what is left of a message in part.
-pub(crate) fn copied(rest: &Rest) -> Result<Rest, NoMemory>
-    ensures fragment { IfOk result (λ copy. copy.fragment ≡ rest.now.fragment) }
-    ensures same { (size : ℕ) (t : KeptTrack) → IfOk result (λ copy. rest_meaning size t copy ≡ rest_meaning size t rest.now) }
-{
-    Ok(Rest {
-        message: shared(&rest.message)?,
-        fragment: rest.fragment,
-    })
 }
 
 /// So many indexes more keep within the window, where the stream then has a message in part or not.

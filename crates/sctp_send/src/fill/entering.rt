@@ -1,24 +1,25 @@
 //! A message takes its number, or its next index: what becomes of the stock.
 
-ghost use Rattle.std.specs.Prelude.{◌≡◌, ℕ, suc, ◌+◌, ◌<◌, ◌≤◌, ◌%◌, ◌^◌, ◌∷◌, [], ◌++◌, map, set, length, slice_set, slice_index_or, IfOk, OnOk};
+ghost use Rattle.std.specs.Prelude.{◌≡◌, ℕ, suc, ◌+◌, ◌<◌, ◌≤◌, ◌%◌, ◌^◌, ◌∷◌, [], ◌++◌, true, None, Some, map, length, slice_set, slice_index_or, OnOk};
 ghost use Rattle.std.specs.Vec.{vec_len, vec_capacity};
 ghost use Rattle.sctp_model.specs.numbers.Limits.{WINDOW};
 ghost use Rattle.sctp_values.specs.Meanings.{kind_meaning};
 ghost use Rattle.sctp_send.specs.OutstandingFields.{lane_meaning, queued_meaning};
-ghost use Rattle.sctp_send.specs.SenderKept.{Track as KeptTrack};
+ghost use Rattle.sctp_send.specs.SenderKept.{Rest as KeptRest, Track as KeptTrack};
 ghost use Rattle.sctp_send.specs.PartsKept.{changed_at};
-ghost use Rattle.sctp_send.specs.SenderFields.{latest_in, track_meaning, rest_meaning, rests_meaning};
-ghost use Rattle.sctp_send.specs.inner.Newcomers.{number_in, number_on, track_of, begun, gone_on};
+ghost use Rattle.sctp_send.specs.SenderFields.{latest_in, track_meaning, rests_meaning};
+ghost use Rattle.sctp_send.specs.inner.Newcomers.{number_in, number_on, rest_after, rest_at, has_rest, track_of, begun, gone_on};
 ghost use Rattle.sctp_send.specs.inner.Stocking.{bare, numbers_of, stocked, ends_of, rest_from, left_track};
-ghost use Rattle.sctp_send.specs.inner.Undoing.{Parts, before_all, counted_to, IsSized, IsBehind};
+ghost use Rattle.sctp_send.specs.inner.Undoing.{counted_to, resting, IsSized, IsBehind};
+ghost use Rattle.sctp_send.specs.declared.kept.track.Track.{Track as TrackFields};
 
 use crate::fill::assigning::{Beginning, stream_after};
-use crate::fill::pushing::{push_first, push_fragment, push_further};
+use crate::fill::pushing::{push_fragment, push_further};
 use crate::kept::entry::Standing;
 use crate::kept::message::Message;
 use crate::kept::streams::Streams;
-use crate::kept::track::{Rest, Track, rest_from};
-use crate::stock::{Change, Stock, note, reserve_changes, reserve_tickets};
+use crate::kept::track::{Ending, Rest, Track, ending_of};
+use crate::stock::{Change, Stock, note, reserve_change, reserve_tickets};
 use crate::told::Told;
 use sctp_values::{Kind, NoMemory, Ticket};
 use std::alloc::Global;
@@ -43,6 +44,7 @@ impl Told {
         requires few { next.count ≤ WINDOW + 1 }
         requires place { next.place < length stock.old.queue.items }
         requires stream { (m : Arc Message Global) → m ≡ slice_index_or stock.old.queue.items next.place m → m.value.stream < length stock.old.streams.items }
+        requires idle { (m : Arc Message Global) (t : TrackFields) → m ≡ slice_index_or stock.old.queue.items next.place m → t ≡ slice_index_or stock.old.streams.items m.value.stream t → t.rest ≡ None }
         requires sized { IsSized self.now.fragment stock.old }
         ensures kept { (m : Arc Message Global) → m ≡ slice_index_or stock.old.queue.items next.place m → suc (number_on (stocked (bare self.now) stock.old).tracks (lane_meaning m.value)) < 2 ^ 64
             → OnOk result (stocked (bare self.now) stock.new
@@ -61,14 +63,14 @@ impl Told {
         let from = stock.outstanding.len();
         tell(&mut stock.tickets, message.ticket);
         let number = number_one(&mut stock.streams, stream, kind);
-        push_first(&mut stock.outstanding, message, number);
+        push_fragment(&mut stock.outstanding, message, number, 0, Standing::Sent);
         let change = Change::Begun {
             place: next.place,
             from,
             turn: stock.turn,
         };
         note(&mut stock.log, change);
-        leave_rest(&mut stock.streams, &mut stock.log, stream, rest);
+        leave_rest(&mut stock.streams, stream, rest);
         stock.turn = next.turn;
         push_further(&mut stock.outstanding, from, number, next.count)
     }
@@ -89,52 +91,57 @@ impl Told {
         ensures tickets { stock.new.tickets.items ≡ stock.old.tickets.items }
         ensures told { OnOk result (vec_len stock.new.tickets < vec_capacity stock.new.tickets) }
         ensures log { stock.new.log.items ≡ stock.old.log.items }
-        ensures noted { OnOk result (vec_len stock.new.log + 2 ≤ vec_capacity stock.new.log) }
+        ensures noted { OnOk result (vec_len stock.new.log < vec_capacity stock.new.log) }
     {
-        reserve_changes(&mut stock.log)?;
+        reserve_change(&mut stock.log)?;
         reserve_tickets(&mut stock.tickets)?;
         let ends = stock.streams.in_part() as usize + 1;
         stock.outstanding.reserve(count + ends)
     }
 
-    /// The message in part of a stream takes its next index.
+    /// The message in part of a stream takes its next index, and so much is left of it then. All memory is taken first.
     ///
     /// # Errors
     /// `NoMemory`: the stock has its parts as before.
-    pub(crate) fn go_on(&self, stock: &mut Stock, stream: u16, rest: &Rest) -> Result<(), NoMemory>
+    pub(crate) fn go_on(
+        &self,
+        stock: &mut Stock,
+        stream: u16,
+        left: Option<Rest>,
+    ) -> Result<(), NoMemory>
         requires within { stream < self.now.streams }
         requires stream { stream < length stock.old.streams.items }
+        requires part { has_rest (rest_at (stocked (bare self.now) stock.old).tracks stream) ≡ true }
         requires sized { IsSized self.now.fragment stock.old }
-        ensures kept { suc rest.now.fragment < 2 ^ 32
-            → OnOk result (stocked (bare self.now) stock.new
-            ≡ gone_on (stocked (bare self.now) stock.old) (rest_meaning self.now.fragment (track_of (stocked (bare self.now) stock.old).tracks stream) rest.now) stream (suc stream % self.now.streams) stock.new.outstanding.capacity) }
+        ensures kept { (rest : KeptRest) → Some rest ≡ rest_at (stocked (bare self.now) stock.old).tracks stream
+            → rests_meaning self.now.fragment (track_of (stocked (bare self.now) stock.old).tracks stream) left ≡ rest_after rest.entry rest.message
+            → OnOk result (stocked (bare self.now) stock.new ≡ gone_on (stocked (bare self.now) stock.old) rest stream (suc stream % self.now.streams) stock.new.outstanding.capacity) }
         ensures more { OnOk result (length stock.old.outstanding.items < length stock.new.outstanding.items) }
         ensures room { OnOk result (ends_of stock.old.streams + length stock.new.outstanding.items ≤ stock.new.outstanding.capacity) }
         ensures told { OnOk result (stock.new.tickets ≡ stock.old.tickets) }
         ensures behind { IsBehind stock.old stock.new }
     {
-        let left = rest_from(&rest.message, rest.fragment.wrapping_add(1), self.fragment)?;
-        let number = number_latest(
-            &stock.streams.tracks()[usize::from(stream)],
-            rest.message.kind,
-        );
-        stock.log.reserve(1).map_err(|_| NoMemory)?;
+        reserve_change(&mut stock.log)?;
         let ends = stock.streams.in_part() as usize;
         stock.outstanding.reserve(ends + 1)?;
-        push_fragment(
-            &mut stock.outstanding,
-            &rest.message,
-            number,
-            rest.fragment,
-            Standing::Sent,
-        )?;
-        let track = leave_on(&mut stock.streams, stream, left);
+        let before = stock.streams.leave(usize::from(stream), left);
+        let Some(next) = ending_of(before) else {
+            return Err(NoMemory);
+        };
+        let Ending { rest, number } = next;
         let change = Change::Continued {
             stream,
-            track,
+            fragment: rest.fragment,
             turn: stock.turn,
         };
         note(&mut stock.log, change);
+        push_fragment(
+            &mut stock.outstanding,
+            rest.message,
+            number,
+            rest.fragment,
+            Standing::Sent,
+        );
         stock.turn = stream_after(stream, self.streams);
         Ok(())
     }
@@ -147,16 +154,6 @@ pub(crate) fn number_next(track: &Track, kind: Kind) -> u64
     match kind {
         Kind::Ordered => track.ordered,
         Kind::Unordered => track.unordered,
-    }
-}
-
-/// The number that the latest message of this kind took on a stream.
-pub(crate) fn number_latest(track: &Track, kind: Kind) -> u64
-    ensures { (size : ℕ) → result ≡ latest_in (kind_meaning kind) (track_meaning size track.now) }
-{
-    match kind {
-        Kind::Ordered => track.ordered.saturating_sub(1),
-        Kind::Unordered => track.unordered.saturating_sub(1),
     }
 }
 
@@ -174,53 +171,19 @@ fn number_one(streams: &mut Streams, stream: u16, kind: Kind) -> u64
     number
 }
 
-/// So much is left of the message that took the latest number on a stream; where that changes what is left there, it is noted.
+/// So much is left of the message that took the latest number on a stream, where nothing was.
 #[inline(always)]
-fn leave_rest(streams: &mut Streams, log: &mut Vec<Change>, stream: u16, rest: Option<Rest>)
+fn leave_rest(streams: &mut Streams, stream: u16, rest: Option<Rest>)
     requires stream { stream < length streams.old.items }
-    requires room { vec_len log.old < vec_capacity log.old }
+    requires idle { (t : TrackFields) → t ≡ slice_index_or streams.old.items stream t → t.rest ≡ None }
     ensures size { streams.new.size ≡ streams.old.size }
     ensures items { (size : ℕ) → map (track_meaning size) streams.new.items
         ≡ slice_set (map (track_meaning size) streams.old.items) stream (left_track (rests_meaning size (track_of (map (track_meaning size) streams.old.items) stream) rest) (track_of (map (track_meaning size) streams.old.items) stream)) }
-    ensures back { (p : Parts) → p.tracks ≡ streams.new.items → before_all log.new.items p ≡ before_all log.old.items (record p { tracks = streams.old.items }) }
+    ensures back { changed_at (resting None) stream streams.new.items ≡ streams.old.items }
 {
-    if rest.is_none() && !streams.goes_on(stream) {
-        return;
+    if rest.is_some() {
+        let _idle = streams.leave(usize::from(stream), rest);
     }
-    leave_noted(streams, log, stream, rest);
-}
-
-/// So much is left of the message that took the latest number on a stream, which is noted. A function of its own, so that a message that goes as a
-/// whole costs no room for it.
-#[inline(never)]
-fn leave_noted(streams: &mut Streams, log: &mut Vec<Change>, stream: u16, rest: Option<Rest>)
-    requires stream { stream < length streams.old.items }
-    requires room { vec_len log.old < vec_capacity log.old }
-    ensures size { streams.new.size ≡ streams.old.size }
-    ensures items { (size : ℕ) → map (track_meaning size) streams.new.items
-        ≡ slice_set (map (track_meaning size) streams.old.items) stream (left_track (rests_meaning size (track_of (map (track_meaning size) streams.old.items) stream) rest) (track_of (map (track_meaning size) streams.old.items) stream)) }
-    ensures back { (p : Parts) → p.tracks ≡ streams.new.items → before_all log.new.items p ≡ before_all log.old.items (record p { tracks = streams.old.items }) }
-{
-    let track = leave_on(streams, stream, rest);
-    note(log, Change::Left { stream, track });
-}
-
-/// So much is left of the message in part of a stream. It answers how the stream was.
-fn leave_on(streams: &mut Streams, stream: u16, rest: Option<Rest>) -> Track
-    requires { stream < length streams.old.items }
-    ensures size { streams.new.size ≡ streams.old.size }
-    ensures items { (size : ℕ) → map (track_meaning size) streams.new.items
-        ≡ slice_set (map (track_meaning size) streams.old.items) stream (left_track (rests_meaning size (track_of (map (track_meaning size) streams.old.items) stream) rest) (track_of (map (track_meaning size) streams.old.items) stream)) }
-    ensures before { set streams.new.items stream result ≡ streams.old.items }
-{
-    let at = usize::from(stream);
-    let track = &streams.tracks()[at];
-    let next = Track {
-        ordered: track.ordered,
-        unordered: track.unordered,
-        rest,
-    };
-    streams.replace(at, next)
 }
 
 /// The message with this ticket took its number.

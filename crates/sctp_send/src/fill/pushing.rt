@@ -1,14 +1,12 @@
 //! Fragments take the next indexes, as far as memory goes.
 
-ghost use Rattle.std.specs.Prelude.{◌≡◌, ℕ, ◌+◌, ◌-◌, ◌<◌, ◌≤◌, ◌^◌, List, ◌∷◌, [], ◌++◌, map, take, length, slice_index_or, OnOk, OnErr};
+ghost use Rattle.std.specs.Prelude.{◌≡◌, ℕ, ◌+◌, ◌<◌, ◌≤◌, ◌^◌, List, ◌∷◌, [], ◌++◌, map, take, length, slice_index_or, OnOk};
 ghost use Rattle.sctp_send.specs.OutstandingFields.{item_meaning, lane_meaning, message_meaning};
 ghost use Rattle.sctp_send.specs.PartsKept.{IsSameRoom};
 ghost use Rattle.sctp_send.specs.inner.Newcomers.{begun_items};
-ghost use Rattle.sctp_send.specs.inner.Stocking.{fragment_item};
 ghost use Rattle.sctp_send.specs.SenderKept.{Item};
 ghost use Rattle.sctp_send.specs.inner.Undoing.{fragment_entry};
 ghost use Rattle.sctp_send.specs.declared.kept.entry.Entry.{Entry as Fields};
-ghost use Rattle.sctp_send.specs.declared.kept.entry.Standing.TheVariants.{Sent};
 
 use crate::kept::entry::{Content, Entry, Standing};
 use crate::kept::message::{Message, shared};
@@ -16,51 +14,27 @@ use crate::kept::outstanding::Outstanding;
 use sctp_values::NoMemory;
 use std::sync::Arc;
 
-/// The first fragment of a message takes the next index, and goes out.
-#[inline(always)]
-pub(crate) fn push_first(outstanding: &mut Outstanding, message: Arc<Message>, number: u64)
-    requires { length outstanding.old.items < outstanding.old.capacity }
-    ensures { outstanding.new ≡ record outstanding.old { items = outstanding.old.items ++ fragment_entry message number 0 Sent ∷ [] } }
-{
-    outstanding.put(Entry {
-        message,
-        number,
-        content: Content::Fragment(0),
-        standing: Standing::Sent,
-        covered: false,
-        abandoned: false,
-        repeats: 0,
-    });
-}
-
-/// A fragment takes the next index.
+/// A fragment takes the next index: its entry is one more owner of its message. There is room for it.
 #[inline(always)]
 pub(crate) fn push_fragment(
     outstanding: &mut Outstanding,
-    message: &Arc<Message>,
+    message: Arc<Message>,
     number: u64,
     fragment: u32,
     standing: Standing,
-) -> Result<(), NoMemory>
-    ensures items { (size : ℕ) → OnOk result (map (item_meaning size) outstanding.new.items
-        ≡ map (item_meaning size) outstanding.old.items ++ fragment_item size message.now.value number fragment standing ∷ []) }
-    ensures more { OnOk result (outstanding.old.items ≡ take (length outstanding.new.items - 1) outstanding.new.items) }
-    ensures long { OnOk result (length outstanding.new.items ≡ length outstanding.old.items + 1) }
-    ensures unchanged { OnErr result (outstanding.new.items ≡ outstanding.old.items) }
-    ensures size { outstanding.new.size ≡ outstanding.old.size }
-    ensures capacity { outstanding.old.capacity ≤ outstanding.new.capacity }
-    ensures had_room { length outstanding.old.items < outstanding.old.capacity → outstanding.new.capacity ≡ outstanding.old.capacity }
+)
+    requires { length outstanding.old.items < outstanding.old.capacity }
+    ensures { outstanding.new ≡ record outstanding.old { items = outstanding.old.items ++ fragment_entry message number fragment standing ∷ [] } }
 {
-    let entry = Entry {
-        message: shared(message)?,
+    outstanding.put(Entry {
+        message,
         number,
         content: Content::Fragment(fragment),
         standing,
         covered: false,
         abandoned: false,
         repeats: 0,
-    };
-    outstanding.push(entry)
+    });
 }
 
 /// The further ones of the first so many fragments of a message take the next indexes, as far as memory goes. Its very first one stands at an
@@ -108,13 +82,14 @@ fn push_fragments(
     ensures room { IsSameRoom outstanding.old outstanding.new }
 {
     for fragment in 1..count {
+        let owner = shared(message)?;
         push_fragment(
             outstanding,
-            message,
+            owner,
             number,
             fragment as u32,
             Standing::Unsent,
-        )?;
+        );
     }
     Ok(())
 }

@@ -12,7 +12,7 @@ ghost use Rattle.sctp_send.specs.inner.Stocking.{bare, stocked, let_in, PutAnswe
 ghost use Rattle.sctp_send.specs.inner.Sending.{resent_if, resent_by};
 ghost use Rattle.sctp_send.specs.inner.Newcomers.{IsBegun, IsContinued};
 
-use crate::fill::assigning::{Beginning, Next, copied, has_window, next_new, rest_of};
+use crate::fill::assigning::{Beginning, Next, has_window, next_new, rest_of};
 use crate::fill::sendings::Resent;
 use crate::kept::entry::Content;
 use crate::kept::message::{Message, fragments_of};
@@ -156,6 +156,10 @@ impl Told {
         if !self.is_let_in::<F>(message, 0, flying, packet) {
             return Ok(false);
         }
+        // What is in part on a stream goes first, so that this is never so.
+        if stock.streams.goes_on(message.stream) {
+            return Err(NoMemory);
+        }
         let rest = rest_where(more, message, next.count as u32)?;
         let at = stock.outstanding.len();
         self.begin(stock, next, rest)?;
@@ -189,9 +193,9 @@ impl Told {
         if !self.is_let_in::<F>(&rest.message, rest.fragment, flying, packet) {
             return Ok(false);
         }
-        let rest = copied(rest)?;
+        let left = rest_where(more, &rest.message, next)?;
         let at = stock.outstanding.len();
-        self.go_on(stock, stream, &rest)?;
+        self.go_on(stock, stream, left)?;
         self.put_at::<F>(stock, at, packet)
     }
 

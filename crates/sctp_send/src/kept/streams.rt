@@ -10,7 +10,7 @@ ghost use Rattle.sctp_send.specs.PartsKept.{changed_at};
 use crate::kept::looking::{
     are_past, goes_on_at, next_part_by_looking, stream_by_looking, ticket_of_track,
 };
-use crate::kept::track::{Track, owed_by_track};
+use crate::kept::track::{Rest, Track, owed_by_track};
 use sctp_sequence::TwoWayMap;
 use sctp_values::{Kind, NoMemory};
 use std::alloc::Global;
@@ -100,8 +100,25 @@ impl Streams {
         set_count(&mut self.tracks[at], kind, many);
     }
 
+    /// So much is left of the message in part of a stream. It answers how the stream was.
+    #[inline(never)]
+    pub(crate) fn leave(&mut self, at: usize, rest: Option<Rest>) -> Track
+        requires { at < length self.old.items }
+        ensures before { result ≡ slice_index_or self.old.items at result }
+        ensures after { self.new ≡ record self.old { items = set self.old.items at (record result { rest = rest }) } }
+    {
+        let track = &self.tracks()[at];
+        let next = Track {
+            ordered: track.ordered,
+            unordered: track.unordered,
+            rest,
+        };
+        self.replace(at, next)
+    }
+
     /// A stream goes on with this, instead of what it answers.
-    pub(crate) fn replace(&mut self, at: usize, track: Track) -> Track
+    #[inline(always)]
+    fn replace(&mut self, at: usize, track: Track) -> Track
         requires { at < length self.old.items }
         ensures before { result ≡ slice_index_or self.old.items at result }
         ensures after { self.new ≡ record self.old { items = set self.old.items at track } }

@@ -1,6 +1,6 @@
 //! What is kept of a stream, and what is left of its message in part.
 
-ghost use Rattle.std.specs.Prelude.{◌≡◌, ℕ, ◌<◌, ◌%◌, ◌^◌, nat_lt, length, IfOk};
+ghost use Rattle.std.specs.Prelude.{◌≡◌, ℕ, ◌<◌, ◌%◌, ◌^◌, nat_lt, length, option_map, IfOk};
 ghost use Rattle.sctp_model.specs.sender.Queueing.{cut};
 ghost use Rattle.sctp_values.specs.Meanings.{kind_meaning};
 ghost use Rattle.sctp_send.specs.SenderKept.{Track as KeptTrack};
@@ -27,16 +27,17 @@ pub(crate) struct Track {
     pub(crate) rest: Option<Rest>,
 }
 
-/// A message in part that ends: what was left of it, and its number.
+/// What was left of a message in part, as its stream ends it or goes on with it, and its number.
 #[derive(Drop)]
 pub(crate) struct Ending {
     pub(crate) rest: Rest,
     pub(crate) number: u64,
 }
 
-/// The message in part of a stream, as it ends.
+/// The message in part of a stream, with its number.
 pub(crate) fn ending_of(track: Track) -> Option<Ending>
-    ensures { (size : ℕ) → endings_meaning size result ≡ (track_meaning size track).rest }
+    ensures ending { (size : ℕ) → endings_meaning size result ≡ (track_meaning size track).rest }
+    ensures rest { option_map (λ e. e.rest) result ≡ track.rest }
 {
     let (ordered, unordered) = (track.ordered, track.unordered);
     let rest = track.rest?;
@@ -62,24 +63,6 @@ pub(crate) fn owed_by_track(track: &Track, size: u16) -> u64
         }
         None => 0,
     }
-}
-
-/// What is left of a message from a fragment on.
-pub(crate) fn rest_from(
-    message: &Arc<Message>,
-    next: u32,
-    size: u16,
-) -> Result<Option<Rest>, NoMemory>
-    requires { 0 < size }
-    ensures { (t : KeptTrack) → IfOk result (λ rest. rests_meaning size t rest ≡ rest_from size message.now.value (latest_in (kind_meaning message.now.value.kind) t) next) }
-{
-    if next as usize >= fragments_of(size, &message.bytes) {
-        return Ok(None);
-    }
-    Ok(Some(Rest {
-        message: shared(message)?,
-        fragment: next,
-    }))
 }
 
 /// What is left of a message from a fragment on, where it has such a one.

@@ -1,5 +1,11 @@
-use Rattle.std.proofs.Common.{◌≡◌, ◌∙◌, ℕ, List, ◌++◌, ◌∷◌, [], map, take, length, refl, ap, sym, subst, arith}
-use Rattle.std.proofs.lemmas.List.{append_assoc, take_all}
+use Rattle.std.proofs.Common.{◌≡◌, ◌∙◌, ℕ, ◌+◌, ◌-◌, List, ◌++◌, ◌∷◌, [], map, take, length, refl, ap, sym, subst, arith, length-append}
+use Rattle.std.proofs.lemmas.List.{append_assoc, map-append, take_all}
+use Rattle.sctp_send.specs.PartsKept.{OutstandingKept}
+use Rattle.sctp_send.specs.inner.Undoing.{fragment_entry}
+use Rattle.sctp_send.specs.declared.kept.entry.Entry.{Entry as Fields}
+use Rattle.sctp_send.specs.declared.kept.entry.Standing.TheVariants.{Unsent}
+use Rattle.sctp_send.specs.declared.kept.message.Message.{Message as MessageFields}
+use Rattle.sctp_send.proofs.fill.UndoLemmas.{last_of}
 use Rattle.sctp_model.specs.messages.Plan.{Part}
 use Rattle.sctp_send.specs.SenderKept.{Item}
 use Rattle.sctp_send.specs.OutstandingFields.{item_meaning, lane_meaning, message_meaning}
@@ -19,36 +25,37 @@ pub loop-fragment-preserved : goal.loop-fragment-preserved
 loop-fragment-preserved c =
     let was = c.loop-fragment.invariant in
     let long = was.long in
+    let k = c.loop-fragment.fragment in
+    let es = c.loop-fragment.outstanding.items in
+    let e = fragment_entry c.in_ok-owner.owner c.args.number k Unsent in
+    let came : c.push_fragment.new.outstanding.items ≡ es ++ e ∷ [] = ap (λ (w : OutstandingKept). w.items) c.push_fragment.ensures in
+    let one : length c.push_fragment.new.outstanding.items ≡ length es + 1 = ap (λ (xs : List Fields). length xs) came ∙ length-append es (e ∷ []) in
     record {
       items = λ size before is.
           let l = lane_meaning c.args.message.now.value in
           let m = message_meaning size c.args.message.now.value in
-          let k = c.loop-fragment.fragment in
-          let one : List Item = new_item (Part l c.args.number k) m ∷ [] in
-          c.in_ok-push_fragment.ensures.items size
-          ∙ ap (λ (xs : List Item). xs ++ one) (was.items size before is)
-          ∙ append_assoc before (begun_items l c.args.number m k) one
+          let last : List Item = new_item (Part l c.args.number k) m ∷ [] in
+          ap (map (item_meaning size)) came ∙ map-append (item_meaning size) es (e ∷ [])
+          ∙ ap (λ (x : MessageFields). map (item_meaning size) es ++ new_item (Part (lane_meaning x) c.args.number k) (message_meaning size x) ∷ []) c.in_ok-owner.ensures
+          ∙ ap (λ (xs : List Item). xs ++ last) (was.items size before is)
+          ∙ append_assoc before (begun_items l c.args.number m k) last
           ∙ ap (λ (xs : List Item). before ++ xs) (sym (begun_push l c.args.number m k (omega arith)));
-      before = before_more c.args.outstanding.now.items c.loop-fragment.outstanding.items c.push_fragment.new.outstanding.items was.before (omega arith) c.in_ok-push_fragment.ensures.more c.in_ok-push_fragment.ensures.long;
-      long = omega (arith, long, c.in_ok-push_fragment.ensures.long);
+      before = before_more c.args.outstanding.now.items es c.push_fragment.new.outstanding.items was.before (omega arith) (sym (ap (λ (xs : List Fields). take (length xs - 1) xs) came ∙ (last_of es e).1)) one;
+      long = omega (arith, long, one);
       room = record {
-        size = c.in_ok-push_fragment.ensures.size ∙ was.room.size;
-        capacity = c.in_ok-push_fragment.ensures.had_room (let capacity = was.room.capacity in omega (arith, long, capacity, c.requires.room)) ∙ was.room.capacity;
+        size = ap (λ (w : OutstandingKept). w.size) c.push_fragment.ensures ∙ was.room.size;
+        capacity = ap (λ (w : OutstandingKept). w.capacity) c.push_fragment.ensures ∙ was.room.capacity;
       };
     }
 
-pub returns-in_err-push_fragment-clause-before : goal.returns-in_err-push_fragment-clause-before
-returns-in_err-push_fragment-clause-before c = c.loop-fragment.invariant.before ∙ ap (take (length c.args.outstanding.now.items)) (sym c.in_err-push_fragment.ensures.unchanged)
+pub push_fragment-requires : goal.push_fragment-requires
+push_fragment-requires c = let long = c.loop-fragment.invariant.long in let capacity = c.loop-fragment.invariant.room.capacity in omega (arith, long, capacity, c.requires.room)
 
-pub returns-in_err-push_fragment-clause-room : goal.returns-in_err-push_fragment-clause-room
-returns-in_err-push_fragment-clause-room c =
-    let was = c.loop-fragment.invariant in
-    let long = was.long in
-    let capacity = was.room.capacity in
-    record {
-      size = c.in_err-push_fragment.ensures.size ∙ was.room.size;
-      capacity = c.in_err-push_fragment.ensures.had_room (omega (arith, long, capacity, c.requires.room)) ∙ capacity;
-    }
+pub returns-in_err-owner-clause-before : goal.returns-in_err-owner-clause-before
+returns-in_err-owner-clause-before c = c.loop-fragment.invariant.before
+
+pub returns-in_err-owner-clause-room : goal.returns-in_err-owner-clause-room
+returns-in_err-owner-clause-room c = c.loop-fragment.invariant.room
 
 pub returns-clause-items : goal.returns-clause-items
 returns-clause-items c = λ size before is.

@@ -1,4 +1,4 @@
-use Rattle.std.proofs.Common.{ℕ, suc, ◌+◌, length, map, true, false, Some, refl, sym, ap, subst, ◌≡◌, ◌∙◌, arith}
+use Rattle.std.proofs.Common.{ℕ, suc, ◌+◌, length, map, get_or, true, false, Some, refl, sym, ap, subst, ◌≡◌, ◌∙◌, arith}
 use Rattle.std.specs.Prelude.{nat_lt}
 use Rattle.std.specs.declared.sync.Arc.{Arc}
 use Rattle.std.specs.declared.alloc.Global.{Global}
@@ -6,10 +6,11 @@ use Rattle.std.proofs.lemmas.List.{get_or_default}
 use Rattle.sctp_model.specs.messages.Plan.{Part}
 use Rattle.sctp_send.specs.OutstandingFields.{lane_meaning, message_meaning}
 use Rattle.sctp_values.specs.Meanings.{kind_meaning}
-use Rattle.sctp_send.specs.SenderFields.{latest_in, rests_meaning, track_meaning}
-use Rattle.sctp_send.specs.inner.Newcomers.{number_on}
+use Rattle.sctp_send.specs.SenderFields.{latest_in, counts_meaning, rests_meaning, track_meaning}
+use Rattle.sctp_send.specs.inner.Newcomers.{number_on, has_rest, rest_at}
 use Rattle.sctp_send.specs.inner.Stocking.{bare, stocked, let_in, rest_from, IsRefused}
 use Rattle.sctp_send.specs.declared.kept.message.Message.{Message as MessageFields}
+use Rattle.sctp_send.proofs.kept.TrackCounts.{rest_there, no_rest}
 use Rattle.sctp_send.proofs.fill.NewMayLemmas.{left_over, of_ok, on_err, of_err, no_item}
 use Rattle.sctp_send.proofs.fill.BegunPut.{begun_message, begun_there, window_read, begun_few, begun_held, begun_full, begun_put, begun_refused}
 use Rattle.sctp_send.proofs.told.Told.put_begun.Goals as goal
@@ -71,6 +72,34 @@ begin-requires-clause-rest g c = λ m t read.
     let same = read ∙ get_or_default c.args.stock.now.queue.items c.args.next.place m x c.requires.place ∙ sym c.get-message.ensures in
     let more = left_over c.args.next.count size size c.fragments_of.result c.deref-3.result.now x.value c.deref-2.result.now c.fragments_of.ensures refl c.deref-3.ensures.value c.deref-2.ensures in
     subst (λ (y : Arc MessageFields Global). rests_meaning size t c.in_ok-rest.rest ≡ rest_from size y.value (latest_in (kind_meaning y.value.kind) t) c.args.next.count) (sym same) (c.in_ok-rest.ensures size t more)
+
+pub begin-requires-clause-idle : goal.begin-requires-clause-idle
+begin-requires-clause-idle g c = λ m t read there.
+    let size = c.args.self.now.fragment in
+    let x = c.get-message.result.now in
+    let ts = c.args.stock.now.streams.items in
+    let same = read ∙ get_or_default c.args.stock.now.queue.items c.args.next.place m x c.requires.place ∙ sym c.get-message.ensures in
+    let first = c.from.ensures ∙ ap (λ (y : MessageFields). y.stream) c.deref.ensures in
+    let wide = ap length c.tracks.ensures in
+    let here = there ∙ ap (λ (y : Arc MessageFields Global). get_or ts y.value.stream t) same in
+    let off = ap (λ (y : MessageFields). has_rest (rest_at (map (track_meaning size) ts) y.stream)) (sym c.deref-5.ensures) ∙ sym (c.goes_on.ensures size) ∙ c.if-goes_on.false in
+    no_rest size (counts_meaning t) t.rest (ap has_rest (sym (rest_there size x.value.stream ts t (omega (arith, first, wide, c.if-from-tracks.false)) here)) ∙ off)
+
+pub returns-then-goes_on-clause-refused : goal.returns-then-goes_on-clause-refused
+returns-then-goes_on-clause-refused g c = λ v k stands next flying.
+    let f = g.F.Framing.format in
+    let s = bare c.args.self.now in
+    let d = c.args.stock.now in
+    let p = c.args.packet.now in
+    let m = c.get-message.result.now.value in
+    let number = number_on (stocked s d).tracks (lane_meaning m) in
+    let mine = begun_message f s v d c.args.next.place c.args.next.count c.args.next.turn c.get-message.result.now k next c.get-message.ensures in
+    let more = left_over c.args.next.count c.args.self.now.fragment s.fragment c.fragments_of.result c.deref-3.result.now m c.deref-2.result.now c.fragments_of.ensures refl c.deref-3.ensures.value c.deref-2.ensures in
+    let left = nat_lt c.args.next.count c.fragments_of.result in
+    let window = window_read _ (map (track_meaning s.fragment) d.streams.items) m c.deref-4.result.now c.has_window.result true c.deref-4.ensures (c.has_window.ensures.fits s.fragment (sym c.requires.sized.tracks)) c.if-not-has_window.false in
+    let i = suc (s.cum + length d.outstanding.items) in
+    let on = sym (c.is_let_in.ensures number i ∙ ap (λ (n : ℕ). let_in f n s i p (Part (lane_meaning m) number 0) (Some (message_meaning s.fragment m))) flying) ∙ c.if-not-is_let_in.false in
+    begun_refused f s v d m c.args.next.place c.args.next.count c.args.next.turn number k stands next mine refl p p left more window on refl
 
 pub returns-in_err-rest-clause-refused : goal.returns-in_err-rest-clause-refused
 returns-in_err-rest-clause-refused g c = λ v k stands next flying.

@@ -1,11 +1,11 @@
-use Rattle.std.proofs.Common.{◌≡◌, ℕ, suc, ◌+◌, ◌<◌, ◌%◌, ◌^◌, List, length, map, Some, refl, sym, ap, ◌∙◌, subst}
+use Rattle.std.proofs.Common.{◌≡◌, ℕ, suc, ◌+◌, ◌%◌, ◌^◌, List, length, map, Some, refl, sym, ap, ◌∙◌, arith}
 use Rattle.std.specs.Prelude.{nat_lt}
 use Rattle.sctp_model.specs.messages.Plan.{Part}
-use Rattle.sctp_send.specs.SenderKept.{Rest}
+use Rattle.sctp_model.specs.sender.Queueing.{cut}
 use Rattle.sctp_send.specs.OutstandingFields.{lane_meaning, message_meaning}
 use Rattle.sctp_send.specs.SenderFields.{number_left, track_meaning, rest_meaning}
-use Rattle.sctp_send.specs.inner.Newcomers.{rest_at, track_of, gone_on}
-use Rattle.sctp_send.specs.inner.Stocking.{bare, stocked, let_in, IsRefused}
+use Rattle.sctp_send.specs.inner.Newcomers.{rest_at, has_rest, track_of}
+use Rattle.sctp_send.specs.inner.Stocking.{bare, let_in, rest_from, IsRefused}
 use Rattle.sctp_send.specs.declared.kept.message.Message.{Message as MessageFields}
 use Rattle.sctp_send.specs.declared.kept.track.Track.{Track as TrackFields}
 use Rattle.sctp_send.proofs.fill.NewMayLemmas.{more_read, of_ok, on_err, of_err, no_item}
@@ -48,8 +48,8 @@ returns-then-not-is_let_in-clause-put g c = λ v k stands next flying.
     let on = sym (c.is_let_in.ensures (number_left t r) i ∙ ap (λ (n : ℕ). let_in f n s i p e (Some (message_meaning s.fragment r.message.value))) flying) ∙ c.if-not-is_let_in.true in
     continued_held f s v d t r c.args.stream k stands next its p p _ on refl refl refl
 
-pub returns-in_err-rest-clause-refused : goal.returns-in_err-rest-clause-refused
-returns-in_err-rest-clause-refused g c = λ v k stands next flying.
+pub returns-in_err-left-clause-refused : goal.returns-in_err-left-clause-refused
+returns-in_err-left-clause-refused g c = λ v k stands next flying.
     let f = g.F.Framing.format in
     let s = bare c.args.self.now in
     let d = c.args.stock.now in
@@ -66,6 +66,11 @@ returns-in_err-rest-clause-refused g c = λ v k stands next flying.
     let e = Part (lane_meaning r.message.value) (number_left t r) r.fragment in
     let on = sym (c.is_let_in.ensures (number_left t r) i ∙ ap (λ (n : ℕ). let_in f n s i p e (Some (message_meaning s.fragment r.message.value))) flying) ∙ c.if-not-is_let_in.false in
     on_err (IsRefused f v p p) _ (continued_refused f s v d t r c.args.stream k stands next its p p left more window on refl)
+
+pub go_on-requires-clause-part : goal.go_on-requires-clause-part
+go_on-requires-clause-part g c =
+    let n = c.args.self.now.fragment in
+    sym (ap has_rest (c.in-Some.ensures.rest n ∙ ap (λ (ts : List TrackFields). rest_at (map (track_meaning n) ts) c.args.stream) c.tracks.ensures))
 
 pub returns-in_err-go_on-clause-refused : goal.returns-in_err-go_on-clause-refused
 returns-in_err-go_on-clause-refused g c = λ v k stands next flying.
@@ -103,10 +108,10 @@ returns-clause-put g c = λ v k stands next flying.
     let i = suc (s.cum + length d.outstanding.items) in
     let e = Part (lane_meaning r.message.value) (number_left t r) r.fragment in
     let on = sym (c.is_let_in.ensures (number_left t r) i ∙ ap (λ (n : ℕ). let_in f n s i p e (Some (message_meaning s.fragment r.message.value))) flying) ∙ c.if-not-is_let_in.false in
-    let small = subst (λ (n : ℕ). suc n < 2 ^ 32) (sym c.in_ok-rest.ensures.fragment) few in
+    let after : (r.fragment + 1) % 2 ^ 32 ≡ suc r.fragment = omega (arith, few) in
+    let rest = c.in_ok-left.ensures s.fragment t (more ∙ ap (λ (n : ℕ). nat_lt n (length (cut s.fragment r.message.value.bytes.items))) (sym after)) ∙ ap (rest_from s.fragment r.message.value (number_left t r)) after in
     let new = c.go_on.new.stock in
-    let kept = c.in_ok-go_on.ensures.kept small
-    ∙ ap (λ (x : Rest). gone_on (stocked s d) x c.args.stream (suc c.args.stream % s.streams) new.outstanding.capacity) (c.in_ok-rest.ensures.same s.fragment t) in
+    let kept = c.in_ok-go_on.ensures.kept (rest_meaning s.fragment t r) its rest in
     of_ok _ _ c.put_at.result
     (λ put tried. continued_put f s v d t r c.args.stream k stands next its p c.put_at.new.packet new left c.len-at.result new.outstanding.capacity no_item put more window on c.len-at.ensures kept c.requires.sized.tracks c.in_ok-go_on.ensures.room c.in_ok-go_on.ensures.told tried)
     (c.put_at.ensures.tried no_item)
