@@ -7,8 +7,8 @@ messages, resets the stream, sends three more once that is done, and so on: five
 Either end resets; or both do, each by itself; or each stream is a channel (RFC 8831 section 6.7), which one end closes, and the other end
 then too. What arrives on each stream must be exactly that: each message once and in order, the SSNs from 0 on behind each reset, and between
 the messages of two turns a report of the reset; usrsctp reports one twice if its first response was "in progress". It prints how long each
-run took, how many reports were doubled, and what was wrong. Of a hundred seeds with a tenth of the packets lost usrsctp gets eight runs
-wrong by itself (docs/PEERS.md), none of the first fourteen seeds. Status 0 if nothing was wrong, else 1.
+run took, how many reports were doubled, and what was wrong. Without a WORD, of a hundred seeds with a tenth of the packets lost
+usrsctp gets eight runs wrong by itself (docs/PEERS.md), none of the first fourteen seeds. Status 0 if nothing was wrong, else 1.
 """
 
 import argparse
