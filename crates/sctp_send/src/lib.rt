@@ -11,6 +11,7 @@
 //! | [`Sender::queue_limited`] | as `queue`, of a message each of whose fragments is retransmitted at most so often, if there is a limit |
 //! | [`Sender::fill`] | `step`: the packet gets the longest list of chunks of which each is the next to be sent and may go (it fits, the flow rule and the window allow it), after its own chunks; the sender stands for the view after them; the tickets returned are those of the messages that began, in the order of their first TSNs. `memory`: after NoMemory it stands for the same view. `some`: the packet then has a beginning of that list, each chunk whole, and one more would go |
 //! | [`Sender::fill_counting`], [`Sendings`] | as `fill`; `sendings`: how many of the chunks were sent for the first time, and how many were retransmitted with an index below a given one, and not below it |
+//! | [`Sender::trim`] | the same view: memory that a burst took and of which less than an eighth is used is given back, if it is for more than 128 entries or messages: of entries and their order by ticket, the queue and its seats, fates and deadlines (`kept/giving_back.rt`, `queueing/passing.rt`) |
 //! | [`Sender::recycle_tickets`] | the same view: the buffer of the tickets that a fill returned is used for the next fill |
 //! | [`Sender::on_sack`] | `answer`: the first of Stale, Beyond, BadBlock that applies, in this order, each if and only if it is the first. `step`: the view with the SACK's CUM, gap blocks (in place of those of the last SACK) and window, or the same view |
 //! | [`Sender::on_shutdown`] | as `on_sack` for the cumulative TSN of a SHUTDOWN; what gap blocks acknowledged beyond it stays acknowledged |
@@ -36,13 +37,10 @@
 //! | [`Sender::reached`] | a law: each view that a sender stands for is one that its calls reach |
 //! | [`Sender::limited`] | laws: an abandoned message isn't at its limit (`gone`), and `wear` and `wear_between` abandon only messages that `next_at_limit` gives (`only`) |
 //!
-//! Only `new`, `queue`, `queue_limited`, `fill`, `put_forward`, `reset` and `ask` return NoMemory; `keep_forward` may allocate, `on_sack` and `on_shutdown`
-//! allocate nothing but smaller blocks in place of larger ones, which stay if that fails, and the others don't allocate. So that `abandon`, `expire`, `wear`
-//! and SACKs needn't, a message that begins reserves one entry for its end mark, besides those of the messages in part (`room` of `Holds`), and the first
-//! entry reserves the space for the runs of SACKs. Neither is given back.
-//!
-//! Memory that a burst took is given back by the SACK (or SHUTDOWN) after which less than an eighth of it is used, if it is for more than 128 entries or
-//! messages: of entries and their order by ticket, the queue and its seats, fates and deadlines (`kept/giving_back.rt`, `queueing/passing.rt`).
+//! Only `new`, `queue`, `queue_limited`, `fill`, `put_forward`, `reset` and `ask` return NoMemory; `keep_forward` may allocate, `trim` allocates nothing but
+//! smaller blocks in place of larger ones, and the others don't allocate. So that `abandon`, `expire`, `wear` and SACKs needn't, a message that begins
+//! reserves one entry for its end mark, besides those of the messages in part (`room` of `Holds`), and the first entry reserves the space for the runs of
+//! SACKs. Neither is given back.
 //!
 //! Laws of every view that calls reach, by induction over the calls (`sctp_model/proofs/sender`): CUM is no more than the TSNs assigned, all up to it
 //! is acknowledged, nothing beyond the last TSN is said (`Bounds`); TSNs after CUM and messages in part are at most 32,767, TSNs assigned and owed at

@@ -50,26 +50,11 @@ pub enum SackFault {
 #[tactic(auto, unfolding(crate::specs::SenderStands::StandsFor))]
 impl<F: Framing> Sender<F> {
     /// Processes a SACK (RFC 9260, 6.2.1): the chunks up to its cumulative TSN are released, and of the others exactly those in its gap blocks are
-    /// acknowledged from now on; a chunk that only the last SACK acknowledged is outstanding again. It allocates nothing but smaller blocks in place of
-    /// larger ones, which stay if that fails.
+    /// acknowledged from now on; a chunk that only the last SACK acknowledged is outstanding again. It doesn't allocate.
     ///
     /// # Errors
     /// The first `SackFault` that applies; nothing changes then.
     pub fn on_sack(&mut self, sack: &Sack<'_>) -> Result<(), SackFault>
-        ensures answer { (v : SenderView) → StandsFor F.format self.old v → reason_meaning result ≡ sack_fault v (sack_meaning sack.now) }
-        ensures step { (v : SenderView) → StandsFor F.format self.old v → StandsFor F.format self.new (sack_after v (sack_meaning sack.now)) }
-    {
-        match self.take_sack(sack) {
-            Ok(()) => {
-                self.give_back();
-                Ok(())
-            }
-            Err(fault) => Err(fault),
-        }
-    }
-
-    /// `on_sack`, all memory kept.
-    fn take_sack(&mut self, sack: &Sack<'_>) -> Result<(), SackFault>
         ensures answer { (v : SenderView) → StandsFor F.format self.old v → reason_meaning result ≡ sack_fault v (sack_meaning sack.now) }
         ensures step { (v : SenderView) → StandsFor F.format self.old v → StandsFor F.format self.new (sack_after v (sack_meaning sack.now)) }
     {
@@ -115,25 +100,11 @@ impl<F: Framing> Sender<F> {
     }
 
     /// Processes the cumulative TSN of a SHUTDOWN (RFC 9260, 9.2): the chunks up to it are released, and what gap blocks acknowledged beyond it stays
-    /// acknowledged. It allocates as `on_sack` does.
+    /// acknowledged. It doesn't allocate.
     ///
     /// # Errors
     /// The first `SackFault` that applies; nothing changes then.
     pub fn on_shutdown(&mut self, tsn: u32) -> Result<(), SackFault>
-        ensures answer { (v : SenderView) → StandsFor F.format self.old v → reason_meaning result ≡ shutdown_fault v tsn }
-        ensures step { (v : SenderView) → StandsFor F.format self.old v → StandsFor F.format self.new (shutdown_after v tsn) }
-    {
-        match self.take_shutdown(tsn) {
-            Ok(()) => {
-                self.give_back();
-                Ok(())
-            }
-            Err(fault) => Err(fault),
-        }
-    }
-
-    /// `on_shutdown`, all memory kept.
-    fn take_shutdown(&mut self, tsn: u32) -> Result<(), SackFault>
         ensures answer { (v : SenderView) → StandsFor F.format self.old v → reason_meaning result ≡ shutdown_fault v tsn }
         ensures step { (v : SenderView) → StandsFor F.format self.old v → StandsFor F.format self.new (shutdown_after v tsn) }
     {

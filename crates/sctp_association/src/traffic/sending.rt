@@ -108,6 +108,16 @@ impl Traffic {
         }
     }
 
+    /// Gives back memory of the sender that a burst took: no view of it changes.
+    pub(crate) fn trim(&mut self)
+        ensures { (f : Format) (s : SenderView) (r : ReceiverView) → TrafficStands self.old f s r → TrafficStands self.new f s r }
+    {
+        match self {
+            Traffic::Plain(directions) => directions.sender.trim(),
+            Traffic::Interleaved(directions) => directions.sender.trim(),
+        }
+    }
+
     /// The number of messages that have TSNs and were abandoned.
     pub(crate) fn abandoned_messages(&self) -> u64
         ensures { (f : Format) (s : SenderView) (r : ReceiverView) → TrafficStands self.now f s r → result ≡ abandoned_messages s }

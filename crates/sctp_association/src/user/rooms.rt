@@ -51,6 +51,16 @@ impl Machine {
         }
     }
 
+    /// Gives back memory that a burst of messages took: see `sctp_send::Sender::trim`.
+    pub fn trim(&mut self)
+        ensures { (v : EndView) → MachineStands self.old v → MachineStands self.new v }
+    {
+        match &mut self.life {
+            Life::Unjoined(_) => {}
+            Life::Joined(association) => association.traffic.trim(),
+        }
+    }
+
     /// Takes the buffer that is kept, for the next packet: none is kept any more.
     pub(crate) fn take_room(&mut self) -> Vec<u8>
         ensures stands { (v : EndView) → MachineStands self.old v → MachineStands self.new v }

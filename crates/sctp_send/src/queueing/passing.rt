@@ -48,9 +48,9 @@ impl<F: Framing> Sender<F> {
         }
     }
 
-    /// Gives memory back that a burst took, if little of it is used now.
-    #[inline(always)]
-    pub(crate) fn give_back(&mut self)
+    /// Gives memory back that a burst took, if less than an eighth of it is used: of chunks that were outstanding, of the queue, of tickets. That for the end
+    /// marks of messages in part stays. It allocates smaller blocks in place of larger ones; one that can't be allocated leaves the larger one.
+    pub fn trim(&mut self)
         ensures { (v : SenderView) → StandsFor F.format self.old v → StandsFor F.format self.new v }
     {
         if self.parts.outstanding.is_roomy() || self.parts.queue.is_roomy() {
@@ -58,9 +58,7 @@ impl<F: Framing> Sender<F> {
         }
     }
 
-    /// Gives back what isn't used of the memory for entries, messages and tickets. That for the end marks of messages in part stays. It is not inlined,
-    /// since few SACKs leave so little outstanding.
-    #[inline(never)]
+    /// Gives back what isn't used of the memory for entries, messages and tickets.
     fn give_all_back(&mut self)
         ensures { (v : SenderView) → StandsFor F.format self.old v → StandsFor F.format self.new v }
     {

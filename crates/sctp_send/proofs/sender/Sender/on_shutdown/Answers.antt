@@ -6,7 +6,7 @@ use Rattle.sctp_send.specs.SenderStands.{StandsFor, Keeps}
 use Rattle.sctp_send.proofs.sack.RunLemmas.{when_behind}
 use Rattle.sctp_send.proofs.KeepLemmas.{keeps_shut}
 use Rattle.sctp_send.proofs.sack.SackLemmas.{shutdown_passes}
-use Rattle.sctp_send.proofs.sender.Sender.take_shutdown.Goals as goal
+use Rattle.sctp_send.proofs.sender.Sender.on_shutdown.Goals as goal
 
 pub returns-clause-step : goal.returns-clause-step
 unfolding StandsFor

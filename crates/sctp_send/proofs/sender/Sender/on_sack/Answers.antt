@@ -19,7 +19,7 @@ use Rattle.sctp_send.proofs.DueKept.{keeps_awake}
 use Rattle.sctp_send.specs.inner.Dues.{LieIn}
 use Rattle.sctp_send.specs.declared.kept.entry.CoveredRun.{CoveredRun}
 use Rattle.sctp_send.proofs.sack.WakeLemmas.{covered_lies}
-use Rattle.sctp_send.proofs.sender.Sender.take_sack.Goals as goal
+use Rattle.sctp_send.proofs.sender.Sender.on_sack.Goals as goal
 
 pub returns-then-reach_past-clause-answer : goal.returns-then-reach_past-clause-answer
 unfolding StandsFor
