@@ -57,6 +57,7 @@ impl Machine {
     ///
     /// # Errors
     /// `NoMemory` if an allocation was refused; nothing changed then, not even the clock.
+    #[inline(always)]
     pub fn build(&mut self, now: u64) -> Result<Option<Built>, NoMemory>
         ensures built { (v : EndView) → MachineStands self.old v → IfOk result (λ built. BuildAnswer (at_moment v now) built self.new) }
         ensures memory { (v : EndView) → MachineStands self.old v → OnErr result (MachineStands self.new v) }

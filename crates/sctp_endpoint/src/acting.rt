@@ -118,12 +118,11 @@ fn act_chunk(
     act_noted(machine, tag, notes, told, chunk)
 }
 
-/// The first chunk, whatever its type, is taken off and acts, and what it left is noted; a SACK is counted. True if the packet ends with it. It stands
-/// apart, so that the loop over the chunks, most of which are user data, stays small.
+/// The first chunk, whatever its type, is taken off and acts, and what it left is noted; a SACK is counted. True if the packet ends with it.
 ///
 /// # Errors
 /// `NoMemory` if an allocation failed; nothing changed but that the chunk is taken off, and counted.
-#[inline(never)]
+#[inline(always)]
 fn act_any(
     machine: &mut Machine,
     tag: u32,

@@ -42,6 +42,7 @@ impl Endpoint {
     /// # Errors
     /// `NoMemory` if an allocation failed: only the chunks before the one that needed it took effect, so the packet may be passed in again. If
     /// that was the first chunk, nothing but the time changed.
+    #[inline(always)]
     pub fn handle_packet(&mut self, now: u64, bytes: &[u8], draw: Draw) -> Result<Verdict, NoMemory>
         ensures step { (v : EndView) (o : Option meaning.Packet) → EndpointStands self.old v → IsRead bytes.now o → Handled v now draw o result self.new }
         ensures within { (v : EndView) → EndpointStands self.old v → IfOk result (λ verdict. IsAnsweredWithin v.configuration.limit verdict) }

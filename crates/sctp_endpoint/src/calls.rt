@@ -45,6 +45,7 @@ impl Endpoint {
     /// `Refused::NotOpen` unless the association is established, before every other error; then `Refused::Fault` with the first of the sender's
     /// errors that applies: no such stream, a stream that is being reset or whose reset the peer refused, no bytes, more than 65,536 bytes, 1,024
     /// messages queued already, no ticket left, or an allocation that failed. Nothing changed; the bytes are dropped.
+    #[inline(always)]
     pub fn send(
         &mut self,
         stream: u16,
@@ -70,6 +71,7 @@ impl Endpoint {
     ///
     /// # Errors
     /// As `send`.
+    #[inline(always)]
     pub fn send_with_max_retransmits(
         &mut self,
         stream: u16,
@@ -94,6 +96,7 @@ impl Endpoint {
 
     /// Returns the first message that waits on a stream (RFC 9260, 11.1.6), and None if none does. Its space in the receive buffer is then free; the peer
     /// learns of it with the next SACK. It allocates no memory.
+    #[inline(always)]
     pub fn take(&mut self, stream: u16) -> Option<Message>
         ensures step { (v : EndView) → EndpointStands self.old v → (t : EndView) × UserTakes v stream (option_map handed_of result) t × EndpointStands self.new t }
         ensures logs { (v : EndView) → EndpointStands self.old v → TakesLogs v stream result self.new }

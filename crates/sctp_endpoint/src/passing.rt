@@ -19,6 +19,7 @@ pub(crate) fn has_ports(machine: &Machine, destination: u16, source: u16) -> boo
 
 /// Whether a packet of these chunks has the right verification tag, which depends on its first chunk: the sender of an INIT knows no tag yet, and an
 /// ABORT or a SHUTDOWN COMPLETE with the T bit has the tag of the packet that it answers (RFC 9260, 8.5.1).
+#[inline(always)]
 pub(crate) fn passes(machine: &Machine, tag: u32, chunks: &Chunks<'_>) -> bool
     ensures { (v : EndView) → MachineStands machine.now v → result ≡ passes_chunks v.phase tag chunks.now }
 {

@@ -42,6 +42,7 @@ impl Endpoint {
     /// Returns the memory of a message that was taken: its bytes are dropped, and user data received later may be kept in its blocks in place of new
     /// allocations. `sctp_recv::Receiver::give_back` says how many blocks are kept. Calling it is optional, and no other result depends on it. It
     /// allocates no memory.
+    #[inline(always)]
     pub fn give_back(&mut self, message: Message)
         ensures stands { (v : EndView) → EndpointStands self.old v → EndpointStands self.new v }
         ensures counts { counted self.new ≡ counted self.old }

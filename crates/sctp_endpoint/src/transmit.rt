@@ -33,6 +33,7 @@ impl Endpoint {
     ///
     /// # Errors
     /// `NoMemory` if an allocation failed: nothing changed, not even the time.
+    #[inline(always)]
     pub fn poll_transmit(&mut self, now: u64) -> Result<Option<Sent>, NoMemory>
         ensures step { (v : EndView) → EndpointStands self.old v → IfOk result (λ sent. Transmits (at_moment v now) sent self.new) }
         ensures refused { (v : EndView) → EndpointStands self.old v → OnErr result (EndpointStands self.new v) }

@@ -176,6 +176,7 @@ impl<F: Framing> Receiver<F> {
     /// Takes the first message that waits on a stream: None if and only if none waits, as on a stream that doesn't exist. It is inlined, since it runs for each
     /// message.
     #[inline(always)]
+    #[inline(always)]
     pub fn take(&mut self, stream: u16) -> Option<Message>
         ensures { (v : ReceiverView) → StandsFor F.format self.old v
             → (t : ReceiverView) × TakeLeaves v stream (option_map handed_of result) t × StandsFor F.format self.new t }
@@ -201,6 +202,7 @@ impl<F: Framing> Receiver<F> {
     /// as many messages as waited at once since the first one was returned (those delivered by a FORWARD aren't counted), in blocks of no more bytes
     /// than its buffer, and of half as many where for long few wait. It frees the rest, and a block that the next chunk doesn't fit or would fill by less
     /// than half. Nothing is allocated.
+    #[inline(always)]
     pub fn give_back(&mut self, message: Message)
         ensures { (v : ReceiverView) → StandsFor F.format self.old v → StandsFor F.format self.new v }
     {

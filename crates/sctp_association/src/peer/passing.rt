@@ -14,6 +14,7 @@ use crate::state::stage::Tags;
 impl Machine {
     /// A packet with this tag is accepted: the tag is the endpoint's own, or its peer's if `reflected`, that is, if the packet's ABORT or SHUTDOWN
     /// COMPLETE has the T bit set (RFC 9260, 8.5.1). Without an association every tag is accepted.
+    #[inline(always)]
     pub fn passes_tag(&self, reflected: bool, tag: u32) -> bool
         ensures { (v : EndView) → MachineStands self.now v → result ≡ passes_tag v.phase reflected tag }
     {

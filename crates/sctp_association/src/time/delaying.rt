@@ -49,6 +49,7 @@ impl Machine {
     /// SACK is due, and in SHUTDOWN-SENT the SHUTDOWN again; or a SACK is delayed by 200 ms, if the endpoint delays SACKs and none is owed yet. With
     /// standard closing, data in SHUTDOWN-SENT restarts the SHUTDOWN's timer and its count. Nothing if the association isn't open (RFC 9260, 6.2
     /// and 9.2).
+    #[inline(always)]
     pub fn acknowledge(&mut self, at_once: bool, brings_data: bool)
         ensures { (v : EndView) (n : Notes) → n.at_once ≡ at_once → n.brings_data ≡ brings_data → MachineStands self.old v
             → MachineStands self.new (acknowledges_in n true v.phase v) }

@@ -189,6 +189,7 @@ impl Machine {
     ///
     /// # Errors
     /// Why it is refused; nothing changed.
+    #[inline(always)]
     pub(crate) fn queue(
         &mut self,
         stream: u16,
@@ -210,6 +211,7 @@ impl Machine {
     }
 
     /// Takes the next message of a stream; None if there is none (RFC 9260, 11.1.6). It doesn't allocate.
+    #[inline(always)]
     pub fn take(&mut self, stream: u16) -> Option<Message>
         ensures { (v : EndView) → MachineStands self.old v → (t : EndView) × UserTakes v stream (option_map handed_of result) t × MachineStands self.new t }
     {

@@ -138,6 +138,7 @@ impl Traffic {
     }
 
     /// Takes the next message of a stream (RFC 9260, 11.1.6).
+    #[inline(always)]
     pub(crate) fn take(&mut self, stream: u16) -> Option<Message>
         ensures { (f : Format) (s : SenderView) (r : ReceiverView) → TrafficStands self.old f s r → (t : ReceiverView) × TakeLeaves r stream (option_map handed_of result) t × TrafficStands self.new f s t }
     {
@@ -148,6 +149,7 @@ impl Traffic {
     }
 
     /// Hands back a message that was taken: no view of the receiver changes.
+    #[inline(always)]
     pub(crate) fn give_back(&mut self, message: Message)
         ensures { (f : Format) (s : SenderView) (r : ReceiverView) → TrafficStands self.old f s r → TrafficStands self.new f s r }
     {

@@ -67,6 +67,7 @@ impl Traffic {
     }
 
     /// No message is queued, and all is acknowledged (RFC 9260, 9.2).
+    #[inline(always)]
     pub(crate) fn drained(&self) -> bool
         ensures { (f : Format) (s : SenderView) (r : ReceiverView) → TrafficStands self.now f s r → result ≡ drained s }
     {

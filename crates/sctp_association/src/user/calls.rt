@@ -68,6 +68,7 @@ impl Machine {
     /// # Errors
     /// `NotOpen` if the association isn't established, before every other reason; else the sender's first reason. Nothing changed; the bytes are
     /// dropped.
+    #[inline(always)]
     pub fn send(
         &mut self,
         stream: u16,
@@ -115,6 +116,7 @@ impl Machine {
     ///
     /// # Errors
     /// As `send`.
+    #[inline(always)]
     fn accept(
         &mut self,
         stream: u16,

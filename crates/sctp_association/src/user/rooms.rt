@@ -42,6 +42,7 @@ impl Machine {
     }
 
     /// Hands back a message that was taken: its bytes are forgotten, and its memory may be used for the next received data. It doesn't allocate.
+    #[inline(always)]
     pub fn give_back(&mut self, message: Message)
         ensures { (v : EndView) → MachineStands self.old v → MachineStands self.new v }
     {
