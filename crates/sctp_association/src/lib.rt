@@ -61,7 +61,7 @@
 //!   20 bytes (`packets_begin_few`). The headline theorem uses them.
 //! - **Buffers that the user hands back** change no view. Of packets the larger buffer is kept, never one above the packet limit (`recycle`, clauses `kept`
 //!   and `within`); that the next packet is made in it, its tickets in a buffer of tickets (`recycle_tickets`), and received data in a message's memory
-//!   (`give_back`), is only measured.
+//!   (`give_back`), is only measured, as is what `trim` frees.
 //!
 //! What a body may still get away with: calls that allocate could always fail. That they succeed is only tested, by the rows of `sctp_rows`.
 #![tactic(auto)]

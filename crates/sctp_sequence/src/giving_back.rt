@@ -10,7 +10,7 @@ const MANY: usize = 128;
 /// Memory for at least so many is kept.
 const FEW: usize = 64;
 
-/// Memory for so many items is to be given back, if so many are there.
+/// Of the memory for `room` items less than an eighth is used.
 #[inline(always)]
 pub fn is_roomy(room: usize, items: usize) -> bool {
     room > MANY && items < room / 8
