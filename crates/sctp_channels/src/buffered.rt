@@ -78,6 +78,7 @@ impl Channels {
     }
 
     /// The buffered amount of the stream is low.
+    #[inline(never)]
     fn is_low(&self, stream: u16) -> bool
         ensures { (v : EndView) (x : Table) → ChannelsStand self.now v x → result ≡ is_low v x stream }
     {

@@ -65,6 +65,7 @@ impl Channels {
     ///
     /// # Errors
     /// `NoMemory` if an allocation failed: nothing changed.
+    #[inline(never)]
     fn settle_one(&mut self, stream: u16) -> Result<(), NoMemory>
         ensures { (v : EndView) (x : Table) → ChannelsStand self.old v x → SettlesOne v x stream result self.new }
     {

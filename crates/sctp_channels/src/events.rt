@@ -73,6 +73,7 @@ impl Channels {
     }
 
     /// The channel of the stream is closed (RFC 8831, 6.7).
+    #[inline(never)]
     fn is_closed(&self, stream: u16) -> bool
         ensures { (v : EndView) (x : Table) → ChannelsStand self.now v x → result ≡ is_closed v x stream }
     {

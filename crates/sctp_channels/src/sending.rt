@@ -82,6 +82,7 @@ impl Channels {
     ///
     /// # Errors
     /// The endpoint refuses it, or an allocation failed: nothing changed.
+    #[inline(never)]
     fn acknowledge(&mut self, stream: u16, kept: Stream) -> Result<Stream, Refused>
         ensures { (v : EndView) (x : Table) → ChannelsStand self.old v x → AcksOn v x stream kept result self.new }
     {
@@ -99,6 +100,7 @@ impl Channels {
     ///
     /// # Errors
     /// The endpoint refuses it, or an allocation failed: nothing changed.
+    #[inline(always)]
     fn send_on(
         &mut self,
         now: u64,

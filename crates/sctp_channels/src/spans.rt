@@ -11,6 +11,7 @@ use crate::table::Table;
 
 impl Table {
     /// The channel of the stream is being closed, something of it is due, or its amount was above its threshold.
+    #[inline(never)]
     fn is_busy(&self, stream: u16) -> bool
         ensures { result ≡ is_busy (stream_at (table_meaning self.now) stream) (threshold_at (table_meaning self.now) stream) }
     {
