@@ -1,8 +1,9 @@
 #!/bin/sh
 # Counts instructions by callgrind, of programs that `rt run` proves and builds: what a byte of crc32c takes (beside the same loop in C at -O2), and what a
 # receiver and a sender take for a message; what an endpoint adds to that; what an end takes at rest; what calls of a receiver and of a sender take that keep much; and what one packet
-# of each chunk costs an end at the most. `./run.sh` runs all, `./run.sh crc32c`, `./run.sh receiver`, `./run.sh sender`, `./run.sh endpoint`, `./run.sh rest`, `./run.sh growth`,
+# of each chunk costs an end at the most. `./run.sh` runs all, `./run.sh crc32c`, `./run.sh receiver`, `./run.sh sender`, `./run.sh endpoint`, `./run.sh channels`, `./run.sh rest`, `./run.sh growth`,
 # `./run.sh groups` and `./run.sh packets` one of them. Needs rt, valgrind, cc and python3.
+# `./run.sh dearest` looks for dear packets over the library for C, which `rt lib` makes; `./run.sh` leaves it out.
 # `./run.sh usrsctp` counts the endpoint's messages over two ends of usrsctp: of Debian's library, libusrsctp-dev, and where USRSCTP_SOURCE names the folder of
 # its source package's sources (`apt-get source libusrsctp`), of these at -O2. It needs no rt, and `./run.sh` leaves it out.
 set -e
@@ -106,6 +107,18 @@ endpoint() {
     for over in ends interleaved; do
         for streams in 32 1024; do
             each "$over: a message of 64 bytes, 9.5 to a packet, on the last of $streams streams" 100 300 19 "$built" "$over" 19 64 "$streams"
+        done
+    done
+}
+
+# what a channel adds to a message: the same messages over two ends with a channel, and without
+channels() {
+    # shellcheck disable=SC2086
+    build channels $end sctp_dcep sctp_channels
+    for over in ends channels; do
+        for streams in 1 1024; do
+            each "$over: a message of 64 bytes, 9.5 to a packet, on the last of $streams streams" 100 300 19 "$built" "$over" 19 64 "$streams"
+            each "$over: a message of 64 bytes, one to a packet, on the last of $streams streams" 1000 3000 1 "$built" "$over" 1 64 "$streams"
         done
     done
 }
@@ -280,7 +293,21 @@ packets() {
     done
 }
 
+# looks for dear packets for some minutes over the library for C, which `rt lib` made in crates/sctp_c, and counts the dearest of each kind that it found
+dearest() {
+    "$here/../install.sh" "$work/prefix" > "$work/log"
+    cc -O2 -I"$work/prefix/include" -o "$work/dearest" "$here/dearest.c" "$work/prefix/lib/libsctp_endpoint.a" "$work/prefix/lib/libsctp_endpoint_malloc.a"
+    "$work/dearest" search 300 1 > "$work/found"
+    within=counted
+    sort -rn "$work/found" | awk -F': ' 'NF == 2 && !seen[$2]++' | head -n 20 | while read -r line; do
+        seed=${line#*seed }
+        echo "$line: $(count "$work/dearest" "${seed%%:*}" heard) instructions"
+    done
+    within=
+    tail -n 1 "$work/found"
+}
+
 case ${1:-all} in
-    all) crc32c; receiver; sender; endpoint; groups; rest; growth; packets ;;
+    all) crc32c; receiver; sender; endpoint; channels; groups; rest; growth; packets ;;
     *) "$1" ;;
 esac

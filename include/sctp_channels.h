@@ -168,6 +168,8 @@ uint32_t sctp_channels_poll_transmit(struct sctp_channels *channels, uint64_t no
 /* Call it also at the end of the lifetimes of a channel with SCTP_CH_MAX_PACKET_LIFETIME: each turn of the loop will do. */
 uint32_t sctp_channels_on_moment(struct sctp_channels *channels, uint64_t now);
 
+uint32_t sctp_channels_trim(struct sctp_channels *channels);
+
 /* A browser doesn't report a shutdown to its page: sctp_channels_abort is what it expects. */
 uint32_t sctp_channels_shutdown(struct sctp_channels *channels);
 

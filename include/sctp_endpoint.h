@@ -289,6 +289,12 @@ uint32_t sctp_endpoint_resetting(struct sctp_endpoint *handle, uint16_t stream, 
  * ready on it were sent before the reset: the first ones. The numbers of messages (struct sctp_endpoint_message) count on. MISUSE, NOTHING. */
 uint32_t sctp_endpoint_take_reset(struct sctp_endpoint *handle, uint16_t *stream, uint64_t *earlier);
 
+/* ---- memory */
+
+/* Gives back memory that a burst of messages took: of sent ones where less than an eighth is used, of received ones all that isn't. It is for an
+ * endpoint that is idle: of one that has such bursts again and again each would allocate anew. No result of another call depends on it. MISUSE. */
+uint32_t sctp_endpoint_trim(struct sctp_endpoint *handle);
+
 /* ---- closing */
 
 /* Closes the association gracefully: no more messages are accepted, those that were are still delivered. MISUSE, NOT_OPEN. */

@@ -37,8 +37,12 @@ told=$("$at/channels_refused"); say "$told"
 [ "$("$at/two" | tail -n 2)" = "$(printf 'server, channel 0: closed\nclient, channel 0: closed')" ]
 say "channels: misuse, buffers, two ends in one program"
 "$cc" "${flags[@]}" -o "$at/kept" tests/c/kept.c "$prefix/lib/libsctp_endpoint.a"
-kept=$("$at/kept" 10000000); say "ten million messages that are over leave $kept bytes at both ends"
-[ "$kept" -le 65536 ]
+for row in "10000000 19 1 65536" "1024 1024 1 32768" "32767 32767 1 65536" "1024 1024 10000 32768"; do
+    read -r many at_once associations most <<< "$row"
+    read -r stayed trimmed <<< "$("$at/kept" "$many" "$at_once" "$associations")"
+    say "$many messages that are over, $at_once at once, in each of $associations associations: $stayed bytes more at both ends, after trim $trimmed; $most wanted at most"
+    [ "$trimmed" -le "$most" ]
+done
 "$cc" "${flags[@]}" -o "$at/buffer" tests/c/buffer.c "${static[@]}"
 for sizes in 17 64 "17 1114112"; do
     # shellcheck disable=SC2086
@@ -115,16 +119,16 @@ if there valgrind "valgrind"; then
         say "$1: $2 instructions a message, $more more than over two endpoints called directly; $3 more are wanted at most"
         [ "$more" -le "$3" ]
     }
-    compare "64 bytes, 9.5 to a packet" "$(cost 19 64)" 400
-    compare "the same as I-DATA" "$(cost 19 64 i)" 450
-    compare "64 bytes, one to a packet" "$(cost 1 64)" 850
-    compare "16 KiB" "$(($(cost 1 16384) - $(cost 1 16384 b)))" 12500
+    compare "64 bytes, 9.5 to a packet" "$(cost 19 64)" 200
+    compare "the same as I-DATA" "$(cost 19 64 i)" 300
+    compare "64 bytes, one to a packet" "$(cost 1 64)" 600
+    compare "16 KiB" "$(($(cost 1 16384) - $(cost 1 16384 b)))" 12000
     "$cc" "${flags[@]}" -o "$at/channels_cost" tests/c/channels_cost.c "${static[@]}"
     counted() { valgrind --tool=callgrind --callgrind-out-file=/dev/null "$at/channels_cost" "$@" 2>&1 | sed -n 's/.*Collected : \([0-9]*\).*/\1/p'; }
-    for row in "19 1 330" "19 1024 350" "1 1 480" "1 1024 500"; do
+    for row in "19 1 150" "19 1024 180" "1 1 150" "1 1024 185"; do
         read -r many streams most <<< "$row"
         more=$((($(counted "$many" 64 300 "$streams") - $(counted "$many" 64 100 "$streams")) / 200 / many - $(cost "$many" 64)))
-        say "64 bytes, $many at once, on the last of $streams channels: $more instructions more than over an endpoint; $most more at most, 150 are aimed at"
+        say "64 bytes, $many at once, on the last of $streams channels: $more instructions more than over an endpoint; $most more are wanted at most"
         [ "$more" -le "$most" ]
     done
     unset GLIBC_TUNABLES

@@ -189,6 +189,7 @@ compile() {
         fi
         left=$later
     done
+    fresh "$crate"
     echo "$crate: $((count - failed)) of $count edits compile"
     [ $failed = 0 ]
 }

@@ -167,6 +167,7 @@ _calls = {
     "handle_packet": (_channels, c_uint64, c_char_p, c_size_t, POINTER(Draw), _bytes, c_size_t, POINTER(_Verdict)),
     "poll_transmit": (_channels, c_uint64, _bytes, c_size_t, _u64s, c_size_t, POINTER(_Sent)),
     "on_moment": (_channels, c_uint64),
+    "trim": (_channels,),
     "shutdown": (_channels,),
     "abort": (_channels, c_char_p, c_size_t, _bytes, c_size_t, POINTER(c_size_t)),
     "status": (_channels, POINTER(_Status)),

@@ -393,6 +393,7 @@ _calls = {
     "reset": (_end, c_uint16),
     "resetting": (_end, c_uint16, POINTER(c_bool)),
     "take_reset": (_end, POINTER(c_uint16), POINTER(c_uint64)),
+    "trim": (_end,),
     "shutdown": (_end,),
     "abort": (_end, c_char_p, c_size_t, _bytes, c_size_t, POINTER(c_size_t)),
     "status": (_end, POINTER(_Status)),
@@ -504,6 +505,11 @@ class _Association:
         fate = c_uint32()
         self._do("abandon", _number(ticket, 64, "ticket"), byref(fate))
         return Fate(fate.value)
+
+    def trim(self) -> None:
+        """Gives back memory that a burst of messages took and that isn't used. It is for an endpoint that is idle: of one that has such bursts again and
+        again each would allocate anew."""
+        self._do("trim")
 
     def shutdown(self) -> None:
         """Closes gracefully: no more messages are accepted, those that were are still delivered. Once `ended` is COMPLETED, go on passing in

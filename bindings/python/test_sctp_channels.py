@@ -54,6 +54,7 @@ class Talk(unittest.TestCase):
                 client.send(0, 0, content)
                 exchange(client, server)
                 self.told(server, MessageReceived(0, content))
+            server.trim()
             server.send(0, 0, "ho")
             client.close(0)
             self.refused(Result.NO_CHANNEL, client.close, 0)

@@ -40,6 +40,8 @@ class Talk(unittest.TestCase):
         status = caller.status()
         self.assertEqual([status.queued, status.queued_bytes, status.peer_window], [2, 65538, 4 << 20])
         self.assertEqual(exchange(caller, listener, 10), [1, 2])
+        caller.trim()
+        listener.trim()
         self.assertEqual([listener.readable(), listener.readable(4), listener.readable(5)], [3, 4, None])
         self.assertEqual(tuple(listener.take(3)), (3, True, 0, 51, b"Hi"))
         self.assertEqual(listener.status().held_bytes, 65536)

@@ -56,6 +56,7 @@ static int nothing_there(struct sctp_channels *a) {
     HOLDS(sctp_channels_handle_packet(a, 0, NULL, 0, &own, answer, sizeof answer, &verdict) == SCTP_EP_MISUSE);
     HOLDS(sctp_channels_poll_transmit(a, 0, room, sizeof room, NULL, 0, &sent) == SCTP_EP_MISUSE);
     HOLDS(sctp_channels_on_moment(a, 0) == SCTP_EP_MISUSE && sctp_channels_shutdown(a) == SCTP_EP_MISUSE);
+    HOLDS(sctp_channels_trim(a) == SCTP_EP_MISUSE);
     HOLDS(sctp_channels_abort(a, NULL, 0, room, sizeof room, &length) == SCTP_EP_MISUSE);
     HOLDS(sctp_channels_status(a, &status) == SCTP_EP_MISUSE && sctp_channels_path(a, &path) == SCTP_EP_MISUSE);
     HOLDS(sctp_channels_counts(a, &counts) == SCTP_EP_MISUSE && !a->full);
@@ -95,9 +96,10 @@ static int events_fit(struct sctp_channels *a, struct sctp_channels *b) {
     HOLDS(sctp_channels_next_event(b, &event.it, buffer, 8) == SCTP_EP_OK && event.it.kind == SCTP_CH_MESSAGE && event.it.text);
     HOLDS(memcmp(buffer, "12345678", 8) == 0 && event.it.length == 8 && event.it.label_length == 0);
     HOLDS(sctp_channels_next_event(b, &event.it, NULL, 0) == SCTP_EP_OK && event.it.kind == SCTP_CH_MESSAGE && !event.it.text && event.it.length == 0);
-    /* one that waits is freed with its channels */
+    /* one that waits stays, and is freed with its channels */
     HOLDS(sctp_channels_send(a, 0, 0, true, (const uint8_t *)"12345678", 8, &ticket) == SCTP_EP_OK && exchange(a, b) == 0);
-    HOLDS(sctp_channels_next_event(b, &event.it, NULL, 0) == SCTP_EP_NEEDS_ROOM);
+    HOLDS(sctp_channels_next_event(b, &event.it, NULL, 0) == SCTP_EP_NEEDS_ROOM && sctp_channels_trim(b) == SCTP_EP_OK);
+    HOLDS(sctp_channels_next_event(b, &event.it, NULL, 0) == SCTP_EP_NEEDS_ROOM && event.it.length == 8);
     return 0;
 }
 

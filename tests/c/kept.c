@@ -1,18 +1,19 @@
-/* What stays of messages that are over: kept MANY [AT ONCE]. After MANY messages of a byte, each acknowledged and taken, 19 at a time or so many at once, it
- * prints how many bytes both ends hold more than after the first 19 of them. The allocator is the program's own, which counts, so no libsctp_endpoint_malloc.a is linked. */
+/* What stays of messages that are over: kept MANY [AT ONCE [ASSOCIATIONS]]. In each association, one after the other (1), MANY messages of a byte are sent,
+ * acknowledged and taken, 19 at a time or so many at once. Then it prints how many bytes both ends of an association hold more than before its first message:
+ * as they are, and after sctp_endpoint_trim at both. The allocator is the program's own, which counts, so no libsctp_endpoint_malloc.a is linked. */
 #include "sctp_endpoint.h"
 #include <stdio.h>
 #include <stdlib.h>
 #include <string.h>
 
-enum { AT_A_TIME = 19, QUEUE = 1024, HEAD = 16 }; /* messages, and how many wait at most; bytes before a block, which hold its size */
+enum { AT_A_TIME = 19, QUEUE = 1024, HEAD = 16, MOST = 10000 }; /* messages, and how many wait at most; bytes before a block, which hold its size; associations */
 
 struct sctp_endpoint_block rattle_alloc(size_t size, size_t alignment);
 struct sctp_endpoint_block rattle_realloc(void *at, size_t old_size, size_t size, size_t alignment);
 void rattle_dealloc(void *at);
 
 static long held;
-static struct sctp_endpoint ends[2];
+static struct sctp_endpoint associations[MOST][2];
 
 static struct sctp_endpoint_block counted(char *at, size_t size) {
     struct sctp_endpoint_block block = { at != NULL, at ? at + HEAD : (char *)&held };
@@ -51,7 +52,7 @@ static bool carry(struct sctp_endpoint *from, struct sctp_endpoint *to) {
 }
 
 /* So many messages go, are taken and are acknowledged; how many were. No SACK is sent before all of them have gone. */
-static long turn(long many) {
+static long turn(struct sctp_endpoint *ends, long many) {
     struct sctp_endpoint_message told = { 0 };
     uint8_t byte = 7;
     uint64_t ticket = 0;
@@ -66,21 +67,31 @@ static long turn(long many) {
     return taken;
 }
 
-int main(int argc, char **argv) {
+static bool opened(struct sctp_endpoint *ends) {
     static const struct sctp_endpoint_draw draws[2] = { { 7, 100, 0 }, { 9, 500, 0 } };
     struct sctp_endpoint_config config = SCTP_ENDPOINT_CONFIG(5000, 5001);
-    long many = argc > 1 ? atol(argv[1]) : 0, at_once = argc > 2 ? atol(argv[2]) : AT_A_TIME, taken;
-    if (sctp_endpoint_opened(&ends[0], &config, &draws[0], &draws[1])) return 1;
+    if (sctp_endpoint_opened(&ends[0], &config, &draws[0], &draws[1])) return false;
     config.own_port = 5001, config.peer_port = 5000;
-    if (sctp_endpoint_opened(&ends[1], &config, &draws[1], &draws[0])) return 1;
-    taken = turn(AT_A_TIME);
-    long first = held;
-    while (taken < many) {
-        long more = turn(many - taken < at_once ? many - taken : at_once);
-        if (more == 0) return 1;
-        taken += more;
+    return sctp_endpoint_opened(&ends[1], &config, &draws[1], &draws[0]) == SCTP_EP_OK;
+}
+
+int main(int argc, char **argv) {
+    long many = argc > 1 ? atol(argv[1]) : 0, at_once = argc > 2 ? atol(argv[2]) : AT_A_TIME, count = argc > 3 ? atol(argv[3]) : 1, stayed = 0;
+    if (count < 1 || count > MOST) return 1;
+    for (long i = 0; i < count; i++)
+        if (!opened(associations[i])) return 1;
+    long idle = held;
+    for (long i = 0; i < count; i++) {
+        long before = held, taken = 0;
+        while (taken < many) {
+            long more = turn(associations[i], many - taken < at_once ? many - taken : at_once);
+            if (more == 0) return 1;
+            taken += more;
+        }
+        stayed += held - before;
+        if (sctp_endpoint_trim(&associations[i][0]) || sctp_endpoint_trim(&associations[i][1])) return 1;
     }
-    printf("%ld\n", held - first);
-    sctp_endpoint_free(&ends[0]), sctp_endpoint_free(&ends[1]);
+    printf("%ld %ld\n", stayed / count, (held - idle) / count);
+    for (long i = 0; i < count; i++) sctp_endpoint_free(&associations[i][0]), sctp_endpoint_free(&associations[i][1]);
     return held != 0;
 }

@@ -51,6 +51,7 @@ int main(void) {
     HOLDS(sctp_endpoint_send(&a, 0, true, 0, text, 7, SCTP_EP_NEVER, &ticket) == SCTP_EP_MISUSE);
     HOLDS(sctp_endpoint_send_with_max_retransmits(&a, 0, true, 0, text, 7, SCTP_EP_NEVER, 0, &ticket) == SCTP_EP_MISUSE);
     HOLDS(sctp_endpoint_on_moment(&a, 0) == SCTP_EP_MISUSE && sctp_endpoint_abandon(&a, 1, &fate) == SCTP_EP_MISUSE);
+    HOLDS(sctp_endpoint_trim(&a) == SCTP_EP_MISUSE);
     HOLDS(sctp_endpoint_acknowledged(&a, 1, &is) == SCTP_EP_MISUSE && sctp_endpoint_abandoned(&a, 1, &is) == SCTP_EP_MISUSE);
     HOLDS(sctp_endpoint_abort(&a, text, 7, room, sizeof room, &length) == SCTP_EP_MISUSE);
     sctp_endpoint_free(&a);
@@ -148,6 +149,7 @@ int main(void) {
     HOLDS(message.it.stream == 3 && !message.it.ordered && message.it.payload_id == 51 && message.it.length == 7);
     HOLDS(message.it.reserved[0] == 0 && message.it.reserved[3] == 0 && is_kept(message.bytes, sizeof message.it, sizeof message.bytes));
     HOLDS(sctp_endpoint_peek(&b, 3, &message.it) == SCTP_EP_NOTHING);
+    HOLDS(sctp_endpoint_trim(&b) == SCTP_EP_OK && sctp_endpoint_peek(&b, 4, &message.it) == SCTP_EP_OK && message.it.length == 6);
 
     /* Resets, which weren't asked for. */
     HOLDS(sctp_endpoint_reset(&a, 3) == SCTP_EP_BAD_STATE && sctp_endpoint_reset(&other, 3) == SCTP_EP_MISUSE);

@@ -247,6 +247,10 @@ class Case:
             sender.cum, sender.point(), sender.outstanding(), ' drained' if sender.drained() else '',
             ' unsettled' if sender.unsettled() else '')
 
+    def on_trim(self):
+        self.of(self.sender)
+        return 'ok'
+
     # ---- A receiver ----
 
     def on_receiver(self, tsn, streams, buffer):
@@ -319,6 +323,11 @@ class Case:
             message.payload_id, message.parts, len(message.data), message.data[:16].hex(),
             '..' if len(message.data) > 16 else '', wire.crc32c(message.data))
 
+    def on_next_readable(self, start):
+        start, streams = number(start, 65535), sorted({message.stream for message in self.of(self.receiver).waiting})
+        found = [stream for stream in streams if stream >= start] + streams
+        return 'stream %d' % found[0] if found else 'nothing'
+
     def on_tell(self):
         receiver = self.of(self.receiver)
         written = receiver.sack()
@@ -334,6 +343,10 @@ class Case:
         receiver = self.of(self.receiver)
         runs = sum(1 for index in receiver.seen if index - 1 not in receiver.seen)
         return 'cumulative %d held %d runs %d' % (receiver.tsn(receiver.c), receiver.held, runs)
+
+    def on_trim_receiver(self):
+        self.of(self.receiver)
+        return 'ok'
 
     # ---- Resets of streams: at a sender ----
 
@@ -391,6 +404,9 @@ class Case:
     def on_take_reset(self):
         found = self.of(self.receiver).resets.take_reset()
         return 'nothing' if found is None else 'reset %d %d' % found
+
+    def on_has_reset(self):
+        return str(bool(self.of(self.receiver).resets.told)).lower()
 
     # ---- Resets of streams: from one to the other ----
 

@@ -183,6 +183,9 @@ class Ends:
                                     '-' if moment is None else moment, sender.streams if sender else 0,
                                     receiver.streams if receiver else 0)]
 
+    def do_trim(self, *_):
+        return ['ok']
+
     # ---- Channels ----
 
     def do_open(self, side, over, stream, order, limits, priority, label, protocol):

@@ -232,6 +232,12 @@ impl Channels {
         debug_assert_eq!(result, OK);
     }
 
+    /// Gives back memory that a burst of messages took, as `Endpoint::trim`.
+    pub fn trim(&mut self) {
+        let result = unsafe { raw::sctp_channels_trim(&mut self.0) };
+        debug_assert_eq!(result, OK);
+    }
+
     /// Closes the association gracefully. A browser doesn't report it to its page: `abort` is what it expects.
     pub fn shutdown(&mut self) -> Result<(), Error> {
         checked(unsafe { raw::sctp_channels_shutdown(&mut self.0) })

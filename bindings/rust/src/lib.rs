@@ -163,6 +163,13 @@ impl Endpoint {
         debug_assert_eq!(result, OK);
     }
 
+    /// Gives back memory that a burst of messages took and that isn't used. It is for an endpoint that is idle: of one that has such bursts again and
+    /// again each would allocate anew.
+    pub fn trim(&mut self) {
+        let result = unsafe { raw::sctp_endpoint_trim(&mut self.0) };
+        debug_assert_eq!(result, OK);
+    }
+
     /// Closes gracefully: no more messages are accepted, those that were are still delivered.
     pub fn shutdown(&mut self) -> Result<(), Error> {
         checked(unsafe { raw::sctp_endpoint_shutdown(&mut self.0) })

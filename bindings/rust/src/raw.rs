@@ -222,6 +222,7 @@ extern "C" {
     pub fn sctp_endpoint_reset(handle: *mut Handle, stream: u16) -> u32;
     pub fn sctp_endpoint_resetting(handle: *mut Handle, stream: u16, is: *mut bool) -> u32;
     pub fn sctp_endpoint_take_reset(handle: *mut Handle, stream: *mut u16, earlier: *mut u64) -> u32;
+    pub fn sctp_endpoint_trim(handle: *mut Handle) -> u32;
     pub fn sctp_endpoint_shutdown(handle: *mut Handle) -> u32;
     pub fn sctp_endpoint_abort(
         handle: *mut Handle,
@@ -307,6 +308,7 @@ extern "C" {
         sent: *mut Sent,
     ) -> u32;
     pub fn sctp_channels_on_moment(channels: *mut Channels, now: u64) -> u32;
+    pub fn sctp_channels_trim(channels: *mut Channels) -> u32;
     pub fn sctp_channels_shutdown(channels: *mut Channels) -> u32;
     pub fn sctp_channels_abort(
         channels: *mut Channels,

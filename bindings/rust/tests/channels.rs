@@ -57,6 +57,7 @@ fn a_channel_is_opened_used_and_closed_twice() {
             };
             assert_eq!(events(&mut server), [Event::Message { stream: 0, text, bytes: bytes.to_vec() }]);
         }
+        server.trim();
         server.send(0, 0, Content::Text("ho")).unwrap();
         client.close(0).unwrap();
         assert_eq!(client.close(0), Err(Error::NoChannel));

@@ -37,6 +37,8 @@ fn two_endpoints_open_talk_and_close() {
     assert_eq!(caller.send(4, false, 52, &long, None), Ok(2));
     assert_eq!((caller.status().queued, caller.status().queued_bytes, caller.status().peer_window), (2, 65_538, 4 << 20));
     assert_eq!(exchange(&mut caller, &mut listener, 10), [1, 2]);
+    caller.trim();
+    listener.trim();
     assert_eq!((listener.readable(0), listener.readable(4), listener.readable(5)), (Some(3), Some(4), None));
     let hi = listener.take(3).unwrap();
     assert_eq!((hi.stream, hi.ordered, hi.number, hi.payload_id, &hi.bytes[..]), (3, true, Some(0), 51, &b"Hi"[..]));

@@ -27,6 +27,7 @@ ghost use Rattle.sctp_association.specs.BuildAnswers.{BuildAnswer};
 
 use crate::build::filling::{fill_behind, filled_none};
 use crate::build::packing::Packing;
+use crate::build::plain::apart;
 use crate::build::putting::{put_echoing, put_open};
 use crate::machine::Machine;
 use crate::state::carried::EchoedCookie;
@@ -66,7 +67,7 @@ impl Machine {
         if self.is_plain() {
             return self.build_plain(moment);
         }
-        self.build_any(moment)
+        apart(self.build_any(moment))
     }
 
     /// The next packet at this time, which isn't before the latest one, whatever chunks are due.

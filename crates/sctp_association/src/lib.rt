@@ -51,9 +51,9 @@
 //! - **The user's calls** are refused exactly as specified: `connect`, `send`, `send_with_max_retransmits`, `abandon`, `shutdown`, `reset`,
 //!   `abort`, `take`.
 //! - **Readers** return what the view says, before, in and after an association: `state`, `ended`, `config`, `agreed` (None exactly if no stream is agreed
-//!   on), `tickets`, `waiting`, `readable`, `inbound`, `outbound`, `is_interleaved`, `is_partial`, `has_late`, `next_late`, `next_to_give_up`,
+//!   on), `tickets`, `waiting`, `readable`, `next_readable`, `inbound`, `outbound`, `is_interleaved`, `is_partial`, `has_late`, `next_late`, `next_to_give_up`,
 //!   `next_at_limit`, `acknowledged`, `abandoned`, `abandoned_messages`, `owes_sack`, `queued`, `queued_bytes`,
-//!   `queued_bytes_on`, `peer_window`, `held_bytes`, `outstanding`, `is_resetting`, `resetting_streams`.
+//!   `queued_bytes_on`, `peer_window`, `held_bytes`, `outstanding`, `is_resetting`, `has_reset`, `resetting_streams`.
 //! - **Bounds.** Received bytes that aren't taken never exceed the receive buffer (`held_bytes`, `bound`); at most 32,767 TSNs and partly sent messages are
 //!   outstanding (`outstanding`, `bound`).
 //! - **Laws of every view** that an endpoint stands for (their functions do nothing): it is sound (`sound`), its sender's view is one that a
@@ -61,7 +61,7 @@
 //!   20 bytes (`packets_begin_few`). The headline theorem uses them.
 //! - **Buffers that the user hands back** change no view. Of packets the larger buffer is kept, never one above the packet limit (`recycle`, clauses `kept`
 //!   and `within`); that the next packet is made in it, its tickets in a buffer of tickets (`recycle_tickets`), and received data in a message's memory
-//!   (`give_back`), is only measured, as is what `trim` frees.
+//!   (`give_back`), is only measured, as is what `trim` frees. `take_buffer` returns the buffer of a message that is over, or none.
 //!
 //! What a body may still get away with: calls that allocate could always fail. That they succeed is only tested, by the rows of `sctp_rows`.
 #![tactic(auto)]

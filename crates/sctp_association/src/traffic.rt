@@ -1,6 +1,7 @@
 //! Sender and receiver of an association, in the format that both endpoints agreed on: DATA, or I-DATA. Nothing above names a format.
 
 pub mod acknowledging;
+pub mod buffers;
 pub mod pacing;
 pub mod parts;
 pub mod receiving;

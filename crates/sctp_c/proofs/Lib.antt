@@ -2,5 +2,6 @@ mod Apart
 mod HandingBack
 mod BufferLemmas
 mod ChannelLemmas
+mod EventLemmas
 mod SendLemmas
 mod TicketLemmas

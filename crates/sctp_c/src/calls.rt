@@ -1,4 +1,4 @@
-//! What C's user calls: connect, shutdown, abandon; and the current time (RFC 9260, 11.1).
+//! What C's user calls: connect, shutdown, abandon, trim; and the current time (RFC 9260, 11.1).
 
 ghost use Rattle.std.specs.Prelude.{◌≡◌, ◌<◌, true, None, take};
 ghost use Rattle.sctp_model.specs.end.EndView.{EndView};
@@ -80,6 +80,21 @@ pub extern "C" fn sctp_endpoint_on_moment(handle: &mut SctpEndpoint, now: u64) -
     }
     let end = handle.slot.lend();
     end.on_moment(now);
+    OK
+}
+
+/// Gives back memory that a burst of messages took and that isn't used. It is for an endpoint that is idle.
+#[unsafe(no_mangle)]
+pub extern "C" fn sctp_endpoint_trim(handle: &mut SctpEndpoint) -> u32
+    ensures misuse { handle.old.slot.endpoint ≡ None → (result ≡ MISUSE) × (handle.new.slot.endpoint ≡ None) }
+    ensures step { (v : EndView) → Holds handle.old.slot.endpoint v → (result ≡ OK) × Holds handle.new.slot.endpoint v }
+    ensures counts { counted_in handle.new.slot.endpoint ≡ counted_in handle.old.slot.endpoint }
+{
+    if !handle.is_full() {
+        return MISUSE;
+    }
+    let end = handle.slot.lend();
+    end.trim();
     OK
 }
 

@@ -85,7 +85,7 @@ pub extern "C" fn sctp_endpoint_send(
     }
     let end = handle.slot.lend();
     let count = LONGEST_LOOK.min(bytes.len());
-    let Ok(bytes) = Vec::from_slice(alloc, &bytes[..count]) else {
+    let Ok(bytes) = end.copy_bytes(alloc, &bytes[..count]) else {
         return NO_MEMORY;
     };
     let answer = end.send(stream, ordered, payload_id, bytes, until_of(until));
@@ -119,7 +119,7 @@ pub extern "C" fn sctp_endpoint_send_with_max_retransmits(
     }
     let end = handle.slot.lend();
     let count = LONGEST_LOOK.min(bytes.len());
-    let Ok(bytes) = Vec::from_slice(alloc, &bytes[..count]) else {
+    let Ok(bytes) = end.copy_bytes(alloc, &bytes[..count]) else {
         return NO_MEMORY;
     };
     let until = until_of(until);

@@ -66,6 +66,8 @@ pub enum Call<'a> {
     Fate(Ticket),
     /// The readers of the sender.
     Sending,
+    /// The sender gives memory back that it doesn't use.
+    Trim,
     /// A DATA or I-DATA chunk arrives.
     Data {
         tsn: u32,
@@ -101,12 +103,16 @@ pub enum Call<'a> {
     Take {
         stream: u16,
     },
+    /// The stream from which a message is taken next.
+    NextReadable(u16),
     /// The SACK that the receiver sends now.
     Tell,
     /// The SACK that the receiver sends now arrives at the sender.
     Acknowledge,
     /// The readers of the receiver.
     Receiving,
+    /// The receiver gives memory back that it doesn't use.
+    TrimReceiver,
     /// A call of stream reset.
     Reset(ResetCall<'a>),
     /// A call of numbers, bytes or cookies.
@@ -183,6 +189,7 @@ fn read_sending<'a>(name: &str, words: &mut Words<'a>) -> Option<Call<'a>> {
         "timeout" => Call::Timeout,
         "fate" => Call::Fate(Ticket(words.number()?)),
         "sending" => Call::Sending,
+        "trim" => Call::Trim,
         _ => return None,
     })
 }
@@ -224,9 +231,11 @@ fn read_receiving<'a>(name: &str, words: &mut Words<'a>) -> Option<Call<'a>> {
         "take" => Call::Take {
             stream: words.number()?,
         },
+        "next-readable" => Call::NextReadable(words.number()?),
         "tell" => Call::Tell,
         "acknowledge" => Call::Acknowledge,
         "receiving" => Call::Receiving,
+        "trim-receiver" => Call::TrimReceiver,
         _ => return read_other(name, words),
     })
 }

@@ -3,7 +3,7 @@
 use crate::call::Call;
 use crate::parts::{bytes_of, skips_of};
 use crate::plain::answer;
-use crate::receiving::{carry, data, leap, receiving, rise, skip, taken};
+use crate::receiving::{carry, data, leap, readable, receiving, rise, skip, taken, trim};
 use crate::resets::make_reset_call;
 use crate::sending::{Packets, fill, forward, queue, sack, sack_answer, send};
 use crate::shown::sack_digits;
@@ -214,6 +214,7 @@ fn receiving_call<F: Framing>(
         },
         Call::Carry { packet } => carry(receiver, packets.get(packet), out),
         Call::Take { stream } => taken(alloc, receiver.take(stream), out),
+        Call::NextReadable(from) => readable(receiver.next_readable(from), out),
         Call::Tell => {
             let lists = receiver.sack()?;
             receiver.sack_sent();
@@ -221,6 +222,7 @@ fn receiving_call<F: Framing>(
             Ok(write!(out, "{digits}")?)
         }
         Call::Receiving => receiving(receiver, out),
+        Call::TrimReceiver => trim(receiver, out),
         _ => Ok(()),
     }
 }

@@ -194,6 +194,14 @@ pub fn taken(alloc: Global, message: Option<Message>, out: &mut String) -> Resul
     }
 }
 
+/// A stream with a message, or none.
+pub fn readable(stream: Option<u16>, out: &mut String) -> Result<()> {
+    match stream {
+        Some(stream) => Ok(write!(out, "stream {stream}")?),
+        None => Ok(write!(out, "nothing")?),
+    }
+}
+
 /// A message's fields, and its bytes.
 fn show_message(alloc: Global, message: &Message, out: &mut String) -> Result<()> {
     let kind = if message.ordered { 'o' } else { 'u' };
@@ -213,6 +221,12 @@ fn show_message(alloc: Global, message: &Message, out: &mut String) -> Result<()
     message.copy_to(&mut bytes)?;
     show_start(alloc, &bytes, out)?;
     Ok(write!(out, " {:08x}", crc32c(&bytes))?)
+}
+
+/// The receiver gives memory back that it doesn't use.
+pub fn trim<F: Framing>(receiver: &mut Receiver<F>, out: &mut String) -> Result<()> {
+    receiver.trim();
+    Ok(write!(out, "ok")?)
 }
 
 /// The readers of a receiver.

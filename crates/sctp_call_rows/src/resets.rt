@@ -37,6 +37,8 @@ pub enum ResetCall<'a> {
     LastFinished,
     /// A reset of the peer.
     TakeReset,
+    /// Whether there is one.
+    HasReset,
     /// The sender's request arrives at the receiver.
     CarryRequest,
     /// The receiver's responses arrive at the sender.
@@ -74,6 +76,7 @@ pub fn read_reset_call<'a>(name: &str, words: &mut Words<'a>) -> Option<ResetCal
         "responses-sent" => ResetCall::ResponsesSent,
         "last-finished" => ResetCall::LastFinished,
         "take-reset" => ResetCall::TakeReset,
+        "has-reset" => ResetCall::HasReset,
         "carry-request" => ResetCall::CarryRequest,
         "carry-responses" => ResetCall::CarryResponses,
         _ => return None,
@@ -173,6 +176,7 @@ fn make_at_receiver<F: Framing>(
         }
         ResetCall::LastFinished => write!(out, "{}", receiver.last_finished_request())?,
         ResetCall::TakeReset => show_reset(receiver.take_reset(), out)?,
+        ResetCall::HasReset => write!(out, "{}", receiver.has_reset())?,
         _ => {}
     }
     Ok(())

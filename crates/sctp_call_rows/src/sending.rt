@@ -54,6 +54,7 @@ pub fn queue<F: Framing>(
     until: Option<u64>,
     out: &mut String,
 ) -> Result<()> {
+    let bytes = in_buffer(sender, bytes)?;
     match sender.queue(stream, ordered, payload_id, bytes, until) {
         Ok(Ticket(ticket)) => write!(out, "ticket {ticket}")?,
         Err(SendFault::NoSuchStream) => write!(out, "no such stream")?,
@@ -65,6 +66,17 @@ pub fn queue<F: Framing>(
         Err(fault) => return Err(fault.into()),
     }
     Ok(())
+}
+
+/// The bytes in a buffer of a message that is over, if the sender keeps one that they fit in, as they are otherwise.
+fn in_buffer<F: Framing>(sender: &mut Sender<F>, bytes: Vec<u8>) -> Result<Vec<u8>> {
+    match sender.take_buffer(bytes.len()) {
+        Some(mut buffer) => {
+            buffer.extend_from_slice(&bytes)?;
+            Ok(buffer)
+        }
+        None => Ok(bytes),
+    }
 }
 
 /// Fills a packet of a given maximum size; the buffer of the tickets may be returned to the sender.
@@ -172,6 +184,10 @@ pub fn send<F: Framing>(sender: &mut Sender<F>, call: &Call<'_>, out: &mut Strin
         }
         Call::Fate(ticket) => write!(out, "{}", fate(sender, ticket))?,
         Call::Sending => show_sender(sender, out)?,
+        Call::Trim => {
+            sender.trim();
+            write!(out, "ok")?;
+        }
         _ => {}
     }
     Ok(())

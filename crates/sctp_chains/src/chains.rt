@@ -29,7 +29,7 @@ use std::marker::PhantomData;
 #[derive(Drop)]
 pub struct Chains<F: Framing> {
     alloc: Global,
-    filed: Filed,
+    pub(crate) filed: Filed,
     held: u32,
     framing: PhantomData<F>,
 }

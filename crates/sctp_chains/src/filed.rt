@@ -43,6 +43,13 @@ impl Filed {
         }
     }
 
+    /// Gives back the memory for chains, if there is none.
+    pub(crate) fn trim(&mut self)
+        ensures { self.new.chains.items ≡ self.old.chains.items }
+    {
+        self.chains.trim();
+    }
+
     /// Files a fragment.
     ///
     /// # Errors

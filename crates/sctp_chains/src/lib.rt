@@ -59,6 +59,7 @@ mod parts;
 mod rank;
 mod search;
 mod spare;
+mod trimming;
 mod whole;
 
 pub use chains::Chains;

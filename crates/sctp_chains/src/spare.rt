@@ -2,9 +2,10 @@
 //!
 //! Memory is kept message by message, the last one returned first to be used: at most as many as waited at once, as far as they were counted, since the
 //! first one was returned, and only as long as their blocks have no more bytes together than are given (a receiver gives the size of its buffer). If of these
-//! messages fewer than an eighth wait while twice as many are taken, half of the memory is freed; so a link that fills and drains its window keeps it. A block is
-//! used for data that fits in it and fills at least half of it; one that isn't used is freed. Its bytes are overwritten, which for a block of the
-//! same length is a copy and no more. Until a message is returned nothing is allocated for any, and one for which allocation fails is freed.
+//! messages fewer than an eighth wait while twice as many are taken, half of the memory is freed; so a link that fills and drains its window keeps it. `trim`
+//! frees all but that of as many as wait. A block is used for data that fits in it and fills at least half of it; one that isn't used is freed. Its bytes
+//! are overwritten, which for a block of the same length is a copy and no more. Until a message is returned nothing is allocated for any, and one for which
+//! allocation fails is freed.
 
 ghost use Rattle.std.specs.Prelude.{◌≡◌, IfOk, OnOk};
 
@@ -97,15 +98,25 @@ impl Spare {
     /// Frees the blocks of all messages but half as many as may be kept.
     #[inline(never)]
     fn halve(&mut self) {
+        self.keep(self.most / 2);
+    }
+
+    /// Frees the blocks of all messages but of as many as wait, and keeps those of no more.
+    pub fn trim(&mut self) {
+        self.keep(self.most.min(self.waiting));
+    }
+
+    /// Frees the blocks of all messages but so many, and keeps those of no more.
+    fn keep(&mut self, most: usize) {
         self.quiet = 0;
-        self.most /= 2;
-        for _ in self.most..self.messages.len() {
+        self.most = most;
+        for _ in most..self.messages.len() {
             if let Some(parts) = self.messages.pop() {
                 self.bytes = self.bytes.saturating_sub(size_of(&parts));
                 let_go(parts);
             }
         }
-        self.messages.shrink_to(self.most);
+        self.messages.shrink_to(most);
     }
 
     /// Returns the blocks of a message that was taken. They are kept, unless those of as many are kept as waited at once, or all would have more bytes than

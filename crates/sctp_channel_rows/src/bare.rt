@@ -30,6 +30,10 @@ pub fn bare_call(
             }
             None => say(out, "nothing"),
         },
+        "trim" => {
+            endpoint.trim();
+            say(out, "ok")
+        }
         "told" => match endpoint.take_reset() {
             Some(reset) => Ok(write!(out, "reset {} {}", reset.stream, reset.count)?),
             None => say(out, "nothing"),

@@ -2,7 +2,7 @@
 
 use crate::bytes::bytes_of;
 use crate::events::tell;
-use crate::shown::{done, numbered, show};
+use crate::shown::{done, numbered, say, show};
 use crate::words::{Words, unreadable};
 use anyhow::Result;
 use sctp_channels::{Channels, Content, Opening};
@@ -31,6 +31,10 @@ pub fn channel_call(
         "buffered" => show(out, &channels.buffered_amount(words.number()?)),
         "low" => low(channels, words, out),
         "largest" => show(out, &channels.max_message_size()),
+        "trim" => {
+            channels.trim();
+            say(out, "ok")
+        }
         "event" => tell(alloc, channels, 1, out),
         "events" => tell(alloc, channels, EVENTS, out),
         _ => Err(unreadable()),

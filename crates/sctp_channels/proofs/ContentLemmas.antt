@@ -1,5 +1,5 @@
 -- A content that is all that a message tells.
-use Rattle.std.proofs.Common.{◌≡◌, ℕ, Bool, true, false, List, [], ◌∷◌, Option, Some, None, refl, sym, ap, ◌∙◌, subst, arith}
+use Rattle.std.proofs.Common.{◌≡◌, ℕ, Bool, true, false, List, ◌∷◌, Option, Some, None, refl, sym, ap, ◌∙◌, subst, arith}
 use Rattle.std.specs.Prelude.{◌-◌, ◌==◌, if◌then◌else◌}
 use Rattle.std.proofs.lemmas.Bool.Decides.{nat_tests}
 use Rattle.std.proofs.lemmas.List.{set-get_or}
@@ -15,7 +15,7 @@ use Rattle.sctp_channels.specs.declared.stream.Stream.{Stream}
 use Rattle.sctp_channels.specs.declared.table.DtlsRole.{DtlsRole}
 use Rattle.sctp_channels.specs.Streams.{unused, Table, stream_at, with_stream}
 use Rattle.sctp_channels.specs.Told.{Message}
-use Rattle.sctp_channels.specs.Coming.{After, tells, content_comes, Said, OfDcep, OfChannel, comes_saying, comes, leaving, one_taken}
+use Rattle.sctp_channels.specs.Coming.{tells, content_comes, OfDcep, OfChannel, comes_saying, comes, leaving, one_taken}
 use Rattle.sctp_channels.specs.Calling.{outgoing}
 use Rattle.sctp_channels.specs.Events.{Reported, reports_taken, reports_message}
 use Rattle.sctp_channels.specs.Telling.{Tells}

@@ -24,3 +24,4 @@ pub mod MadePackets
 pub mod MadeCalls
 pub mod MadePassed
 pub mod MadeEvents
+pub mod UpcomingLemmas

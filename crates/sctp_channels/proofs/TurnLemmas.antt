@@ -1,10 +1,12 @@
 -- The lowest stream that passes a test decides whose turn it is, if it isn't below the next one.
-use Rattle.std.proofs.Common.{◌≡◌, ℕ, zero, suc, ◌+◌, ◌-◌, ◌<◌, ◌≤◌, ◌⊎◌, inl, inr, Bool, true, false, Option, Some, None, sym, ap, ◌∙◌, refl, subst, arith}
+use Rattle.std.proofs.Common.{◌≡◌, ℕ, zero, suc, ◌+◌, ◌-◌, ◌<◌, ◌≤◌, ◌⊎◌, inl, inr, Bool, true, false, [], Option, Some, None, sym, ap, ◌∙◌, refl, subst, arith}
 use Rattle.std.specs.Prelude.{if◌then◌else◌}
 use Rattle.std.proofs.lemmas.Bool.{cases_lt}
-use Rattle.sctp_channels.specs.Streams.{first_from}
-use Rattle.sctp_channels.specs.Events.{or_else}
-use Rattle.sctp_channels.proofs.FirstLemmas.{first_from_to, first_none, turn_is, turn_else}
+use Rattle.sctp_model.specs.end.EndView.{EndView}
+use Rattle.sctp_recv.specs.Readable.{IsReadable, NextReadableAnswer}
+use Rattle.sctp_channels.specs.Streams.{Table, first_from, is_drained, stream_at}
+use Rattle.sctp_channels.specs.Events.{or_else, is_readable, readable_from, turn}
+use Rattle.sctp_channels.proofs.FirstLemmas.{first_from_to, first_found, first_none, none_from, unread, reads, turn_is, turn_else}
 
 -- ---- what comes before the first one
 
@@ -63,3 +65,26 @@ pub turn_low : (test : ℕ → Bool) (i s n : ℕ) → i ≤ s → s < n → Som
 turn_low test i s n low high is =
     let skip = first_from_to test 0 i n (omega arith) (omega (arith, low, high)) (λ q from below. found_first test (n - 0) 0 s (sym is) q from (omega (arith, below, low))) in
     turn_is (first_from test i (n - i)) (first_from test 0 (n - 0)) s (sym skip ∙ sym is)
+
+-- ---- by the endpoint's next stream with a message
+
+-- none waits on any
+pub turn_nowhere : (v : EndView) (x : Table) → ((q : ℕ) → v.receiver.waiting q ≡ []) → None ≡ turn v x
+turn_nowhere v x none =
+    let nowhere : (from : ℕ) → readable_from v x from ≡ None = λ from. none_from (is_readable v x) from 65_536 (λ q low. unread v x q (none q)) in
+    turn_else (readable_from v x x.next) (readable_from v x 0) None (nowhere x.next) (sym (nowhere 0))
+
+-- it is that one, unless what waits there is of the next channel
+pub turn_next : (v : EndView) (x : Table) (s : ℕ) → s < 65_536 → is_drained (stream_at x s) ≡ false → NextReadableAnswer v.receiver.waiting x.next (Some s) → Some s ≡ turn v x
+turn_next v x s less fails next = go next
+  where
+    first_at : (from : ℕ) → IsReadable v.receiver.waiting from s → readable_from v x from ≡ Some s
+    first_at from w =
+        first_from_to (is_readable v x) from s 65_536 w.above (omega (arith, less)) (λ q low high. unread v x q (w.first q low high))
+        ∙ first_found (is_readable v x) s 65_536 less (reads v x s w.some fails)
+
+    go : NextReadableAnswer v.receiver.waiting x.next (Some s) → Some s ≡ turn v x
+    go (inl w) = turn_is (readable_from v x x.next) (readable_from v x 0) s (first_at x.next w)
+    go (inr (none, w)) =
+        let nowhere : readable_from v x x.next ≡ None = none_from (is_readable v x) x.next 65_536 (λ q low. unread v x q (none q low)) in
+        turn_else (readable_from v x x.next) (readable_from v x 0) (Some s) nowhere (sym (first_at 0 w))

@@ -10,6 +10,7 @@ pub mod ChannelsStand
 pub mod Answers
 pub mod Telling
 pub mod Packets
+pub mod Writing
 pub mod inner
 pub mod Promise
 pub mod NextChannel

@@ -3,3 +3,4 @@ pub mod Telling
 pub mod Sent
 pub mod Settles
 pub mod Spans
+pub mod Upcoming

@@ -126,8 +126,19 @@ impl Channels {
         }
     }
 
-    /// Notes each reset of the peer that wasn't reported (RFC 6525, 5.2.2).
+    /// Notes each reset of the peer that wasn't reported (RFC 6525, 5.2.2). After most packets there is none.
+    #[inline(always)]
     pub(crate) fn note_resets(&mut self)
+        ensures { (v : EndView) (x : Table) → ChannelsStand self.old v x → ChannelsStand self.new (all_noted v x).view (all_noted v x).table }
+    {
+        if self.endpoint.has_reset() {
+            self.note_each_reset();
+        }
+    }
+
+    /// Notes each reset of the peer that wasn't reported.
+    #[inline(never)]
+    fn note_each_reset(&mut self)
         ensures { (v : EndView) (x : Table) → ChannelsStand self.old v x → ChannelsStand self.new (all_noted v x).view (all_noted v x).table }
     {
         let streams = self.endpoint.inbound();

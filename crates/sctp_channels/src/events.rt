@@ -61,7 +61,7 @@ impl Channels {
     }
 
     /// The lowest stream whose channel is closed.
-    fn first_closed(&self) -> Option<u16>
+    pub(crate) fn first_closed(&self) -> Option<u16>
         ensures { (v : EndView) (x : Table) → ChannelsStand self.now v x → result ≡ first_from (is_closed v x) 0 (length x.streams) }
     {
         for stream in self.table.busy.low..self.table.busy.high {
@@ -84,8 +84,24 @@ impl Channels {
             && !self.endpoint.is_resetting(stream)
     }
 
-    /// The stream whose turn it is, of those with a message to be reported. The lowest of all is looked for first: mostly there is none, or no other.
-    fn turn(&self) -> Option<u16>
+    /// The stream whose turn it is, of those with a message to be reported: the endpoint's next one with a message, unless what waits there first is of the
+    /// stream's next channel.
+    #[inline(always)]
+    pub(crate) fn turn(&self) -> Option<u16>
+        ensures { (v : EndView) (x : Table) → ChannelsStand self.now v x → result ≡ turn v x }
+    {
+        let Some(stream) = self.endpoint.next_readable(self.table.next) else {
+            return None;
+        };
+        if self.table.at(stream).is_drained() {
+            return self.turn_by_walk();
+        }
+        Some(stream)
+    }
+
+    /// `turn`, where streams are passed on which a message of the next channel waits.
+    #[inline(never)]
+    fn turn_by_walk(&self) -> Option<u16>
         ensures { (v : EndView) (x : Table) → ChannelsStand self.now v x → result ≡ turn v x }
     {
         let Some(lowest) = self.readable_from(0) else {

@@ -17,9 +17,11 @@
 //! | a low threshold is set, and reported once each time that the amount was above it and isn't any more | [`Channels::set_buffered_amount_low_threshold`]: `SetsThreshold`; [`Channels::send`]: `with_look`; [`Channels::next_event`]: `is_low` |
 //! | a channel is closed by the reset of this side's half | [`Channels::close`]: `Closes` |
 //! | the next event is a function of the endpoint's state and the streams; after an allocation failure nothing changed | [`Channels::next_event`]: `next_report` |
+//! | the next event, if it is a message for which a buffer has space, is copied to that buffer; else nothing changed | [`Channels::next_message_into`]: `Writes` |
 //! | a packet is handled as the endpoint handles it, and each reset of the peer is noted | [`Channels::handle_packet`]: `Hears`, `all_noted` |
 //! | what is due is passed to the endpoint before its next packet | [`Channels::poll_transmit`]: `Transmit`, `settled_all` |
 //! | calls that are passed on are the endpoint's, and the streams stay as they are | [`Channels::connect`], [`Channels::on_moment`], [`Channels::abandon`], [`Channels::shutdown`], [`Channels::abort`] |
+//! | buffers handed back, and memory given back, change nothing | [`Channels::recycle`], [`Channels::recycle_tickets`], [`Channels::give_back`], [`Channels::trim`] |
 //! | the longest message to announce to the peer is a quarter of the receive buffer | [`Channels::max_message_size`] |
 //!
 //! Over runs of two endpoints (`sctp_outcomes`), whose calls tables of channels make (`specs/Driven`), these laws are proved; each is a function without a body:
@@ -49,6 +51,7 @@ mod making;
 mod opening;
 mod packets;
 mod passed;
+mod reading;
 mod said;
 mod sending;
 mod span;
@@ -68,5 +71,6 @@ pub use laws::{
 pub use making::{
     calls_are_driven, events_are_made, packets_are_made, passed_calls_are_made, user_calls_are_made,
 };
+pub use reading::Written;
 pub use sctp_dcep::{Content, ControlFault, Opening, Reliability};
 pub use table::DtlsRole;

@@ -102,4 +102,11 @@ impl Channels {
     {
         self.endpoint.give_back(message);
     }
+
+    /// Gives back memory that a burst of messages took: `Endpoint::trim`.
+    pub fn trim(&mut self)
+        ensures { (v : EndView) (x : Table) → ChannelsStand self.old v x → ChannelsStand self.new v x }
+    {
+        self.endpoint.trim();
+    }
 }

@@ -4,6 +4,7 @@ ghost use Rattle.std.specs.Prelude.{◌≡◌, min, Result, Option, Some, None};
 ghost use Rattle.sctp_model.specs.end.EndView.{EndView};
 ghost use Rattle.sctp_model.specs.numbers.Limits.{LAST_MOMENT};
 ghost use Rattle.sctp_dcep.specs.Meanings.{content_meaning};
+ghost use Rattle.sctp_channels.specs.declared.stream.Due.TheVariants.{Acknowledgement};
 ghost use Rattle.sctp_channels.specs.Streams.{Table, stream_at};
 ghost use Rattle.sctp_channels.specs.Calling.{ack_call, content_call, until_by, limit_by};
 ghost use Rattle.sctp_channels.specs.Answers.{Sends};
@@ -56,12 +57,30 @@ impl Channels {
             → SendsBehind v x now stream kept (content_meaning content.entry) result self.new }
     {
         match kept.due {
-            Due::Acknowledgement => match self.acknowledge(stream, kept) {
-                Ok(kept) => self.send_on(now, stream, kept, content),
-                Err(why) => Err(why),
-            },
+            Due::Acknowledgement => self.send_after_ack(now, stream, content),
             Due::Nothing => self.send_on(now, stream, kept, content),
             Due::Reset => self.send_on(now, stream, kept, content),
+        }
+    }
+
+    /// Queues the ACK of the channel of a stream, and a message behind it. It is not inlined: it runs once a channel.
+    ///
+    /// # Errors
+    /// The endpoint refuses one of them, or an allocation failed: of the ACK it isn't due any more if it was queued.
+    #[inline(never)]
+    fn send_after_ack(
+        &mut self,
+        now: u64,
+        stream: u16,
+        content: Content<'_>,
+    ) -> Result<Ticket, Refused>
+        ensures { (v : EndView) (x : Table) → ChannelsStand self.old v x → (stream_at x stream).due ≡ Acknowledgement
+            → SendsBehind v x now stream (stream_at x stream) (content_meaning content.entry) result self.new }
+    {
+        let kept = self.table.at(stream);
+        match self.acknowledge(stream, kept) {
+            Ok(kept) => self.send_on(now, stream, kept, content),
+            Err(why) => Err(why),
         }
     }
 
@@ -110,9 +129,9 @@ impl Channels {
     ) -> Result<Ticket, Refused>
         ensures { (v : EndView) (x : Table) → ChannelsStand self.old v x → SendsOn v x (content_call stream kept now (content_meaning content.entry)) result self.new }
     {
-        let bytes = Vec::from_slice(self.alloc, content.user_data()).map_err(|_| Refused::Fault(
-            Fault::NoMemory,
-        ))?;
+        let Ok(bytes) = self.endpoint.copy_bytes(self.alloc, content.user_data()) else {
+            return Err(Refused::Fault(Fault::NoMemory));
+        };
         let ordered = kept.goes_ordered();
         let payload_id = content.payload_id();
         let until = until_by(kept.kind, kept.parameter, now);

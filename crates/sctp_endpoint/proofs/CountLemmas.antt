@@ -16,6 +16,7 @@ use Rattle.sctp_association.specs.declared.machine.Machine.{Machine}
 use Rattle.sctp_endpoint.specs.EndpointStands.{EndpointStands}
 use Rattle.sctp_endpoint.specs.Counted.{Counted, CountsSent, counted, tally_meaning, more, is_sack, sacks_among, with_packet, with_sack, with_sendings, with_arrival, heard_counts}
 use Rattle.sctp_endpoint.specs.Straying.{IsUntaken}
+use Rattle.sctp_endpoint.specs.inner.Acted.{with_verdict}
 use Rattle.sctp_endpoint.specs.inner.SacksHeard.{after_chunk, after_chunks, IfTaken}
 use Rattle.sctp_endpoint.specs.declared.counts.Tally.{Tally}
 use Rattle.sctp_endpoint.specs.declared.after.Strayed.TheVariants.{Told}
@@ -68,12 +69,12 @@ heard_sacks (Err why) bytes n ms c e = refl
 -- ---- what is returned of a packet
 
 -- what was counted of all its chunks, or of those behind the first, is counted of the packet
-pub if_taken : (r : Result Verdict NoMemory) (n k : ℕ) (ms all : List ChunkMeaning) → after_chunks ms n ≡ after_chunks all n → OnOk r (k ≡ after_chunks ms n)
-    → IfTaken r (k ≡ after_chunks all n)
-if_taken (Ok Taken) n k ms all same counts = counts ∙ same
-if_taken (Ok (Dropped reason)) n k ms all same counts = tt
-if_taken (Ok (Answer packet)) n k ms all same counts = tt
-if_taken (Err why) n k ms all same counts = tt
+pub if_taken : (r : Result (Unit {0}) NoMemory) (told : Verdict) (n k : ℕ) (ms all : List ChunkMeaning) → after_chunks ms n ≡ after_chunks all n
+    → OnOk r (k ≡ after_chunks ms n) → IfTaken (with_verdict r told) (k ≡ after_chunks all n)
+if_taken (Ok done) Taken n k ms all same counts = counts ∙ same
+if_taken (Ok done) (Dropped reason) n k ms all same counts = tt
+if_taken (Ok done) (Answer packet) n k ms all same counts = tt
+if_taken (Err why) told n k ms all same counts = tt
 
 pub untaken : (told : Verdict) (p : Type 0) → IsUntaken (Told told) → IfTaken (Ok told) p
 untaken Taken p never = absurd never

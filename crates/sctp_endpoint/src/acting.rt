@@ -7,7 +7,8 @@ ghost use Rattle.sctp_model.specs.end.Acting.{Acts};
 ghost use Rattle.sctp_wire.specs.ChunkTree.{chunk_meaning};
 ghost use Rattle.sctp_association.specs.MachineStands.{MachineStands};
 ghost use Rattle.sctp_endpoint.specs.Left.{Left};
-ghost use Rattle.sctp_endpoint.specs.inner.Acted.{HasTag, told_by, ActsOne, ActsAll};
+ghost use Rattle.sctp_endpoint.specs.inner.Acted.{HasTag, told_by, with_verdict, ActsOne, ActsAll};
+ghost use Rattle.sctp_endpoint.specs.declared.after.Verdict.TheVariants.{Taken};
 ghost use Rattle.sctp_endpoint.specs.inner.SacksHeard.{after_chunk, after_chunks};
 
 use crate::after::{After, Notes, Verdict};
@@ -174,7 +175,7 @@ fn act_next(
 }
 
 /// The chunks of a packet act in order, each on what the one before it left, and are noted. Its SACKs are counted modulo 2^64, also those after a
-/// chunk that ends the packet.
+/// chunk that ends the packet. The verdict, `Taken` so far, is written only if it is another one.
 ///
 /// # Errors
 /// `NoMemory` if an allocation failed: the chunks before the failing one have acted.
@@ -185,21 +186,24 @@ pub(crate) fn act_all(
     notes: &mut Notes,
     chunks: Chunks<'_>,
     sacks: &mut u64,
-) -> Result<Verdict, NoMemory>
-    ensures step { (v : EndView) → MachineStands machine.old v → ActsAll tag v notes.old chunks.entry result machine.new notes.new }
+    told: &mut Verdict,
+) -> Result<(), NoMemory>
+    requires { told.old ≡ Taken }
+    ensures step { (v : EndView) → MachineStands machine.old v → ActsAll tag v notes.old chunks.entry (with_verdict result told.new) machine.new notes.new }
     ensures sacks { OnOk result (sacks.new ≡ after_chunks chunks.entry sacks.old) }
 {
     let mut rest = chunks;
-    let mut told = Verdict::Taken;
+    let mut said = Verdict::Taken;
     while !rest.is_empty() {
-        if act_next(machine, tag, notes, &mut told, &mut rest, sacks)? {
+        if act_next(machine, tag, notes, &mut said, &mut rest, sacks)? {
             count_sacks(rest, sacks);
-            return Ok(told);
+            *told = said;
+            return Ok(());
         }
     }
     if notes.listed {
-        Ok(Verdict::Taken)
-    } else {
-        Ok(Verdict::Dropped(Reason::State))
+        return Ok(());
     }
+    *told = Verdict::Dropped(Reason::State);
+    Ok(())
 }

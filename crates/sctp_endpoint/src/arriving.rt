@@ -11,7 +11,8 @@ ghost use Rattle.sctp_endpoint.specs.EndpointStands.{EndpointStands};
 ghost use Rattle.sctp_endpoint.specs.Counted.{counted, sacks_read, heard_counts};
 ghost use Rattle.sctp_endpoint.specs.Logs.{LeavesLogs};
 ghost use Rattle.sctp_endpoint.specs.Handled.{IsRead, Handled, IsAnsweredWithin};
-ghost use Rattle.sctp_endpoint.specs.inner.Acted.{notes_meaning};
+ghost use Rattle.sctp_endpoint.specs.inner.Acted.{notes_meaning, with_verdict};
+ghost use Rattle.sctp_endpoint.specs.declared.after.Verdict.TheVariants.{Taken};
 ghost use Rattle.sctp_endpoint.specs.inner.Arrived.{Arrived, HearsAll, IsFor, worn_from};
 ghost use Rattle.sctp_endpoint.specs.inner.SacksHeard.{after_chunks, IfTaken};
 
@@ -53,41 +54,47 @@ impl Endpoint {
         // law: it is sound
         self.machine.sound();
         self.machine.advance_clock(now);
-        let mut sacks = 0u64;
         match read_packet(bytes) {
             Err(_) => {
-                let answer = Ok(Verdict::Dropped(Reason::Fault));
-                self.tally.hear(bytes.len(), sacks, &answer);
-                answer
+                let told = Verdict::Dropped(Reason::Fault);
+                self.tally.hear(bytes.len(), 0, &told);
+                Ok(told)
             }
             Ok(packet) => {
-                let answer = arrive(&mut self.machine, packet, draw, &mut sacks);
-                self.tally.hear(bytes.len(), sacks, &answer);
-                answer
+                let mut sacks = 0u64;
+                let mut told = Verdict::Taken;
+                arrive(&mut self.machine, packet, draw, &mut sacks, &mut told)?;
+                self.tally.hear(bytes.len(), sacks, &told);
+                Ok(told)
             }
         }
     }
 }
 
 /// A well-formed packet is received, at a time already noted. The random values are for an INIT. If the packet is `Taken`, its SACKs are counted
-/// modulo 2^64.
+/// modulo 2^64. The verdict, `Taken` so far, is written only if it is another one: so that of most packets isn't copied from call to call.
 ///
 /// # Errors
 /// `NoMemory` if an allocation failed: the chunks before the failing one took effect.
+#[inline(always)]
 pub(crate) fn arrive(
     machine: &mut Machine,
     packet: Packet<'_>,
     draw: Draw,
     sacks: &mut u64,
-) -> Result<Verdict, NoMemory>
-    ensures step { (e : EndView) (now : ℕ) → MachineStands machine.old (at_moment e now) → Arrived e now draw (packet_meaning packet.entry) result machine.new }
-    ensures sacks { (v : EndView) → MachineStands machine.old v → IfTaken result (sacks.new ≡ after_chunks (packet_meaning packet.entry).chunks sacks.old) }
+    told: &mut Verdict,
+) -> Result<(), NoMemory>
+    requires { told.old ≡ Taken }
+    ensures step { (e : EndView) (now : ℕ) → MachineStands machine.old (at_moment e now) → Arrived e now draw (packet_meaning packet.entry) (with_verdict result told.new) machine.new }
+    ensures sacks { (v : EndView) → MachineStands machine.old v → IfTaken (with_verdict result told.new) (sacks.new ≡ after_chunks (packet_meaning packet.entry).chunks sacks.old) }
 {
     if !has_ports(machine, packet.destination, packet.source) {
-        return Ok(Verdict::Dropped(Reason::Ports));
+        *told = Verdict::Dropped(Reason::Ports);
+        return Ok(());
     }
     if !passes(machine, packet.tag, &packet.chunks) {
-        return Ok(Verdict::Dropped(Reason::Tag));
+        *told = Verdict::Dropped(Reason::Tag);
+        return Ok(());
     }
     if machine.has_association() {
         let from = machine.missed_below();
@@ -98,9 +105,10 @@ pub(crate) fn arrive(
             Some(from),
             packet.chunks,
             sacks,
+            told,
         );
     }
-    arrive_outside(machine, packet, draw, sacks)
+    arrive_outside(machine, packet, draw, sacks, told)
 }
 
 /// A packet is received by an endpoint without an association: it may begin one.
@@ -113,13 +121,18 @@ fn arrive_outside(
     packet: Packet<'_>,
     draw: Draw,
     sacks: &mut u64,
-) -> Result<Verdict, NoMemory>
+    told: &mut Verdict,
+) -> Result<(), NoMemory>
+    requires { told.old ≡ Taken }
     ensures step { (e : EndView) (now : ℕ) → MachineStands machine.old (at_moment e now) → IsFor (at_moment e now) (packet_meaning packet.entry)
-        → has_association (at_moment e now).phase ≡ false → Arrived e now draw (packet_meaning packet.entry) result machine.new }
-    ensures sacks { (v : EndView) → MachineStands machine.old v → IfTaken result (sacks.new ≡ after_chunks (packet_meaning packet.entry).chunks sacks.old) }
+        → has_association (at_moment e now).phase ≡ false → Arrived e now draw (packet_meaning packet.entry) (with_verdict result told.new) machine.new }
+    ensures sacks { (v : EndView) → MachineStands machine.old v → IfTaken (with_verdict result told.new) (sacks.new ≡ after_chunks (packet_meaning packet.entry).chunks sacks.old) }
 {
     match on_stray(machine, draw, packet.tag, &packet.chunks)? {
-        Strayed::Told(told) => Ok(told),
+        Strayed::Told(said) => {
+            *told = said;
+            Ok(())
+        }
         Strayed::Begun => hear(
             machine,
             packet.tag,
@@ -127,6 +140,7 @@ fn arrive_outside(
             None,
             behind_first(packet.chunks),
             sacks,
+            told,
         ),
     }
 }
@@ -154,14 +168,16 @@ fn hear(
     from: Option<u64>,
     chunks: Chunks<'_>,
     sacks: &mut u64,
-) -> Result<Verdict, NoMemory>
-    ensures step { (v : EndView) → MachineStands machine.old v → HearsAll from tag v (notes_meaning notes) chunks.entry result machine.new }
+    told: &mut Verdict,
+) -> Result<(), NoMemory>
+    requires { told.old ≡ Taken }
+    ensures step { (v : EndView) → MachineStands machine.old v → HearsAll from tag v (notes_meaning notes) chunks.entry (with_verdict result told.new) machine.new }
     ensures sacks { OnOk result (sacks.new ≡ after_chunks chunks.entry sacks.old) }
 {
     let mut notes = notes;
-    let told = act_all(machine, tag, &mut notes, chunks, sacks);
+    let answer = act_all(machine, tag, &mut notes, chunks, sacks, told);
     end_packet(machine, notes, from);
-    told
+    answer
 }
 
 /// After the last chunk of a packet that is handled: what was missed from an index on is given up; its SACK is due, at once if the packet left a gap

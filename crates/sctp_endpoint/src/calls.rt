@@ -6,6 +6,7 @@ ghost use Rattle.sctp_model.specs.end.Moments.{ticked};
 ghost use Rattle.sctp_model.specs.end.UserCalls.{connect_answer, abandons, abandoned_at, shutdown_answer, shut, UserTakes};
 ghost use Rattle.sctp_send.specs.SenderAnswers.{answer_meaning, lane_for};
 ghost use Rattle.sctp_recv.specs.HandedOf.{handed_of};
+ghost use Rattle.sctp_recv.specs.Readable.{NextReadableAnswer};
 ghost use Rattle.sctp_association.specs.CallAnswers.{connect_meaning, connected, shutdown_meaning, call_of, limited_call_of, SendAnswers, sent_view};
 ghost use Rattle.sctp_endpoint.specs.EndpointStands.{EndpointStands};
 ghost use Rattle.sctp_endpoint.specs.Counted.{counted};
@@ -105,6 +106,15 @@ impl Endpoint {
         // law: it is sound
         self.machine.sound();
         self.machine.take(stream)
+    }
+
+    /// The lowest stream, `from` or above, on which a message waits for `take`, or else the lowest of all; None exactly if no message waits, as before an
+    /// association. With the stream after the one that was taken from, the streams take turns.
+    #[inline(always)]
+    pub fn next_readable(&self, from: u16) -> Option<u16>
+        ensures { (v : EndView) → EndpointStands self.now v → NextReadableAnswer v.receiver.waiting from result }
+    {
+        self.machine.next_readable(from)
     }
 
     /// Abandons a message: one that is queued is withdrawn; one that was sent, in part at least, is abandoned if both endpoints support partial

@@ -1,12 +1,11 @@
 //! What an endpoint counts from its start on (RFC 9260, 3, 3.3.1, 3.3.4 and 8.4). It knows packets by their lengths and verdicts.
 
-ghost use Rattle.std.specs.Prelude.{◌≡◌, ◌&&◌, not, length};
+ghost use Rattle.std.specs.Prelude.{◌≡◌, ◌&&◌, not, length, Ok};
 ghost use Rattle.sctp_endpoint.specs.Counted.{none_dropped, none_counted, dropped_meaning, tally_meaning, counts_meaning, with_packet, with_sack, with_sendings, with_arrival, with_reason, told_counts, heard_counts, aborted_counts};
 
 use crate::after::Verdict;
 use sctp_send::Sendings;
 use sctp_terms::{AbortFault, Reason};
-use sctp_values::NoMemory;
 
 /// Packets that `Endpoint::handle_packet` dropped, by the reason of `Verdict::Dropped`. Each number is counted modulo 2^64.
 #[derive(Clone, Copy, Debug, PartialEq, Eq)]
@@ -176,18 +175,13 @@ impl Tally {
         }
     }
 
-    /// A packet of so many bytes, with so many SACK chunks, was handled with this verdict, or an allocation failed.
+    /// A packet of so many bytes, with so many SACK chunks, was handled with this verdict.
     #[inline(always)]
-    pub(crate) fn hear(&mut self, bytes: usize, sacks: u64, answer: &Result<Verdict, NoMemory>)
-        ensures { tally_meaning self.new ≡ heard_counts bytes sacks answer.now (tally_meaning self.old) }
+    pub(crate) fn hear(&mut self, bytes: usize, sacks: u64, told: &Verdict)
+        ensures { tally_meaning self.new ≡ heard_counts bytes sacks (Ok told.now) (tally_meaning self.old) }
     {
-        match answer {
-            Ok(told) => {
-                self.arrive(bytes);
-                self.tell(sacks, told);
-            }
-            Err(_) => {}
-        }
+        self.arrive(bytes);
+        self.tell(sacks, told);
     }
 
     /// A packet of so many bytes arrived.

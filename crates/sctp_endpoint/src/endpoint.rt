@@ -28,8 +28,9 @@ use std::alloc::Global;
 /// - Output: after each of these calls [`poll_transmit`](Endpoint::poll_transmit), until it returns no further packet. An answer to a packet and the
 ///   packet of `abort` are returned by these calls themselves.
 /// - Buffers that may be reused: [`recycle`](Endpoint::recycle) for a packet that was sent, [`recycle_tickets`](Endpoint::recycle_tickets) for its
-///   tickets, [`give_back`](Endpoint::give_back) for a message that was taken. [`trim`](Endpoint::trim) gives memory back. No result of another call
-///   depends on them.
+///   tickets, [`give_back`](Endpoint::give_back) for a message that was taken; [`take_buffer`](Endpoint::take_buffer) returns one for a message to
+///   send, [`copy_bytes`](Endpoint::copy_bytes) one with the message's bytes. [`trim`](Endpoint::trim) gives memory back. No result of another
+///   call depends on them.
 /// - Readers, which change nothing.
 ///
 /// Times are milliseconds since any start that the user chooses. They never go back: a time before the latest one passed in counts as that one. Any

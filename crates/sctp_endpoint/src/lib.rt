@@ -19,7 +19,7 @@
 //!   fails nothing changed, not even the time (`refused`).
 //! - The user's calls and [`Endpoint::on_moment`]: each returns what the state machine says, an error exactly if its condition is the first that applies
 //!   (`answer`), and leaves its next state (`step`). [`Endpoint::recycle`], [`Endpoint::recycle_tickets`],
-//!   [`Endpoint::give_back`] and [`Endpoint::trim`] leave the state as it is.
+//!   [`Endpoint::give_back`], [`Endpoint::take_buffer`], [`Endpoint::copy_bytes`] and [`Endpoint::trim`] leave the state as it is.
 //! - Resets of streams: [`Endpoint::reset`] begins exactly where the state machine's does (`answer`), and [`Endpoint::take_reset`] reports the
 //!   lowest stream that the peer reset, once (RFC 6525, 5).
 //! - Readers return what the state says. At most `Config::buffer` bytes are held, at most 32,767 TSNs are outstanding, at most 1,024 streams wait

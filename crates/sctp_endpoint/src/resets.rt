@@ -1,9 +1,10 @@
 //! Streams are reset: by the user, and by the peer (RFC 6525, 5.1 and 5.2).
 
-ghost use Rattle.std.specs.Prelude.{◌≡◌, ◌≤◌, ◌&&◌, nat_lt};
+ghost use Rattle.std.specs.Prelude.{◌≡◌, ◌≤◌, ◌&&◌, nat_lt, is_some};
 ghost use Rattle.sctp_model.specs.numbers.Limits.{STREAM_LIMIT};
 ghost use Rattle.sctp_model.specs.sender.Outgoing.{is_resetting};
 ghost use Rattle.sctp_model.specs.end.EndView.{EndView};
+ghost use Rattle.sctp_model.specs.end.UserCalls.{reset_there};
 ghost use Rattle.sctp_send.specs.ResetAnswers.{resetting_streams};
 ghost use Rattle.sctp_association.specs.ResetAnswers.{ResetAnswers, reset_view, ToldAnswers, told_view};
 ghost use Rattle.sctp_endpoint.specs.EndpointStands.{EndpointStands};
@@ -47,6 +48,14 @@ impl Endpoint {
         // law: it is sound
         self.machine.sound();
         self.machine.take_reset()
+    }
+
+    /// Whether `take_reset` has a reset by the peer to report.
+    #[inline(always)]
+    pub fn has_reset(&self) -> bool
+        ensures { (v : EndView) → EndpointStands self.now v → result ≡ is_some (reset_there v) }
+    {
+        self.machine.has_reset()
     }
 
     /// Whether the reset of an outgoing stream was asked for and isn't done: `send` refuses its messages. False also after the peer refused, and if

@@ -1,7 +1,9 @@
 -- The bytes of a packet in the making: how many they are, that they are written chunks, and which ones.
-use Rattle.std.proofs.Common.{◌≡◌, ℕ, ◌+◌, ◌<◌, ◌≤◌, List, [], ◌∷◌, ◌++◌, length, take, drop, refl, sym, ap, ◌∙◌, subst, arith, length-append, length-drop}
-use Rattle.std.specs.Prelude.{max}
+use Rattle.std.proofs.Common.{◌≡◌, ℕ, ◌+◌, ◌<◌, ◌≤◌, inl, inr, List, [], ◌∷◌, ◌++◌, length, take, drop, refl, sym, ap, ◌∙◌, subst, arith, length-append, length-drop}
+use Rattle.std.specs.Prelude.{max, true}
 use Rattle.std.specs.List.{flat_map, AllByRecursion}
+use Rattle.std.proofs.lemmas.Bool.{cases_lt}
+use Rattle.std.proofs.lemmas.Bool.Decides.{nat_tests}
 use Rattle.std.proofs.lemmas.List.{take_all, append-nil, length-take, take-append-drop, nil_from_length, take-append-le, drop-append-le}
 use Rattle.std.proofs.lemmas.Grind.{common_steps, flat_map-append}
 use Rattle.sctp_model.specs.wire.Chunk.{ChunkMeaning, Data, Init, InitAck, Sack, IData, ForwardTsn, IForwardTsn, chunk_length, size_of_chunk}
@@ -12,7 +14,7 @@ use Rattle.sctp_wire.specs.Writes.{written, Writes}
 use Rattle.byteorder.specs.Endian.{little_bytes}
 use Rattle.sctp_packet.specs.Checksum.{crc32c}
 use Rattle.sctp_packet.specs.PacketBytes.{header_bytes, with_sum, packet_bytes, without_sum, IsHeader, WritesPacket}
-use Rattle.sctp_packet.specs.Draft.{with_header, IsDraft}
+use Rattle.sctp_packet.specs.Draft.{Draft, with_header, has_room, IsDraft}
 use Rattle.sctp_wire.proofs.WriteLemmas.{length-written}
 use Rattle.sctp_packet.proofs.HeaderLemmas.{sum_left_out}
 
@@ -110,6 +112,31 @@ module _ (header : List ℕ) (twelve : length header ≡ HEADER_ROOM) where
       let long = header_long limit (b ∷ bytes) d in
       let there = ap length (header_there header b bytes) in
       omega (arith, draft_size limit (b ∷ bytes) d)
+
+  -- what has begun has its header
+  pub begun_size : (limit : ℕ) (bytes : List ℕ) → IsDraft limit header bytes → 0 < length bytes → length bytes ≡ size_of_packet (chunks_of (drop HEADER_ROOM bytes))
+  begun_size limit [] d some = absurd (omega (arith, some))
+  begun_size limit (b ∷ bytes) d some = ap length (sym (header_there header b bytes)) ∙ draft_size limit (b ∷ bytes) d
+
+pub begun_header : (header bytes : List ℕ) → 0 < length bytes → with_header header bytes ≡ bytes
+begun_header header [] some = absurd (omega (arith, some))
+begun_header header (b ∷ bytes) some = header_there header b bytes
+
+-- a chunk for which there is room fits
+pub room_fits : (d : Draft) (m : ChunkMeaning) → has_room d m ≡ true → size_of_packet (d.chunks ++ m ∷ []) ≤ d.limit
+room_fits d m room = grind (arith, nat_tests)
+
+-- what lacks room for the whole packet has one chunk at most
+pub early_whole : (limit capacity : ℕ) (header bytes : List ℕ) → IsDraft limit header bytes → (1 < length (chunks_of (drop HEADER_ROOM bytes)) → limit ≤ capacity) → capacity < max limit 12
+    → length (chunks_of (drop HEADER_ROOM bytes)) ≤ 1
+early_whole limit capacity header bytes d whole short =
+    elim (cases_lt HEADER_ROOM (length bytes)) [
+      | inl some ↦ let within = d.within some in elim (cases_lt 1 (length (chunks_of (drop HEADER_ROOM bytes)))) [
+        | inl two ↦ let all = whole two in absurd (omega (arith, within, some, all, short))
+        | inr few ↦ omega (arith, few)
+      ]
+      | inr none ↦ let empty = ap length (draft_none limit header bytes d (omega (arith, none))) in omega (arith, empty)
+    ]
 
 -- what is written for chunks has them as its chunks
 abbrev pub IsReadBack : Type 0

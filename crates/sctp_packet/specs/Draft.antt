@@ -1,17 +1,19 @@
 -- A packet in the making.
-use Rattle.std.specs.Prelude.{◌≡◌, ℕ, ◌+◌, ◌-◌, ◌<◌, ◌≤◌, min, Bool, nat_le, if◌then◌else◌, ◌==◌, List, ◌∷◌, [], ◌++◌, length, take, drop}
+use Rattle.std.specs.Prelude.{◌≡◌, ℕ, ◌+◌, ◌-◌, ◌<◌, ◌≤◌, min, Bool, true, false, nat_le, if◌then◌else◌, ◌==◌, List, ◌∷◌, [], ◌++◌, length, take, drop}
 use Rattle.sctp_model.specs.wire.Chunk.{ChunkMeaning}
 use Rattle.sctp_model.specs.wire.Packet.{Packet, HEADER_ROOM, size_of_packet}
 use Rattle.sctp_wire.specs.Reading.{chunks_of}
 use Rattle.sctp_wire.specs.Writes.{Writes}
 use Rattle.sctp_packet.specs.PacketBytes.{header_bytes, IsHeader}
 
--- what a packet in the making is: the most bytes that it may have, its header, and the chunks put in so far
+-- what a packet in the making is: the most bytes that it may have, its header, whether memory for all that it may have is reserved, and the chunks put
+-- in so far
 pub record Draft : Type 0 where
   pub limit : ℕ
   pub source : ℕ
   pub destination : ℕ
   pub tag : ℕ
+  pub space : Bool
   pub chunks : List ChunkMeaning
 
 -- the packet that it is so far
@@ -20,7 +22,7 @@ packet_of d = record { source = d.source; destination = d.destination; tag = d.t
 
 -- nothing put in yet
 abbrev pub empty_draft : (limit source destination tag : ℕ) → Draft
-empty_draft limit source destination tag = record { limit = limit; source = source; destination = destination; tag = tag; chunks = [] }
+empty_draft limit source destination tag = record { limit = limit; source = source; destination = destination; tag = tag; space = false; chunks = [] }
 
 -- a header alone
 abbrev pub bare : (source destination tag : ℕ) → Packet
@@ -42,6 +44,10 @@ narrowed d room = record d { limit = min d.limit (size_of_packet d.chunks + room
 abbrev pub has_room : Draft → ChunkMeaning → Bool
 has_room d m = nat_le (size_of_packet (d.chunks ++ m ∷ [])) d.limit
 
+-- the same packet, whose memory is reserved, or counts as not reserved any more
+abbrev pub with_space : Draft → (space : Bool) → Draft
+with_space d space = record d { space = space }
+
 -- the draft after a chunk was put in, or not
 abbrev pub after_try : Draft → ChunkMeaning → Bool → Draft
 after_try d m put = if put then with_chunks d (m ∷ []) else d
@@ -56,8 +62,11 @@ pub record IsDraft (limit : ℕ) (header bytes : List ℕ) : Type 0 where
   pub writes : Writes (drop HEADER_ROOM bytes) (chunks_of (drop HEADER_ROOM bytes))
   pub within : HEADER_ROOM < length bytes → length bytes ≤ limit
 
--- the same of all that is kept: the header's fields are within their bits too, and with the second chunk the room for the whole packet was taken
-pub record IsKept (limit : ℕ) (p : Packet) (bytes : List ℕ) (capacity : ℕ) : Type 0 where
+-- the same of all that is kept: the header's fields are within their bits too, with the second chunk the memory for the whole packet was taken, and if
+-- that is reserved, the header is there too
+pub record IsKept (limit : ℕ) (p : Packet) (space : Bool) (bytes : List ℕ) (capacity : ℕ) : Type 0 where
   pub header : IsHeader p
   pub draft : IsDraft limit (header_bytes p.source p.destination p.tag 0) bytes
   pub room : 1 < length (chunks_of (drop HEADER_ROOM bytes)) → limit ≤ capacity
+  pub begun : space ≡ true → 0 < length bytes
+  pub whole : space ≡ true → limit ≤ capacity

@@ -8,7 +8,7 @@
 //! | `packet_bytes p body` | ports, tag, and the checksum of all of it (low byte first), and then the chunks' bytes | RFC 9260, 3.1 |
 //! | `ReadsPacket`, `WritesPacket` | the bytes are this packet: its header, and bytes that parse as (are written for) its chunks, at least one | RFC 9260, 3 |
 //! | `FaultsPacket` | why bytes aren't a packet: `Short`, `Checksum`, `NoChunk`, or `Wire` with the chunks' fault, 12 added to its offset for the header | |
-//! | `Draft` | a packet under construction: limit, ports, tag, chunks so far | |
+//! | `Draft` | a packet under construction: limit, ports, tag, whether its memory is reserved, chunks so far | |
 //!
 //! | call | what is promised |
 //! |---|---|
@@ -18,6 +18,9 @@
 //! | [`PacketWriter::room`] | the limit less header and padded chunks, 0 if they are more |
 //! | [`PacketWriter::narrow`] | `narrowed`: at most this number of bytes more fits; `room`: the lesser of this and what was left |
 //! | [`PacketWriter::try_chunk`] | `answer`: true if and only if the packet with the chunk stays within the limit; `after`: the chunk is after the others, or nothing changed; `unchanged`, `refused`, `early`: [`NoMemory`] changes nothing, and is returned only if the chunk fits and is the packet's first or second |
+//! | [`PacketWriter::reserve`] | `reserved`: memory for all that the limit allows is there; `before`: whether it was reserved already; `unchanged`, `early`: [`NoMemory`] changes nothing, and is returned only before the packet's second chunk |
+//! | [`PacketWriter::put`] | the chunk, for which there is space, is after the others, in a packet whose memory is reserved |
+//! | [`PacketWriter::restore`] | the packet's memory counts as reserved, or doesn't, as before [`PacketWriter::reserve`] |
 //! | [`PacketWriter::finish`], [`PacketWriter::finish_or_room`] | `packet`: None, or the buffer, if and only if there is no chunk, else bytes with `WritesPacket`; `size`, `within`: their length is that of header and padded chunks, at most the limit |
 //!
 //! | law | what it says |
@@ -51,6 +54,7 @@ mod fault;
 mod folding;
 mod laws;
 mod read;
+mod reserved;
 mod tables;
 mod writer;
 

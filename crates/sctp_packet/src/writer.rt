@@ -22,12 +22,14 @@ use std::marker::Model;
 /// If it was given a buffer, it allocates what that lacks.
 #[derive(Drop)]
 pub struct PacketWriter {
-    limit: u16,
-    source: u16,
-    destination: u16,
-    tag: u32,
+    pub(crate) limit: u16,
+    pub(crate) source: u16,
+    pub(crate) destination: u16,
+    // the header is there, and memory for all that the limit allows
+    pub(crate) is_reserved: bool,
+    pub(crate) tag: u32,
     // nothing, or the header with zero for the checksum, and the chunks after it
-    bytes: Vec<u8>,
+    pub(crate) bytes: Vec<u8>,
 }
 
 impl Model for PacketWriter {
@@ -43,10 +45,11 @@ impl Model for PacketWriter {
       source = s.source;
       destination = s.destination;
       tag = s.tag;
+      space = s.is_reserved;
       chunks = chunks_of (drop HEADER_ROOM s.bytes.items);
     } };
 
-    ghost invariant = { λ s. IsKept s.limit (bare s.source s.destination s.tag) s.bytes.items (vec_capacity s.bytes) };
+    ghost invariant = { λ s. IsKept s.limit (bare s.source s.destination s.tag) s.is_reserved s.bytes.items (vec_capacity s.bytes) };
 }
 
 impl PacketWriter {
@@ -74,6 +77,7 @@ impl PacketWriter {
             limit,
             source,
             destination,
+            is_reserved: false,
             tag,
             bytes,
         }
@@ -180,7 +184,7 @@ fn begin(
 }
 
 /// Appends a chunk's bytes, for which there is capacity.
-fn put(bytes: &mut Vec<u8>, chunk: &Chunk<'_>)
+pub(crate) fn put(bytes: &mut Vec<u8>, chunk: &Chunk<'_>)
     requires fits { Fits (chunk_meaning chunk.now) }
     requires room { vec_len bytes.old + length (written (chunk_meaning chunk.now)) ≤ vec_capacity bytes.old }
     ensures put { bytes.new.items ≡ bytes.old.items ++ written (chunk_meaning chunk.now) }
@@ -200,7 +204,7 @@ fn put_sum(packet: &mut [u8], sum: u32)
 }
 
 /// The header, with zero for the checksum.
-fn header(source: u16, destination: u16, tag: u32) -> [u8; 12]
+pub(crate) fn header(source: u16, destination: u16, tag: u32) -> [u8; 12]
     ensures { result ≡ header_bytes source destination tag 0 }
 {
     let [a, b] = source.to_be_bytes();

@@ -20,7 +20,7 @@ use Rattle.sctp_recv.specs.ResetsKept.{ResetsKept}
 use Rattle.sctp_recv.specs.Resets.{restart_at, resets_of, resets_in, KeepsResets}
 use Rattle.sctp_recv.specs.Requests.{reset_there}
 use Rattle.sctp_recv.specs.StandsFor.{StandsFor}
-use Rattle.sctp_recv.specs.inner.Bits.{bit_in}
+use Rattle.sctp_recv.specs.inner.Bits.{bit_in, IsNextBit, NextBit}
 use Rattle.sctp_recv.specs.inner.Restarting.{IsCleared, TakesTold}
 use Rattle.sctp_recv.proofs.ResetLemmas.{keeps_resets}
 
@@ -69,6 +69,27 @@ module _ (f : Format) (v : ReceiverView) where
   -- before the first request there is nothing
   pub nothing_there : KeepsResets f None v.initial v.streams v.taken v.resets → reset_there v ≡ None
   nothing_there h = none_found (λ s. is_some (v.resets.told s)) v.streams 0 (λ s low high. no_bit (is_some (v.resets.told s)) 0 (h.told s (omega (arith, high))) refl)
+
+  -- no bit is set
+  none_there : (k : ResetsKept) → KeepsResets f (Some k) v.initial v.streams v.taken v.resets → NextBit k.told 0 None → reset_there v ≡ None
+  none_there k h none = none_found (λ s. is_some (v.resets.told s)) v.streams 0 (λ s low high. no_bit (is_some (v.resets.told s)) (bit_in k.told s) (h.told s (omega (arith, high))) (none s (omega arith)))
+
+  -- the first bit that is set is of a stream
+  first_low : (k : ResetsKept) (s : ℕ) → KeepsResets f (Some k) v.initial v.streams v.taken v.resets → IsNextBit k.told 0 s → s < v.streams
+  first_low k s h next = elim (cases_lt s v.streams) [ inl under ↦ under | inr high ↦ let none = h.none s high in let set = next.set in absurd (omega (arith, none, set)) ]
+
+  -- it is the lowest that was reset
+  first_there : (k : ResetsKept) (s : ℕ) → KeepsResets f (Some k) v.initial v.streams v.taken v.resets → IsNextBit k.told 0 s → reset_there v ≡ Some s
+  first_there k s h next =
+      let low = first_low k s h next in
+      let there = has_bit (is_some (v.resets.told s)) (bit_in k.told s) (h.told s low) next.set in
+      found (λ q. is_some (v.resets.told q)) v.streams 0 s (omega arith) (omega (arith, low)) there
+      (λ j from under. no_bit (is_some (v.resets.told j)) (bit_in k.told j) (h.told j (omega (arith, under, low))) (next.first j from under))
+
+  -- one was reset if a bit is set
+  pub is_there : (k : ResetsKept) (o : Option ℕ) → KeepsResets f (Some k) v.initial v.streams v.taken v.resets → NextBit k.told 0 o → is_some o ≡ is_some (reset_there v)
+  is_there k None h none = sym (ap is_some (none_there k h none))
+  is_there k (Some s) h next = sym (ap is_some (first_there k s h next))
 
   cleared : (k l : ResetsKept) (s : ℕ) → KeepsResets f (Some k) v.initial v.streams v.taken v.resets → s < v.streams → IsCleared s k l → KeepsResets f (Some l) v.initial v.streams v.taken (told_of v s).resets
   cleared k l s h low is = record {
@@ -126,17 +147,14 @@ module _ (f : Format) (v : ReceiverView) where
       go : (u : Option Reset) → TakesTold k (resets_of c) u → MatchOption u ((reset_there v ≡ None) × StandsFor f (record r { resets = new }) v)
           (λ t. (reset_there v ≡ Some t.stream) × (t.count ≡ old_waiting v t.stream) × StandsFor f (record r { resets = new }) (told_of v t.stream))
       go None (none, same) = (
-        none_found (λ s. is_some (v.resets.told s)) v.streams 0 (λ s low high. no_bit (is_some (v.resets.told s)) (bit_in k.told s) (h.told s (omega (arith, high))) (none s (omega arith))),
+        none_there k h none,
         stands v.resets (subst (λ (u : ResetsKept). KeepsResets f (Some u) v.initial v.streams v.taken v.resets) (sym same) h),
       )
-      go (Some t) (next, count, clear) =
-          let low : t.stream < v.streams = elim (cases_lt t.stream v.streams) [ inl under ↦ under | inr high ↦ let none = h.none t.stream high in let set = next.set in absurd (omega (arith, none, set)) ] in
-          let there = has_bit (is_some (v.resets.told t.stream)) (bit_in k.told t.stream) (h.told t.stream low) next.set in (
-            found (λ s. is_some (v.resets.told s)) v.streams 0 t.stream (omega arith) (omega (arith, low)) there
-                (λ j from under. no_bit (is_some (v.resets.told j)) (bit_in k.told j) (h.told j (omega (arith, under, low))) (next.first j from under)),
-            count ∙ sym (h.old t.stream),
-            stands (told_of v t.stream).resets (cleared k (resets_of c) t.stream h low clear),
-          )
+      go (Some t) (next, count, clear) = (
+        first_there k t.stream h next,
+        count ∙ sym (h.old t.stream),
+        stands (told_of v t.stream).resets (cleared k (resets_of c) t.stream h (first_low k t.stream h next) clear),
+      )
 
 -- ---- what is made stands for the same
 

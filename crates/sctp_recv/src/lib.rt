@@ -27,20 +27,22 @@
 //! | after `sack_sent` the duplicates noted are forgotten, and all else is as before | [`Receiver::sack_sent`] |
 //! | the number of streams; the message that waits at a position of a stream, None if and only if there is none | [`Receiver::stream_count`], [`Receiver::waiting`] |
 //! | the lowest stream from one on, on which a message waits; None if and only if none waits from there on | [`Receiver::readable`]: `ReadableAnswer` |
+//! | the same, or else the lowest stream of all on which a message waits; None if and only if none waits | [`Receiver::next_readable`]: `NextReadableAnswer` |
 //! | `take` returns the first message that waits on a stream, None if and only if none waits; its bytes are held no longer | [`Receiver::take`]: `TakeLeaves` |
-//! | returning a message's memory changes nothing that a receiver represents | [`Receiver::give_back`] |
+//! | returning a message's memory, and giving back memory that isn't used, change nothing that a receiver represents | [`Receiver::give_back`], [`Receiver::trim`] |
 //! | all requests of a RE-CONFIG act, one after another, at the cumulative TSN: one to reset streams gets the result of the first row that applies (wrong stream, in progress, performed), if it is the next one, or the last one again after "in progress"; the last one again gets the same result, any other number is a bad one; requests of other kinds are denied; a performed one sets the base of both kinds of each stream that it lists, or of all. Each response waits for a packet if the limit has space for all that wait | [`Receiver::on_requests`]: `step`, `all_requested` |
 //! | if allocation fails, no request acted, and the receiver represents the same views as before | `on_requests`: `refused` |
 //! | the responses that wait; after `answers_sent` none does, and all else is as before | [`Receiver::answers`], [`Receiver::answers_sent`]: `with_answers` |
 //! | the sequence number of the peer's last request that is finished | [`Receiver::last_finished_request`] |
 //! | each reset is reported once: the lowest stream of which one wasn't reported, and how many of the messages that wait there were delivered before it; None if and only if there is none | [`Receiver::take_reset`]: `reset_there`, `old_waiting`, `told_of` |
+//! | whether there is a reset to be reported | [`Receiver::has_reset`]: `reset_there` |
 //! | a message's parts joined are its bytes; `copy_to` appends them, or nothing if allocation fails, which it can't with enough capacity | [`Message::parts`], [`Message::copy_to`] |
 //! | `len` is the number of bytes, 2^64 - 1 if there are more; `copy_into` copies them to the beginning of a buffer whose rest stays, or leaves a buffer that is too small, and returns how many they are | [`Message::len`], [`Message::copy_into`] |
 //!
 //! Only `new`, `on_data`, `on_forward`, `on_requests`, `sack` and `copy_to` allocate. Everything that allocates is done first: a call that fails has changed
 //! capacity alone, and under DATA a bound (`lows.rt`). Memory that thousands of messages or chunks took is given back as soon as none of them is left
-//! (`stream.rt`, `Sequence::give_back`), that of messages that were returned little by little (`spare.rt` of `sctp_chains`): a smaller block takes the place of
-//! a large one, which stays if there is none.
+//! (`stream.rt`, `Sequence::give_back`), that of messages that were returned little by little (`spare.rt` of `sctp_chains`), and all that isn't used when
+//! `trim` is called (`trimming.rt`): a smaller block takes the place of a large one, which stays if there is none.
 //! Laws of the steps, for crates above: [`cumulative_is_one`], [`piece_is_one`] and [`forward_is_one`] (each step has one result),
 //! [`due_is_in_words`] and [`words_are_one`] (which messages are due), [`nothing_is_given`], [`resets_stay`],
 //! [`stands_for_ordinary`], [`stands_for_bounded`].
@@ -79,6 +81,7 @@ mod runs;
 mod sack;
 mod seen;
 mod stream;
+mod trimming;
 
 pub use answer::Answer;
 pub use forward::ForwardAnswer;

@@ -74,6 +74,9 @@ impl Ready {
     fn next_from(&self, at: usize) -> Option<u16>
         ensures { NextBit self.now.words.items (at * 64) result }
     {
+        if at >= self.words.len() {
+            return None;
+        }
         let further = next_bit(&self.tops, at)?;
         let place = self.words[further].trailing_zeros();
         Some((further * 64 + place as usize) as u16)

@@ -1,6 +1,6 @@
 //! The receiver of an association (RFC 9260, 6.2 and 6.6; RFC 3758, 3.6; RFC 8260, 2.2 and 2.3).
 
-ghost use Rattle.std.specs.Prelude.{◌≡◌, ℕ, ◌≤◌, ◌-◌, false, IfOk, MatchOption, option_map, slice_get, List, Option, None, Some, length};
+ghost use Rattle.std.specs.Prelude.{◌≡◌, ℕ, ◌≤◌, ◌-◌, false, IfOk, MatchOption, option_map, is_some, slice_get, List, Option, None, Some, length};
 ghost use Rattle.sctp_model.specs.wire.Chunk.{BlockMeaning, Sack};
 ghost use Rattle.sctp_model.specs.numbers.Limits.{RUN_LIMIT};
 ghost use Rattle.sctp_model.specs.numbers.Serial.{tsn};
@@ -10,7 +10,8 @@ ghost use Rattle.sctp_model.specs.receiver.SackMade.{AreAllRuns, IsSack, sack_se
 ghost use Rattle.sctp_model.specs.end.Arriving.{TellsGap};
 ghost use Rattle.sctp_wire.specs.Layouts.{Fits};
 ghost use Rattle.sctp_recv.specs.HandedOf.{handed_of};
-ghost use Rattle.sctp_recv.specs.Readable.{ReadableAnswer};
+ghost use Rattle.sctp_recv.specs.Readable.{ReadableAnswer, NextReadableAnswer};
+ghost use Rattle.sctp_recv.specs.Requests.{reset_there};
 ghost use Rattle.sctp_recv.specs.SackOf.{lists_meaning};
 ghost use Rattle.sctp_recv.specs.StandsFor.{StandsFor};
 
@@ -146,6 +147,22 @@ impl<F: Framing> Receiver<F> {
         self.ready.next(from)
     }
 
+    /// The first stream from `from` on, on which a message waits to be taken, or else the first of all: None if and only if none waits. For a caller who
+    /// goes round all of them it is `readable` with one look at the streams where two may be needed.
+    #[inline(always)]
+    pub fn next_readable(&self, from: u16) -> Option<u16>
+        ensures { (v : ReceiverView) → StandsFor F.format self.now v → NextReadableAnswer v.waiting from result }
+    {
+        let lowest = self.readable(0)?;
+        if from <= lowest {
+            return Some(lowest);
+        }
+        match self.readable(from) {
+            Some(stream) => Some(stream),
+            None => Some(lowest),
+        }
+    }
+
     /// The SACK to be sent now. Nothing changes.
     ///
     /// # Errors
@@ -173,9 +190,19 @@ impl<F: Framing> Receiver<F> {
         self.duplicates.truncate(0);
     }
 
+    /// Whether `take_reset` has a reset to report.
+    #[inline(always)]
+    pub fn has_reset(&self) -> bool
+        ensures { (v : ReceiverView) → StandsFor F.format self.now v → result ≡ is_some (reset_there v) }
+    {
+        match &self.resets {
+            Some(resets) => resets.told.next(0).is_some(),
+            None => false,
+        }
+    }
+
     /// Takes the first message that waits on a stream: None if and only if none waits, as on a stream that doesn't exist. It is inlined, since it runs for each
     /// message.
-    #[inline(always)]
     #[inline(always)]
     pub fn take(&mut self, stream: u16) -> Option<Message>
         ensures { (v : ReceiverView) → StandsFor F.format self.old v

@@ -165,6 +165,13 @@ impl Seen {
         insert(&mut self.runs, index)
     }
 
+    /// Gives back the memory of runs, if there are none.
+    pub(crate) fn trim(&mut self)
+        ensures { self.new.kept ≡ self.old.kept }
+    {
+        self.runs.trim();
+    }
+
     /// Counts all indexes up to this one as received.
     pub(crate) fn jump(&mut self, index: u64)
         ensures { self.old.kept.cumulative ≤ index → Jumps self.old.kept self.new.kept index }

@@ -23,11 +23,11 @@ use sctp_wire::Piece;
 use std::alloc::Global;
 use std::collections::VecDeque;
 
-/// Memory for so many messages is given back when none waits. That for fewer stays: what an allocator does at a large block would be dear beside their
-/// own cost on a link that fills and drains its window each round trip.
+/// Memory for so many messages is given back when none waits. That for fewer stays until the user asks for it (`Receiver::trim`): what an allocator does at a
+/// large block would be dear beside their own cost on a link that fills and drains its window each round trip.
 const MANY: usize = 2_048;
 
-/// Memory for so many is kept then.
+/// Memory for so many stays then.
 const FEW: usize = 64;
 
 /// A stream. Until a chunk of it is kept or a FORWARD goes to it, it has no state, and is a null pointer: its numbers count from 0.

@@ -18,8 +18,8 @@ use Rattle.sctp_model.proofs.sender.PlanLaws.{continued_is}
 use Rattle.sctp_model.proofs.sender.CountLaws.{is_named}
 use Rattle.std.proofs.Math.Nat.{mul-suc, mul-le-mul_right}
 use Rattle.sctp_model.proofs.sender.CutLaws.{length-cut}
-use Rattle.sctp_model.proofs.sender.SetLaws.{is_set}
-use Rattle.sctp_model.proofs.sender.OwedLaws.{is_promised}
+use Rattle.sctp_model.proofs.sender.SetLaws.{is_set, accepted}
+use Rattle.sctp_model.proofs.sender.OwedLaws.{is_promised, owed_push}
 use Rattle.sctp_model.proofs.sender.TicketLaws.{waits_push}
 use Rattle.sctp_send.specs.SenderAnswers.{refused_with, QueueAnswer}
 use Rattle.sctp_values.specs.declared.ticket.Ticket.{Ticket}
@@ -87,22 +87,28 @@ kept_owed f s v k = ap (total (λ t. rest_owes t.rest)) k.holds.tracks ∙ total
     same s (Some (Part l n x)) is = refl
     same s (Some (End l n)) is = let next = continued_is v.streams v.plan s (End l n) (is_named f v k.reached) is in absurd (let no_end = next.is in cc)
 
-pub promised_is : (f : Format) (s : Kept) (v : SenderView) → Keeps f s v
-    → (((s.cum + length s.items) % 2 ^ 64 + owed_by_queue s.queue % 2 ^ 64) % 2 ^ 64 + total (λ t. rest_owes t.rest) s.tracks % 2 ^ 64) % 2 ^ 64 ≡ promised v
-promised_is f s v k =
-    let long = kept_length f s v k in
-    let cum = k.holds.cum in
+pub owed_is : (f : Format) (s : Kept) (v : SenderView) → Keeps f s v
+    → (owed_by_queue s.queue % 2 ^ 64 + total (λ t. rest_owes t.rest) s.tracks % 2 ^ 64) % 2 ^ 64 ≡ owed_by_queue v.queue + owed_by_parts v
+owed_is f s v k =
     let queue = ap owed_by_queue k.holds.queue in
     let parts = kept_owed f s v k in
     let most = is_promised f v k.reached in
-    omega (arith, long, cum, queue, parts, most)
+    omega (arith, queue, parts, most)
+
+pub promised_is : (f : Format) (s : Kept) (v : SenderView) (owed : ℕ) → Keeps f s v → owed ≡ owed_by_queue v.queue + owed_by_parts v → ((s.cum + length s.items) % 2 ^ 64 + owed) % 2 ^ 64 ≡ promised v
+promised_is f s v owed k is =
+    let long = kept_length f s v k in
+    let cum = k.holds.cum in
+    let most = is_promised f v k.reached in
+    omega (arith, long, cum, is, most)
 
 -- ---- a message more
 
-pub keeps_queued : (f : Format) (s : Kept) (v : SenderView) (lane : Lane) (payload ticket : ℕ) (bytes : List ℕ) (until limit : Option ℕ) → Keeps f s v → refusal v lane.stream bytes ≡ None → ticket ≡ suc v.tickets → unwrap_or until LAST_MOMENT < 2 ^ 64
-    → Keeps f (record s { queue = s.queue ++ record { lane = lane; message = record { ticket = ticket; payload = payload; fragments = cut s.fragment bytes; until = until; limit = limit } } ∷ []; fates = s.fates ++ StillQueued ∷ []; moments = s.moments ++ unwrap_or until LAST_MOMENT ∷ [] })
+pub keeps_queued : (f : Format) (s : Kept) (v : SenderView) (lane : Lane) (payload ticket : ℕ) (bytes : List ℕ) (until limit : Option ℕ) (capacity : ℕ) → Keeps f s v → refusal v lane.stream bytes ≡ None → ticket ≡ suc v.tickets → unwrap_or until LAST_MOMENT < 2 ^ 64
+    → length s.items + (owed_by_queue v.queue + owed_by_parts v + owed_for (length (cut v.fragment bytes))) ≤ capacity
+    → Keeps f (record s { queue = s.queue ++ record { lane = lane; message = record { ticket = ticket; payload = payload; fragments = cut s.fragment bytes; until = until; limit = limit } } ∷ []; fates = s.fates ++ StillQueued ∷ []; moments = s.moments ++ unwrap_or until LAST_MOMENT ∷ []; capacity = capacity })
     (queued v lane payload bytes until limit)
-keeps_queued f s v lane payload ticket bytes until limit k free given small =
+keeps_queued f s v lane payload ticket bytes until limit capacity k free given small space =
     let u = queued v lane payload bytes until limit in
     let q : Queued = record { lane = lane; message = record { ticket = suc v.tickets; payload = payload; fragments = cut v.fragment bytes; until = until; limit = limit } } in
     let last : fate_here u (1 + v.tickets) ≡ StillQueued =
@@ -129,7 +135,7 @@ keeps_queued f s v lane payload ticket bytes until limit k free given small =
         tracks = k.holds.tracks;
         fates = fates;
         covered = k.holds.covered;
-        room = k.holds.room;
+        room = let more = owed_push v.queue q in omega (arith, more, space);
       };
       over = let within = k.over.within in let held = k.due.many in record {
         within = omega arith;
@@ -161,6 +167,14 @@ keeps_queued f s v lane payload ticket bytes until limit k free given small =
     or_false : (b : Bool) → (b || false) ≡ b
     or_false true = refl
     or_false false = refl
+
+-- the room that is taken for it
+pub room_queued : (f : Format) (s : Kept) (v : SenderView) (stream : ℕ) (bytes : List ℕ) (owed more capacity : ℕ) → Keeps f s v → refusal v stream bytes ≡ None → owed ≡ owed_by_queue v.queue + owed_by_parts v
+    → more ≡ owed_for (length (cut s.fragment bytes)) % 2 ^ 64 → length s.items + (owed + more) % 2 ^ 64 ≤ capacity → length s.items + (owed_by_queue v.queue + owed_by_parts v + owed_for (length (cut v.fragment bytes))) ≤ capacity
+room_queued f s v stream bytes owed more capacity k free all one space =
+    let most = (accepted v stream bytes free).owed in
+    let size = ap (λ (x : ℕ). owed_for (length (cut x bytes))) k.holds.fragment in
+    omega (arith, most, size, all, one, space)
 
 -- ---- the refusals
 

@@ -1,10 +1,7 @@
 -- Numbers on the wire by the bases that are kept, and whether a stream takes messages.
-use Rattle.std.proofs.Common.{◌≡◌, ℕ, ◌-◌, ◌<◌, map, refl, sym, ap, ◌∙◌, arith}
-use Rattle.std.specs.Prelude.{Bool, Result, Ok, Err, IfOk}
+use Rattle.std.proofs.Common.{◌≡◌, ℕ, ◌-◌, ◌<◌, map, refl, sym, ap, arith}
 use Rattle.sctp_model.specs.messages.Format.{Format, Lane}
 use Rattle.sctp_model.specs.messages.Framing.{wire_number}
-use Rattle.sctp_model.specs.wire.Chunk.{ChunkMeaning}
-use Rattle.sctp_packet.specs.Draft.{Draft, has_room, after_try}
 use Rattle.sctp_model.specs.sender.Outgoing.{is_sending}
 use Rattle.sctp_model.specs.sender.SenderView.{SenderView}
 use Rattle.sctp_model.specs.sender.Forwarding.{forward_to}
@@ -13,7 +10,7 @@ use Rattle.sctp_send.specs.SenderKept.{Kept}
 use Rattle.sctp_send.specs.SenderStands.{Keeps}
 use Rattle.sctp_send.specs.OutstandingFields.{lane_meaning, no_base}
 use Rattle.sctp_send.specs.ResetsKept.{base_of, sending_under}
-use Rattle.sctp_send.specs.inner.Stocking.{fragment_chunk, IsTried}
+use Rattle.sctp_send.specs.inner.Stocking.{fragment_chunk}
 use Rattle.sctp_send.specs.declared.kept.message.Message.{Message as MessageFields}
 use Rattle.sctp_send.specs.declared.kept.entry.Content.{Content}
 use Rattle.sctp_send.specs.declared.kept.entry.Content.TheVariants.{Fragment, EndMark}
@@ -27,11 +24,6 @@ pub fragment_based : (f : Format) (base : Lane → ℕ) (size initial i : ℕ) (
     → fragment_chunk f no_base size initial i m d p ≡ fragment_chunk f base size initial i m n p
 fragment_based f base size initial i m n d (Fragment k) is = let all : d - 0 ≡ n - base (lane_meaning m) = omega (arith, is) in rw all refl
 fragment_based f base size initial i m n d EndMark is = let all : d - 0 ≡ n - base (lane_meaning m) = omega (arith, is) in rw all refl
-
--- it was tried
-pub tried_based : {E : Type 0} (r : Result Bool E) (before after : Draft) (c d : ChunkMeaning) → c ≡ d → IfOk r (λ put. put ≡ has_room before c) → IfOk r (λ put. after ≡ after_try before c put) → IfOk r (λ put. IsTried before after d put)
-tried_based (Ok put) before after c d is answer packet = record { answer = answer ∙ ap (has_room before) is; packet = packet ∙ ap (λ (x : ChunkMeaning). after_try before x put) is }
-tried_based (Err e) before after c d is answer packet = tt
 
 -- the entries of a FORWARD
 pub based_skips : (f : Format) (s : Kept) (v : SenderView) (p : ℕ) → Keeps f s v → map (skip_said f (base_of s.resets)) (forward_to f v p).skips ≡ (forward_said f v p).skips

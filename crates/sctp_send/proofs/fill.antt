@@ -10,13 +10,13 @@ pub mod AssignedKept
 pub mod RoomLemmas
 pub mod ChunkLemmas
 pub mod EnterLemmas
+pub mod OwnerLemmas
 pub mod FewLemmas
 pub mod NewlyLemmas
 pub mod PutLemmas
 pub mod NewMayLemmas
+pub mod IdleLemmas
 pub mod BegunPut
 pub mod ContinuedPut
 pub mod SendingLemmas
 pub mod FilledLemmas
-pub mod UndoLemmas
-pub mod BehindLemmas

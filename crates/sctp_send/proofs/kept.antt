@@ -12,6 +12,8 @@ pub mod FrontLemmas
 pub mod CountLemmas
 pub mod SentLemmas
 pub mod RiseLemmas
+pub mod OwnedLemmas
+pub mod TakenLemmas
 pub mod SeatLemmas
 pub mod SeatedLemmas
 pub mod TrackCounts

@@ -17,7 +17,6 @@ pub record OutstandingKept : Type 0 where
 pub record QueueKept : Type 0 where
   pub size : ℕ
   pub items : List (Arc Message Global)
-  pub capacity : ℕ
 
 -- the streams, by number
 pub record StreamsKept : Type 0 where

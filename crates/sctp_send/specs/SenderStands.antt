@@ -3,7 +3,8 @@ use Rattle.std.specs.Prelude.{◌≡◌, ℕ, zero, suc, ◌+◌, ◌≤◌, min
 use Rattle.sctp_model.specs.messages.Format.{Format, ordered_lane, unordered_lane}
 use Rattle.sctp_model.specs.messages.Plan.{Entry, Plan}
 use Rattle.sctp_model.specs.sender.SenderView.{SenderView}
-use Rattle.sctp_model.specs.sender.Entries.{entry_message, is_of_abandoned, continued, in_part}
+use Rattle.sctp_model.specs.sender.Entries.{entry_message, is_of_abandoned, continued}
+use Rattle.sctp_model.specs.sender.Queueing.{owed_by_queue, owed_by_parts}
 use Rattle.sctp_model.specs.sender.Abandoning.{Name, name_of, waits, is_abandoned}
 use Rattle.sctp_model.specs.sender.Words.{last_that}
 use Rattle.sctp_model.specs.sender.Reached.{IsReached}
@@ -74,8 +75,8 @@ pub record Holds (s : Kept) (v : SenderView) : Type 0 where
   pub tracks : s.tracks ≡ table (track_here v) 0 v.streams
   pub fates : s.fates ≡ table (fate_here v) 1 v.tickets
   pub covered : AreCovered s.runs v.covered v.cum
-  -- each message in part has room for its end mark
-  pub room : in_part v + length s.items ≤ s.capacity
+  -- there is room for the entry of each fragment without an index, and for an end mark of each message
+  pub room : length s.items + (owed_by_queue v.queue + owed_by_parts v) ≤ s.capacity
 
 -- Nothing is kept of the message with a ticket but its fate: it doesn't wait, it isn't in part, and it has no entry above CUM.
 pub record IsOver (s : Kept) (t : ℕ) : Type 0 where

@@ -1,3 +1,4 @@
+pub mod Asking
 pub mod Changes
 pub mod Marking
 pub mod Acknowledging
@@ -10,7 +11,7 @@ pub mod Sending
 pub mod Stocking
 pub mod Counting
 pub mod Seating
-pub mod Undoing
+pub mod Entering
 pub mod Lanes
 pub mod TicketOrder
 pub mod PartSeats
@@ -20,3 +21,4 @@ pub mod Dues
 pub mod Wearing
 pub mod Ordering
 pub mod Resetting
+pub mod Owning

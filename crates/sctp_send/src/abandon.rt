@@ -176,7 +176,7 @@ fn end(streams: &mut Streams, ticket: u64) -> Option<Ending>
     ending_of(streams.leave(at, None))
 }
 
-/// Appends the end mark of a message. Its space was reserved when the message took its number.
+/// Appends the end mark of a message. Its space was reserved when the message was queued.
 fn push_end(outstanding: &mut Outstanding, ending: Ending)
     ensures items { (size : ℕ) → length outstanding.old.items < outstanding.old.capacity
         → map (item_meaning size) outstanding.new.items ≡ map (item_meaning size) outstanding.old.items ++ end_item (ending_meaning size ending) ∷ [] }
@@ -190,9 +190,10 @@ fn push_end(outstanding: &mut Outstanding, ending: Ending)
 fn end_mark(ending: Ending) -> Entry
     ensures { (size : ℕ) → item_meaning size result ≡ end_item (ending_meaning size ending) }
 {
+    let Ending { rest, number } = ending;
     Entry {
-        message: ending.rest.message,
-        number: ending.number,
+        message: rest.message,
+        number,
         content: Content::EndMark,
         standing: Standing::Unsent,
         covered: false,

@@ -1,11 +1,12 @@
 //! Which DATA or I-DATA chunks go into a packet (RFC 9260, 6.1 and 6.3.3; RFC 8260, 2.2).
 //!
 //! A sender is a `Told`, which a fill only reads but for the fates that it sets at its end, and a `Stock`, which it changes. Clauses of `Told`'s methods
-//! speak of what the sender keeps with that stock (`stocked` of `bare`). Each change is noted (`Change`); if an allocation fails, the noted changes are
-//! taken back, the last one first (`undo_all`; `origin` is what the parts were before all that is noted, which each put function keeps: `IsBehind`).
-//! A message that begins reserves its memory first, but for what its fragments after the first one may allocate. A chunk costs its search from the
-//! two counted offsets on, its bytes, and its note; if nothing is to be sent, a fill costs three tests (`is_at_rest`).
+//! speak of what the sender keeps with that stock (`stocked` of `bare`). All memory is taken first: the packet's (`PacketWriter::reserve`), and that of
+//! the tickets that it may return; that of entries and owners was taken when messages were queued. So nothing is refused after that, and if something is
+//! refused then, that is an error only if some chunk could go (`asking`). A chunk costs its search from the two counted offsets on, and its bytes; if nothing is to
+//! be sent, a fill costs three tests (`is_at_rest`).
 
+pub mod asking;
 pub mod assigning;
 pub mod entering;
 pub mod indexed;
@@ -13,20 +14,21 @@ pub mod pushing;
 pub mod putting;
 pub mod sendings;
 
-ghost use Rattle.std.specs.Prelude.{◌≡◌, [], true, None, IfOk, OnErr};
+ghost use Rattle.std.specs.Prelude.{◌≡◌, ℕ, ◌+◌, ◌*◌, ◌^◌, ◌<◌, ◌≤◌, [], true, None, IfOk, OnOk, OnErr};
+ghost use Rattle.std.specs.Vec.{vec_capacity};
 ghost use Rattle.sctp_model.specs.sender.Filling.{next_wish, fill};
 ghost use Rattle.sctp_model.specs.sender.SenderView.{SenderView};
 ghost use Rattle.sctp_send.specs.SenderStands.{StandsFor, Keeps};
 ghost use Rattle.sctp_send.specs.FillAnswers.{FillAnswer, PutSomeOf, sendings_of};
-ghost use Rattle.sctp_packet.specs.Draft.{room_in};
+ghost use Rattle.sctp_packet.specs.Draft.{room_in, with_space};
 ghost use Rattle.sctp_send.specs.inner.Stocking.{bare, numbers_of, all_numbered, stocked, AreOpen, AllPut};
-ghost use Rattle.sctp_send.specs.inner.Undoing.{IsSized, IsBehind};
+ghost use Rattle.sctp_send.specs.inner.Entering.{IsSized};
 
 use crate::fill::sendings::{Resent, Sendings};
 use crate::kept::fates::Fates;
 use crate::kept::message::Fate;
 use crate::sender::Sender;
-use crate::stock::{Stock, begin_anew, take_tickets, undo_all};
+use crate::stock::{Stock, begin_anew, reserve_tickets, take_tickets};
 use crate::told::Told;
 use sctp_framing::Framing;
 use sctp_packet::PacketWriter;
@@ -34,6 +36,9 @@ use sctp_values::{NoMemory, Ticket};
 
 /// No buffer for more tickets is kept for the next fill.
 const MOST_TICKETS: usize = 128;
+
+/// The bytes of a DATA chunk's header, the shorter one of the two (RFC 9260, 3.3.1; RFC 8260, 2.1).
+const HEADER: usize = 16;
 
 /// What went into a packet.
 #[derive(Debug, Drop)]
@@ -111,19 +116,31 @@ impl<F: Framing> Sender<F> {
         ensures memory { (v : SenderView) → StandsFor F.format self.old v → OnErr result (StandsFor F.format self.new v) }
         ensures some { (v : SenderView) → StandsFor F.format self.old v → OnErr result (PutSomeOf F.format v packet.old packet.new) }
     {
+        let Ok(before) = reserve_all(&mut self.parts, packet) else {
+            return self.fill_unreserved(packet);
+        };
+        let sendings = self.told.put_all::<F>(&mut self.parts, missed, packet);
+        packet.restore(before);
+        let tickets = take_tickets(self.told.alloc, &mut self.parts.tickets);
+        number_all(&mut self.told.fates, &tickets);
+        Ok(Filled { tickets, sendings })
+    }
+
+    /// `fill_counting`, when memory was refused: an error if and only if some chunk could go.
+    #[inline(never)]
+    fn fill_unreserved(&mut self, packet: &PacketWriter) -> Result<Filled, NoMemory>
+        ensures step { (v : SenderView) → StandsFor F.format self.old v → IfOk result (λ filled. FillAnswer F.format v packet.now packet.now self.new filled) }
+        ensures sendings { (v : SenderView) (missed : ℕ) → StandsFor F.format self.old v → IfOk result (λ filled. filled.sendings ≡ sendings_of missed (fill F.format (room_in packet.now) v).wishes) }
+        ensures memory { (v : SenderView) → StandsFor F.format self.old v → OnErr result (StandsFor F.format self.new v) }
+        ensures some { (v : SenderView) → StandsFor F.format self.old v → OnErr result (PutSomeOf F.format v packet.now packet.now) }
+    {
         begin_anew(&mut self.parts);
-        match self.told.put_all::<F>(&mut self.parts, missed, packet) {
-            Ok(sendings) => {
-                self.parts.log.clear();
-                let tickets = take_tickets(self.told.alloc, &mut self.parts.tickets);
-                number_all(&mut self.told.fates, &tickets);
-                Ok(Filled { tickets, sendings })
-            }
-            Err(failed) => {
-                undo_all(&mut self.parts);
-                Err(failed)
-            }
+        if self.told.is_any_let_in::<F>(&mut self.parts, packet.room()) {
+            return Err(NoMemory);
         }
+        let tickets = Vec::new(self.told.alloc);
+        let sendings = Sendings::none();
+        Ok(Filled { tickets, sendings })
     }
 
     /// Returns the buffer of the tickets that a fill returned: they are dropped, and the next fill writes to it in place of a new allocation. One buffer is
@@ -147,24 +164,53 @@ impl Told {
         stock: &mut Stock,
         missed: u64,
         packet: &mut PacketWriter,
-    ) -> Result<Sendings, NoMemory>
+    ) -> Sendings
         requires fresh { stock.old.tickets.items ≡ [] }
         requires sized { IsSized self.now.fragment stock.old }
-        ensures behind { IsBehind stock.old stock.new }
+        requires reserved { packet.old.space ≡ true }
+        requires told { room_in packet.old < 16 * vec_capacity stock.old.tickets }
         ensures all { (v : SenderView) → Keeps F.format (stocked (bare self.now) stock.old) v
-            → IfOk result (λ sendings. AllPut F.format (bare self.now) v packet.old packet.new stock.new missed sendings) }
-        ensures some { (v : SenderView) → Keeps F.format (stocked (bare self.now) stock.old) v → OnErr result (PutSomeOf F.format v packet.old packet.new) }
+            → AllPut F.format (bare self.now) v packet.old packet.new stock.new missed result }
+        ensures sized { IsSized self.now.fragment stock.new }
+        ensures reserved { packet.new.space ≡ true }
     {
         let mut resent = Resent::none(missed);
-        // Each chunk takes room.
-        let room = packet.room();
-        for turn in 0..room {
-            if !self.put_next::<F>(stock, &mut resent, packet)? {
-                return Ok(resent.of_all(turn));
+        let most = most_chunks(packet.room());
+        for turn in 0..most {
+            if !self.put_next::<F>(stock, &mut resent, packet) {
+                return resent.of_all(turn);
             }
         }
-        Ok(resent.of_all(room))
+        resent.of_all(most)
     }
+}
+
+/// More chunks than a packet with so many bytes left takes: each takes its header at least.
+#[inline(always)]
+fn most_chunks(room: usize) -> usize
+    requires { room < 2 ^ 16 }
+    ensures more { room < 16 * result }
+    ensures few { 16 * result ≤ room + 16 }
+{
+    room / HEADER + 1
+}
+
+/// All memory that a fill may want is taken: for the tickets of messages that begin, each of which takes a chunk, and for the packet.
+///
+/// # Errors
+/// `NoMemory`: the packet is as before.
+#[inline(always)]
+fn reserve_all(stock: &mut Stock, packet: &mut PacketWriter) -> Result<bool, NoMemory>
+    ensures same { stock.new ≡ record stock.old { tickets = stock.new.tickets } }
+    ensures fresh { stock.new.tickets.items ≡ [] }
+    ensures told { OnOk result (room_in packet.new < 16 * vec_capacity stock.new.tickets) }
+    ensures before { IfOk result (λ before. before ≡ packet.old.space) }
+    ensures reserved { OnOk result (packet.new ≡ with_space packet.old true) }
+    ensures unchanged { OnErr result (packet.new ≡ packet.old) }
+{
+    begin_anew(stock);
+    reserve_tickets(&mut stock.tickets, most_chunks(packet.room()))?;
+    packet.reserve()
 }
 
 /// The messages with these tickets have their numbers.

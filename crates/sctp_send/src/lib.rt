@@ -12,6 +12,7 @@
 //! | [`Sender::fill`] | `step`: the packet gets the longest list of chunks of which each is the next to be sent and may go (it fits, the flow rule and the window allow it), after its own chunks; the sender stands for the view after them; the tickets returned are those of the messages that began, in the order of their first TSNs. `memory`: after NoMemory it stands for the same view. `some`: the packet then has a beginning of that list, each chunk whole, and one more would go |
 //! | [`Sender::fill_counting`], [`Sendings`] | as `fill`; `sendings`: how many of the chunks were sent for the first time, and how many were retransmitted with an index below a given one, and not below it |
 //! | [`Sender::trim`] | the same view: memory that a burst took and of which less than an eighth is used is given back, if it is for more than 128 entries or messages: of entries and their order by ticket, the queue and its seats, fates and deadlines (`kept/giving_back.rt`, `queueing/passing.rt`) |
+//! | [`Sender::take_buffer`] | the same view: an empty buffer with the capacity that is asked for, that of a message that is over, or none; of 64 messages those of 128 bytes at most are kept |
 //! | [`Sender::recycle_tickets`] | the same view: the buffer of the tickets that a fill returned is used for the next fill |
 //! | [`Sender::on_sack`] | `answer`: the first of Stale, Beyond, BadBlock that applies, in this order, each if and only if it is the first. `step`: the view with the SACK's CUM, gap blocks (in place of those of the last SACK) and window, or the same view |
 //! | [`Sender::on_shutdown`] | as `on_sack` for the cumulative TSN of a SHUTDOWN; what gap blocks acknowledged beyond it stays acknowledged |
@@ -38,9 +39,9 @@
 //! | [`Sender::limited`] | laws: an abandoned message isn't at its limit (`gone`), and `wear` and `wear_between` abandon only messages that `next_at_limit` gives (`only`) |
 //!
 //! Only `new`, `queue`, `queue_limited`, `fill`, `put_forward`, `reset` and `ask` return NoMemory; `keep_forward` may allocate, `trim` allocates nothing but
-//! smaller blocks in place of larger ones, and the others don't allocate. So that `abandon`, `expire`, `wear` and SACKs needn't, a message that begins
-//! reserves one entry for its end mark, besides those of the messages in part (`room` of `Holds`), and the first entry reserves the space for the runs of
-//! SACKs. Neither is given back.
+//! smaller blocks in place of larger ones, and the others don't allocate. So that `abandon`, `expire`, `wear` and SACKs needn't, nor a `fill` in its
+//! middle, a queued message reserves the entries of its fragments and of its end mark (`room` of `Holds`), and the first one the space for the runs of
+//! SACKs. Neither is given back while it may be needed.
 //!
 //! Laws of every view that calls reach, by induction over the calls (`sctp_model/proofs/sender`): CUM is no more than the TSNs assigned, all up to it
 //! is acknowledged, nothing beyond the last TSN is said (`Bounds`); TSNs after CUM and messages in part are at most 32,767, TSNs assigned and owed at
@@ -71,8 +72,8 @@
 //! The files of `src` form a path on which each imports only what is before it: `last_forward`, `message`, `resets`, `sendings`; `blocks`, `by_ticket`,
 //! `due_table`, `entry`, `seats`, `track`; `dues`, `fates`, `pieces`; `looking`, `queue`, `told`, `wishes`; `counts`, `queued_on`, `streams`; `stretches`;
 //! `outstanding`; `by_message`, `entries`, `flying`, `giving_back`, `going_out`, `lanes`, `marking`, `pushing`, `repeats`, `run_room`, `searching`, `stock`, `table`, `tally`, `telling`,
-//! `weight`; `assigning`, `covered`, `indexed`, `restarting`, `sender`, `still`, `waking`; `answering`, `at_limit`, `entering`, `fill`, `last`, `laws`, `pace`, `passing`, `queueing`,
-//! `readers`, `resetting`, `sack`, `wear`, `weighing`; `abandon`, `keeping`, `moments`; `expire`, `forward`, `putting`.
+//! `weight`; `assigning`, `covered`, `indexed`, `restarting`, `sender`, `still`, `waking`; `answering`, `asking`, `at_limit`, `entering`, `fill`, `last`, `laws`, `owing`, `pace`,
+//! `readers`, `resetting`, `sack`, `wear`, `weighing`; `abandon`, `keeping`, `moments`, `passing`, `queueing`; `expire`, `forward`, `putting`.
 //!
 //! What a body may still get away with: nothing that a caller can see but costs, how much memory is kept, and the texts of `Debug` and of faults. Only
 //! tested: `crates/sctp_call_rows` compares each answer and each packet's bytes at the limits (docs/CALLS.md).

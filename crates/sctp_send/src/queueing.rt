@@ -1,24 +1,24 @@
 //! Messages from the user: queued, or refused for the first reason that applies (RFC 9260, 6.1 and 6.9).
 
+pub mod owing;
 pub mod passing;
 
-ghost use Rattle.std.specs.Prelude.{◌≡◌, ℕ, ◌<◌, ◌++◌, ◌∷◌, [], map, length, None, OnOk, OnErr, IfErr, IfSome, IfNone};
-ghost use Rattle.sctp_model.specs.numbers.Limits.{TICKET_LIMIT};
+ghost use Rattle.std.specs.Prelude.{◌≡◌, ℕ, ◌<◌, ◌≤◌, ◌++◌, ◌∷◌, [], map, length, vec_capacity, None, OnOk, OnErr, IfErr, IfSome, IfNone};
+ghost use Rattle.sctp_model.specs.numbers.Limits.{LONGEST_MESSAGE, TICKET_LIMIT};
 ghost use Rattle.sctp_model.specs.sender.SenderView.{SenderView};
-ghost use Rattle.sctp_model.specs.sender.Queueing.{promised, refusal};
+ghost use Rattle.sctp_model.specs.sender.Queueing.{refusal};
 ghost use Rattle.sctp_send.specs.OutstandingFields.{queued_meaning};
 ghost use Rattle.sctp_send.specs.SenderFields.{queued_by};
 ghost use Rattle.sctp_send.specs.declared.queueing.SendFault.TheVariants.{NoMemory as FaultNoMemory};
 ghost use Rattle.sctp_send.specs.SenderStands.{StandsFor};
 ghost use Rattle.sctp_send.specs.SenderAnswers.{QueueAnswer, queue_after, lane_for, refused_with};
 
-use crate::kept::dues::Dues;
-use crate::kept::fates::Fates;
-use crate::kept::message::{Fate, Message, fragments_of, in_shell, owed};
+use crate::kept::message::{Fate, Message, buffer_of, fragments_of, in_shell, owed};
 use crate::kept::queue::Queue;
+use crate::queueing::owing::reserve_message;
 use crate::sender::Sender;
 use sctp_framing::Framing;
-use sctp_values::{Kind, LONGEST_MESSAGE, NoMemory, QUEUE_LIMIT, TICKET_LIMIT, TSN_LIMIT, Ticket};
+use sctp_values::{Kind, LONGEST_MESSAGE, QUEUE_LIMIT, TICKET_LIMIT, TSN_LIMIT, Ticket};
 use std::alloc::Global;
 use std::sync::Arc;
 use thiserror::Error;
@@ -99,7 +99,19 @@ impl<F: Framing> Sender<F> {
         }
     }
 
-    /// Queues a message, or refuses it. The space for its ticket is reserved before anything changes.
+    /// Takes the buffer of a message that is over, for the bytes of one to come: it is empty, and has capacity for `least` bytes. None if none is kept, or
+    /// it has less. Of 64 messages that were acknowledged the buffers are kept, if they have 128 bytes at most. It allocates no memory.
+    #[inline(always)]
+    pub fn take_buffer(&mut self, least: usize) -> Option<Vec<u8>>
+        ensures empty { IfSome result (λ buffer. buffer.items ≡ []) }
+        ensures room { IfSome result (λ buffer. least ≤ vec_capacity buffer) }
+        ensures kept { self.new ≡ self.old }
+    {
+        let alloc = self.told.alloc;
+        buffer_of(&mut self.told.shells, alloc, least)
+    }
+
+    /// Queues a message, or refuses it. The space for its ticket, and for all entries that it may take, is reserved before anything changes.
     fn accept(
         &mut self,
         stream: u16,
@@ -117,7 +129,14 @@ impl<F: Framing> Sender<F> {
             return Err(fault);
         }
         let given = self.told.fates.len();
-        match reserve_ticket(&mut self.told.fates, &mut self.told.dues) {
+        let more = owed(fragments_of(self.told.fragment, &bytes));
+        let entries = self.owed_by_accepted().wrapping_add(more);
+        match reserve_message(
+            &mut self.told.fates,
+            &mut self.told.dues,
+            &mut self.parts.outstanding,
+            entries as usize,
+        ) {
             Ok(()) => {}
             Err(_) => return Err(SendFault::NoMemory),
         }
@@ -148,6 +167,8 @@ impl<F: Framing> Sender<F> {
         ensures some { (v : SenderView) → StandsFor F.format self.now v → IfSome result (λ fault. refused_with (refusal v stream bytes.now) fault) }
         ensures told { IfSome result (λ fault. fault ≡ FaultNoMemory → ⊥) }
         ensures few { IfNone result (length self.now.fates < TICKET_LIMIT) }
+        ensures long { IfNone result (0 < length bytes.now) }
+        ensures short { IfNone result (length bytes.now ≤ LONGEST_MESSAGE) }
     {
         if stream >= self.told.streams {
             return Some(SendFault::NoSuchStream);
@@ -175,35 +196,9 @@ impl<F: Framing> Sender<F> {
         }
         None
     }
-
-    /// The TSNs assigned, and those that the accepted messages may still take.
-    fn promised(&self) -> u64
-        ensures { (v : SenderView) → StandsFor F.format self.now v → result ≡ promised v }
-    {
-        self.told
-            .cum
-            .wrapping_add(self.parts.outstanding.len() as u64)
-            .wrapping_add(self.parts.queue.owed())
-            .wrapping_add(self.parts.streams.owed())
-    }
 }
 
-/// Takes room for a ticket more.
-fn reserve_ticket(fates: &mut Fates, dues: &mut Dues) -> Result<(), NoMemory>
-    ensures items { fates.new.items ≡ fates.old.items }
-    ensures ended { fates.new.ended ≡ fates.old.ended }
-    ensures abandoned { fates.new.abandoned ≡ fates.old.abandoned }
-    ensures passed { dues.new.passed ≡ dues.old.passed }
-    ensures moments { dues.new.moments ≡ dues.old.moments }
-    ensures asleep { dues.new.asleep ≡ dues.old.asleep }
-    ensures room { OnOk result (length fates.new.items < fates.new.capacity) }
-    ensures moment { OnOk result (length dues.new.moments < dues.new.capacity) }
-{
-    fates.reserve()?;
-    dues.reserve()
-}
-
-/// A message comes to the end of the queue.
+/// A message comes to the end of the queue, with the owners of its fragments.
 #[inline(always)]
 fn enqueue(
     queue: &mut Queue,
@@ -211,6 +206,8 @@ fn enqueue(
     alloc: Global,
     message: Message,
 ) -> Result<(), SendFault>
+    requires some { 0 < length message.bytes.items }
+    requires short { length message.bytes.items ≤ LONGEST_MESSAGE }
     ensures size { queue.new.size ≡ queue.old.size }
     ensures waits { (size : ℕ) → OnOk result (map (queued_by size) queue.new.items ≡ map (queued_by size) queue.old.items ++ queued_meaning size message ∷ []) }
     ensures unchanged { OnErr result (queue.new.items ≡ queue.old.items) }
@@ -220,7 +217,11 @@ fn enqueue(
         Ok(message) => message,
         Err(_) => return Err(SendFault::NoMemory),
     };
-    match queue.push(message) {
+    let waiting = match queue.owners(alloc, message) {
+        Ok(waiting) => waiting,
+        Err(_) => return Err(SendFault::NoMemory),
+    };
+    match queue.push(waiting) {
         Ok(()) => Ok(()),
         Err(_) => Err(SendFault::NoMemory),
     }

@@ -1,7 +1,7 @@
 //! SACKs and SHUTDOWNs from the peer, and the expiry of the data timer (RFC 9260, 6.2.1, 6.3.3 and 9.2).
 //!
 //! `on_sack` keeps the runs of entries that the last SACK acknowledged by gap blocks, at most 368, as many blocks as a packet of 1,500 bytes has. Their
-//! memory is reserved with the first entry, so that no SACK allocates, and a sender that had no entry has none (`run_room`). It sets only the
+//! memory is reserved with that for the first entry, so that no SACK allocates, and a sender that had no message has none (`run_room`). It sets only the
 //! entries that change: it costs its blocks, the old runs, what CUM passes, and what is newly acknowledged or no longer so, whole stretches of 64 entries
 //! at once if they are alike (`stretches`), else each entry once. If CUM passes all entries, nothing is counted of any as they go (`clear`); if
 //! nothing was acknowledged by blocks and no block is in the SACK, no entry is looked at for that. Both lists of runs are in order (`AreInOrder`), so
@@ -14,14 +14,14 @@ pub mod marking;
 pub mod telling;
 pub mod waking;
 
-ghost use Rattle.std.specs.Prelude.{◌≡◌, ◌≤◌, ◌&&◌, nat_le, nat_lt, length, IfOk};
+ghost use Rattle.std.specs.Prelude.{◌≡◌, ◌-◌, ◌≤◌, ◌&&◌, nat_le, nat_lt, length, None, IfOk};
 ghost use Rattle.sctp_model.specs.sender.SenderView.{SenderView};
 ghost use Rattle.sctp_model.specs.sender.SackTaken.{some_is_bad, some_ends_past, sack_fault, sack_after, shutdown_fault, shutdown_after};
 ghost use Rattle.sctp_model.specs.sender.Abandoning.{timed_out, marking};
 ghost use Rattle.sctp_wire.specs.ChunkTree.{sack_meaning};
 ghost use Rattle.sctp_send.specs.SenderStands.{StandsFor};
 ghost use Rattle.sctp_send.specs.SenderAnswers.{reason_meaning};
-ghost use Rattle.sctp_send.specs.inner.Acknowledging.{PassingAnswer};
+ghost use Rattle.sctp_send.specs.inner.Acknowledging.{PassingAnswer, SackAnswer, block_fault};
 
 use crate::sack::covered::cover_blocks;
 use crate::sack::entries::{forget, move_on};
@@ -58,14 +58,7 @@ impl<F: Framing> Sender<F> {
         ensures answer { (v : SenderView) → StandsFor F.format self.old v → reason_meaning result ≡ sack_fault v (sack_meaning sack.now) }
         ensures step { (v : SenderView) → StandsFor F.format self.old v → StandsFor F.format self.new (sack_after v (sack_meaning sack.now)) }
     {
-        let passed = self.passed_by(sack.cumulative)?;
-        let left = self.parts.outstanding.len() - passed as usize;
-        if reach_past(&sack.blocks, left) {
-            return Err(SackFault::Beyond);
-        }
-        if are_disordered(&sack.blocks) {
-            return Err(SackFault::BadBlock);
-        }
+        let passed = self.passed_by_sack(sack)?;
         let before = self.last_sent_within(passed as usize);
         let is_known = self.told.is_known;
         wake_for(
@@ -145,6 +138,26 @@ impl<F: Framing> Sender<F> {
             offset_of(cum, from),
             offset_of(cum, below),
         );
+    }
+
+    /// How many entries the cumulative TSN of a SACK passes, unless the SACK is refused.
+    ///
+    /// # Errors
+    /// The first `SackFault` that applies.
+    pub(crate) fn passed_by_sack(&self, sack: &Sack<'_>) -> Result<u32, SackFault>
+        ensures answer { (v : SenderView) → StandsFor F.format self.now v → SackAnswer v (sack_meaning sack.now) result }
+        ensures within { IfOk result (λ passed. passed ≤ length self.now.items) }
+        ensures blocks { IfOk result (λ passed. block_fault (length self.now.items - passed) sack.now.blocks ≡ None) }
+    {
+        let passed = self.passed_by(sack.cumulative)?;
+        let left = self.parts.outstanding.len() - passed as usize;
+        if reach_past(&sack.blocks, left) {
+            return Err(SackFault::Beyond);
+        }
+        if are_disordered(&sack.blocks) {
+            return Err(SackFault::BadBlock);
+        }
+        Ok(passed)
     }
 
     /// How many entries a cumulative TSN passes.

@@ -37,7 +37,7 @@ impl<F: Framing> Model for Sender<F> {
 
     ghost use Rattle.sctp_send.specs.OutstandingFields.{item_meaning};
     ghost use Rattle.sctp_send.specs.SenderFields.{track_meaning, queued_by};
-    ghost use Rattle.sctp_send.specs.inner.Undoing.{IsSized};
+    ghost use Rattle.sctp_send.specs.inner.Entering.{IsSized};
 
     ghost view = { λ s. record {
       initial = s.told.initial;
@@ -115,7 +115,6 @@ impl<F: Framing> Sender<F> {
                 streams: all_streams,
                 turn: 0,
                 tickets: Vec::new(alloc),
-                log: Vec::new(alloc),
             },
             format: PhantomData,
         })

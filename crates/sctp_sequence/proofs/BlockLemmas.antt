@@ -1,6 +1,6 @@
 -- What holds of each of the blocks.
-use Rattle.std.proofs.Common.{ℕ, zero, suc, ◌<◌, List, [], ◌++◌, ◌∷◌, length, get_or, set, take, drop, arith}
-use Rattle.std.specs.List.{insert, remove, AllByRecursion}
+use Rattle.std.proofs.Common.{ℕ, zero, suc, ◌<◌, List, [], ◌∷◌, length, get_or, set, arith}
+use Rattle.std.specs.List.{AllByRecursion}
 
 module _ {X : Type 0} (P : X → Type 0) where
   pub all-at : (xs : List X) (k : ℕ) (d : X) → k < length xs → AllByRecursion P xs → P (get_or xs k d)

@@ -21,7 +21,7 @@
 //! | [`Sequence::get_mut`] | `writes_back` (`specs/Lending`): the item at the position is what was last written there, the others and the memory stay; `value`: what it is at first |
 //! | [`Sequence::remove`], [`Sequence::pop_front`] | the item at a position, or the first one, is taken out; None if and only if there is none; memory for one more item stays |
 //! | [`Sequence::clear`] | no items; memory for one more item stays |
-//! | [`Sequence::give_back`] | changes no item; of an empty list that had many blocks memory is given back |
+//! | [`Sequence::give_back`], [`Sequence::trim`] | change no item; of an empty list memory is given back, by the first if it had many blocks, by the second all |
 //! | [`Sequence::partition_point`] | `partitioned`: how many items at the front satisfy a predicate that none after them satisfies |
 //!
 //! ## Cost

@@ -68,17 +68,26 @@ impl<T: Drop> Sequence<T> {
         ensures { self.new.items ≡ self.old.items }
     {
         if self.count == 0 && self.rest.capacity() > MANY {
-            self.shrink();
+            self.shrink(FEW);
         }
     }
 
-    /// Gives back the memory of an empty list.
+    /// Gives back all memory that an empty list keeps; of a list with items it gives back none.
+    pub fn trim(&mut self)
+        ensures { self.new.items ≡ self.old.items }
+    {
+        if self.count == 0 {
+            self.shrink(0);
+        }
+    }
+
+    /// Gives back the memory of an empty list, but for so many items.
     #[inline(never)]
-    fn shrink(&mut self)
+    fn shrink(&mut self, kept: usize)
         requires { self.old.items ≡ [] }
         ensures { self.new.items ≡ self.old.items }
     {
-        self.first.shrink_to(FEW);
+        self.first.shrink_to(kept);
         self.rest.shrink_to_fit();
         self.starts.shrink_to_fit();
         self.spare = None;

@@ -176,6 +176,18 @@ impl Machine {
     }
 }
 
+/// The same. What was returned through memory is apart from what is returned of a packet of the fast path, which so stays in registers.
+#[inline(always)]
+pub(crate) fn apart(built: Result<Option<Built>, NoMemory>) -> Result<Option<Built>, NoMemory>
+    ensures { result ≡ built }
+{
+    match built {
+        Ok(Some(built)) => Ok(Some(built)),
+        Ok(None) => Ok(None),
+        Err(failed) => Err(failed),
+    }
+}
+
 /// Puts the SACK in, if it is due, and user data in what is left after it, as far as the pace allows, at this time in milliseconds.
 ///
 /// # Errors

@@ -158,4 +158,14 @@ impl Traffic {
             Traffic::Interleaved(directions) => directions.receiver.give_back(message),
         }
     }
+
+    /// Gives back memory of the receiver that isn't used: no view of it changes.
+    pub(crate) fn trim_receiver(&mut self)
+        ensures { (f : Format) (s : SenderView) (r : ReceiverView) → TrafficStands self.old f s r → TrafficStands self.new f s r }
+    {
+        match self {
+            Traffic::Plain(directions) => directions.receiver.trim(),
+            Traffic::Interleaved(directions) => directions.receiver.trim(),
+        }
+    }
 }

@@ -1,6 +1,6 @@
 //! Stream reset at the sender and at the receiver, in either format (RFC 6525, 5).
 
-ghost use Rattle.std.specs.Prelude.{◌≡◌, true, ℕ, ◌&&◌, nat_lt, if◌then◌else◌, [], map, Some, None, OnOk, OnErr, MatchOption};
+ghost use Rattle.std.specs.Prelude.{◌≡◌, true, ℕ, ◌&&◌, nat_lt, is_some, if◌then◌else◌, [], map, Some, None, OnOk, OnErr, MatchOption};
 ghost use Rattle.sctp_model.specs.messages.Format.{Format};
 ghost use Rattle.sctp_model.specs.sender.Outgoing.{is_resetting};
 ghost use Rattle.sctp_model.specs.sender.Resetting.{resetting, may_ask, asked, response_taken};
@@ -167,6 +167,17 @@ impl Traffic {
         match self {
             Traffic::Plain(directions) => directions.receiver.last_finished_request(),
             Traffic::Interleaved(directions) => directions.receiver.last_finished_request(),
+        }
+    }
+
+    /// Whether the peer reset a stream and that wasn't reported.
+    #[inline(always)]
+    pub(crate) fn has_reset(&self) -> bool
+        ensures { (f : Format) (s : SenderView) (r : ReceiverView) → TrafficStands self.now f s r → result ≡ is_some (reset_there r) }
+    {
+        match self {
+            Traffic::Plain(directions) => directions.receiver.has_reset(),
+            Traffic::Interleaved(directions) => directions.receiver.has_reset(),
         }
     }
 

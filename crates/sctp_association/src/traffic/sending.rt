@@ -98,19 +98,8 @@ impl Traffic {
         }
     }
 
-    /// Returns the buffer of the tickets that were told with a packet: no view of the sender changes.
-    #[inline(always)]
-    pub(crate) fn recycle_tickets(&mut self, tickets: Vec<Ticket>)
-        ensures { (f : Format) (s : SenderView) (r : ReceiverView) → TrafficStands self.old f s r → TrafficStands self.new f s r }
-    {
-        match self {
-            Traffic::Plain(directions) => directions.sender.recycle_tickets(tickets),
-            Traffic::Interleaved(directions) => directions.sender.recycle_tickets(tickets),
-        }
-    }
-
     /// Gives back memory of the sender that a burst took: no view of it changes.
-    pub(crate) fn trim(&mut self)
+    pub(crate) fn trim_sender(&mut self)
         ensures { (f : Format) (s : SenderView) (r : ReceiverView) → TrafficStands self.old f s r → TrafficStands self.new f s r }
     {
         match self {
@@ -226,6 +215,7 @@ impl Traffic {
     ///
     /// # Errors
     /// Why it is refused; nothing changed.
+    #[inline(always)]
     pub(crate) fn queue(
         &mut self,
         stream: u16,

@@ -1,10 +1,10 @@
 //! The user resets outgoing streams, and reads which streams the peer reset (RFC 6525, 5.1 and 5.2).
 
-ghost use Rattle.std.specs.Prelude.{◌≡◌, ◌&&◌, nat_lt, true, OnOk, OnErr};
+ghost use Rattle.std.specs.Prelude.{◌≡◌, ◌&&◌, nat_lt, true, is_some, OnOk, OnErr};
 ghost use Rattle.sctp_model.specs.sender.Outgoing.{is_resetting};
 ghost use Rattle.sctp_model.specs.sender.Resetting.{resetting};
 ghost use Rattle.sctp_model.specs.end.EndView.{EndView};
-ghost use Rattle.sctp_model.specs.end.UserCalls.{is_established};
+ghost use Rattle.sctp_model.specs.end.UserCalls.{is_established, reset_there};
 ghost use Rattle.sctp_model.specs.end.Closing.{hears};
 ghost use Rattle.sctp_send.specs.ResetAnswers.{resetting_streams};
 ghost use Rattle.sctp_association.specs.MachineStands.{MachineStands};
@@ -111,6 +111,17 @@ impl Machine {
         match &self.life {
             Life::Unjoined(_) => 0,
             Life::Joined(association) => association.traffic.resetting_streams(),
+        }
+    }
+
+    /// Whether the peer reset a stream and that wasn't reported.
+    #[inline(always)]
+    pub fn has_reset(&self) -> bool
+        ensures { (v : EndView) → MachineStands self.now v → result ≡ is_some (reset_there v) }
+    {
+        match &self.life {
+            Life::Unjoined(_) => false,
+            Life::Joined(association) => association.traffic.has_reset(),
         }
     }
 

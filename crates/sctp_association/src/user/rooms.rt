@@ -1,6 +1,6 @@
 //! Buffers that the user hands back, to be used again in place of new memory. No view and no answer of an endpoint depends on them.
 
-ghost use Rattle.std.specs.Prelude.{◌≡◌, ◌≤◌, vec_capacity};
+ghost use Rattle.std.specs.Prelude.{◌≡◌, ◌≤◌, [], vec_capacity, IfSome};
 ghost use Rattle.sctp_model.specs.end.EndView.{EndView};
 ghost use Rattle.sctp_association.specs.MachineStands.{MachineStands};
 ghost use Rattle.sctp_association.specs.KeptRoom.{kept_capacity, kept_of};
@@ -32,12 +32,27 @@ impl Machine {
 
     /// Returns the buffer of the tickets that were returned with a packet: they are dropped, and the tickets of the next packet are written to it in place
     /// of a new allocation. One buffer is kept, the larger one of two. It doesn't allocate.
+    #[inline(always)]
     pub fn recycle_tickets(&mut self, tickets: Vec<Ticket>)
         ensures { (v : EndView) → MachineStands self.old v → MachineStands self.new v }
     {
         match &mut self.life {
             Life::Unjoined(_) => {}
             Life::Joined(association) => association.traffic.recycle_tickets(tickets),
+        }
+    }
+
+    /// Takes the buffer of a message that is over, for the bytes of one to come: it is empty, and has capacity for `least` bytes. None if none is kept,
+    /// or it has less. It doesn't allocate.
+    #[inline(always)]
+    pub fn take_buffer(&mut self, least: usize) -> Option<Vec<u8>>
+        ensures empty { IfSome result (λ buffer. buffer.items ≡ []) }
+        ensures room { IfSome result (λ buffer. least ≤ vec_capacity buffer) }
+        ensures kept { self.new ≡ self.old }
+    {
+        match &mut self.life {
+            Life::Unjoined(_) => None,
+            Life::Joined(association) => association.traffic.take_buffer(least),
         }
     }
 
@@ -52,13 +67,16 @@ impl Machine {
         }
     }
 
-    /// Gives back memory that a burst of messages took: see `sctp_send::Sender::trim`.
+    /// Gives back memory that a burst of messages took: see `sctp_send::Sender::trim` and `sctp_recv::Receiver::trim`.
     pub fn trim(&mut self)
         ensures { (v : EndView) → MachineStands self.old v → MachineStands self.new v }
     {
         match &mut self.life {
             Life::Unjoined(_) => {}
-            Life::Joined(association) => association.traffic.trim(),
+            Life::Joined(association) => {
+                association.traffic.trim_sender();
+                association.traffic.trim_receiver();
+            }
         }
     }
 

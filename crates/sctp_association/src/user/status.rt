@@ -7,7 +7,7 @@ ghost use Rattle.sctp_model.specs.sender.SenderView.{SenderView};
 ghost use Rattle.sctp_model.specs.receiver.ReceiverView.{ReceiverView};
 ghost use Rattle.sctp_model.specs.end.EndView.{EndView};
 ghost use Rattle.sctp_send.specs.Waiting.{queued_bytes, queued_bytes_on};
-ghost use Rattle.sctp_recv.specs.Readable.{ReadableAnswer};
+ghost use Rattle.sctp_recv.specs.Readable.{ReadableAnswer, NextReadableAnswer};
 ghost use Rattle.sctp_association.specs.Agreeing.{AgreedAnswer};
 ghost use Rattle.sctp_association.specs.MachineStands.{MachineStands};
 ghost use Rattle.sctp_association.specs.TrafficStands.{TrafficStands};
@@ -72,6 +72,17 @@ impl Traffic {
             Traffic::Interleaved(directions) => directions.receiver.readable(from),
         }
     }
+
+    /// The first stream, from this one on, with a message to be taken, or else the first of all.
+    #[inline(always)]
+    pub(crate) fn next_readable(&self, from: u16) -> Option<u16>
+        ensures { (f : Format) (s : SenderView) (r : ReceiverView) → TrafficStands self.now f s r → NextReadableAnswer r.waiting from result }
+    {
+        match self {
+            Traffic::Plain(directions) => directions.receiver.next_readable(from),
+            Traffic::Interleaved(directions) => directions.receiver.next_readable(from),
+        }
+    }
 }
 
 #[tactic(auto, unfolding(crate::specs::MachineStands::MachineStands))]
@@ -126,6 +137,17 @@ impl Machine {
         match &self.life {
             Life::Unjoined(_) => None,
             Life::Joined(association) => association.traffic.readable(from),
+        }
+    }
+
+    /// The first stream, from this one on, with a message to be taken, or else the first of all; None if there is none, as before an association.
+    #[inline(always)]
+    pub fn next_readable(&self, from: u16) -> Option<u16>
+        ensures { (v : EndView) → MachineStands self.now v → NextReadableAnswer v.receiver.waiting from result }
+    {
+        match &self.life {
+            Life::Unjoined(_) => None,
+            Life::Joined(association) => association.traffic.next_readable(from),
         }
     }
 

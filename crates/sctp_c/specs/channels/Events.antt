@@ -4,9 +4,15 @@ use Rattle.sctp_model.specs.end.EndView.{EndView}
 use Rattle.sctp_values.specs.declared.no_memory.NoMemory.{NoMemory}
 use Rattle.sctp_dcep.specs.Dcep.{Parameters, type_of, value_of}
 use Rattle.sctp_channels.specs.declared.event.Event.{Event}
+use Rattle.sctp_channels.specs.declared.channels.Channels.{Channels}
+use Rattle.sctp_channels.specs.declared.reading.Written.{Written}
+use Rattle.sctp_channels.specs.declared.reading.Written.TheVariants.{Other}
+use Rattle.sctp_channels.specs.ChannelsStand.{ChannelsStand}
+use Rattle.sctp_channels.specs.Events.{next_report}
 use Rattle.sctp_channels.specs.Meanings.{event_meaning}
 use Rattle.sctp_channels.specs.Streams.{Table}
 use Rattle.sctp_channels.specs.Told.{Told, Incoming, Opened, Message, Closed, BufferedAmountLow, Refuses, Ignores, Report}
+use Rattle.sctp_channels.specs.Writing.{Writes}
 use Rattle.sctp_c.specs.channels.Codes.{refusal_number, ignored_number}
 use Rattle.sctp_c.specs.channels.Holds.{HoldsChannels, TellsIn, waiting_in, next_of}
 use Rattle.sctp_c.specs.declared.channels.crossing.SctpChannelEvent.{SctpChannelEvent}
@@ -105,6 +111,11 @@ abbrev pub waits_after : Result (Option Event) NoMemory → (code : ℕ) → (re
 waits_after (Ok (Some told)) n rest = if n == NEEDS_ROOM then Some told else rest
 waits_after (Ok None) n rest = rest
 waits_after (Err why) n rest = rest
+
+-- what was written of the next event, if no event waits
+abbrev pub WritesNext : EndView → Table → (before : Option Event) → Written → Channels → (old new : List ℕ) → Type 0
+WritesNext v x None w c old new = Writes (next_report v x) v x w c old new
+WritesNext v x (Some event) w c old new = (w ≡ Other) × ChannelsStand c v x × (new ≡ old)
 
 -- The event that waited, or else the channels' next one, was this; C gets it, what is left is what it leaves, and it waits if it didn't fit.
 pub record TellsNext (v : EndView) (x : Table) (before after : Option Held) (code : ℕ) (event_old event : SctpChannelEvent) (old new : List ℕ) : Type 0 where

@@ -1,4 +1,4 @@
-//! What C's user calls of an association with channels: connect, shutdown; and the current time (RFC 9260, 11.1).
+//! What C's user calls of an association with channels: connect, shutdown, trim; and the current time (RFC 9260, 11.1).
 
 ghost use Rattle.std.specs.Prelude.{◌≡◌, ◌<◌, true, None};
 ghost use Rattle.sctp_model.specs.end.EndView.{EndView};
@@ -82,5 +82,20 @@ pub extern "C" fn sctp_channels_on_moment(channels: &mut SctpChannels, now: u64)
     }
     let held = channels.slot.lend();
     held.channels.on_moment(now);
+    OK
+}
+
+/// Gives back memory that a burst of messages took, as `sctp_endpoint_trim` does.
+#[unsafe(no_mangle)]
+pub extern "C" fn sctp_channels_trim(channels: &mut SctpChannels) -> u32
+    ensures misuse { channels.old.slot.held ≡ None → (result ≡ MISUSE) × (channels.new.slot.held ≡ None) }
+    ensures step { (v : EndView) (x : Table) → HoldsChannels channels.old.slot.held v x → (result ≡ OK) × HoldsChannels channels.new.slot.held v x }
+    ensures waits { waiting_in channels.new.slot.held ≡ waiting_in channels.old.slot.held }
+{
+    if !channels.is_full() {
+        return MISUSE;
+    }
+    let held = channels.slot.lend();
+    held.channels.trim();
     OK
 }

@@ -4,20 +4,47 @@ ghost use Rattle.std.specs.Prelude.{◌≡◌, Some, None, Ok};
 ghost use Rattle.sctp_model.specs.end.EndView.{EndView};
 ghost use Rattle.sctp_channels.specs.Streams.{Table};
 ghost use Rattle.sctp_channels.specs.ChannelsStand.{ChannelsStand};
+ghost use Rattle.sctp_channels.specs.Writing.{Keeps};
 ghost use Rattle.sctp_channels.specs.declared.event.Event.TheVariants as kind;
 ghost use Rattle.sctp_c.specs.channels.Holds.{HoldsChannels};
-ghost use Rattle.sctp_c.specs.channels.Events.{EventTold, waits_after, TellsNext};
+ghost use Rattle.sctp_c.specs.channels.Events.{EventTold, waits_after, WritesNext, TellsNext};
 
 use crate::channels::crossing::SctpChannelEvent;
 use crate::channels::handle::SctpChannels;
 use crate::channels::held::Held;
-use crate::channels::telling::{event_numbers, message_numbers, put_content, put_event};
+use crate::channels::telling::{
+    content_length, event_numbers, message_numbers, put_content, put_event,
+};
 use crate::codes::{MISUSE, NEEDS_ROOM, NO_MEMORY, NOTHING, OK};
-use sctp_channels::Event;
+use sctp_channels::{Event, Written};
 use sctp_endpoint::Message;
 use sctp_values::NoMemory;
 
 impl Held {
+    /// Copies the channels' next event to the buffer if no event waits, and it is a message for which the buffer has space.
+    fn write(&mut self, buffer: &mut [u8]) -> Written
+        ensures did { (v : EndView) (x : Table) → ChannelsStand self.old.channels v x
+            → WritesNext v x self.old.waiting result self.new.channels buffer.old buffer.new }
+        ensures kept { Keeps result buffer.old buffer.new }
+        ensures waits { self.new.waiting ≡ self.old.waiting }
+    {
+        match &self.waiting {
+            None => self.channels.next_message_into(buffer),
+            Some(_) => Written::Other,
+        }
+    }
+
+    /// Takes the next event, whatever it is, and writes it for C.
+    #[inline(never)]
+    fn tell_next(&mut self, event: &mut SctpChannelEvent, buffer: &mut [u8]) -> u32
+        ensures untold { ((result ≡ OK) → ⊥) → buffer.new ≡ buffer.old }
+        ensures did { (v : EndView) (x : Table) → ChannelsStand self.old.channels v x
+            → TellsNext v x (Some self.old) (Some self.new) result event.old event.new buffer.old buffer.new }
+    {
+        let answer = self.next();
+        self.tell(answer, event, buffer)
+    }
+
     /// Writes an event for C, or that there is none. It waits if the buffer has no space for its bytes; else its memory goes back to the endpoint.
     fn tell(
         &mut self,
@@ -59,7 +86,7 @@ impl Held {
         ensures waits { self.new.waiting ≡ waits_after (Ok (Some (kind.Message stream text message))) result self.old.waiting }
         ensures keeps { (v : EndView) (x : Table) → ChannelsStand self.old.channels v x → ChannelsStand self.new.channels v x }
     {
-        *event = message_numbers(stream, text, &message);
+        *event = message_numbers(stream, text, content_length(&message));
         if put_content(&message, buffer) {
             self.give_back(message);
             return OK;
@@ -114,7 +141,16 @@ pub extern "C" fn sctp_channels_next_event(
         return MISUSE;
     }
     let held = channels.slot.lend();
-    let answer = held.next();
-    let told = held.tell(answer, event, buffer);
-    told
+    match held.write(buffer) {
+        Written::Message {
+            stream,
+            text,
+            length,
+        } => {
+            *event = message_numbers(stream, text, length);
+            OK
+        }
+        Written::Nothing => NOTHING,
+        Written::Other => held.tell_next(event, buffer),
+    }
 }

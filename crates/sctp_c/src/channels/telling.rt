@@ -1,6 +1,6 @@
 //! An event as C gets it.
 
-ghost use Rattle.std.specs.Prelude.{◌≡◌, ◌++◌};
+ghost use Rattle.std.specs.Prelude.{◌≡◌, ◌<◌, ◌^◌, ◌++◌};
 ghost use Rattle.sctp_dcep.specs.Dcep.{type_of, value_of};
 ghost use Rattle.sctp_dcep.specs.Meanings.{reliability_meaning};
 ghost use Rattle.sctp_recv.specs.HandedOf.{message_bytes};
@@ -55,7 +55,7 @@ fn limit_of(reliability: Reliability) -> u32
 }
 
 /// How many bytes a content has.
-fn content_length(message: &Option<Message>) -> usize
+pub(crate) fn content_length(message: &Option<Message>) -> usize
     ensures { result ≡ capped (content_bytes message.now) }
 {
     match message {
@@ -75,7 +75,7 @@ pub(crate) fn event_numbers(event: &Event) -> SctpChannelEvent
             stream,
             text,
             message,
-        } => message_numbers(*stream, *text, message),
+        } => message_numbers(*stream, *text, content_length(message)),
         Event::Closed { stream } => plain_event(*stream, 4),
         Event::Refused { stream, why } => SctpChannelEvent {
             reason: refusal_number(*why),
@@ -90,15 +90,12 @@ pub(crate) fn event_numbers(event: &Event) -> SctpChannelEvent
 }
 
 /// The numbers of a message.
-pub(crate) fn message_numbers(
-    stream: u16,
-    text: bool,
-    message: &Option<Message>,
-) -> SctpChannelEvent
-    ensures { result ≡ record (plain_event stream 3) { length = capped (content_bytes message.now); text = text } }
+pub(crate) fn message_numbers(stream: u16, text: bool, length: usize) -> SctpChannelEvent
+    ensures numbers { result ≡ record (plain_event stream 3) { length = length; text = text } }
+    ensures small { length < 2 ^ 64 }
 {
     SctpChannelEvent {
-        length: content_length(message),
+        length,
         text,
         ..plain_event(stream, 3)
     }

@@ -36,6 +36,11 @@ told_by (Ok true) told = Ok (Some told)
 told_by (Ok false) told = Ok None
 told_by (Err why) told = Err why
 
+-- What a call that wrote its verdict beside its result returned of a packet.
+abbrev pub with_verdict : Result (Unit {0}) NoMemory → Verdict → Result Verdict NoMemory
+with_verdict (Ok done) told = Ok told
+with_verdict (Err why) told = Err why
+
 -- One chunk acted: the chunks after it follow, or the packet ends with it, and an answer is within the limit. After a failed allocation nothing has acted.
 abbrev pub ActsOne : ℕ → EndView → Notes → ChunkMeaning → Result (Option Verdict) NoMemory → Machine → Notes → Type 0
 ActsOne tag v n m (Ok None) e l = (t : EndView) × MachineStands e t × GoesOnBehind tag v (notes_meaning n) m t (notes_meaning l)

@@ -26,7 +26,7 @@ pub use Rattle.sctp_model.proofs.sender.PartLaws.{is_windowed}
 
 -- ---- a message in part gets its end mark
 
-fewer_owed : (v : SenderView) (n : Name) → HasMessages v → n.lane.stream < v.streams → is_in_part v n.lane n.number ≡ true
+pub fewer_owed : (v : SenderView) (n : Name) → HasMessages v → n.lane.stream < v.streams → is_in_part v n.lane n.number ≡ true
     → sum_below (λ s. owed_for (fragments_from (with_end v.plan n) (continued (with_end v.plan n) s))) v.streams + 1 ≤ owed_by_parts v
 fewer_owed v n h lt is =
     let next = in_part_is v n h is in
@@ -50,12 +50,12 @@ fewer_owed v n h lt is =
 
 -- ---- the TSNs assigned and owed
 
-owed_push : (qs : List Queued) (q : Queued) → owed_by_queue (qs ++ q ∷ []) ≡ owed_by_queue qs + owed_for (length q.message.fragments)
+pub owed_push : (qs : List Queued) (q : Queued) → owed_by_queue (qs ++ q ∷ []) ≡ owed_by_queue qs + owed_for (length q.message.fragments)
 owed_push [] q = omega arith
 owed_push (x ∷ qs) q = let rest = owed_push qs q in omega arith
 
 -- whichever message is taken out, no more is owed
-owed_rest : (meant : Queued → Bool) (qs : List Queued) → owed_by_queue (without_first meant qs) ≤ owed_by_queue qs
+pub owed_rest : (meant : Queued → Bool) (qs : List Queued) → owed_by_queue (without_first meant qs) ≤ owed_by_queue qs
 owed_rest meant [] = omega arith
 owed_rest meant (q ∷ qs) = by_test (meant q) (owed_rest meant qs)
   where
@@ -135,7 +135,7 @@ promised_given v n h lt k =
 owes_more : (x y : ℕ) → y ≡ x + 1 → owed_for x + 1 ≤ owed_for y
 owes_more x y is = omega arith
 
-promised_assigned : (f : Format) (v u : SenderView) → AllFilled v.streams v.queue → HasMessages v → IsAssigned v f u → promised u ≤ promised v
+pub promised_assigned : (f : Format) (v u : SenderView) → AllFilled v.streams v.queue → HasMessages v → IsAssigned v f u → promised u ≤ promised v
 promised_assigned _ v _ full h (Whole q rest is) = by_count (length q.message.fragments) refl here.0.0
   where
     here : AllFilled v.streams (q ∷ rest)

@@ -6,7 +6,8 @@ use Rattle.sctp_model.specs.messages.Format.{Format, Lane, ordered_lane, unorder
 use Rattle.sctp_model.specs.messages.Plan.{Message, Entry, Part, End, Plan, message_at}
 use Rattle.sctp_model.specs.sender.Assigning.{with_entry}
 use Rattle.sctp_model.specs.sender.SenderView.{SenderView}
-use Rattle.sctp_model.specs.sender.Entries.{entry_message, is_of, is_in_part, passes_at, continued, one_if_some}
+use Rattle.sctp_model.specs.sender.Entries.{entry_message, is_of, is_in_part, passes_at, continued, fragments_from}
+use Rattle.sctp_model.specs.sender.Queueing.{owed_for}
 use Rattle.sctp_model.specs.sender.Abandoning.{Name, has_ticket, is_covered, with_abandoned, abandon_after}
 use Rattle.sctp_model.specs.sender.Reached.{IsReached, Abandons}
 use Rattle.sctp_model.proofs.sender.Bounds.{is_bounded}
@@ -14,7 +15,8 @@ use Rattle.sctp_model.proofs.sender.WornLaws.{is_limited}
 use Rattle.sctp_model.proofs.sender.CountLaws.{is_named}
 use Rattle.sctp_model.proofs.sender.WordLaws.{sum-same}
 use Rattle.sctp_model.proofs.sender.PointLaws.{get-drop}
-use Rattle.sctp_model.proofs.sender.PartLaws.{ended_here, ended_there, fewer_in_part, in_part_is, with_end}
+use Rattle.sctp_model.proofs.sender.PartLaws.{ended_here, ended_there, in_part_is, with_end}
+use Rattle.sctp_model.proofs.sender.OwedLaws.{fewer_owed}
 use Rattle.sctp_model.proofs.sender.TicketLaws.{is_ticketed}
 use Rattle.sctp_model.proofs.sender.NameLaws.{goes_on_with, goes_on_stream}
 use Rattle.sctp_model.proofs.sender.AbandonCases.{given_itself}
@@ -53,6 +55,10 @@ abandoned_message t x = by_test (has_ticket t x.message)
     by_test false = refl
 
 -- ---- abandoned: what streams go on with
+
+-- what is owed on a stream
+abbrev owed_at : Plan → ℕ → ℕ
+owed_at p j = owed_for (fragments_from p (continued p j))
 
 -- the plan names the same messages
 rest_same : (v : SenderView) (n : Name) (o : Option Entry) → rest_here (with_abandoned v n).plan o ≡ rest_here v.plan o
@@ -105,7 +111,7 @@ keeps_abandoned f s v t n k m off partial few none =
     let entries : u.plan.entries ≡ v.plan.entries = ap (λ (p : Plan). p.entries) plan in
     let goes_on : (j : ℕ) → continued u.plan j ≡ continued v.plan j = λ j. ap (λ (p : Plan). continued p j) plan in
     let long = length-map s.items (abandoned_item t) in
-    let fewer = sum-same (λ j. one_if_some (continued u.plan j)) (λ j. one_if_some (continued v.plan j)) v.streams (λ j lt. ap one_if_some (goes_on j)) in
+    let owed = sum-same (λ j. owed_at u.plan j) (λ j. owed_at v.plan j) v.streams (λ j lt. ap (λ (p : Plan). owed_at p j) plan) in
     let room = k.holds.room in
     let after = abandoned_after v t n m off partial in
     let reached = Abandons v t k.reached in
@@ -123,7 +129,7 @@ keeps_abandoned f s v t n k m off partial few none =
         tracks = k.holds.tracks ∙ table-same (track_here v) (track_here u) 0 v.streams (λ j lo hi. sym (track_same v n j (goes_on j)));
         fates = abandoned_fates f s v t n k m.named m.low m.high;
         covered = k.holds.covered;
-        room = omega (arith, long, fewer, room);
+        room = omega (arith, long, owed, room);
       };
       over = record { within = k.over.within; each = λ x le. let o = k.over.each x le in record { queue = o.queue; tracks = o.tracks; items = same_items x (abandoned_item t) s.items (abandoned_message t) ∙ o.items } };
       due = record { many = k.due.many; each = λ x now lt. let i = k.due.each x now lt in record { queue = i.queue; items = λ on. late_abandoned now x t s.asleep s.items (i.items on); tracks = i.tracks } };
@@ -183,8 +189,8 @@ keeps_ended f s v t n r tracks k m off partial few ends =
     ends.now ∙ rw (k.holds.tracks, table-set (track_here v) (track_here u) 0 v.streams ends.at at_is.0 (λ j lo hi apart. track_same v n j (other j (λ e. apart (omega arith)))), closed) refl in
     let long = length-map s.items (abandoned_item t) in
     let more = length-append (map (abandoned_item t) s.items) (end_item r ∷ []) in
-    let fewer = fewer_in_part v n named low part in
-    let parts = sum-same (λ j. one_if_some (continued u.plan j)) (λ j. one_if_some (continued (with_end v.plan n) j)) v.streams (λ j lt. ap (λ (p : Plan). one_if_some (continued p j)) plan) in
+    let fewer = fewer_owed v n named low part in
+    let parts = sum-same (λ j. owed_at u.plan j) (λ j. owed_at (with_end v.plan n) j) v.streams (λ j lt. ap (λ (p : Plan). owed_at p j) plan) in
     let room = k.holds.room in
     let after = abandoned_after v t n m off partial in
     let reached = Abandons v t k.reached in (

@@ -10,6 +10,7 @@ use Rattle.sctp_model.specs.sender.SenderView.{Queued, SenderView}
 use Rattle.std.specs.Option.{option_map_or}
 use Rattle.sctp_model.specs.sender.Abandoning.{Name, waits, without, name_of, abandon_named, abandon_after}
 use Rattle.sctp_model.specs.sender.Reached.{Abandons}
+use Rattle.sctp_model.proofs.sender.OwedLaws.{owed_rest}
 use Rattle.sctp_model.proofs.sender.TicketLaws.{is_ticketed}
 use Rattle.sctp_model.proofs.sender.QueueLaws.{without_other, without_self}
 use Rattle.sctp_send.specs.SenderKept.{Kept}
@@ -17,6 +18,7 @@ use Rattle.sctp_send.specs.PartsKept.{QueueKept}
 use Rattle.sctp_send.specs.SenderFields.{queued_by}
 use Rattle.sctp_send.specs.SenderStands.{table, fate_here, fate_named, Keeps}
 use Rattle.sctp_send.specs.declared.kept.message.Message.{Message as MessageFields}
+use Rattle.sctp_send.specs.declared.kept.waiting.Waiting.{Waiting}
 use Rattle.sctp_send.specs.declared.kept.message.Fate.TheVariants.{Queued as StillQueued, Withdrawn}
 use Rattle.sctp_send.proofs.TableLemmas.{table-set}
 use Rattle.sctp_send.proofs.CountedLemmas.{counted_waiting}
@@ -78,9 +80,9 @@ ended_place t size ms at n le is before =
     all_taken (suc a) (suc b) (q ∷ qs) x y = ap (λ (xs : List Queued). q ∷ xs) (all_taken a b qs (omega arith) (omega arith))
 
 -- what is left around the place, or all where it is past the end
-pub withdrawn_is : (p : ℕ) (old new : QueueKept) (taken : Option (Arc MessageFields Global)) → (p < length old.items → new ≡ record old { items = remove old.items p }) → IfSome taken (λ m. (p < length old.items) × (m ≡ get_or old.items p m))
+pub withdrawn_is : (p : ℕ) (old new : QueueKept) (taken : Option Waiting) → (p < length old.items → new ≡ record old { items = remove old.items p }) → IfSome taken (λ w. (p < length old.items) × (w.message ≡ get_or old.items p w.message))
     → IfNone taken ((length old.items ≤ p) × (new ≡ old)) → new ≡ record old { items = remove old.items p }
-withdrawn_is p old new (Some m) there some none = there some.0
+withdrawn_is p old new (Some w) there some none = there some.0
 withdrawn_is p old new None there some none =
     let all : remove old.items p ≡ old.items = rw (none_behind (suc p) old.items (omega (arith, none.0)), take_all p old.items none.0) (append-nil old.items) in
     none.1 ∙ ap (λ (ms : List (Arc MessageFields Global)). record old { items = ms }) (sym all)
@@ -122,7 +124,7 @@ keeps_withdrawn f s v t k on =
         tracks = k.holds.tracks;
         fates = fates;
         covered = k.holds.covered;
-        room = k.holds.room;
+        room = let room = k.holds.room in let less = owed_rest (λ q. q.message.ticket == t) v.queue in omega (arith, room, less);
       };
       over = record { within = k.over.within; each = λ x le. let o = k.over.each x le in record { queue = not_waiting_without x t s.queue o.queue; tracks = o.tracks; items = o.items } };
       due = record { many = k.due.many; each = λ x now lt. let i = k.due.each x now lt in record { queue = late_without now x t s.queue i.queue; items = i.items; tracks = i.tracks } };

@@ -6,7 +6,8 @@ use Rattle.sctp_model.specs.messages.Format.{Format, Kind, Ordered, Unordered, L
 use Rattle.sctp_model.specs.messages.Plan.{Message, Entry, Part, Plan}
 use Rattle.sctp_model.specs.sender.SenderView.{Queued, SenderView}
 use Rattle.sctp_model.specs.sender.Words.{when}
-use Rattle.sctp_model.specs.sender.Entries.{continued, in_part}
+use Rattle.sctp_model.specs.sender.Entries.{continued}
+use Rattle.sctp_model.specs.sender.Queueing.{owed_by_queue, owed_by_parts}
 use Rattle.sctp_model.specs.sender.Assigning.{with_message}
 use Rattle.sctp_model.specs.sender.Abandoning.{waits}
 use Rattle.sctp_model.specs.sender.Reached.{IsReached}
@@ -182,9 +183,9 @@ numbered_tracks f s v q rest d turn x k low =
     let self : track_here u (0 + j) ≡ begun_track q (suc d) (track_here v j) = rw zeroed (track_own f v q d rest turn k.reached) in
     rw (track_at f s v j x k low, k.holds.tracks, table-set (track_here v) (track_here u) 0 v.streams j low (λ i lo hi ne. track_other f v q d rest turn i k.reached (λ same. ne (omega arith))), self) refl
 
--- A message took its number, with d + 1 of its fragments: items behind the others, its stream's track, its ticket's fate, and room for an end mark.
+-- A message took its number, with d + 1 of its fragments: items behind the others, its stream's track, its ticket's fate, and room for what is owed then.
 pub holds_begun : (f : Format) (s : Kept) (v : SenderView) (q : Queued) (rest : List Queued) (d turn capacity : ℕ) (x : Track) → Keeps f s v → IsTaken q rest v.queue → q.lane.stream < v.streams
-    → in_part (numbered v q (suc d) rest turn) + length (s.items ++ new_items q.lane (number_in q.lane.kind (get_or s.tracks q.lane.stream x)) q.message 0 (suc d)) ≤ capacity
+    → length (s.items ++ new_items q.lane (number_in q.lane.kind (get_or s.tracks q.lane.stream x)) q.message 0 (suc d)) + (owed_by_queue rest + owed_by_parts (numbered v q (suc d) rest turn)) ≤ capacity
     → Holds (record s {
       items = s.items ++ new_items q.lane (number_in q.lane.kind (get_or s.tracks q.lane.stream x)) q.message 0 (suc d);
       queue = rest;

@@ -1,5 +1,5 @@
 -- What is kept when a fragment takes its index and goes out at once: of a message that begins, and of one in part; and how much is outstanding then.
-use Rattle.std.proofs.Common.{◌≡◌, ℕ, zero, suc, ◌+◌, ◌-◌, ◌<◌, ◌≤◌, List, [], ◌∷◌, ◌++◌, length, get_or, set, Bool, true, false, Option, Some, None, refl, sym, ap, ◌∙◌, subst, arith, length-append}
+use Rattle.std.proofs.Common.{◌≡◌, ℕ, zero, suc, ◌+◌, ◌-◌, ◌<◌, ◌≤◌, List, [], ◌∷◌, ◌++◌, length, drop, get_or, set, Bool, true, false, Option, Some, None, refl, sym, ap, ◌∙◌, subst, arith, length-append, length-drop}
 use Rattle.std.specs.Prelude.{◌==◌, nat_lt, option_and_then}
 use Rattle.std.proofs.lemmas.Bool.Decides.{nat_tests}
 use Rattle.sctp_model.specs.messages.Format.{Format, Lane}
@@ -7,6 +7,7 @@ use Rattle.sctp_model.specs.messages.Plan.{Message, Entry, Part, End, parts_from
 use Rattle.sctp_model.specs.sender.SenderView.{Queued, SenderView}
 use Rattle.sctp_model.specs.sender.Words.{when}
 use Rattle.sctp_model.specs.sender.Entries.{entry_lane, entry_message, fragments_in, next_part, continued, in_part, one_if_some, sum_below}
+use Rattle.sctp_model.specs.sender.Queueing.{owed_by_queue, owed_by_parts}
 use Rattle.sctp_model.specs.sender.Readers.{outstanding}
 use Rattle.sctp_model.specs.sender.Filling.{newcomer, with_sent, goes, gone}
 use Rattle.sctp_model.specs.sender.Reached.{Goes}
@@ -51,11 +52,7 @@ holds_first s u i xs ys y h is =
     let now = subst (λ (zs : List Item). Holds (record s { items = zs }) (with_sent u (suc (u.cum + length xs)))) (set_behind xs ys y y) sent in
     subst (λ (j : ℕ). Holds (record s { items = xs ++ gone_item y ∷ ys }) (with_sent u j)) (sym is) now
 
--- ---- room for end marks
-
-one_at_most : (o : Option Rest) → one_if_rest o ≤ 1
-one_at_most None = omega arith
-one_at_most (Some r) = omega arith
+-- ---- how much is outstanding
 
 -- how many entries a view has above CUM
 above : (f : Format) (s : Kept) (v : SenderView) (more : List Entry) (n : ℕ) → Keeps f s v → length more ≡ n → length (v.plan.entries ++ more) - v.cum ≡ length s.items + n
@@ -101,15 +98,6 @@ parts_begun f s v q rest d turn x k low =
     when_counts e r true = refl
     when_counts e r false = refl
 
--- one more at most
-few_begun : (f : Format) (s : Kept) (v : SenderView) (q : Queued) (rest : List Queued) (d turn : ℕ) (x : Track) → Keeps f s v → q.lane.stream < v.streams
-    → in_part (numbered v q (suc d) rest turn) ≤ suc (in_part v)
-few_begun f s v q rest d turn x k low =
-    let parts = parts_begun f s v q rest d turn x k low in
-    let all = kept_in_part f s v k in
-    let most = one_at_most (begun_track q (suc d) (get_or s.tracks q.lane.stream x)).rest in
-    omega (arith, parts, all, most)
-
 -- how many messages are in part when one has gone on
 parts_continued : (f : Format) (s : Kept) (v : SenderView) (j turn : ℕ) (e : Entry) (x : Track) → Keeps f s v → j < v.streams → continued v.plan j ≡ Some e
     → in_part (gone_on v e turn) + one_if_rest (get_or s.tracks j x).rest ≡ total (λ t. one_if_rest t.rest) s.tracks + one_if_rest (rest_after e (entry_message v.plan e))
@@ -134,20 +122,15 @@ parts_continued f s v j turn e x k low on =
         by_more true = refl
         by_more false = refl
 
--- none more: it was one of them
-few_continued : (f : Format) (s : Kept) (v : SenderView) (j turn : ℕ) (e : Entry) (x : Track) → Keeps f s v → j < v.streams → continued v.plan j ≡ Some e → in_part (gone_on v e turn) ≤ in_part v
-few_continued f s v j turn e x k low on =
-    let parts = parts_continued f s v j turn e x k low on in
-    let all = kept_in_part f s v k in
-    let most = one_at_most (rest_after e (entry_message v.plan e)) in
-    let own : one_if_rest (get_or s.tracks j x).rest ≡ 1 = ap (λ (t : Track). one_if_rest t.rest) (track_at f s v j x k low) ∙ ap (λ (o : Option Entry). one_if_rest (rest_here v.plan o)) on in
-    omega (arith, parts, all, most, own)
-
 pub length-new_items : (l : Lane) (n : ℕ) (m : Message) (k d : ℕ) → length (new_items l n m k d) ≡ d
 length-new_items l n m k zero = refl
 length-new_items l n m k (suc d) = ap suc (length-new_items l n m (suc k) d)
 
 -- ---- a message begins
+
+-- there is room for the entries above CUM, and for what is owed
+abbrev pub IsRoomFor : SenderView → (capacity : ℕ) → Type 0
+IsRoomFor u capacity = length (drop u.cum u.plan.entries) + (owed_by_queue u.queue + owed_by_parts u) ≤ capacity
 
 -- What is kept then: so many fragments more than one have an index.
 abbrev pub after_begun : Kept → Queued → (rest : List Queued) → (more turn capacity : ℕ) → Track → Kept
@@ -161,7 +144,7 @@ after_begun s q rest d turn capacity t = record s {
 }
 
 pub begun_kept : (f : Format) (s : Kept) (v : SenderView) (q : Queued) (rest : List Queued) (d turn capacity room : ℕ) (x : Track) → Keeps f s v → IsTaken q rest v.queue → ((now t : ℕ) → some_late now t (queue_messages v.queue) ≡ false → IsLeftIdle now t q rest) → q.lane.stream < v.streams
-    → goes f room v ≡ Some (newcomer v (numbered v q (suc d) rest turn)) → suc (in_part v) + (length s.items + suc d) ≤ capacity
+    → goes f room v ≡ Some (newcomer v (numbered v q (suc d) rest turn)) → IsRoomFor (numbered v q (suc d) rest turn) capacity
     → Keeps f (after_begun s q rest d turn capacity (get_or s.tracks q.lane.stream x)) (gone (newcomer v (numbered v q (suc d) rest turn)))
 begun_kept f s v q rest d turn capacity room x k taken idle low first space =
     let u = numbered v q (suc d) rest turn in
@@ -170,8 +153,9 @@ begun_kept f s v q rest d turn capacity room x k taken idle low first space =
     let parts = goes_parts f room v (newcomer v u) first in
     let before = length-append s.items (new_item (Part q.lane n 0) q.message ∷ behind) in
     let many = length-new_items q.lane n q.message 1 d in
-    let ends = few_begun f s v q rest d turn x k low in
-    let h = holds_begun f s v q rest d turn capacity x k taken low (omega (arith, before, many, ends, space)) in
+    let entries = above f s v (parts_from q.lane (length (v.plan.messages q.lane)) 0 (suc d)) (suc d) k (length-parts q.lane (length (v.plan.messages q.lane)) 0 (suc d)) in
+    let behind_cum = length-drop u.cum u.plan.entries in
+    let h = holds_begun f s v q rest d turn capacity x k taken low (omega (arith, before, many, entries, behind_cum, space)) in
     let count = kept_length f s v k in
     record {
       holds = holds_first (after_begun s q rest d turn capacity (get_or s.tracks q.lane.stream x)) u (suc (length v.plan.entries)) s.items behind (new_item (Part q.lane n 0) q.message) h (omega (arith, count));
@@ -227,15 +211,16 @@ after_continued s j r turn capacity t = record s {
 }
 
 pub continued_kept : (f : Format) (s : Kept) (v : SenderView) (j turn capacity room : ℕ) (e : Entry) (x : Track) → Keeps f s v → j < v.streams → continued v.plan j ≡ Some e
-    → goes f room v ≡ Some (newcomer v (gone_on v e turn)) → in_part v + (length s.items + 1) ≤ capacity
+    → goes f room v ≡ Some (newcomer v (gone_on v e turn)) → IsRoomFor (gone_on v e turn) capacity
     → Keeps f (after_continued s j (record { entry = e; message = entry_message v.plan e }) turn capacity (get_or s.tracks j x)) (gone (newcomer v (gone_on v e turn)))
 continued_kept f s v j turn capacity room e x k low on first space =
     let u = gone_on v e turn in
     let r : Rest = record { entry = e; message = entry_message v.plan e } in
     let parts = goes_parts f room v (newcomer v u) first in
     let before = length-append s.items (rest_item r ∷ []) in
-    let ends = few_continued f s v j turn e x k low on in
-    let h = holds_continued f s v j turn capacity e x k low on (omega (arith, before, ends, space)) in
+    let entries = above f s v (e ∷ []) 1 k refl in
+    let behind_cum = length-drop u.cum u.plan.entries in
+    let h = holds_continued f s v j turn capacity e x k low on (omega (arith, before, entries, behind_cum, space)) in
     let count = kept_length f s v k in
     record {
       holds = holds_first (after_continued s j r turn capacity (get_or s.tracks j x)) u (suc (length v.plan.entries)) s.items [] (rest_item r) h (omega (arith, count));

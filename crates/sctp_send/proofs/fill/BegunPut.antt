@@ -1,19 +1,18 @@
--- A message that begins is put into a packet, or isn't.
-use Rattle.std.proofs.Common.{◌≡◌, ℕ, suc, ◌+◌, ◌^◌, ◌<◌, ◌≤◌, inl, inr, List, [], ◌∷◌, ◌++◌, length, map, get_or, Bool, true, false, Some, sym, ap, ◌∙◌, subst, arith, length-append}
+-- A message that begins is put into a packet, or isn't; and what it takes is there.
+use Rattle.std.proofs.Common.{◌≡◌, ℕ, suc, ◌+◌, ◌^◌, ◌<◌, ◌≤◌, inl, inr, List, [], ◌∷◌, ◌++◌, length, map, get_or, Bool, true, false, Some, sym, ap, ◌∙◌, subst, arith}
 use Rattle.std.specs.Prelude.{nat_le, nat_lt, ◌&&◌, Option, IsSome, None}
 use Rattle.std.proofs.lemmas.Option.{get_or_from_slice_get}
 use Rattle.std.proofs.lemmas.List.{length-map}
-use Rattle.std.proofs.lemmas.Bool.{and_parts}
 use Rattle.std.specs.declared.sync.Arc.{Arc}
 use Rattle.std.specs.declared.alloc.Global.{Global}
 use Rattle.sctp_model.specs.numbers.Limits.{WINDOW}
-use Rattle.sctp_model.specs.messages.Format.{Format}
+use Rattle.sctp_model.specs.messages.Format.{Format, Kind}
 use Rattle.sctp_model.specs.wire.Chunk.{ChunkMeaning}
 use Rattle.sctp_model.specs.messages.Framing.{data_chunk}
 use Rattle.sctp_model.specs.sender.PieceSaid.{piece_said}
 use Rattle.sctp_model.specs.messages.Plan.{Part}
 use Rattle.sctp_model.specs.sender.SenderView.{Queued, SenderView}
-use Rattle.sctp_model.specs.sender.Entries.{bytes_in}
+use Rattle.sctp_model.specs.sender.Entries.{bytes_in, continued}
 use Rattle.sctp_model.specs.sender.Queueing.{cut}
 use Rattle.sctp_model.specs.sender.Assigning.{assigned}
 use Rattle.sctp_model.specs.sender.Readers.{outstanding}
@@ -23,15 +22,16 @@ use Rattle.sctp_model.proofs.sender.SetLaws.{AllFilled, is_filled}
 use Rattle.sctp_model.proofs.sender.CountLaws.{first_there}
 use Rattle.sctp_model.proofs.sender.QueueLaws.{IsTaken, taken_head, taken_first}
 use Rattle.sctp_packet.specs.Draft.{Draft as PacketDraft, room_in, has_room, with_chunks}
-use Rattle.sctp_send.specs.SenderKept.{Item, Track, Kept}
-use Rattle.sctp_send.specs.SenderStands.{track_here, Keeps}
+use Rattle.sctp_send.specs.SenderKept.{Track, Kept}
+use Rattle.sctp_send.specs.SenderStands.{rest_here, track_here, Keeps}
 use Rattle.sctp_send.specs.OutstandingFields.{item_meaning, lane_meaning, message_meaning, queued_meaning}
 use Rattle.sctp_send.specs.ResetsKept.{base_of}
 use Rattle.sctp_send.specs.SenderFields.{queued_by, track_meaning}
 use Rattle.sctp_send.specs.inner.Walks.{total, one_if_rest}
-use Rattle.sctp_send.specs.inner.Newcomers.{gone_item, new_item, new_items, begun_items, number_in, begun_track, rest_at, has_rest, one_if, without_place, fresh_track, number_on, begun, IsBegun}
+use Rattle.sctp_send.specs.inner.Newcomers.{number_in, begun_track, rest_at, has_rest, one_if, without_place, fresh_track, track_of, number_on, begun, IsBegun}
 use Rattle.sctp_send.specs.inner.Wishing.{item_flight}
-use Rattle.sctp_send.specs.inner.Stocking.{numbers_of, stocked, ends_of, fragment_chunk, item_chunk, let_in, IsStopped, IsRefused, IsTried, PutAnswer, NothingStands}
+use Rattle.sctp_send.specs.inner.Asking.{IsAsked}
+use Rattle.sctp_send.specs.inner.Stocking.{numbers_of, stocked, fragment_chunk, let_in, IsPut, NothingStands}
 use Rattle.sctp_values.specs.Meanings.{kind_meaning}
 use Rattle.std.proofs.lemmas.Option.{slice_get-get_or}
 use Rattle.sctp_send.specs.declared.kept.track.Track.{Track as TrackFields}
@@ -45,11 +45,13 @@ use Rattle.sctp_send.proofs.fill.AssignLemmas.{number_is, track_at}
 use Rattle.sctp_send.specs.inner.Expiring.{queue_messages}
 use Rattle.sctp_send.specs.inner.Dues.{some_late}
 use Rattle.sctp_send.proofs.DueLemmas.{late_taken, IsLeftIdle}
-use Rattle.sctp_send.proofs.fill.AssignedKept.{begun_kept, outstanding_begun, length-new_items}
+use Rattle.sctp_send.proofs.fill.AssignedKept.{begun_kept, outstanding_begun}
 use Rattle.sctp_send.proofs.fill.ChunkLemmas.{chunk_begun, bytes_begun}
 use Rattle.sctp_send.proofs.fill.FewLemmas.{few_messages}
 use Rattle.sctp_send.proofs.fill.NewlyLemmas.{newly_begun}
-use Rattle.sctp_send.proofs.fill.NewMayLemmas.{flows, in_window, new_may, next_is, few_parts, ends_are, rest_read, when_rest, window_test, and_off, map_read, tried_put, item_behind}
+use Rattle.sctp_send.proofs.fill.NewMayLemmas.{flows, in_window, new_may, next_is, asked_new, few_parts, rest_read, when_rest, window_test, and_off, map_read}
+use Rattle.sctp_send.proofs.RoomKept.{room_assigned, room_begins}
+use Rattle.sctp_send.proofs.fill.IdleLemmas.{ready}
 
 -- ---- a message begins
 
@@ -103,17 +105,22 @@ begun_there f s v old m place count turn k b mine =
     let stream = ap (λ (q : Queued). q.lane.stream) mine in
     omega (arith, tracks, long, low, stream)
 
--- its number, as it was read
-pub number_read : (n i number : ℕ) (xs ts : List TrackFields) (x : TrackFields) (m y : MessageFields) → xs ≡ ts → i ≡ m.stream → y ≡ m → i < length ts → x ≡ get_or xs i x
-    → number ≡ number_in (kind_meaning y.kind) (track_meaning n x) → number ≡ number_on (map (track_meaning n) ts) (lane_meaning m)
-number_read n i number xs ts x m y all stream same low read is =
+-- the number that a kind takes next on a stream, as it was read
+pub number_at : (n i number : ℕ) (xs ts : List TrackFields) (x : TrackFields) (kind : Kind) → xs ≡ ts → i < length ts → x ≡ get_or xs i x → number ≡ number_in kind (track_meaning n x) → number ≡ number_in kind (track_of (map (track_meaning n) ts) i)
+number_at n i number xs ts x kind all low read is =
     let long = length-map ts (track_meaning n) in
     let here = track_read n ts i x (read ∙ ap (λ (zs : List TrackFields). get_or zs i x) all) in
     let one = slice_get-get_or (map (track_meaning n) ts) i (track_meaning n x) (omega (arith, long, low)) in
     let two = slice_get-get_or (map (track_meaning n) ts) i fresh_track (omega (arith, long, low)) in
     let other : get_or (map (track_meaning n) ts) i (track_meaning n x) ≡ get_or (map (track_meaning n) ts) i fresh_track = let both = sym one ∙ two in cc in
-    is ∙ ap (λ (z : MessageFields). number_in (kind_meaning z.kind) (track_meaning n x)) same ∙ ap (number_in (kind_meaning m.kind)) (sym here ∙ other)
-    ∙ ap (λ (j : ℕ). number_in (kind_meaning m.kind) (get_or (map (track_meaning n) ts) j fresh_track)) stream
+    is ∙ ap (number_in kind) (sym here ∙ other)
+
+-- that of a message that begins
+pub number_read : (n i number : ℕ) (xs ts : List TrackFields) (x : TrackFields) (m y z : MessageFields) → xs ≡ ts → i ≡ y.stream → y ≡ m → z ≡ m → i < length ts → x ≡ get_or xs i x
+    → number ≡ number_in (kind_meaning z.kind) (track_meaning n x) → number ≡ number_on (map (track_meaning n) ts) (lane_meaning m)
+number_read n i number xs ts x m y z all stream same also low read is =
+    number_at n i number xs ts x (kind_meaning m.kind) all low read (is ∙ ap (λ (w : MessageFields). number_in (kind_meaning w.kind) (track_meaning n x)) also)
+    ∙ ap (λ (j : ℕ). number_in (kind_meaning m.kind) (track_of (map (track_meaning n) ts) j)) (stream ∙ ap (λ (w : MessageFields). w.stream) same)
 
 -- the test of the window, as it was read
 pub window_read : (x : ℕ) (ts : List Track) (m y : MessageFields) (r b : Bool) → y ≡ m → r ≡ nat_le x (WINDOW + one_if (has_rest (rest_at ts y.stream))) → r ≡ b → nat_le x (WINDOW + one_if (has_rest (rest_at ts m.stream))) ≡ b
@@ -182,73 +189,57 @@ module _ (f : Format) (s : Kept) (v : SenderView) (old : Stock) (m : MessageFiel
   begun_goes p more is window on =
       goes_is f (room_in p) v (newcomer v led) (next_is f v led stands by.assigned) (begun_may p ∙ ap (λ (x : Bool). x && nat_le (outstanding led) WINDOW) on ∙ begun_window more is ∙ window)
 
-  -- it may not flow, or does not fit
-  pub begun_held : (p r : PacketDraft) (new : Stock) → let_in f (item_flight (map (item_meaning s.fragment) old.outstanding.items)) s (suc (s.cum + length old.outstanding.items)) p (Part (lane_meaning m) number 0) (Some (message_meaning s.fragment m)) ≡ false → r ≡ p → stocked s new ≡ stocked s old → new.tickets ≡ old.tickets → IsStopped f s v p r old new
-  begun_held p r new off packet kept tickets = record {
-    none = goes_not f (room_in p) v (newcomer v led) (next_is f v led stands by.assigned) (begun_may p ∙ ap (λ (x : Bool). x && nat_le (outstanding led) WINDOW) off);
-    packet = packet;
-    kept = kept;
-    tickets = tickets;
-  }
+  -- within the window it may go if it is let in
+  pub begun_asked : (p : PacketDraft) (more b : Bool) → more ≡ nat_lt count (length (cut s.fragment m.bytes.items)) → in_window s old count m.stream more ≡ true
+      → let_in f (item_flight (map (item_meaning s.fragment) old.outstanding.items)) s (suc (s.cum + length old.outstanding.items)) p (Part (lane_meaning m) number 0) (Some (message_meaning s.fragment m)) ≡ b → IsAsked f v p b
+  begun_asked p more true is window on = (newcomer v led, begun_goes p more is window on)
+  begun_asked p more false is window off = goes_not f (room_in p) v (newcomer v led) (next_is f v led stands by.assigned) (begun_may p ∙ ap (λ (x : Bool). x && nat_le (outstanding led) WINDOW) off)
 
   -- the window has no room for it
-  pub begun_full : (p r : PacketDraft) (new : Stock) (more : Bool) → more ≡ nat_lt count (length (cut s.fragment m.bytes.items))
-      → in_window s old count m.stream more ≡ false
-      → r ≡ p → stocked s new ≡ stocked s old → new.tickets ≡ old.tickets → IsStopped f s v p r old new
-  begun_full p r new more is window packet kept tickets = record {
-    none = goes_not f (room_in p) v (newcomer v led) (next_is f v led stands by.assigned) (begun_may p ∙ and_off _ (nat_le (outstanding led) WINDOW) (begun_window more is ∙ window));
-    packet = packet;
-    kept = kept;
-    tickets = tickets;
-  }
-
-  -- its chunk, of the item that it is then
-  begun_tried : (p r : PacketDraft) (new : Stock) (at capacity : ℕ) (none : Item) (put : Bool) → at ≡ length old.outstanding.items → stocked s new ≡ begun (stocked s old) (queued_meaning s.fragment m) place count turn capacity
-      → IsTried p r (item_chunk f (base_of s.resets) s.initial (suc (s.cum + at)) (get_or (stocked s new).items at none)) put
-      → IsTried p r (fragment_chunk f (base_of s.resets) s.fragment s.initial (suc (s.cum + length old.outstanding.items)) m number (Fragment 0)) put
-  begun_tried p r new at capacity none put here kept tried =
-      let q = queued_meaning s.fragment m in
-      let xs = (stocked s old).items in
-      let n = number_on (stocked s old).tracks q.lane in
-      let long : at ≡ length xs = here ∙ sym (length-map old.outstanding.items (item_meaning s.fragment)) in
-      let items = ap (λ (y : Kept). y.items) kept ∙ ap (λ (d : ℕ). xs ++ begun_items q.lane n q.message d) by.some in
-      let item = ap (λ (ys : List Item). get_or ys at none) items ∙ ap (λ (j : ℕ). get_or (xs ++ begun_items q.lane n q.message (suc by.less)) j none) long
-      ∙ item_behind xs (gone_item (new_item (Part q.lane n 0) q.message)) (new_items q.lane n q.message 1 by.less) none
-      ∙ ap (λ (j : ℕ). gone_item (new_item (Part q.lane j 0) q.message)) (sym its) in
-      subst (λ (j : ℕ). IsTried p r (fragment_chunk f (base_of s.resets) s.fragment s.initial (suc (s.cum + j)) m number (Fragment 0)) put) here
-      (subst (λ (x : Item). IsTried p r (item_chunk f (base_of s.resets) s.initial (suc (s.cum + at)) x) put) item tried)
+  pub begun_full : (p : PacketDraft) (more : Bool) → more ≡ nat_lt count (length (cut s.fragment m.bytes.items)) → in_window s old count m.stream more ≡ false → goes f (room_in p) v ≡ None
+  begun_full p more is window = goes_not f (room_in p) v (newcomer v led) (next_is f v led stands by.assigned) (begun_may p ∙ and_off _ (nat_le (outstanding led) WINDOW) (begun_window more is ∙ window))
 
   -- it is in the packet, and took its number
-  pub begun_put : (p r : PacketDraft) (new : Stock) (more : Bool) (at capacity : ℕ) (none : Item) (put : Bool) → more ≡ nat_lt count (length (cut s.fragment m.bytes.items))
-      → in_window s old count m.stream more ≡ true
-      → let_in f (item_flight (map (item_meaning s.fragment) old.outstanding.items)) s (suc (s.cum + length old.outstanding.items)) p (Part (lane_meaning m) number 0) (Some (message_meaning s.fragment m)) ≡ true → at ≡ length old.outstanding.items
-      → stocked s new ≡ begun (stocked s old) (queued_meaning s.fragment m) place count turn capacity → old.streams.size ≡ s.fragment → ends_of old.streams + 1 + length new.outstanding.items ≤ capacity
-      → numbers_of new.tickets.items ≡ numbers_of old.tickets.items ++ m.ticket ∷ []
-      → IsTried p r (item_chunk f (base_of s.resets) s.initial (suc (s.cum + at)) (get_or (stocked s new).items at none)) put → PutAnswer f s v p r old new put
-  begun_put p r new more at capacity none put is window on here kept sized room tickets tried =
+  pub begun_put : (p r : PacketDraft) (new : Stock) (at : ℕ) → IsAsked f v p true → at ≡ length old.outstanding.items
+      → stocked s new ≡ begun (stocked s old) (queued_meaning s.fragment m) place count turn old.outstanding.capacity → numbers_of new.tickets.items ≡ numbers_of old.tickets.items ++ m.ticket ∷ []
+      → r ≡ with_chunks p (fragment_chunk f (base_of s.resets) s.fragment s.initial (suc (s.cum + at)) m number (Fragment 0) ∷ []) → IsPut f s v p r old new
+  begun_put p r new at asked here kept tickets put =
       let q = queued_meaning s.fragment m in
-      let goes_now = begun_goes p more is window on in
-      let many = ap (λ (y : Kept). length y.items) kept in
-      let long = length-map new.outstanding.items (item_meaning s.fragment) in
-      let all = ap (λ (n : ℕ). length (begun (stocked s old) q place n turn capacity).items) by.some in
-      let more_items = length-append (stocked s old).items (begun_items q.lane (number_on (stocked s old).tracks q.lane) q.message (suc by.less)) in
-      let new_ones = length-new_items q.lane (number_on (stocked s old).tracks q.lane) q.message 1 by.less in
-      let ends = ends_are f s v old k sized in
-      let h = begun_kept f (stocked s old) v q (without_place place v.queue) by.less turn capacity (room_in p) fresh_track k by.taken by.idle by.low goes_now (omega (arith, many, long, all, more_items, new_ones, ends, room)) in
+      let capacity = old.outstanding.capacity in
+      let goes_now = asked_new f v led p stands by.assigned asked in
+      let room = room_assigned f (stocked s old) v led k by.assigned in
+      let h = begun_kept f (stocked s old) v q (without_place place v.queue) by.less turn capacity (room_in p) fresh_track k by.taken by.idle by.low goes_now room in
       let queue = subst (λ (qs : List Queued). Keeps f (record (begun (stocked s old) q place (suc by.less) turn capacity) { queue = without_place place qs }) (gone (newcomer v led))) (sym k.holds.queue) h in
       let counted = subst (λ (n : ℕ). Keeps f (begun (stocked s old) q place n turn capacity) (gone (newcomer v led))) (sym by.some) queue in
-      let in_packet = tried_put p r _ put (and_parts _ _ on).1 (begun_tried p r new at capacity none put here kept tried) in
-      subst (λ (b : Bool). PutAnswer f s v p r old new b) (sym in_packet.0)
-      (record {
+      record {
         wish = newcomer v led;
         next = goes_now;
-        chunk = in_packet.1 ∙ ap (λ (c : ChunkMeaning). with_chunks p (c ∷ [])) (sym begun_chunk);
+        chunk =
+            put ∙ ap (λ (n : ℕ). with_chunks p (fragment_chunk f (base_of s.resets) s.fragment s.initial (suc (s.cum + n)) m number (Fragment 0) ∷ [])) here
+            ∙ ap (λ (c : ChunkMeaning). with_chunks p (c ∷ [])) (sym begun_chunk);
         keeps = subst (λ (y : Kept). Keeps f y (gone (newcomer v led))) (sym kept) counted;
         told = tickets ∙ ap (λ (ts : List ℕ). numbers_of old.tickets.items ++ ts) (sym (newly_begun v q (without_place place v.queue) by.less turn));
-      })
+      }
 
-  -- memory ran out for it
-  pub begun_refused : (p r : PacketDraft) (more : Bool) → more ≡ nat_lt count (length (cut s.fragment m.bytes.items))
-      → in_window s old count m.stream more ≡ true
-      → let_in f (item_flight (map (item_meaning s.fragment) old.outstanding.items)) s (suc (s.cum + length old.outstanding.items)) p (Part (lane_meaning m) number 0) (Some (message_meaning s.fragment m)) ≡ true → r ≡ p → IsRefused f v p r
-  begun_refused p r more is window on packet = record { wish = newcomer v led; next = begun_goes p more is window on; packet = packet }
+  -- it has so many fragments
+  pub begun_within : count ≤ length (cut s.fragment m.bytes.items)
+  begun_within =
+      let long = ap (λ (q : Queued). length q.message.fragments) mine in
+      let within = (ready f v place count turn k.reached b).within in
+      omega (arith, long, within)
+
+  -- nothing is in part on its stream
+  pub begun_idle : has_rest (rest_at (map (track_meaning s.fragment) old.streams.items) m.stream) ≡ false
+  begun_idle =
+      let ts = (stocked s old).tracks in
+      let j = m.stream in
+      let x = track_here v j in
+      let wide = ap (λ (ys : List Track). length ys) k.holds.tracks ∙ length-table (track_here v) 0 v.streams in
+      let low = by.low in
+      let there : rest_at ts j ≡ rest_here v.plan (continued v.plan j) = rw (slice_get-get_or ts j x (omega (arith, wide, low))) (ap (λ (t : Track). t.rest) (track_at f (stocked s old) v j x k low)) in
+      let none = ap (λ (q : Queued). continued v.plan q.lane.stream) mine ∙ (ready f v place count turn k.reached b).idle in
+      ap has_rest (there ∙ ap (rest_here v.plan) none)
+
+  -- its entries have room
+  pub begun_room : length old.outstanding.items + count ≤ old.outstanding.capacity
+  begun_room = let room = room_begins f (stocked s old) v place count turn k b in let long = length-map old.outstanding.items (item_meaning s.fragment) in omega (arith, room, long)

@@ -1,11 +1,10 @@
 -- A message in part goes on: its next fragment is put into a packet, or isn't.
-use Rattle.std.proofs.Common.{◌≡◌, ℕ, suc, ◌+◌, ◌%◌, ◌^◌, ◌<◌, ◌≤◌, List, [], ◌∷◌, ◌++◌, length, map, get_or, Bool, true, false, Option, Some, None, refl, sym, ap, ◌∙◌, subst, arith, append-nil, length-append}
+use Rattle.std.proofs.Common.{◌≡◌, ℕ, suc, ◌+◌, ◌-◌, ◌%◌, ◌^◌, ◌<◌, List, [], ◌∷◌, ◌++◌, length, map, get_or, Bool, true, false, Option, Some, None, refl, sym, ap, ◌∙◌, subst, arith, append-nil}
 use Rattle.std.specs.Prelude.{nat_le, nat_lt, ◌&&◌}
 use Rattle.std.proofs.lemmas.Option.{slice_get-get_or}
 use Rattle.std.proofs.lemmas.List.{length-map}
-use Rattle.std.proofs.lemmas.Bool.{and_parts}
 use Rattle.sctp_model.specs.numbers.Limits.{WINDOW}
-use Rattle.sctp_model.specs.messages.Format.{Format}
+use Rattle.sctp_model.specs.messages.Format.{Format, Kind, Ordered, Unordered}
 use Rattle.sctp_model.specs.wire.Chunk.{ChunkMeaning}
 use Rattle.sctp_model.specs.messages.Framing.{data_chunk}
 use Rattle.sctp_model.specs.sender.PieceSaid.{piece_said}
@@ -18,19 +17,23 @@ use Rattle.sctp_model.specs.sender.Readers.{outstanding}
 use Rattle.sctp_model.specs.sender.Filling.{newcomer, may_go, chunk_of, goes, gone}
 use Rattle.sctp_model.proofs.sender.FillLaws.{goes_is, goes_not}
 use Rattle.sctp_packet.specs.Draft.{Draft as PacketDraft, room_in, has_room, with_chunks}
-use Rattle.sctp_send.specs.SenderKept.{Item, Rest, Track, Kept}
+use Rattle.sctp_send.specs.SenderKept.{Rest, Track, Kept}
 use Rattle.sctp_send.specs.SenderStands.{rest_here, track_here, Keeps}
 use Rattle.sctp_send.specs.OutstandingFields.{item_meaning, lane_meaning, message_meaning}
 use Rattle.sctp_send.specs.ResetsKept.{base_of}
-use Rattle.sctp_send.specs.SenderFields.{number_left, track_meaning, rest_meaning}
+use Rattle.sctp_send.specs.SenderFields.{latest_in, number_left, track_meaning, rest_meaning}
 use Rattle.sctp_send.specs.inner.Walks.{total, one_if_rest}
 use Rattle.sctp_send.specs.inner.Newcomers as kept
-use Rattle.sctp_send.specs.inner.Newcomers.{gone_item, rest_item, rest_after, rest_at, has_rest, one_if, fresh_track, IsContinued}
+use Rattle.sctp_send.specs.inner.Newcomers.{number_in, rest_after, rest_at, has_rest, one_if, fresh_track, track_of, IsContinued}
 use Rattle.sctp_send.specs.inner.Wishing.{item_flight}
-use Rattle.sctp_send.specs.inner.Stocking.{numbers_of, stocked, ends_of, fragment_chunk, item_chunk, let_in, IsStopped, IsRefused, IsTried, PutAnswer, NothingStands}
+use Rattle.sctp_send.specs.inner.Asking.{IsAsked}
+use Rattle.sctp_send.specs.inner.Stocking.{numbers_of, stocked, fragment_chunk, let_in, IsPut, NothingStands}
 use Rattle.sctp_send.specs.declared.stock.Stock.{Stock}
 use Rattle.sctp_send.specs.declared.kept.entry.Content.TheVariants.{Fragment}
+use Rattle.sctp_values.specs.Meanings.{kind_meaning}
+use Rattle.sctp_send.specs.declared.kept.message.Message.{Message as MessageFields}
 use Rattle.sctp_send.specs.declared.kept.track.Rest.{Rest as RestFields}
+use Rattle.sctp_send.specs.declared.kept.track.Track.{Track as TrackFields}
 use Rattle.sctp_send.proofs.TableLemmas.{length-table}
 use Rattle.sctp_send.proofs.fill.AssignLemmas.{track_at}
 use Rattle.sctp_send.proofs.fill.GoingOnLemmas.{gone_on}
@@ -38,7 +41,9 @@ use Rattle.sctp_send.proofs.fill.AssignedKept.{continued_kept, outstanding_conti
 use Rattle.sctp_send.proofs.fill.ChunkLemmas.{chunk_continued, bytes_continued}
 use Rattle.sctp_send.proofs.fill.FewLemmas.{few_fragments}
 use Rattle.sctp_send.proofs.fill.NewlyLemmas.{newly_continued}
-use Rattle.sctp_send.proofs.fill.NewMayLemmas.{flows, in_window, new_may, next_is, few_parts, ends_are, rest_read, when_rest, window_test, and_off, tried_put, item_behind}
+use Rattle.sctp_send.proofs.fill.NewMayLemmas.{flows, in_window, new_may, next_is, asked_new, few_parts, rest_read, when_rest, window_test, and_off}
+use Rattle.sctp_send.proofs.RoomKept.{room_assigned, room_goes_on}
+use Rattle.sctp_send.proofs.fill.BegunPut.{number_at}
 
 -- ---- a message goes on
 
@@ -132,68 +137,50 @@ module _ (f : Format) (s : Kept) (v : SenderView) (old : Stock) (t : Track) (r :
   continued_goes p more is window on =
       goes_is f (room_in p) v (newcomer v led) (next_is f v led stands led_is) (continued_may p ∙ ap (λ (x : Bool). x && nat_le (outstanding led) WINDOW) on ∙ continued_window more is ∙ window)
 
-  -- it may not flow, or does not fit
-  pub continued_held : (p q : PacketDraft) (new : Stock) → let_in f (item_flight (map (item_meaning s.fragment) old.outstanding.items)) s (suc (s.cum + length old.outstanding.items)) p e (Some (message_meaning s.fragment r.message.value)) ≡ false → q ≡ p → stocked s new ≡ stocked s old → new.tickets ≡ old.tickets → IsStopped f s v p q old new
-  continued_held p q new off packet kept tickets = record {
-    none = goes_not f (room_in p) v (newcomer v led) (next_is f v led stands led_is) (continued_may p ∙ ap (λ (x : Bool). x && nat_le (outstanding led) WINDOW) off);
-    packet = packet;
-    kept = kept;
-    tickets = tickets;
-  }
+  -- within the window it may go if it is let in
+  pub continued_asked : (p : PacketDraft) (more b : Bool) → more ≡ nat_lt (suc r.fragment) (length (cut s.fragment r.message.value.bytes.items)) → in_window s old 1 stream more ≡ true
+      → let_in f (item_flight (map (item_meaning s.fragment) old.outstanding.items)) s (suc (s.cum + length old.outstanding.items)) p e (Some (message_meaning s.fragment r.message.value)) ≡ b → IsAsked f v p b
+  continued_asked p more true is window on = (newcomer v led, continued_goes p more is window on)
+  continued_asked p more false is window off = goes_not f (room_in p) v (newcomer v led) (next_is f v led stands led_is) (continued_may p ∙ ap (λ (x : Bool). x && nat_le (outstanding led) WINDOW) off)
 
   -- the window has no room for it
-  pub continued_full : (p q : PacketDraft) (new : Stock) (more : Bool) → more ≡ nat_lt (suc r.fragment) (length (cut s.fragment r.message.value.bytes.items))
-      → in_window s old 1 stream more ≡ false
-      → q ≡ p → stocked s new ≡ stocked s old → new.tickets ≡ old.tickets → IsStopped f s v p q old new
-  continued_full p q new more is window packet kept tickets = record {
-    none = goes_not f (room_in p) v (newcomer v led) (next_is f v led stands led_is) (continued_may p ∙ and_off _ (nat_le (outstanding led) WINDOW) (continued_window more is ∙ window));
-    packet = packet;
-    kept = kept;
-    tickets = tickets;
-  }
-
-  -- its chunk, of the item that it is then
-  continued_tried : (p q : PacketDraft) (new : Stock) (at turn capacity : ℕ) (none : Item) (put : Bool) → at ≡ length old.outstanding.items → stocked s new ≡ kept.gone_on (stocked s old) (rest_meaning s.fragment t r) stream turn capacity
-      → IsTried p q (item_chunk f (base_of s.resets) s.initial (suc (s.cum + at)) (get_or (stocked s new).items at none)) put
-      → IsTried p q (fragment_chunk f (base_of s.resets) s.fragment s.initial (suc (s.cum + length old.outstanding.items)) r.message.value (number_left t r) (Fragment r.fragment)) put
-  continued_tried p q new at turn capacity none put here same tried =
-      let xs = (stocked s old).items in
-      let x = gone_item (rest_item (rest_meaning s.fragment t r)) in
-      let long : at ≡ length xs = here ∙ sym (length-map old.outstanding.items (item_meaning s.fragment)) in
-      let item = ap (λ (y : Kept). get_or y.items at none) same ∙ ap (λ (j : ℕ). get_or (xs ++ x ∷ []) j none) long ∙ item_behind xs x [] none in
-      subst (λ (j : ℕ). IsTried p q (fragment_chunk f (base_of s.resets) s.fragment s.initial (suc (s.cum + j)) r.message.value (number_left t r) (Fragment r.fragment)) put) here
-      (subst (λ (y : Item). IsTried p q (item_chunk f (base_of s.resets) s.initial (suc (s.cum + at)) y) put) item tried)
+  pub continued_full : (p : PacketDraft) (more : Bool) → more ≡ nat_lt (suc r.fragment) (length (cut s.fragment r.message.value.bytes.items)) → in_window s old 1 stream more ≡ false → goes f (room_in p) v ≡ None
+  continued_full p more is window = goes_not f (room_in p) v (newcomer v led) (next_is f v led stands led_is) (continued_may p ∙ and_off _ (nat_le (outstanding led) WINDOW) (continued_window more is ∙ window))
 
   -- it is in the packet, and took its index
-  pub continued_put : (p q : PacketDraft) (new : Stock) (more : Bool) (at capacity : ℕ) (none : Item) (put : Bool) → more ≡ nat_lt (suc r.fragment) (length (cut s.fragment r.message.value.bytes.items))
-      → in_window s old 1 stream more ≡ true
-      → let_in f (item_flight (map (item_meaning s.fragment) old.outstanding.items)) s (suc (s.cum + length old.outstanding.items)) p e (Some (message_meaning s.fragment r.message.value)) ≡ true → at ≡ length old.outstanding.items
-      → stocked s new ≡ kept.gone_on (stocked s old) (rest_meaning s.fragment t r) stream (suc stream % s.streams) capacity
-      → old.streams.size ≡ s.fragment → ends_of old.streams + length new.outstanding.items ≤ capacity → new.tickets ≡ old.tickets
-      → IsTried p q (item_chunk f (base_of s.resets) s.initial (suc (s.cum + at)) (get_or (stocked s new).items at none)) put → PutAnswer f s v p q old new put
-  continued_put p q new more at capacity none put is window on here same sized room tickets tried =
-      let goes_now = continued_goes p more is window on in
-      let many = ap (λ (y : Kept). length y.items) same in
-      let long = length-map new.outstanding.items (item_meaning s.fragment) in
-      let one = length-append (stocked s old).items (gone_item (rest_item (rest_meaning s.fragment t r)) ∷ []) in
+  pub continued_put : (p q : PacketDraft) (new : Stock) (at number : ℕ) → IsAsked f v p true → at ≡ length old.outstanding.items → number ≡ number_left t r
+      → stocked s new ≡ kept.gone_on (stocked s old) (rest_meaning s.fragment t r) stream (suc stream % s.streams) old.outstanding.capacity → new.tickets ≡ old.tickets
+      → q ≡ with_chunks p (fragment_chunk f (base_of s.resets) s.fragment s.initial (suc (s.cum + at)) r.message.value number (Fragment r.fragment) ∷ []) → IsPut f s v p q old new
+  continued_put p q new at number asked here latest same tickets put =
+      let capacity = old.outstanding.capacity in
+      let goes_now = asked_new f v led p stands led_is asked in
       let streams = k.holds.streams in
-      let ends = ends_are f s v old k sized in
-      let h = continued_kept f (stocked s old) v stream (stream_after v stream) capacity (room_in p) e fresh_track k c.low left.on goes_now (omega (arith, many, long, one, ends, room)) in
+      let room = room_assigned f (stocked s old) v led k led_is in
+      let h = continued_kept f (stocked s old) v stream (stream_after v stream) capacity (room_in p) e fresh_track k c.low left.on goes_now room in
       let mine = subst (λ (x : Option Message). Keeps f (kept.gone_on (stocked s old) (record { entry = e; message = x }) stream (stream_after v stream) capacity) (gone (newcomer v led))) (sym left.message) h in
       let turned = subst (λ (n : ℕ). Keeps f (kept.gone_on (stocked s old) (rest_meaning s.fragment t r) stream (suc stream % n) capacity) (gone (newcomer v led))) (sym streams) mine in
-      let in_packet = tried_put p q _ put (and_parts _ _ on).1 (continued_tried p q new at (suc stream % s.streams) capacity none put here same tried) in
-      subst (λ (b : Bool). PutAnswer f s v p q old new b) (sym in_packet.0)
-      (record {
+      record {
         wish = newcomer v led;
         next = goes_now;
-        chunk = in_packet.1 ∙ ap (λ (x : ChunkMeaning). with_chunks p (x ∷ [])) (sym continued_chunk);
+        chunk =
+            put ∙ ap (λ (n : ℕ). with_chunks p (fragment_chunk f (base_of s.resets) s.fragment s.initial (suc (s.cum + n)) r.message.value number (Fragment r.fragment) ∷ [])) here
+            ∙ ap (λ (n : ℕ). with_chunks p (fragment_chunk f (base_of s.resets) s.fragment s.initial (suc (s.cum + length old.outstanding.items)) r.message.value n (Fragment r.fragment) ∷ [])) latest
+            ∙ ap (λ (x : ChunkMeaning). with_chunks p (x ∷ [])) (sym continued_chunk);
         keeps = subst (λ (y : Kept). Keeps f y (gone (newcomer v led))) (sym same) turned;
         told = ap (λ (ts : _). numbers_of ts.items) tickets
             ∙ sym (ap (λ (ts : List ℕ). numbers_of old.tickets.items ++ ts) (newly_continued f v stream (stream_after v stream) e k.reached left.on) ∙ append-nil (numbers_of old.tickets.items));
-      })
+      }
 
-  -- memory ran out for it
-  pub continued_refused : (p q : PacketDraft) (more : Bool) → more ≡ nat_lt (suc r.fragment) (length (cut s.fragment r.message.value.bytes.items))
-      → in_window s old 1 stream more ≡ true
-      → let_in f (item_flight (map (item_meaning s.fragment) old.outstanding.items)) s (suc (s.cum + length old.outstanding.items)) p e (Some (message_meaning s.fragment r.message.value)) ≡ true → q ≡ p → IsRefused f v p q
-  continued_refused p q more is window on packet = record { wish = newcomer v led; next = continued_goes p more is window on; packet = packet }
+  -- its entry has room
+  pub continued_room : length old.outstanding.items < old.outstanding.capacity
+  continued_room = let room = room_goes_on f (stocked s old) v stream k c in let long = length-map old.outstanding.items (item_meaning s.fragment) in omega (arith, room, long)
+
+-- its number, as it was read: the latest of its kind
+pub latest_read : (n i next number : ℕ) (xs ts : List TrackFields) (x : TrackFields) (m y : MessageFields) → xs ≡ ts → y ≡ m → i < length ts → x ≡ get_or xs i x → next ≡ number_in (kind_meaning y.kind) (track_meaning n x) → number ≡ next - 1
+    → number ≡ latest_in (kind_meaning m.kind) (track_of (map (track_meaning n) ts) i)
+latest_read n i next number xs ts x m y all same low read is less =
+    less ∙ ap (λ (k : ℕ). k - 1) (number_at n i next xs ts x (kind_meaning m.kind) all low read (is ∙ ap (λ (z : MessageFields). number_in (kind_meaning z.kind) (track_meaning n x)) same)) ∙ of_kind (kind_meaning m.kind) (track_of (map (track_meaning n) ts) i)
+  where
+    of_kind : (k : Kind) (t : Track) → number_in k t - 1 ≡ latest_in k t
+    of_kind Ordered t = refl
+    of_kind Unordered t = refl

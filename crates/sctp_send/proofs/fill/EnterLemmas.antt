@@ -1,8 +1,8 @@
 -- Fragments that take indexes, tickets that are numbered, the chunk of a fragment: what the code writes is what is kept.
-use Rattle.std.proofs.Common.{◌≡◌, ℕ, zero, suc, ◌+◌, ◌-◌, ◌*◌, ◌<◌, ◌≤◌, min, List, [], ◌∷◌, ◌++◌, length, map, take, drop, get_or, set, Bool, true, false, Option, Some, refl, sym, ap, ◌∙◌, arith, length-drop, remove}
-use Rattle.std.specs.Prelude.{◌==◌, nat_le, Result, Ok, Err, OnOk}
+use Rattle.std.proofs.Common.{◌≡◌, ℕ, zero, suc, ◌+◌, ◌-◌, ◌*◌, ◌<◌, ◌≤◌, min, List, [], ◌∷◌, ◌++◌, length, map, take, drop, get_or, set, Bool, true, false, Option, None, Some, refl, sym, ap, ◌∙◌, arith, length-drop, remove}
+use Rattle.std.specs.Prelude.{◌==◌, nat_le}
 use Rattle.std.proofs.lemmas.Bool.Decides.{nat_tests}
-use Rattle.std.proofs.lemmas.List.{length-map, map-append, map-set, take-map, drop-map, take_all, take-take}
+use Rattle.std.proofs.lemmas.List.{length-map, map-append, map-set, take-map, drop-map, take_all}
 use Rattle.sctp_model.specs.messages.Format.{Format, Lane, Kind, Ordered, Unordered}
 use Rattle.sctp_model.specs.messages.Framing.{lane_kind, data_chunk, wire_number}
 use Rattle.sctp_values.specs.Meanings.{kind_meaning}
@@ -12,20 +12,19 @@ use Rattle.sctp_model.specs.messages.Plan.{Message, Part}
 use Rattle.sctp_model.specs.sender.Entries.{entry_fragment, bytes_in}
 use Rattle.sctp_model.specs.sender.Queueing.{cut}
 use Rattle.sctp_model.specs.sender.PieceSaid.{is_unordered}
-use Rattle.sctp_send.specs.PartsKept.{OutstandingKept, IsSameRoom}
 use Rattle.sctp_send.specs.SenderKept.{Item, Rest, Track, Kept}
 use Rattle.sctp_send.specs.OutstandingFields.{item_meaning, queued_meaning, lane_meaning, message_meaning, entry_meaning, no_base}
-use Rattle.sctp_send.specs.inner.Newcomers.{gone_item, new_item, new_items, begun_items, fresh_track, track_of, number_on, without_place, number_in, counted_in, rest_after, begun, gone_on}
+use Rattle.sctp_send.specs.inner.Newcomers.{gone_item, new_item, new_items, begun_items, fresh_track, track_of, number_on, without_place, number_in, counted_in, rest_after, rest_at, has_rest, begun, gone_on}
+use Rattle.sctp_send.specs.inner.Owning.{taken_meaning}
 use Rattle.sctp_send.specs.inner.Stocking.{numbers_of, all_numbered, AreOpen, stocked, fragment_chunk, fragment_item, rest_from, counted_track, left_track}
-use Rattle.sctp_send.specs.SenderFields.{queued_by, latest_in, track_meaning, rests_meaning, ending_meaning}
+use Rattle.sctp_send.specs.SenderFields.{queued_by, latest_in, track_meaning, rests_meaning}
 use Rattle.std.specs.declared.alloc.Global.{Global}
 use Rattle.std.specs.declared.sync.Arc.{Arc}
 use Rattle.sctp_send.specs.declared.kept.track.Track.{Track as TrackFields}
 use Rattle.sctp_send.specs.declared.stock.Stock.{Stock}
-use Rattle.sctp_send.specs.declared.kept.track.Ending.{Ending as EndingFields}
+use Rattle.sctp_send.specs.declared.kept.track.Taken.{Taken}
 use Rattle.sctp_send.specs.declared.kept.track.Rest.{Rest as RestFields}
 use Rattle.sctp_send.specs.declared.kept.entry.Standing.TheVariants.{Sent}
-use Rattle.sctp_send.specs.declared.kept.entry.Entry.{Entry as EntryFields}
 use Rattle.sctp_send.specs.declared.kept.message.Fate.{Fate}
 use Rattle.sctp_send.specs.declared.kept.message.Fate.TheVariants.{Numbered}
 use Rattle.sctp_send.specs.declared.kept.message.Message.{Message as MessageFields}
@@ -49,33 +48,6 @@ begun_push l n m (suc d) some =
     let next : suc d + 1 ≡ suc (suc d) = omega arith in
     let at_is : 1 + d ≡ suc d = omega arith in
     rw next (ap (λ (xs : List Item). gone_item (new_item (Part l n 0) m) ∷ xs) (rw at_is at (new_push l n m 1 d)))
-
--- Behind the first fragment of a message came those up to so many, and there is as much room.
-pub record IsPushed (old new : OutstandingKept) (m : MessageFields) (number count : ℕ) : Type 0 where
-  pub items : (size : ℕ) (before : List Item) → map (item_meaning size) old.items ≡ before ++ begun_items (lane_meaning m) number (message_meaning size m) 1
-      → map (item_meaning size) new.items ≡ before ++ begun_items (lane_meaning m) number (message_meaning size m) count
-  pub before : old.items ≡ take (length old.items) new.items
-  pub long : length new.items + 1 ≡ length old.items + count
-  pub room : IsSameRoom old new
-
--- those before are the same where one more comes
-pub before_more : (xs ys zs : List EntryFields) → xs ≡ take (length xs) ys → length xs ≤ length ys → ys ≡ take (length zs - 1) zs → length zs ≡ length ys + 1 → xs ≡ take (length xs) zs
-before_more xs ys zs first le more long =
-    let one : length zs - 1 ≡ length ys = omega arith in
-    first ∙ ap (take (length xs)) (more ∙ ap (λ (n : ℕ). take n zs) one) ∙ take-take (length xs) (length ys) zs le
-
--- the last of a list
-pub last_read : {A : Type 0} (xs : List A) (x : A) (n : ℕ) → n ≡ length xs → x ≡ get_or (xs ++ x ∷ []) n x
-last_read xs x n is = rw is (by_list xs)
-  where
-    by_list : (ys : List _) → x ≡ get_or (ys ++ x ∷ []) (length ys) x
-    by_list [] = refl
-    by_list (y ∷ ys) = by_list ys
-
--- what follows where it went well
-pub on_ok : {A E : Type 0} (P Q : Type 0) (r : Result A E) → (P → Q) → OnOk r P → OnOk r Q
-on_ok P Q (Ok x) so p = so p
-on_ok P Q (Err e) so p = tt
 
 -- ---- bytes of a fragment
 
@@ -182,11 +154,11 @@ pub begun_is : (s : Kept) (old new : Stock) (m : MessageFields) (place count num
     → map (queued_by s.fragment) new.queue.items ≡ without_place place (map (queued_by s.fragment) old.queue.items)
     → map (track_meaning s.fragment) new.streams.items ≡ set (map (track_meaning s.fragment) old.streams.items) m.stream (counted_track (kind_meaning m.kind) left (track_of (map (track_meaning s.fragment) old.streams.items) m.stream))
     → left ≡ rest_from s.fragment m number count → numbers_of new.tickets.items ≡ numbers_of old.tickets.items ++ m.ticket ∷ [] → new.turn ≡ turn
-    → number ≡ number_on (map (track_meaning s.fragment) old.streams.items) (lane_meaning m)
-    → stocked s new ≡ begun (stocked s old) (queued_meaning s.fragment m) place count turn (new.outstanding.capacity)
-begun_is s old new m place count number turn left items queue tracks rest told turned numbered =
+    → number ≡ number_on (map (track_meaning s.fragment) old.streams.items) (lane_meaning m) → new.outstanding.capacity ≡ old.outstanding.capacity
+    → stocked s new ≡ begun (stocked s old) (queued_meaning s.fragment m) place count turn (old.outstanding.capacity)
+begun_is s old new m place count number turn left items queue tracks rest told turned numbered space =
     let fates : all_numbered s.fates (numbers_of new.tickets.items) ≡ set (all_numbered s.fates (numbers_of old.tickets.items)) (m.ticket - 1) Numbered = ap (all_numbered s.fates) told ∙ numbered_push s.fates (numbers_of old.tickets.items) m.ticket in
-    rw (items, queue, tracks, fates, turned, rest, numbered) refl
+    rw (items, queue, tracks, fates, turned, rest, numbered, space) refl
 
 -- the number that a message took is the latest of its kind then
 pub latest_counted : (k : Kind) (t : Track) → latest_in k (counted_in k t) ≡ number_in k t
@@ -194,13 +166,20 @@ latest_counted Ordered t = omega arith
 latest_counted Unordered t = omega arith
 
 -- a message in part went on
-pub gone_on_is : (s : Kept) (old new : Stock) (e : EndingFields) (stream turn : ℕ) (left : Option Rest)
-    → map (item_meaning s.fragment) new.outstanding.items ≡ map (item_meaning s.fragment) old.outstanding.items ++ fragment_item s.fragment e.rest.message.value e.number e.rest.fragment Sent ∷ []
+pub gone_on_is : (s : Kept) (old new : Stock) (t : Taken) (stream turn : ℕ)
+    → map (item_meaning s.fragment) new.outstanding.items ≡ map (item_meaning s.fragment) old.outstanding.items ++ fragment_item s.fragment t.message.value t.number t.fragment Sent ∷ []
     → new.queue ≡ old.queue
-    → map (track_meaning s.fragment) new.streams.items ≡ set (map (track_meaning s.fragment) old.streams.items) stream (left_track left (track_of (map (track_meaning s.fragment) old.streams.items) stream))
-    → left ≡ rest_after (ending_meaning s.fragment e).entry (ending_meaning s.fragment e).message → new.tickets ≡ old.tickets → new.turn ≡ turn
-    → stocked s new ≡ gone_on (stocked s old) (ending_meaning s.fragment e) stream turn (new.outstanding.capacity)
-gone_on_is s old new e stream turn left items queue tracks rest told turned = rw (items, queue, tracks, told, turned, rest) refl
+    → map (track_meaning s.fragment) new.streams.items
+    ≡ set (map (track_meaning s.fragment) old.streams.items) stream (record (track_of (map (track_meaning s.fragment) old.streams.items) stream) { rest = rest_after (taken_meaning s.fragment t).entry (taken_meaning s.fragment t).message })
+    → new.tickets ≡ old.tickets → new.turn ≡ turn → new.outstanding.capacity ≡ old.outstanding.capacity
+    → stocked s new ≡ gone_on (stocked s old) (taken_meaning s.fragment t) stream turn (old.outstanding.capacity)
+gone_on_is s old new t stream turn items queue tracks told turned space = rw (items, queue, tracks, told, turned, space) refl
+
+-- a stream with a message in part has its next fragment
+pub never_taken : (size n at stream : ℕ) (ts : List TrackFields) → n ≡ size → at ≡ stream → rest_at (map (track_meaning n) ts) at ≡ None → has_rest (rest_at (map (track_meaning size) ts) stream) ≡ true → ⊥
+never_taken size n at stream ts same is none some =
+    let off : has_rest (rest_at (map (track_meaning size) ts) stream) ≡ false = ap (λ (k : ℕ). has_rest (rest_at (map (track_meaning k) ts) stream)) (sym same) ∙ ap (λ (j : ℕ). has_rest (rest_at (map (track_meaning n) ts) j)) (sym is) ∙ ap has_rest none in
+    cc
 
 -- a place of the queue is empty now
 pub taken_out : (size place : ℕ) (ms : List (Arc MessageFields Global)) → map (queued_by size) (remove ms place) ≡ without_place place (map (queued_by size) ms)

@@ -1,23 +1,23 @@
 -- One wish after the other: the packet and the stock after some steps, and when none may go any more.
-use Rattle.std.proofs.Common.{◌≡◌, ℕ, ◌+◌, ◌-◌, ◌<◌, ◌≤◌, List, [], ◌∷◌, ◌++◌, length, map, true, false, Option, Some, None, refl, sym, ap, ◌∙◌, subst, arith, append-nil, append_assoc, length-append}
+use Rattle.std.proofs.Common.{◌≡◌, ℕ, ◌+◌, ◌*◌, ◌-◌, ◌<◌, ◌≤◌, List, [], ◌∷◌, ◌++◌, length, map, true, false, Option, Some, None, refl, sym, ap, ◌∙◌, subst, arith, append-nil, append_assoc, length-append}
 use Rattle.std.proofs.lemmas.List.{map-append}
-use Rattle.sctp_model.specs.messages.Format.{Format}
+use Rattle.std.specs.Vec.{vec_len, vec_capacity}
+use Rattle.sctp_model.specs.messages.Format.{Format, Plain, Interleaved}
 use Rattle.sctp_model.specs.wire.Chunk.{ChunkMeaning}
 use Rattle.sctp_model.specs.sender.SenderView.{SenderView}
 use Rattle.sctp_model.specs.sender.Filling.{Wish, next_wish, chunk_of, room_of, goes, gone, Follows, newly_numbered}
 use Rattle.sctp_model.specs.sender.Reached.{IsReached}
-use Rattle.sctp_model.proofs.sender.FillLaws.{goes_parts, room_some, room_fits, room_after, follows_more, stopped_is_fill}
+use Rattle.sctp_model.proofs.sender.FillLaws.{goes_parts, room_fits, room_after, follows_more, stopped_is_fill}
 use Rattle.sctp_packet.specs.Draft.{Draft as PacketDraft, room_in, with_chunks}
 use Rattle.sctp_send.specs.SenderKept.{Kept}
 use Rattle.sctp_send.specs.SenderStands.{Keeps}
-use Rattle.sctp_send.specs.FillAnswers.{PutSomeOf}
-use Rattle.sctp_send.specs.inner.Stocking.{numbers_of, stocked, IsPut, IsStopped, IsRefused, AllPut}
+use Rattle.sctp_send.specs.inner.Stocking.{numbers_of, stocked, IsPut, IsStopped, AllPut}
 use Rattle.sctp_send.specs.inner.Sending.{resent_by, IsResent}
-use Rattle.sctp_send.specs.inner.Undoing.{IsSized, IsBehind}
+use Rattle.sctp_send.specs.inner.Entering.{IsSized}
 use Rattle.sctp_send.specs.declared.fill.sendings.Resent.{Resent}
 use Rattle.sctp_send.specs.declared.fill.sendings.Sendings.{Sendings}
 use Rattle.sctp_send.specs.declared.stock.Stock.{Stock}
-use Rattle.sctp_send.proofs.fill.RoomLemmas.{room_more, goes_nowhere}
+use Rattle.sctp_send.proofs.fill.RoomLemmas.{room_more}
 use Rattle.sctp_send.proofs.fill.NewlyLemmas.{newly_self, newly_more}
 use Rattle.sctp_send.proofs.fill.SendingLemmas.{none_resent, one_resent, all_sent}
 
@@ -35,12 +35,16 @@ room_left f p [] = ap room_in (no_chunks p)
 room_left f p (w ∷ ws) =
     ap room_in (sym (chunks_joined p (chunk_of f w ∷ []) (map (chunk_of f) ws))) ∙ room_left f (with_chunks p (chunk_of f w ∷ [])) ws ∙ ap (λ (n : ℕ). room_after f n ws) (room_more p (chunk_of f w))
 
--- each wish takes room
-room_used : (f : Format) (v u : SenderView) (room : ℕ) (ws : List Wish) → Follows f v room ws u → room_after f room ws + length ws ≤ room
+-- each wish takes a header's room at least
+room_least : (f : Format) (w : Wish) → 16 ≤ room_of f w
+room_least Plain w = omega arith
+room_least Interleaved w = omega arith
+
+room_used : (f : Format) (v u : SenderView) (room : ℕ) (ws : List Wish) → Follows f v room ws u → room_after f room ws + 16 * length ws ≤ room
 room_used f v u room [] is = omega arith
 room_used f v u room (w ∷ ws) is =
     let rest = room_used f (gone w) u (room - room_of f w) ws is.1 in
-    let some = room_some f w in
+    let some = room_least f w in
     let fits = room_fits f room w (goes_parts f room v w is.0).1 in
     omega (arith, rest, some, fits)
 
@@ -99,10 +103,13 @@ loop_more f s v p now later old new steps n r q x few put counted =
           subst (λ (y : Resent). IsResent n (x.wishes ++ put.wish ∷ []) y) (sym (counted ∙ wish)) (one_resent n x.wishes put.wish r x.resent (omega (arith, few, many)));
     }
 
--- What holds at each step: the stock leads back to what it was, with parts of one size, and so many wishes went.
+-- What holds at each step: the packet has its whole memory, the stock has parts of one size, there is room for more tickets, one at most is told in a
+-- step, and so many wishes went.
 pub record IsFilledSoFar (f : Format) (s : Kept) (p now : PacketDraft) (old new : Stock) (steps n : ℕ) (r : Resent) : Type 0 where
+  pub reserved : now.space ≡ true
   pub sized : IsSized s.fragment new
-  pub behind : IsBehind old new
+  pub few : vec_len new.tickets ≤ steps
+  pub capacity : vec_capacity old.tickets ≤ vec_capacity new.tickets
   pub so_far : (v : SenderView) → Keeps f (stocked s old) v → IsSoFar f s v p now new steps n r
 
 -- ---- the end
@@ -126,30 +133,9 @@ loop_stopped f s v p now later old new steps n r q y x stop counted here =
     stays None = refl
     stays (Some w) = refl
 
--- as many went as there was room, so none is left
-pub loop_full : (f : Format) (s : Kept) (v : SenderView) (p now : PacketDraft) (d : Stock) (steps room n : ℕ) (r : Resent) (y : Sendings) → IsSoFar f s v p now d steps n r → room ≡ room_in p → room ≤ steps
-    → (r.timed + r.missed ≤ room → y ≡ record { first = room - (r.timed + r.missed); timed = r.timed; missed = r.missed }) → AllPut f s v p now d n y
-loop_full f s v p now d steps room n r y x is all here =
+-- no more go than there is room for
+pub loop_ends : (f : Format) (s : Kept) (v : SenderView) (p now : PacketDraft) (d : Stock) (steps n : ℕ) (r : Resent) → IsSoFar f s v p now d steps n r → room_in p < 16 * steps → ⊥
+loop_ends f s v p now d steps n r x past =
     let used = room_used f v x.view (room_in p) x.wishes x.follows in
     let count = x.many in
-    let none = goes_nowhere f (room_after f (room_in p) x.wishes) x.view (omega (arith, used, count, all, is)) in
-    record {
-      wishes = x.wishes;
-      view = x.view;
-      fill = stopped_is_fill f v x.view (room_in p) x.wishes x.follows none;
-      chunks = x.chunks;
-      keeps = x.keeps;
-      told = x.told;
-      counts = all_sent n x.wishes r room y x.resent (omega (arith, used, count, all, is)) here;
-    }
-
--- memory ran out in a step
-pub loop_some : (f : Format) (s : Kept) (v : SenderView) (p now later : PacketDraft) (d : Stock) (steps n : ℕ) (r : Resent) → (x : IsSoFar f s v p now d steps n r) → IsRefused f x.view now later → PutSomeOf f v p later
-loop_some f s v p now later d steps n r x refused = record {
-  wishes = x.wishes;
-  view = x.view;
-  follows = x.follows;
-  chunks = refused.packet ∙ x.chunks;
-  refused = refused.wish;
-  next = ap (λ (y : PacketDraft). goes f (room_in y) x.view) refused.packet ∙ refused.next;
-}
+    omega (arith, used, count, past)

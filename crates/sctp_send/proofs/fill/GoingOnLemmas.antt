@@ -7,7 +7,8 @@ use Rattle.sctp_model.specs.messages.Format.{Format}
 use Rattle.sctp_model.specs.messages.Plan.{Entry, Part, End}
 use Rattle.sctp_model.specs.sender.SenderView.{SenderView}
 use Rattle.sctp_model.specs.sender.Words.{when}
-use Rattle.sctp_model.specs.sender.Entries.{entry_lane, entry_message, fragments_in, next_part, continued, in_part}
+use Rattle.sctp_model.specs.sender.Entries.{entry_lane, entry_message, fragments_in, next_part, continued}
+use Rattle.sctp_model.specs.sender.Queueing.{owed_by_queue, owed_by_parts}
 use Rattle.sctp_model.specs.sender.Assigning.{with_entry}
 use Rattle.sctp_model.specs.sender.Reached.{IsReached}
 use Rattle.sctp_model.proofs.sender.Bounds.{is_bounded}
@@ -95,7 +96,7 @@ gone_fate f v j t turn e h on = rw (continued_ticket f v j t e h on) refl
 
 -- The message in part of a stream took its next index: its item behind the others, and what is left of it.
 pub holds_continued : (f : Format) (s : Kept) (v : SenderView) (j turn capacity : ℕ) (e : Entry) (x : Track) → Keeps f s v → j < v.streams → continued v.plan j ≡ Some e
-    → in_part (gone_on v e turn) + length (s.items ++ rest_item (record { entry = e; message = entry_message v.plan e }) ∷ []) ≤ capacity
+    → length (s.items ++ rest_item (record { entry = e; message = entry_message v.plan e }) ∷ []) + (owed_by_queue v.queue + owed_by_parts (gone_on v e turn)) ≤ capacity
     → Holds (record s {
       items = s.items ++ rest_item (record { entry = e; message = entry_message v.plan e }) ∷ [];
       tracks = set s.tracks j (record (get_or s.tracks j x) { rest = rest_after e (entry_message v.plan e) });

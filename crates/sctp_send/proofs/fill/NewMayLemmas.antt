@@ -1,22 +1,23 @@
 -- Whether what is assigned next may go, as the code tests it: flow, room, and the window.
-use Rattle.std.proofs.Common.{◌≡◌, ℕ, zero, suc, ◌+◌, ◌*◌, ◌%◌, ◌^◌, ◌<◌, ◌≤◌, List, [], ◌∷◌, ◌++◌, length, map, get_or, Bool, true, false, Option, Some, None, refl, sym, ap, ◌∙◌, arith}
-use Rattle.std.specs.Prelude.{nat_le, ◌&&◌, option_map, Result, Ok, Err, IfOk, OnErr, nat_lt}
+use Rattle.std.proofs.Common.{◌≡◌, ℕ, zero, suc, ◌+◌, ◌*◌, ◌%◌, ◌^◌, ◌<◌, ◌≤◌, List, [], ◌∷◌, length, map, get_or, Bool, true, false, Option, Some, None, refl, sym, ap, ◌∙◌, arith}
+use Rattle.std.specs.Prelude.{nat_le, ◌&&◌, option_map, Result, Ok, Err, OnErr, nat_lt}
 use Rattle.std.proofs.lemmas.Bool.Decides.{nat_tests}
 use Rattle.std.proofs.lemmas.Option.{slice_get-get_or}
 use Rattle.sctp_model.specs.numbers.Limits.{WINDOW}
 use Rattle.sctp_model.specs.messages.Format.{Format, Lane, ordered_lane}
 use Rattle.sctp_model.specs.wire.Chunk.{ChunkMeaning}
-use Rattle.sctp_model.specs.messages.Plan.{Entry, End}
+use Rattle.sctp_model.specs.messages.Plan.{Entry, Part, End}
 use Rattle.sctp_model.specs.sender.SenderView.{SenderView}
-use Rattle.sctp_model.specs.sender.Entries.{bytes_in, in_part}
+use Rattle.sctp_model.specs.sender.Entries.{bytes_in}
 use Rattle.sctp_model.specs.sender.Words.{when}
 use Rattle.sctp_model.specs.sender.Queueing.{cut}
 use Rattle.sctp_model.specs.sender.Assigning.{assigned}
 use Rattle.sctp_model.specs.sender.Readers.{outstanding}
-use Rattle.sctp_model.specs.sender.Filling.{newcomer, next_wish, may_go, bytes_of_wish, chunk_of, room_of}
+use Rattle.sctp_model.specs.sender.Filling.{newcomer, next_wish, may_go, bytes_of_wish, chunk_of, room_of, goes}
 use Rattle.sctp_model.proofs.sender.Bounds.{is_bounded}
+use Rattle.sctp_model.proofs.sender.FillLaws.{goes_parts}
 use Rattle.sctp_model.proofs.sender.OwedLaws.{is_windowed}
-use Rattle.sctp_packet.specs.Draft.{Draft as PacketDraft, room_in, with_chunks, has_room, after_try}
+use Rattle.sctp_packet.specs.Draft.{Draft as PacketDraft, room_in, has_room}
 use Rattle.sctp_send.specs.SenderKept.{Item, Rest, Track, Kept}
 use Rattle.sctp_send.specs.SenderStands.{Keeps}
 use Rattle.sctp_send.specs.OutstandingFields.{item_meaning, message_meaning, entry_meaning}
@@ -24,7 +25,8 @@ use Rattle.sctp_send.specs.SenderFields.{track_meaning}
 use Rattle.sctp_send.specs.inner.Walks.{total, one_if_rest}
 use Rattle.sctp_send.specs.inner.Wishing.{item_flight, lets_flow}
 use Rattle.sctp_send.specs.inner.Newcomers.{rest_at, has_rest, one_if}
-use Rattle.sctp_send.specs.inner.Stocking.{stocked, ends_of, IsTried, IsFlying, NothingStands}
+use Rattle.sctp_send.specs.inner.Asking.{IsAsked}
+use Rattle.sctp_send.specs.inner.Stocking.{stocked, fragment_chunk, let_in, FitsInto, IsFlying, NothingStands}
 use Rattle.sctp_send.specs.PartsKept.{OutstandingKept}
 use Rattle.sctp_send.proofs.KeepLemmas.{kept_length}
 use Rattle.std.proofs.lemmas.List.{length-map}
@@ -33,7 +35,11 @@ use Rattle.sctp_send.specs.declared.kept.message.Message.{Message as MessageFiel
 use Rattle.sctp_send.specs.declared.kept.entry.Entry.{Entry as EntryFields}
 use Rattle.sctp_send.specs.declared.kept.entry.Content.{Content}
 use Rattle.sctp_send.proofs.QueueLemmas.{kept_in_part}
-use Rattle.sctp_send.proofs.fill.RoomLemmas.{has_room_is, go_new}
+use Rattle.sctp_send.specs.OutstandingFields.{lane_meaning}
+use Rattle.sctp_send.specs.ResetsKept.{base_of}
+use Rattle.sctp_send.specs.declared.kept.entry.Content.TheVariants.{Fragment}
+use Rattle.std.proofs.lemmas.Bool.{and_parts}
+use Rattle.sctp_send.proofs.fill.RoomLemmas.{has_room_is, fits_by_length, go_new}
 
 -- ---- the tests, as the code makes them
 
@@ -71,6 +77,10 @@ new_may f s v u p old c bytes k is chunk said =
 pub next_is : (f : Format) (v u : SenderView) → NothingStands f v → assigned f v ≡ Some u → next_wish f v ≡ Some (newcomer v u)
 next_is f v u stands is = stands ∙ ap (option_map (newcomer v)) is
 
+-- so a wish that may go is this one
+pub asked_new : (f : Format) (v u : SenderView) (p : PacketDraft) → NothingStands f v → assigned f v ≡ Some u → IsAsked f v p true → goes f (room_in p) v ≡ Some (newcomer v u)
+asked_new f v u p stands is asked = asked.1 ∙ (sym (goes_parts f (room_in p) v asked.0 asked.1).0 ∙ next_is f v u stands is)
+
 -- ---- the window
 
 -- messages in part are few, since they count in the window
@@ -80,13 +90,6 @@ few_parts f s v k =
     let most = is_windowed f v k.reached in
     let low = (is_bounded f v k.reached).within in
     omega (arith, all, most, low)
-
--- the end marks for which memory is taken are those of the messages in part
-pub ends_are : (f : Format) (s : Kept) (v : SenderView) (old : Stock) → Keeps f (stocked s old) v → old.streams.size ≡ s.fragment → ends_of old.streams ≡ in_part v
-ends_are f s v old k sized =
-    let all = kept_in_part f (stocked s old) v k in
-    let small = few_parts f (stocked s old) v k in
-    ap (λ (n : ℕ). total (λ t. one_if_rest t.rest) (map (track_meaning n) old.streams.items) % 2 ^ 32) sized ∙ omega (arith, all, small)
 
 -- a stream's rest that was read, and whether there is one
 pub rest_read : (ts : List Track) (j : ℕ) (x : Track) → j < length ts → one_if_rest (get_or ts j x).rest ≡ one_if (has_rest (rest_at ts j))
@@ -158,19 +161,10 @@ both_pass first second a b one on two = two ∙ ap (λ (x : Bool). x && b) (sym 
 pub first_fails : (first a b : Bool) → first ≡ a → first ≡ false → false ≡ (a && b)
 first_fails first a b one off = ap (λ (x : Bool). x && b) (sym off ∙ one)
 
--- what follows of an answer
-pub of_ok : {A E : Type 0} (P Q : A → Type 0) (r : Result A E) → ((x : A) → P x → Q x) → IfOk r P → IfOk r Q
-of_ok P Q (Ok x) so p = so x p
-of_ok P Q (Err e) so p = tt
-
 -- what is so anyway is so after an error
 pub on_err : {A E : Type 0} (P : Type 0) (r : Result A E) → P → OnErr r P
 on_err P (Ok x) p = tt
 on_err P (Err e) p = p
-
-pub of_err : {A E : Type 0} (P Q : Type 0) (r : Result A E) → (P → Q) → OnErr r P → OnErr r Q
-of_err P Q (Ok x) so p = tt
-of_err P Q (Err e) so p = so p
 
 -- whether a message has more fragments, as it was read
 pub more_read : (fragment size n count : ℕ) (bytes items : List ℕ) → suc fragment < 2 ^ 32 → count ≡ length (cut size bytes) → size ≡ n → bytes ≡ items
@@ -184,17 +178,16 @@ pub left_over : (count size n many : ℕ) (bytes : List ℕ) (m y : MessageField
 left_over count size n many bytes m y all one read same =
     ap (nat_lt count) (all ∙ ap (λ (k : ℕ). length (cut k bytes)) one ∙ ap (λ (bs : List ℕ). length (cut n bs)) (read ∙ ap (λ (z : MessageFields). z.bytes.items) same))
 
--- ---- a chunk that was tried
-
--- where there is room, it is in the packet
-pub tried_put : (before after : PacketDraft) (c : ChunkMeaning) (put : Bool) → has_room before c ≡ true → IsTried before after c put → (put ≡ true) × (after ≡ with_chunks before (c ∷ []))
-tried_put before after c put room tried = let on = tried.answer ∙ room in (on, tried.packet ∙ ap (after_try before c) on)
-
 -- an item, for an offset at which there is none
 pub no_item : Item
 no_item = record { entry = End (ordered_lane 0) 0; message = None; sent = false; marked = false; covered = false; abandoned = false; repeats = 0 }
 
--- the item behind some others
-pub item_behind : (xs : List Item) (x : Item) (ys : List Item) (none : Item) → get_or (xs ++ x ∷ ys) (length xs) none ≡ x
-item_behind [] x ys none = refl
-item_behind (y ∷ xs) x ys none = item_behind xs x ys none
+-- ---- a chunk fits
+
+-- what is let in fits, whatever number and index it has
+pub let_fits : (f : Format) (flying : ℕ) (s : Kept) (p : PacketDraft) (m : MessageFields) (k : ℕ) → let_in f flying s 0 p (Part (lane_meaning m) 0 k) (Some (message_meaning s.fragment m)) ≡ true → FitsInto f p s.fragment m (Fragment k)
+let_fits f flying s p m k on = λ base initial i n.
+    let e = Part (lane_meaning m) n k in
+    let said = Some (message_meaning s.fragment m) in
+    let here = (and_parts (lets_flow flying (length (bytes_in (Part (lane_meaning m) 0 k) said)) s.rwnd) (has_room p (fragment_chunk f (base_of s.resets) s.fragment s.initial 0 m 0 (Fragment k))) on).1 in
+    fits_by_length f p base initial i e said ∙ sym (fits_by_length f p (base_of s.resets) s.initial 0 (Part (lane_meaning m) 0 k) said) ∙ here

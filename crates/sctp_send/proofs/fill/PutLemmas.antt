@@ -8,20 +8,21 @@ use Rattle.sctp_model.specs.wire.Chunk.{ChunkMeaning}
 use Rattle.sctp_model.specs.messages.Plan.{Entry}
 use Rattle.sctp_model.specs.sender.SenderView.{SenderView}
 use Rattle.sctp_model.specs.sender.Entries.{bytes_in, in_flight}
-use Rattle.sctp_model.specs.sender.Filling.{standing, is_let_flow, may_go, bytes_of_wish, chunk_of, room_of, gone}
+use Rattle.sctp_model.specs.sender.Filling.{standing, is_let_flow, may_go, bytes_of_wish, chunk_of, room_of, goes, gone}
 use Rattle.sctp_model.proofs.sender.FillLaws.{goes_is, goes_not}
 use Rattle.sctp_model.proofs.sender.MarkLaws.{is_marked_well}
 use Rattle.sctp_model.specs.messages.Framing.{data_chunk}
 use Rattle.sctp_model.specs.sender.PieceSaid.{piece_said}
-use Rattle.sctp_packet.specs.Draft.{Draft as PacketDraft, room_in, has_room, with_chunks, after_try}
+use Rattle.sctp_packet.specs.Draft.{Draft as PacketDraft, room_in, has_room, with_chunks}
 use Rattle.sctp_send.specs.SenderKept.{Item, Kept}
 use Rattle.sctp_send.specs.SenderStands.{item_here, Keeps}
 use Rattle.sctp_send.specs.PartsKept.{OutstandingKept, changed_at, changed}
 use Rattle.sctp_send.specs.OutstandingFields.{item_meaning, lane_meaning, message_meaning, entry_meaning}
 use Rattle.sctp_send.specs.ResetsKept.{base_of}
+use Rattle.sctp_send.specs.inner.Asking.{IsAsked}
 use Rattle.sctp_send.specs.inner.Wishing.{first_offset, is_item_marked, is_item_unsent, item_flight, lets_flow}
 use Rattle.sctp_send.specs.inner.Newcomers.{gone_item}
-use Rattle.sctp_send.specs.inner.Stocking.{numbers_of, stocked, fragment_chunk, item_chunk, went_out, IsPut, IsStopped, IsRefused, IsTried, PutAnswer, IsNextEntry, IsNextUnsent, NothingStands}
+use Rattle.sctp_send.specs.inner.Stocking.{numbers_of, stocked, fragment_chunk, went_out, IsPut, IsNextEntry, IsNextUnsent, NothingStands}
 use Rattle.sctp_send.specs.declared.stock.Stock.{Stock}
 use Rattle.sctp_send.specs.declared.kept.entry.Entry.{Entry as EntryFields}
 use Rattle.sctp_send.proofs.kept.ItemLemmas.{item_read}
@@ -149,40 +150,14 @@ entry_goes f s v before after old new at x k premise low read room packet kept t
       told = tickets ∙ sym (ap (λ (ts : List ℕ). numbers_of old.tickets.items ++ ts) (newly_standing v (suc (v.cum + at))) ∙ append-nil (numbers_of old.tickets.items));
     }
 
--- it doesn't where its chunk doesn't fit
-pub entry_stops : (f : Format) (s : Kept) (v : SenderView) (before after : PacketDraft) (old new : Stock) (at : ℕ) (x : EntryFields) → Keeps f (stocked s old) v → IsNextEntry f v at
-    → at < length old.outstanding.items → x ≡ get_or old.outstanding.items at x → has_room before (fragment_chunk f (base_of s.resets) s.fragment s.initial (suc (s.cum + at)) x.message.value x.number x.content) ≡ false
-    → after ≡ before → stocked s new ≡ stocked s old → new.tickets ≡ old.tickets → IsStopped f s v before after old new
-entry_stops f s v before after old new at x k premise low read room packet kept tickets =
-    let chunk = standing_chunk f s v old at x k low read in
-    let may = may_where_fits f (stocked s old) v before (suc (v.cum + at)) k premise.flows ∙ ap (has_room before) chunk ∙ room in
-    record { none = goes_not f (room_in before) v (standing v (suc (v.cum + at))) premise.next may; packet = packet; kept = kept; tickets = tickets }
-
--- memory ran out for it
-pub entry_refused : (f : Format) (s : Kept) (v : SenderView) (before after : PacketDraft) (old : Stock) (at : ℕ) (x : EntryFields) → Keeps f (stocked s old) v → IsNextEntry f v at → at < length old.outstanding.items
-    → x ≡ get_or old.outstanding.items at x → has_room before (fragment_chunk f (base_of s.resets) s.fragment s.initial (suc (s.cum + at)) x.message.value x.number x.content) ≡ true → after ≡ before → IsRefused f v before after
-entry_refused f s v before after old at x k premise low read room packet =
-    let chunk = standing_chunk f s v old at x k low read in
-    let may = may_where_fits f (stocked s old) v before (suc (v.cum + at)) k premise.flows ∙ ap (has_room before) chunk ∙ room in
-    record { wish = standing v (suc (v.cum + at)); next = goes_is f (room_in before) v (standing v (suc (v.cum + at))) premise.next may; packet = packet }
-
--- one of the two, as the packet answered
-pub entry_put : (f : Format) (s : Kept) (v : SenderView) (before after : PacketDraft) (old new : Stock) (at : ℕ) (x : EntryFields) (put : Bool) → Keeps f (stocked s old) v → IsNextEntry f v at
-    → at < length old.outstanding.items → x ≡ get_or old.outstanding.items at x
-    → IsTried before after (item_chunk f (base_of s.resets) s.initial (suc (s.cum + at)) (get_or (map (item_meaning s.fragment) old.outstanding.items) at (item_meaning s.fragment x))) put
-    → (put ≡ true → (stocked s new ≡ with_gone s old at x) × (new.tickets ≡ old.tickets)) → (put ≡ false → (stocked s new ≡ stocked s old) × (new.tickets ≡ old.tickets)) → PutAnswer f s v before after old new put
-entry_put f s v before after old new at x put k premise low read tried went stayed = by_put put refl
+-- whether it may go is asked by its chunk
+pub entry_asked : (f : Format) (s : Kept) (v : SenderView) (p : PacketDraft) (old : Stock) (at : ℕ) (x : EntryFields) (b : Bool) → Keeps f (stocked s old) v → IsNextEntry f v at → at < length old.outstanding.items
+    → x ≡ get_or old.outstanding.items at x → b ≡ has_room p (fragment_chunk f (base_of s.resets) s.fragment s.initial (suc (s.cum + at)) x.message.value x.number x.content) → IsAsked f v p b
+entry_asked f s v p old at x b k premise low read room = by_room b (may_where_fits f (stocked s old) v p (suc (v.cum + at)) k premise.flows ∙ ap (has_room p) (standing_chunk f s v old at x k low read) ∙ sym room)
   where
-    here : IsTried before after (fragment_chunk f (base_of s.resets) s.fragment s.initial (suc (s.cum + at)) x.message.value x.number x.content) put
-    here = subst (λ (y : Item). IsTried before after (item_chunk f (base_of s.resets) s.initial (suc (s.cum + at)) y) put) (item_read s.fragment old.outstanding.items at x read) tried
-
-    by_put : (b : Bool) → put ≡ b → PutAnswer f s v before after old new b
-    by_put true is =
-        entry_goes f s v before after old new at x k premise low read (sym here.answer ∙ is)
-        (here.packet ∙ ap (after_try before (fragment_chunk f (base_of s.resets) s.fragment s.initial (suc (s.cum + at)) x.message.value x.number x.content)) is) (went is).0 (ap (λ (ts : _). numbers_of ts.items) (went is).1)
-    by_put false is =
-        entry_stops f s v before after old new at x k premise low read (sym here.answer ∙ is)
-        (here.packet ∙ ap (after_try before (fragment_chunk f (base_of s.resets) s.fragment s.initial (suc (s.cum + at)) x.message.value x.number x.content)) is) (stayed is).0 (stayed is).1
+    by_room : (c : Bool) → may_go f (room_in p) (standing v (suc (v.cum + at))) ≡ c → IsAsked f v p c
+    by_room true may = (standing v (suc (v.cum + at)), goes_is f (room_in p) v (standing v (suc (v.cum + at))) premise.next may)
+    by_room false may = goes_not f (room_in p) v (standing v (suc (v.cum + at))) premise.next may
 
 -- the stock in which an entry went out
 pub sent_stock : (s : Kept) (old : Stock) (w : OutstandingKept) (at : ℕ) (x : EntryFields) → x ≡ get_or old.outstanding.items at x → w ≡ changed went_out at old.outstanding → stocked s (record old { outstanding = w }) ≡ with_gone s old at x
@@ -212,15 +187,15 @@ pub unsent_flows : (f : Format) (s : Kept) (v : SenderView) (old : Stock) (at : 
     → IsNextEntry f v at
 unsent_flows f s v old at x k premise low read flows = record { next = premise.next; flows = unsent_flow f s v old at x k premise low read ∙ flows }
 
-pub unsent_stops : (f : Format) (s : Kept) (v : SenderView) (before after : PacketDraft) (old new : Stock) (at : ℕ) (x : EntryFields) → Keeps f (stocked s old) v → IsNextUnsent f v at
+pub unsent_held : (f : Format) (s : Kept) (v : SenderView) (p : PacketDraft) (old : Stock) (at : ℕ) (x : EntryFields) → Keeps f (stocked s old) v → IsNextUnsent f v at
     → at < length old.outstanding.items → x ≡ get_or old.outstanding.items at x
     → lets_flow (item_flight (map (item_meaning s.fragment) old.outstanding.items)) (length (bytes_in (entry_meaning (lane_meaning x.message.value) x.number x.content) (Some (message_meaning s.fragment x.message.value)))) s.rwnd ≡ false
-    → after ≡ before → stocked s new ≡ stocked s old → new.tickets ≡ old.tickets → IsStopped f s v before after old new
-unsent_stops f s v before after old new at x k premise low read held packet kept tickets =
+    → goes f (room_in p) v ≡ None
+unsent_held f s v p old at x k premise low read held =
     let w = standing v (suc (v.cum + at)) in
     let off = unsent_flow f s v old at x k premise low read ∙ held in
-    let may : may_go f (room_in before) w ≡ false = rw off (and_false (nat_le (room_of f w) (room_in before))) in
-    record { none = goes_not f (room_in before) v w premise.next may; packet = packet; kept = kept; tickets = tickets }
+    let may : may_go f (room_in p) w ≡ false = rw off (and_false (nat_le (room_of f w) (room_in p))) in
+    goes_not f (room_in p) v w premise.next may
   where
     and_false : (b : Bool) → (b && false) ≡ false
     and_false true = refl

@@ -1,5 +1,5 @@
 -- Whether the next wish may go, by what is kept: room in the packet, bytes in flight, and the window.
-use Rattle.std.proofs.Common.{◌≡◌, ℕ, suc, ◌+◌, ◌-◌, ◌<◌, ◌≤◌, List, [], ◌∷◌, ◌++◌, length, drop, Bool, true, false, Option, Some, None, refl, sym, ap, ◌∙◌, arith}
+use Rattle.std.proofs.Common.{◌≡◌, ℕ, suc, ◌+◌, ◌-◌, ◌<◌, ◌≤◌, List, [], ◌∷◌, ◌++◌, length, drop, Bool, true, false, Option, Some, refl, sym, ap, ◌∙◌, arith}
 use Rattle.std.specs.Prelude.{nat_le, ◌&&◌}
 use Rattle.std.proofs.lemmas.Bool.Decides.{nat_tests}
 use Rattle.sctp_model.specs.numbers.Limits.{WINDOW}
@@ -12,10 +12,10 @@ use Rattle.sctp_model.specs.sender.SenderView.{SenderView}
 use Rattle.sctp_model.specs.sender.Entries.{bytes_in, sum_from, flight_of, in_flight, in_part}
 use Rattle.sctp_model.specs.sender.Assigning.{assigned}
 use Rattle.sctp_model.specs.sender.Readers.{outstanding}
-use Rattle.sctp_model.specs.sender.Filling.{Wish, newcomer, bytes_of_wish, chunk_of, room_of, may_go, goes}
+use Rattle.sctp_model.specs.sender.Filling.{Wish, newcomer, bytes_of_wish, chunk_of, room_of, may_go}
 use Rattle.sctp_model.specs.sender.Reached.{IsReached}
 use Rattle.sctp_model.proofs.sender.WishCases.{IsAssigned, Whole, Begun, Continued, assigned_cases}
-use Rattle.sctp_model.proofs.sender.FillLaws.{room_some, room_fits, goes_parts}
+use Rattle.sctp_model.proofs.sender.FillLaws.{room_some}
 use Rattle.sctp_model.proofs.sender.Bounds.{is_bounded}
 use Rattle.sctp_model.proofs.sender.FlightLaws.{flight_above, flight_assigned}
 use Rattle.sctp_model.proofs.sender.OwedLaws.{is_windowed}
@@ -49,17 +49,6 @@ fits_by_length Interleaved d base initial i e m = fits_room d (said_chunk Interl
 -- what is left behind a chunk
 pub room_more : (d : Draft) (m : ChunkMeaning) → room_in (with_chunks d (m ∷ [])) ≡ room_in d - size_of_chunk m
 room_more d m = let more = size_joined d.chunks m in omega arith
-
--- where no room is left nothing may go
-pub goes_nowhere : (f : Format) (room : ℕ) (v : SenderView) → room ≡ 0 → goes f room v ≡ None
-goes_nowhere f room v none = by_goes (goes f room v) refl
-  where
-    by_goes : (o : Option Wish) → goes f room v ≡ o → o ≡ None
-    by_goes None is = refl
-    by_goes (Some w) is =
-        let fits = room_fits f room w (goes_parts f room v w is).1 in
-        let some = room_some f w in
-        absurd (omega (arith, fits, some, none))
 
 -- ---- bytes in flight
 

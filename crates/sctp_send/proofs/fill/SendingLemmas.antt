@@ -1,6 +1,6 @@
 -- Which wishes are sent again: the marked ones, and no others; and what is counted of them, one after the other.
 use Rattle.std.proofs.Common.{◌≡◌, ℕ, suc, ◌+◌, ◌-◌, ◌%◌, ◌^◌, ◌<◌, ◌≤◌, List, [], ◌∷◌, ◌++◌, length, Bool, true, false, Option, Some, None, refl, sym, ap, ◌∙◌, subst, arith}
-use Rattle.std.specs.Prelude.{nat_lt, not, ◌&&◌, if◌then◌else◌, cond, count_by, option_map, Result, Ok, Err, IfOk}
+use Rattle.std.specs.Prelude.{nat_lt, not, ◌&&◌, if◌then◌else◌, cond, count_by, option_map}
 use Rattle.std.proofs.lemmas.List.Sums.{sum_by-cons, sum_by_push, count_by-le-length}
 use Rattle.sctp_model.specs.messages.Format.{Format}
 use Rattle.sctp_model.specs.sender.SenderView.{SenderView}
@@ -61,15 +61,6 @@ counted_new f s v put r k stands = by_assigned (assigned f v) refl
         let unsent = (is_bounded f v k.reached).unsent (suc (length v.plan.entries)) (omega arith) in
         let same = ap (λ (t : ℕ → Bool). t (suc (length v.plan.entries))) (same_sent f v u (assigned_cases f v u is)) in
         counts_not f v (newcomer v u) put r (stands ∙ ap (option_map (newcomer v)) is) (same ∙ unsent)
-
--- whatever was answered
-pub of_any : {E : Type 0} (o : Result Bool E) (P : Bool → Type 0) → ((put : Bool) → P put) → IfOk o P
-of_any (Ok put) P all = all put
-of_any (Err e) P all = tt
-
-pub of_ok : {E : Type 0} (o : Result Bool E) (P Q : Bool → Type 0) → IfOk o P → ((put : Bool) → P put → Q put) → IfOk o Q
-of_ok (Ok put) P Q is more = more put is
-of_ok (Err e) P Q is more = tt
 
 -- ---- one after the other
 

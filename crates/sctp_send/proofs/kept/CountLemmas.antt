@@ -17,8 +17,8 @@ use Rattle.sctp_send.specs.declared.kept.entry.Standing.TheVariants.{Unsent, Sen
 use Rattle.sctp_send.specs.declared.kept.entry.Entry.{Entry as EntryFields}
 use Rattle.sctp_send.proofs.kept.ItemLemmas.{item_read}
 use Rattle.sctp_send.proofs.kept.WeightLemmas.{weight_small, one_small, flight_sum, unsettled_one, unsettled_sum}
-use Rattle.sctp_send.proofs.kept.CursorLemmas.{lower_within, reach_within, none_reached, none_behind_first, none_cut, none_set}
-use Rattle.sctp_send.proofs.kept.FrontLemmas.{front_pushed, front_cut, front_stays}
+use Rattle.sctp_send.proofs.kept.CursorLemmas.{lower_within, reach_within, none_reached, none_behind_first, none_set}
+use Rattle.sctp_send.proofs.kept.FrontLemmas.{front_pushed, front_stays}
 
 -- ---- sums modulo 2^64
 
@@ -28,9 +28,6 @@ module _ (weight : Item → ℕ) (total : List Item → ℕ) (is : (xs : List It
 
   sum_behind : (x : Item) (xs : List Item) (n : ℕ) → weight x ≤ 2 ^ 64 → n ≡ total (x ∷ xs) % 2 ^ 64 → (n + (2 ^ 64 - weight x)) % 2 ^ 64 ≡ total xs % 2 ^ 64
   sum_behind x xs n small counts = omega (arith, small, counts, is xs, is (x ∷ xs), sum_by-cons weight x xs)
-
-  sum_cut : (xs : List Item) (x : Item) (n : ℕ) → weight x ≤ 2 ^ 64 → n ≡ total (xs ++ x ∷ []) % 2 ^ 64 → (n + (2 ^ 64 - weight x)) % 2 ^ 64 ≡ total xs % 2 ^ 64
-  sum_cut xs x n small counts = omega (arith, small, counts, is xs, is (xs ++ x ∷ []), sum_by_push weight xs x)
 
   sum_set : (xs : List Item) (i : ℕ) (x y : Item) (n : ℕ) → i < length xs → x ≡ get_or xs i x → weight x ≤ 2 ^ 64 → n ≡ total xs % 2 ^ 64
       → ((n + (2 ^ 64 - weight x)) % 2 ^ 64 + weight y) % 2 ^ 64 ≡ total (set xs i y) % 2 ^ 64
@@ -77,25 +74,6 @@ counts_behind size e es c front h is =
       flight = sum_behind item_weight item_flight flight_sum x items c.flight (weight_small size e h.some h.small) h.flight;
       unsettled = sum_behind unsettled_one count_unsettled unsettled_sum x items c.unsettled (one_small (is_item_unsettled x)) h.unsettled;
       front = is;
-    }
-
-pub counts_cut : (size : ℕ) (es : List EntryFields) (e : EntryFields) (c : Counts) → IsCounted size (es ++ e ∷ []) c
-    → IsCounted size es (record (left (item_meaning size e) c) { marked = min c.marked (length es); unsent = min c.unsent (length es); front = min c.front (length es) })
-counts_cut size es e c h =
-    let x = item_meaning size e in
-    let items = map (item_meaning size) es in
-    let more : map (item_meaning size) (es ++ e ∷ []) ≡ items ++ x ∷ [] = map-append (item_meaning size) es (e ∷ []) in
-    let long : length es ≡ length items = sym (length-map es (item_meaning size)) in
-    record {
-      some = h.some;
-      small = h.small;
-      marked = none_cut is_item_marked items x c.marked (length es) (subst (λ (ys : List Item). first_offset is_item_marked (take c.marked ys) ≡ None) more h.marked);
-      marked_within = omega arith;
-      unsent = none_cut is_item_unsent items x c.unsent (length es) (subst (λ (ys : List Item). first_offset is_item_unsent (take c.unsent ys) ≡ None) more h.unsent);
-      unsent_within = omega arith;
-      flight = sum_cut item_weight item_flight flight_sum items x c.flight (weight_small size e h.some h.small) (h.flight ∙ ap (λ (ys : List Item). item_flight ys % 2 ^ 64) more);
-      unsettled = sum_cut unsettled_one count_unsettled unsettled_sum items x c.unsettled (one_small (is_item_unsettled x)) (h.unsettled ∙ ap (λ (ys : List Item). count_unsettled ys % 2 ^ 64) more);
-      front = front_cut items x c.front (length es) long (h.front ∙ ap abandoned_items more);
     }
 
 -- ---- an entry becomes another

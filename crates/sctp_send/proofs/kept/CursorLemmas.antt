@@ -44,11 +44,6 @@ off_joined test xs ys zero le off = tt
 off_joined test [] ys (suc n) le off = absurd (omega arith)
 off_joined test (x ∷ xs) ys (suc n) le off = (off.0, off_joined test xs ys n (omega arith) off.1)
 
-off_front : (test : Item → Bool) (xs ys : List Item) (n : ℕ) → AreOff test (take n (xs ++ ys)) → AreOff test (take n xs)
-off_front test xs ys zero off = tt
-off_front test [] ys (suc n) off = tt
-off_front test (x ∷ xs) ys (suc n) off = (off.0, off_front test xs ys n off.1)
-
 off_behind : (test : Item → Bool) (x : Item) (xs : List Item) (n : ℕ) → AreOff test (take n (x ∷ xs)) → AreOff test (take (n - 1) xs)
 off_behind test x xs zero off = let same : zero ≡ zero - 1 = omega arith in subst (λ (k : ℕ). AreOff test (take k xs)) same tt
 off_behind test x xs (suc n) off = let same : n ≡ suc n - 1 = omega arith in subst (λ (k : ℕ). AreOff test (take k xs)) same off.1
@@ -111,11 +106,6 @@ reach_within b k n m le less = by_cases ((k == n) && not b)
 -- the first item goes
 pub none_behind_first : (test : Item → Bool) (x : Item) (xs : List Item) (k : ℕ) → first_offset test (take k (x ∷ xs)) ≡ None → first_offset test (take (k - 1) xs) ≡ None
 none_behind_first test x xs k none = of_off test (take (k - 1) xs) (off_behind test x xs k (off_of test (take k (x ∷ xs)) none))
-
--- the last item goes
-pub none_cut : (test : Item → Bool) (xs : List Item) (x : Item) (k n : ℕ) → first_offset test (take k (xs ++ x ∷ [])) ≡ None → first_offset test (take (min k n) xs) ≡ None
-none_cut test xs x k n none =
-    of_off test (take (min k n) xs) (off_less test xs (min k n) k (omega arith) (off_front test xs (x ∷ []) k (off_of test (take k (xs ++ x ∷ [])) none)))
 
 -- an item becomes another
 pub none_set : (test : Item → Bool) (xs : List Item) (n k : ℕ) (x : Item) → first_offset test (take k xs) ≡ None → first_offset test (take (if test x then min k n else k) (set xs n x)) ≡ None

@@ -65,14 +65,6 @@ first_some x xs front is some = by_test x.abandoned refl
     by_test true on = omega (arith, is, counts x xs on)
     by_test false off = absurd (omega (arith, some, is, ends x xs off))
 
-pub front_cut : (xs : List Item) (x : Item) (front n : ℕ) → n ≡ length xs → front ≡ abandoned_items (xs ++ x ∷ []) → min front n ≡ abandoned_items xs
-front_cut [] x front n long is = omega arith
-front_cut (y ∷ ys) x front n long is = by_test y.abandoned refl (front_cut ys x (abandoned_items (ys ++ x ∷ [])) (length ys) refl refl)
-  where
-    by_test : (b : Bool) → y.abandoned ≡ b → min (abandoned_items (ys ++ x ∷ [])) (length ys) ≡ abandoned_items ys → min front n ≡ abandoned_items (y ∷ ys)
-    by_test true on before = omega (arith, long, is, before, counts y ys on, counts y (ys ++ x ∷ []) on)
-    by_test false off before = omega (arith, is, ends y ys off, ends y (ys ++ x ∷ []) off)
-
 -- ---- one becomes another
 
 set_off : (xs : List Item) (at : ℕ) (y : Item) → at < length xs → y.abandoned ≡ false → min (abandoned_items xs) at ≡ abandoned_items (set xs at y)

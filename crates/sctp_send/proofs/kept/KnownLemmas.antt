@@ -7,7 +7,7 @@ use Rattle.sctp_send.specs.inner.Stretching.{AreAlike, told_run, index_at, slot_
 use Rattle.sctp_send.specs.declared.kept.stretches.Stretch.{Stretch}
 use Rattle.sctp_send.specs.declared.kept.entry.Entry.{Entry as EntryFields}
 use Rattle.sctp_send.proofs.kept.ChangedLemmas.{count_changed}
-use Rattle.sctp_send.proofs.kept.StretchLemmas.{length-told_run, alike_pushed, alike_cut, alike_before, alike_behind, alike_turned, alike_front, alike_back}
+use Rattle.sctp_send.proofs.kept.StretchLemmas.{length-told_run, alike_pushed, alike_before, alike_behind, alike_turned, alike_front, alike_back}
 
 -- no more is said of any stretch
 abbrev pub SayNoMore : (now before : List Stretch) → Type 0
@@ -46,12 +46,6 @@ pub known_behind : (size first next : ℕ) (ss : List Stretch) (e : EntryFields)
 known_behind size first next ss e es is h n s within begins read known =
     let same : index_at next n ≡ index_at first (suc n) = omega (arith, is) in
     h (suc n) s (omega (arith, within)) (ap (λ (i : ℕ). i % 64) (sym same) ∙ begins) (ap (λ (i : ℕ). slice_get ss (slot_at i)) (sym same) ∙ read) known
-
--- the last one does
-pub known_cut : (size first : ℕ) (ss : List Stretch) (es : List EntryFields) (e : EntryFields) → AreKnown size first ss (es ++ e ∷ []) → AreKnown size first ss es
-known_cut size first ss es e h n s within begins read known =
-    let long = length-append es (e ∷ []) in
-    alike_cut size s.covered s.bytes s.plain n 64 es (e ∷ []) within (h n s (omega (arith, within, long)) begins read known)
 
 -- an entry changes, of whose stretch nothing is said
 pub known_changed : (size first at : ℕ) (g : EntryFields → EntryFields) (ss now : List Stretch) (es : List EntryFields) → SayTheSame (index_at first at) now ss → SayNothing (index_at first at) now → AreKnown size first ss es → AreKnown size first now (changed_at g at es)

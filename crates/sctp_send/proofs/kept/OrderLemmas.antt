@@ -62,11 +62,6 @@ get_front [] us n x is = absurd (cc)
 get_front (t ∷ ts) us zero x is = is
 get_front (t ∷ ts) us (suc n) x is = get_front ts us n x is
 
-pub get_shorter : (ts us : List ℕ) (n x : ℕ) → n < length ts → slice_get (ts ++ us) n ≡ Some x → slice_get ts n ≡ Some x
-get_shorter [] us n x lt is = absurd (omega arith)
-get_shorter (t ∷ ts) us zero x lt is = is
-get_shorter (t ∷ ts) us (suc n) x lt is = get_shorter ts us n x (omega arith) is
-
 pub get_last : (ts : List ℕ) (t : ℕ) → slice_get (ts ++ t ∷ []) (length ts) ≡ Some t
 get_last [] t = refl
 get_last (u ∷ ts) t = get_last ts t

@@ -8,7 +8,7 @@ use Rattle.sctp_model.specs.numbers.Lists.{Has, AreInOrder}
 use Rattle.sctp_send.specs.declared.kept.by_ticket.Spot.{Spot}
 use Rattle.sctp_send.specs.inner.TicketOrder.{offset_of, AreRising, IsOrderOf, IsRankOf, IsGone}
 use Rattle.sctp_send.proofs.kept.ListParts.{in_back, in_part, in_around, in_midst, halves, here_first, front_or_back, none_dropped, order_front, order_back, order_across, order_join, order_kept}
-use Rattle.sctp_send.proofs.kept.OrderLemmas.{before_is, get_shorter, get_within, is_before}
+use Rattle.sctp_send.proofs.kept.OrderLemmas.{before_is, get_within, is_before}
 
 -- ---- an entry less
 
@@ -93,33 +93,6 @@ ordered_behind t ts first next before after is was g =
           elim (in_midst xs ys z m.0 m.1) [
             | inl same ↦ absurd (let none = subst (λ (s : Spot). offset_of first s ≡ 0) same g.there in omega (arith, none, at))
             | inr other ↦ (m.0, other, let one = shift m.0 other in omega (arith, one, at))
-          ];
-    })
-
-pub ordered_cut : (t : ℕ) (ts : List ℕ) (first : ℕ) (before after : List Spot) → IsOrderOf (ts ++ t ∷ []) first before → IsGone first (length ts) before after → IsOrderOf ts first after
-ordered_cut t ts first before after was g =
-    let xs = g.front in
-    let ys = g.back in
-    let z = g.gone in
-    let more = length-append ts (t ∷ []) in
-    let h : IsOrderOf (ts ++ t ∷ []) first (xs ++ z ∷ ys) = subst (λ (ss : List Spot). IsOrderOf (ts ++ t ∷ []) first ss) g.was was in
-    subst (λ (ss : List Spot). IsOrderOf ts first ss) (sym g.is) (record {
-      small = h.small;
-      many = without_many xs ys z (length ts) (let long = h.many in omega (arith, long, more));
-      rising = without_order first xs ys z h.rising;
-      each = λ w there.
-          let told = h.each w (in_around xs ys z w there) in
-          let within = get_within (ts ++ t ∷ []) (offset_of first w) w.ticket told in
-          elim (cases_lt (offset_of first w) (length ts)) [
-            | inl lt ↦ get_shorter ts (t ∷ []) (offset_of first w) w.ticket lt told
-            | inr past ↦ absurd (other_offset (ts ++ t ∷ []) first xs ys z w h there (let at = g.there in omega (arith, within, past, at, more)))
-          ];
-      all = λ n lt.
-          let m = h.all n (omega (arith, lt, more)) in
-          let at = m.2 in
-          elim (in_midst xs ys z m.0 m.1) [
-            | inl same ↦ absurd (let last = subst (λ (s : Spot). offset_of first s ≡ length ts) same g.there in omega (arith, last, at, lt))
-            | inr other ↦ (m.0, other, at)
           ];
     })
 

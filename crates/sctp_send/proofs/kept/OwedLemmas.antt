@@ -47,16 +47,6 @@ owed_pushed size sum owed ms next x h is owes =
       owed = omega (arith, all, before, owes);
     }
 
--- once it waits again at its place
-pub owed_inserted : (size sum owed n : ℕ) (ms next : List (Arc MessageFields Global)) (x : Arc MessageFields Global) → IsOwedOf size ms sum → next ≡ insert ms n x → owed ≡ owed_by size x % 2 ^ 64 → IsOwedOf size next ((sum + owed) % 2 ^ 64)
-owed_inserted size sum owed n ms next x h is owes =
-    let all : owed_by_all size next ≡ owed_by_all size ms + owed_by size x = ap (owed_by_all size) is ∙ sum_insert size ms n x in
-    let before = h.owed in
-    record {
-      some = h.some;
-      owed = omega (arith, all, before, owes);
-    }
-
 -- once it waits no more
 pub owed_removed : (size sum owed n : ℕ) (ms next : List (Arc MessageFields Global)) (x : Arc MessageFields Global) → IsOwedOf size ms sum → n < length ms → x ≡ get_or ms n x → next ≡ remove ms n → owed ≡ owed_by size x % 2 ^ 64
     → IsOwedOf size next ((sum + (2 ^ 64 - owed)) % 2 ^ 64)

@@ -13,7 +13,9 @@ use Rattle.sctp_sequence.specs.declared.pairs.Pair.{Pair}
 use Rattle.sctp_sequence.specs.declared.two_way_map.TwoWayMap.{TwoWayMap}
 use Rattle.sctp_send.specs.declared.kept.track.Rest.{Rest as RestFields}
 use Rattle.sctp_send.specs.declared.kept.track.Track.{Track as TrackFields}
+use Rattle.sctp_send.specs.inner.Owning.{AreRestsOwned}
 use Rattle.sctp_send.proofs.kept.OwedLemmas.{fresh_fields, counted_fresh}
+use Rattle.sctp_send.proofs.kept.OwnedLemmas.{rests_fresh}
 
 -- ---- one stream
 
@@ -93,6 +95,7 @@ pub streams_fresh : (size n : ℕ) (ts : List TrackFields) (lists : TwoWayMap) �
 streams_fresh size n ts lists some few is h = record {
   counted = counted_fresh size n ts some few is;
   listed = subst (λ (os : List (Option ℕ)). IsMapOf os lists) (sym (ap tickets_left is ∙ none_left n)) h;
+  owned = subst (AreRestsOwned size) (sym is) (rests_fresh size n);
 }
 
 left_read : (at : ℕ) (ts : List TrackFields) (x : TrackFields) → at < length ts → x ≡ get_or ts at x → value_of at (tickets_left ts) ≡ ticket_left x.rest

@@ -13,6 +13,7 @@ use Rattle.sctp_model.specs.sender.SenderView.{Queued}
 use Rattle.sctp_send.specs.SenderFields.{queued_by}
 use Rattle.sctp_send.specs.inner.Seating.{ticket_in, seat_of, DoTicketsRise, IsBetween, AreLower, IsSeatedOf, IsQueueOf}
 use Rattle.sctp_send.specs.declared.kept.message.Message.{Message as MessageFields}
+use Rattle.sctp_send.specs.declared.kept.waiting.Waiting.{Waiting}
 use Rattle.sctp_send.proofs.kept.RiseLemmas.{rise_inserted, rise_removed}
 use Rattle.sctp_send.proofs.abandon.WithdrawLemmas.{walked_place}
 
@@ -23,23 +24,24 @@ mapped_inserted f xs zero x = refl
 mapped_inserted f [] (suc n) x = refl
 mapped_inserted f (y ∷ xs) (suc n) x = ap (λ ys. f y ∷ ys) (mapped_inserted f xs n x)
 
-mapped_removed : {A B : Type 0} (f : A → B) (xs : List A) (n : ℕ) → map f (remove xs n) ≡ remove (map f xs) n
+pub mapped_removed : {A B : Type 0} (f : A → B) (xs : List A) (n : ℕ) → map f (remove xs n) ≡ remove (map f xs) n
 mapped_removed f [] zero = refl
 mapped_removed f [] (suc n) = refl
 mapped_removed f (y ∷ xs) zero = refl
 mapped_removed f (y ∷ xs) (suc n) = ap (λ ys. f y ∷ ys) (mapped_removed f xs n)
 
 -- no message waits
-pub seated_fresh : (size : ℕ) (seated : Bool) (ms : List (Arc MessageFields Global)) (ps : List Pair) → 0 < size → ms ≡ [] → ps ≡ [] → IsQueueOf size ms 0 true seated ps 0
-seated_fresh size seated ms ps some none empty = rw (none, empty) (record {
+pub seated_fresh : (size : ℕ) (seated : Bool) (ws : List Waiting) (ps : List Pair) → 0 < size → ws ≡ [] → ps ≡ [] → IsQueueOf size ws 0 true seated ps 0
+seated_fresh size seated ws ps some none empty = rw (none, empty) (record {
   owed = record { some = some; owed = omega arith };
   seats = record { order = λ on. tt; seats = λ on f. refl };
   bytes = refl;
+  owned = tt;
 })
 
 -- the same messages and seats
-pub seated_same : (size sum : ℕ) (rises seated : Bool) (ms next : List (Arc MessageFields Global)) (ps qs : List Pair) (bytes : ℕ) → IsQueueOf size ms sum rises seated ps bytes → next ≡ ms → qs ≡ ps → IsQueueOf size next sum rises seated qs bytes
-seated_same size sum rises seated ms next ps qs bytes h is same = rw (is, same) (record { owed = h.owed; seats = h.seats; bytes = h.bytes })
+pub seated_same : (size sum : ℕ) (rises seated : Bool) (ws next : List Waiting) (ps qs : List Pair) (bytes : ℕ) → IsQueueOf size ws sum rises seated ps bytes → next ≡ ws → qs ≡ ps → IsQueueOf size next sum rises seated qs bytes
+seated_same size sum rises seated ws next ps qs bytes h is same = rw (is, same) (record { owed = h.owed; seats = h.seats; bytes = h.bytes; owned = h.owned })
 
 -- one message more
 pub seated_inserted : (was rises had seated : Bool) (n : ℕ) (x : Arc MessageFields Global) (ms next : List (Arc MessageFields Global)) (ps qs : List Pair) (p : Pair) → IsSeatedOf was had ms ps → next ≡ insert ms n x → n ≤ length ms

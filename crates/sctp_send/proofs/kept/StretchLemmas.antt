@@ -64,14 +64,6 @@ alike_pushed size c n p zero zero es ds h = h
 alike_pushed size c n p zero (suc k) [] ds h = absurd h
 alike_pushed size c n p zero (suc k) (e ∷ es) ds h = (h.0, h.1, h.2, alike_pushed size c (n - plain_bytes size e) (p - plain_one e) zero k es ds h.3)
 
--- others go from behind them
-pub alike_cut : (size : ℕ) (c : Bool) (n p at k : ℕ) (es ds : List EntryFields) → at + k ≤ length es → AreAlike size c n p at k (es ++ ds) → AreAlike size c n p at k es
-alike_cut size c n p (suc at) k [] ds le h = absurd (omega (arith, le))
-alike_cut size c n p (suc at) k (e ∷ es) ds le h = alike_cut size c n p at k es ds (omega (arith, le)) h
-alike_cut size c n p zero zero es ds le h = h
-alike_cut size c n p zero (suc k) [] ds le h = absurd (omega (arith, le))
-alike_cut size c n p zero (suc k) (e ∷ es) ds le h = (h.0, h.1, h.2, alike_cut size c (n - plain_bytes size e) (p - plain_one e) zero k es ds (omega (arith, le)) h.3)
-
 -- an entry before them changes
 pub alike_before : (size : ℕ) (c : Bool) (n p at k i : ℕ) (g : EntryFields → EntryFields) (es : List EntryFields) → i < at → AreAlike size c n p at k es → AreAlike size c n p at k (changed_at g i es)
 alike_before size c n p zero k i g es lt h = absurd (omega (arith, lt))

@@ -11,12 +11,13 @@ use Rattle.sctp_send.specs.inner.Newcomers.{number_in, counted_in, rest_at, has_
 use Rattle.sctp_send.specs.inner.Stocking.{counted_track, left_track}
 use Rattle.sctp_send.specs.inner.PartSeats.{ticket_left, tickets_left, IsStreamsOf}
 use Rattle.sctp_sequence.specs.TwoWays.{IsMapOf}
-use Rattle.sctp_send.specs.inner.Undoing.{count_of, counted_to, resting}
+use Rattle.sctp_send.specs.inner.Entering.{count_of, counted_to}
 use Rattle.sctp_send.specs.inner.Walks.{total, one_if_rest, rest_owes}
 use Rattle.sctp_send.specs.declared.kept.message.Message.{Message as MessageFields}
 use Rattle.sctp_sequence.specs.declared.two_way_map.TwoWayMap.{TwoWayMap}
 use Rattle.sctp_send.specs.declared.kept.track.Rest.{Rest as RestFields}
 use Rattle.sctp_send.specs.declared.kept.track.Track.{Track as TrackFields}
+use Rattle.sctp_send.proofs.kept.OwnedLemmas.{rests_counted}
 
 -- how many messages of a kind have a number, as it was read
 pub count_read : (size : ℕ) (k : Kind) (t : TrackFields) → number_in (kind_meaning k) (track_meaning size t) ≡ count_of k t
@@ -68,28 +69,12 @@ pub no_rest : (size : ℕ) (t : Track) (o : Option RestFields) → has_rest (res
 no_rest size t None off = refl
 no_rest size t (Some r) off = absurd (cc)
 
--- nothing is left on a stream, again
-pub idle_again : (stream : ℕ) (ts : List TrackFields) → ((t : TrackFields) → t ≡ get_or ts stream t → t.rest ≡ None) → changed_at (resting None) stream ts ≡ ts
-idle_again stream [] idle = refl
-idle_again zero (t ∷ ts) idle = ap (λ (o : Option RestFields). record t { rest = o } ∷ ts) (sym (idle t refl))
-idle_again (suc stream) (t ∷ ts) idle = ap (λ (us : List TrackFields). t ∷ us) (idle_again stream ts idle)
-
 -- nothing is left on a stream, as before
 pub left_none : (size stream : ℕ) (ts : List TrackFields) (rest : Option RestFields) → stream < length ts → rest ≡ None → ((t : TrackFields) → t ≡ get_or ts stream t → t.rest ≡ None)
     → map (track_meaning size) ts ≡ set (map (track_meaning size) ts) stream (left_track (rests_meaning size (track_of (map (track_meaning size) ts) stream) rest) (track_of (map (track_meaning size) ts) stream))
 left_none size stream [] rest low none idle = absurd (omega arith)
 left_none size zero (t ∷ ts) rest low none idle = ap (λ (x : Track). x ∷ map (track_meaning size) ts) (rw none (ap (λ (o : Option RestFields). left_track (rests_meaning size (counts_meaning t) o) (track_meaning size t)) (idle t refl)))
 left_none size (suc stream) (t ∷ ts) rest low none idle = ap (λ (xs : List Track). track_meaning size t ∷ xs) (left_none size stream ts rest (omega arith) none idle)
-
--- a stream on which a message more was counted has as many as before
-pub counted_back : (k : Kind) (many at : ℕ) (ts : List TrackFields) (x : TrackFields) → x ≡ get_or ts at x → changed_at (counted_to k (count_of k x)) at (changed_at (counted_to k many) at ts) ≡ ts
-counted_back k many at [] x read = refl
-counted_back k many zero (t ∷ ts) x read = ap (λ (y : TrackFields). y ∷ ts) (one k t (ap (count_of k) read))
-  where
-    one : (k : Kind) (t : TrackFields) → count_of k x ≡ count_of k t → counted_to k (count_of k x) (counted_to k many t) ≡ t
-    one Ordered t is = rw is refl
-    one Unordered t is = rw is refl
-counted_back k many (suc at) (t ∷ ts) x read = ap (λ (us : List TrackFields). t ∷ us) (counted_back k many at ts x read)
 
 -- ---- what is left stays
 
@@ -141,6 +126,7 @@ streams_counted size many at parts owed k ts lists h =
         owed = h.counted.owed ∙ ap (λ (n : ℕ). n % 2 ^ 64) (sym (total_stays rest_owes size many at k ts owes));
       };
       listed = subst (λ (os : List (Option ℕ)). IsMapOf os lists) (sym (tickets_stay many at k ts)) h.listed;
+      owned = rests_counted size many at k ts h.owned;
     }
   where
     one : (a b : Track) (o : Option RestFields) → one_if_rest (rests_meaning size a o) ≡ one_if_rest (rests_meaning size b o)

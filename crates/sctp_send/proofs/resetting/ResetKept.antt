@@ -107,9 +107,6 @@ open_waits v number on = by_pending v.resets.pending refl on
 pub answered_by : (v : SenderView) (number code : ℕ) (q : Request) → is_open_number v number ≡ true → v.resets.pending ≡ Some q → response_taken v number code ≡ reset_answered v code q
 answered_by v number code q on waits = rw (on, waits) refl
 
-pub not_answered : (v : SenderView) (number code : ℕ) → is_open_number v number ≡ false → response_taken v number code ≡ v
-not_answered v number code off = rw off refl
-
 pub is_done : (v : SenderView) (code : ℕ) (q : Request) → code ≤ 1 → reset_answered v code q ≡ reset_done v q
 is_done v code q low = rw done refl
   where

@@ -1,5 +1,5 @@
 -- Of which resets a table is, as it is made and as it changes (RFC 6525, 5.1 and 5.2.7).
-use Rattle.std.proofs.Common.{◌≡◌, ℕ, zero, suc, ◌+◌, ◌<◌, ◌≤◌, ◌%◌, ◌^◌, min, List, [], ◌∷◌, length, filter, Bool, true, false, Option, Some, None, refl, sym, ap, ◌∙◌, subst, arith}
+use Rattle.std.proofs.Common.{◌≡◌, ℕ, zero, suc, ◌<◌, ◌≤◌, min, List, [], ◌∷◌, length, filter, Bool, true, false, Option, Some, None, refl, sym, ap, ◌∙◌, subst, arith}
 use Rattle.std.specs.Prelude.{◌==◌, if◌then◌else◌, slice_get, option_map, replicate, is_some, not}
 use Rattle.std.specs.List.{AllByRecursion}
 use Rattle.std.specs.Vec.{vec_capacity}
@@ -9,7 +9,7 @@ use Rattle.std.proofs.Math.Path.{fun_ext}
 use Rattle.std.proofs.lemmas.List.{length-replicate}
 use Rattle.std.proofs.lemmas.Option.{slice_get_within}
 use Rattle.std.proofs.lemmas.Bool.Decides.{nat_tests}
-use Rattle.sctp_model.specs.numbers.Limits.{STREAM_LIMIT, REQUEST_LIMIT}
+use Rattle.sctp_model.specs.numbers.Limits.{STREAM_LIMIT}
 use Rattle.sctp_model.specs.numbers.Lists.{at}
 use Rattle.sctp_model.specs.messages.Format.{Kind, Ordered, Unordered, Lane}
 use Rattle.sctp_model.specs.sender.Outgoing as model
@@ -226,25 +226,6 @@ resets_refused n b c o q d p r k asked here waits none i = record {
         let has = found n refused_by (λ s x. refl) b c o q d p r k asked here waits none i s on in
         rw (on, has.1) refl
     sends_of s low false off = rw off (k.sending s low)
-
--- a request is made
-pub resets_asked : (n made last : ℕ) (b c : Box ResetTable Global) (o : Outgoing) (r : Request) → AreResets n (record { table = Some b }) o → b.value.made < REQUEST_LIMIT → made ≡ (b.value.made + 1) % 2 ^ 32
-    → c.value.streams ≡ b.value.streams → c.value.resetting ≡ b.value.resetting → c.value.made ≡ made → c.value.pending ≡ Some r → r.first ≡ made → r.last ≡ last → AllByRecursion (λ (s : ℕ). s < n) r.streams.items
-    → AreResets n (record { table = Some c }) (record o { made = suc o.made; pending = Some (record { first = suc o.made; last = last; streams = r.streams.items }) })
-resets_asked n made last b c o r k few is streams listed count pending first at within =
-    let one : made ≡ suc o.made = let so_far = k.made in omega (arith, is, few, so_far) in
-    record {
-      base = k.base ∙ fun_ext (λ (l : Lane). sym (ap (λ (rs : _). base_in rs.items l) streams));
-      sending = λ s low. k.sending s low ∙ sym (ap (λ (rs : _). sending_there (slice_get rs.items s)) streams);
-      made = sym (count ∙ one);
-      pending = sym (ap pending_meaning pending ∙ rw (first ∙ one, at) refl);
-      table = record {
-        streams = ap (λ (rs : _). length rs.items) streams ∙ k.table.streams;
-        request = subst (λ (x : Option Request). IsWithin n x) (sym pending) within;
-        resetting = ap (λ (xs : _). xs.items) listed ∙ k.table.resetting ∙ ap (λ (rs : _). filter (is_resetting_in rs.items) (count_up 0 (min n STREAM_LIMIT))) (sym streams);
-        room = let held = k.table.room in let same = ap (λ (xs : _). vec_capacity xs) listed in omega (arith, held, same);
-      };
-    }
 
 -- ---- a hint is noted
 

@@ -1,10 +1,11 @@
 -- What a SACK or a SHUTDOWN is checked for, step by step (RFC 9260, 6.2.1 and 9.2).
-use Rattle.std.specs.Prelude.{◌≡◌, ℕ, ◌+◌, ◌≤◌, nat_lt, true, false, List, [], ◌∷◌, length, Option, Result, Ok, Err}
-use Rattle.sctp_model.specs.wire.Chunk.{BlockMeaning}
+use Rattle.std.specs.Prelude.{◌≡◌, ℕ, ◌+◌, ◌≤◌, nat_lt, true, false, List, [], ◌∷◌, length, Option, None, Some, Result, Ok, Err}
+use Rattle.sctp_model.specs.wire.Chunk.{BlockMeaning, SackMeaning}
 use Rattle.sctp_model.specs.sender.SenderView.{SenderView}
 use Rattle.sctp_model.specs.sender.Words.{when, first_there}
 use Rattle.sctp_model.specs.sender.SackTaken as taken
-use Rattle.sctp_model.specs.sender.SackTaken.{is_stale, index_of, some_ends_past, some_is_bad}
+use Rattle.sctp_model.specs.sender.SackTaken.{is_stale, index_of, some_ends_past, some_is_bad, sack_fault}
+use Rattle.sctp_send.specs.SenderAnswers.{fault_meaning}
 use Rattle.sctp_send.specs.declared.sack.SackFault.{SackFault}
 use Rattle.sctp_send.specs.declared.sack.SackFault.TheVariants.{Stale, Beyond, BadBlock}
 
@@ -24,6 +25,11 @@ Refuses v wire BadBlock = ⊥
 abbrev pub PassingAnswer : SenderView → ℕ → Result ℕ SackFault → Type 0
 PassingAnswer v wire (Ok n) = IsPassing v wire n
 PassingAnswer v wire (Err fault) = Refuses v wire fault
+
+-- how many entries the cumulative TSN of a SACK passes, or why the SACK is refused
+abbrev pub SackAnswer : SenderView → SackMeaning → Result ℕ SackFault → Type 0
+SackAnswer v x (Ok n) = IsPassing v x.cumulative n × (sack_fault v x ≡ None)
+SackAnswer v x (Err fault) = sack_fault v x ≡ Some (fault_meaning fault)
 
 -- what is wrong with blocks, of which none may end past this entry
 abbrev pub block_fault : ℕ → List BlockMeaning → Option taken.SackFault

@@ -9,7 +9,9 @@ use Rattle.sctp_model.specs.sender.SenderView.{Queued}
 use Rattle.sctp_model.specs.sender.Assigning.{first_on}
 use Rattle.sctp_send.specs.inner.Counting.{IsOwedOf}
 use Rattle.sctp_send.specs.inner.Newcomers.{IsFirstOn}
+use Rattle.sctp_send.specs.inner.Owning.{messages_of, AreAllOwned}
 use Rattle.sctp_send.specs.declared.kept.message.Message.{Message as MessageFields}
+use Rattle.sctp_send.specs.declared.kept.waiting.Waiting.{Waiting}
 use Rattle.sctp_send.specs.declared.kept.seats.Found.{Found}
 
 -- a message's ticket
@@ -53,11 +55,12 @@ pub record IsSeatedOf (rises seated : Bool) (ms : List (Arc MessageFields Global
 abbrev pub bytes_of : Arc MessageFields Global → ℕ
 bytes_of m = length m.value.bytes.items
 
--- What is counted of the messages that wait, and where they stand.
-pub record IsQueueOf (size : ℕ) (ms : List (Arc MessageFields Global)) (sum : ℕ) (rises seated : Bool) (ps : List Pair) (load : ℕ) : Type 0 where
-  pub owed : IsOwedOf size ms sum
-  pub seats : IsSeatedOf rises seated ms ps
-  pub bytes : load ≡ sum_by bytes_of ms % 2 ^ 64
+-- What is counted of the messages that wait, and where they stand; each has its owners.
+pub record IsQueueOf (size : ℕ) (ws : List Waiting) (sum : ℕ) (rises seated : Bool) (ps : List Pair) (load : ℕ) : Type 0 where
+  pub owed : IsOwedOf size (messages_of ws) sum
+  pub seats : IsSeatedOf rises seated (messages_of ws) ps
+  pub bytes : load ≡ sum_by bytes_of (messages_of ws) % 2 ^ 64
+  pub owned : AreAllOwned size ws
 
 -- the first of some streams on which a message waits, and the place of the one that has waited longest on it
 pub record IsNextOn (from below : ℕ) (qs : List Queued) (found : Found) : Type 0 where

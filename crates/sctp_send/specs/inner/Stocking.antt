@@ -1,5 +1,5 @@
 -- What a sender's stock keeps, and what each wish makes of it and of the packet.
-use Rattle.std.specs.Prelude.{◌≡◌, ℕ, suc, nat_lt, ◌-◌, ◌<◌, ◌≤◌, Bool, true, false, List, [], ◌∷◌, ◌++◌, ◌+◌, ◌&&◌, ◌%◌, ◌^◌, map, length, slice_set, Option, None, Some, option_map}
+use Rattle.std.specs.Prelude.{◌≡◌, ℕ, suc, nat_lt, ◌-◌, ◌<◌, ◌≤◌, Bool, true, false, List, [], ◌∷◌, ◌++◌, ◌+◌, ◌&&◌, map, length, slice_set, Option, None, Some, option_map}
 use Rattle.sctp_model.specs.messages.Format.{Format, Kind, Lane}
 use Rattle.sctp_model.specs.messages.Plan.{Message, Entry, Part}
 use Rattle.sctp_model.specs.sender.Words.{when}
@@ -13,12 +13,10 @@ use Rattle.sctp_model.specs.sender.Filling.{Wish, standing, newcomer, next_wish,
 use Rattle.sctp_model.specs.sender.Entries.{bytes_in}
 use Rattle.sctp_send.specs.inner.Wishing.{item_flight, lets_flow}
 use Rattle.sctp_model.specs.sender.SentChunks.{chunk_of}
-use Rattle.sctp_packet.specs.Draft.{Draft as PacketDraft, room_in, with_chunks, has_room, after_try}
+use Rattle.sctp_packet.specs.Draft.{Draft as PacketDraft, room_in, with_chunks, has_room}
 use Rattle.sctp_send.specs.SenderKept.{Item, Rest, Track, Kept}
 use Rattle.sctp_send.specs.SenderStands.{Keeps}
-use Rattle.sctp_send.specs.PartsKept.{StreamsKept}
 use Rattle.sctp_send.specs.FillAnswers.{sendings_of}
-use Rattle.sctp_send.specs.inner.Walks.{total, one_if_rest}
 use Rattle.sctp_send.specs.OutstandingFields.{was_sent, is_marked, item_meaning, lane_meaning, message_meaning, entry_meaning}
 use Rattle.sctp_send.specs.ResetsKept.{base_of}
 use Rattle.sctp_send.specs.SenderFields.{queued_by, track_meaning}
@@ -90,23 +88,19 @@ stocked s d = record s {
   capacity = d.outstanding.capacity;
 }
 
--- how many messages are in part, modulo 2^32: each may take an end mark
-abbrev pub ends_of : StreamsKept → ℕ
-ends_of w = total (λ t. one_if_rest t.rest) (map (track_meaning w.size) w.items) % 2 ^ 32
-
 -- ---- one wish
 
 -- the chunk of a message's entry at an index, by the bases of lanes
 abbrev pub said_chunk : Format → (base : Lane → ℕ) → (initial i : ℕ) → Entry → Option Message → ChunkMeaning
 said_chunk f base initial i e m = data_chunk f (piece_said f initial base i e m)
 
--- the same of what is kept of the index
-abbrev pub item_chunk : Format → (base : Lane → ℕ) → (initial i : ℕ) → Item → ChunkMeaning
-item_chunk f base initial i x = said_chunk f base initial i x.entry x.message
-
 -- the same of a fragment
 abbrev pub fragment_chunk : Format → (base : Lane → ℕ) → (size initial i : ℕ) → MessageFields → (number : ℕ) → Content → ChunkMeaning
 fragment_chunk f base size initial i m n content = said_chunk f base initial i (entry_meaning (lane_meaning m) n content) (Some (message_meaning size m))
+
+-- it fits into a packet, whatever number and index it has
+abbrev pub FitsInto : Format → PacketDraft → (size : ℕ) → MessageFields → Content → Type 0
+FitsInto f p size m content = (base : Lane → ℕ) (initial i n : ℕ) → has_room p (fragment_chunk f base size initial i m n content) ≡ true
 
 -- the item of a fragment
 abbrev pub fragment_item : (size : ℕ) → MessageFields → (number fragment : ℕ) → Standing → Item
@@ -151,12 +145,6 @@ pub record IsStopped (f : Format) (s : Kept) (v : SenderView) (before after : Pa
   pub kept : stocked s new ≡ stocked s old
   pub tickets : new.tickets ≡ old.tickets
 
--- Memory ran out for a wish that may go; the packet is as before.
-pub record IsRefused (f : Format) (v : SenderView) (before after : PacketDraft) : Type 0 where
-  pub wish : Wish
-  pub next : goes f (room_in before) v ≡ Some wish
-  pub packet : after ≡ before
-
 -- the first or the second
 abbrev pub PutAnswer : Format → Kept → SenderView → (before after : PacketDraft) → (old new : Stock) → (put : Bool) → Type 0
 PutAnswer f s v before after old new true = IsPut f s v before after old new
@@ -179,11 +167,6 @@ NothingStands f v = next_wish f v ≡ option_map (newcomer v) (assigned f v)
 -- a message's entry may flow, while so much is in flight, and its chunk at an index fits
 abbrev pub let_in : Format → (flying : ℕ) → Kept → (i : ℕ) → PacketDraft → Entry → Option Message → Bool
 let_in f flying s i p e m = lets_flow flying (length (bytes_in e m)) s.rwnd && has_room p (said_chunk f (base_of s.resets) s.initial i e m)
-
--- A chunk was tried: it is in the packet exactly where it fits.
-pub record IsTried (before after : PacketDraft) (chunk : ChunkMeaning) (put : Bool) : Type 0 where
-  pub answer : put ≡ has_room before chunk
-  pub packet : after ≡ after_try before chunk put
 
 -- ---- what is in flight, and all of FILL
 

@@ -39,6 +39,7 @@ pub(crate) enum Next {
 }
 
 /// What takes the next index: under DATA the message that has waited longest, whole; under I-DATA the streams take turns.
+#[inline(always)]
 pub(crate) fn next_new<F: Framing>(stock: &Stock, streams: u16, size: u16) -> Option<Next>
     requires { 0 < size }
     ensures next { (s : Kept) (v : SenderView) → s.streams ≡ streams → s.fragment ≡ size → Keeps F.format (stocked s stock.now) v → NewAnswer F.format v result }
@@ -52,6 +53,7 @@ pub(crate) fn next_new<F: Framing>(stock: &Stock, streams: u16, size: u16) -> Op
 }
 
 /// The message that has waited longest, whole.
+#[inline(always)]
 fn next_whole(stock: &Stock, size: u16) -> Option<Next>
     requires { 0 < size }
     ensures next { (s : Kept) (v : SenderView) → s.fragment ≡ size → Keeps Plain (stocked s stock.now) v → NewAnswer Plain v result }
@@ -69,6 +71,7 @@ fn next_whole(stock: &Stock, size: u16) -> Option<Next>
 }
 
 /// What the first stream in turn that has something to send does.
+#[inline(always)]
 fn next_in_turn(stock: &Stock, streams: u16) -> Option<Next>
     ensures next { (s : Kept) (v : SenderView) → s.streams ≡ streams → Keeps Interleaved (stocked s stock.now) v → NewAnswer Interleaved v result }
     ensures within { IsNextWithin stock.now streams result }

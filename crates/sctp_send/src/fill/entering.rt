@@ -1,16 +1,19 @@
-//! A message takes its number, or its next index: what becomes of the stock.
+//! A message takes its number, or its next index: what becomes of the stock. All that this needs was taken before: memory for the entries and the
+//! ticket, and the owners of the message.
 
-ghost use Rattle.std.specs.Prelude.{◌≡◌, ℕ, suc, ◌+◌, ◌<◌, ◌≤◌, ◌%◌, ◌^◌, ◌∷◌, [], ◌++◌, true, None, Some, map, length, slice_set, slice_index_or, OnOk};
+ghost use Rattle.std.specs.Prelude.{◌≡◌, ℕ, suc, ◌+◌, ◌-◌, ◌<◌, ◌≤◌, ◌%◌, ◌^◌, ◌∷◌, [], ◌++◌, true, None, Some, map, length, slice_set, slice_index_or};
 ghost use Rattle.std.specs.Vec.{vec_len, vec_capacity};
 ghost use Rattle.sctp_model.specs.numbers.Limits.{WINDOW};
+ghost use Rattle.sctp_model.specs.sender.Queueing.{cut};
 ghost use Rattle.sctp_values.specs.Meanings.{kind_meaning};
 ghost use Rattle.sctp_send.specs.OutstandingFields.{lane_meaning, queued_meaning};
 ghost use Rattle.sctp_send.specs.SenderKept.{Rest as KeptRest, Track as KeptTrack};
 ghost use Rattle.sctp_send.specs.PartsKept.{changed_at};
 ghost use Rattle.sctp_send.specs.SenderFields.{latest_in, track_meaning, rests_meaning};
-ghost use Rattle.sctp_send.specs.inner.Newcomers.{number_in, number_on, rest_after, rest_at, has_rest, track_of, begun, gone_on};
-ghost use Rattle.sctp_send.specs.inner.Stocking.{bare, numbers_of, stocked, ends_of, rest_from, left_track};
-ghost use Rattle.sctp_send.specs.inner.Undoing.{counted_to, resting, IsSized, IsBehind};
+ghost use Rattle.sctp_send.specs.inner.Newcomers.{number_in, number_on, rest_at, has_rest, track_of, begun, gone_on};
+ghost use Rattle.sctp_send.specs.inner.Owning.{IsOwned, IsRestOwned};
+ghost use Rattle.sctp_send.specs.inner.Stocking.{bare, numbers_of, stocked, rest_from, left_track};
+ghost use Rattle.sctp_send.specs.inner.Entering.{counted_to, IsSized};
 ghost use Rattle.sctp_send.specs.declared.kept.track.Track.{Track as TrackFields};
 
 use crate::fill::assigning::{Beginning, stream_after};
@@ -18,132 +21,83 @@ use crate::fill::pushing::{push_fragment, push_further};
 use crate::kept::entry::Standing;
 use crate::kept::message::Message;
 use crate::kept::streams::Streams;
-use crate::kept::track::{Ending, Rest, Track, ending_of};
-use crate::stock::{Change, Stock, note, reserve_change, reserve_tickets};
+use crate::kept::track::{Rest, Taken, Track};
+use crate::kept::waiting::Waiting;
+use crate::stock::Stock;
 use crate::told::Told;
-use sctp_values::{Kind, NoMemory, Ticket};
+use sctp_values::{Kind, Ticket};
 use std::alloc::Global;
 use std::sync::Arc;
 
 impl Told {
-    /// The message at a place of the queue takes its number, and so many of its fragments their indexes. All memory is taken first, but for what
-    /// fragments behind the first one may want.
-    ///
-    /// # Errors
-    /// `NoMemory`: what is noted leads back to the parts as before.
+    /// The message at a place of the queue takes its number, and so many of its fragments their indexes.
     #[inline(always)]
-    pub(crate) fn begin(
-        &self,
-        stock: &mut Stock,
-        next: Beginning,
-        rest: Option<Rest>,
-    ) -> Result<(), NoMemory>
-        requires rest { (m : Arc Message Global) (t : KeptTrack) → m ≡ slice_index_or stock.old.queue.items next.place m
-            → rests_meaning self.now.fragment t rest ≡ rest_from self.now.fragment m.value (latest_in (kind_meaning m.value.kind) t) next.count }
+    pub(crate) fn begin(&self, stock: &mut Stock, next: Beginning)
         requires some { 0 < next.count }
         requires few { next.count ≤ WINDOW + 1 }
         requires place { next.place < length stock.old.queue.items }
         requires stream { (m : Arc Message Global) → m ≡ slice_index_or stock.old.queue.items next.place m → m.value.stream < length stock.old.streams.items }
         requires idle { (m : Arc Message Global) (t : TrackFields) → m ≡ slice_index_or stock.old.queue.items next.place m → t ≡ slice_index_or stock.old.streams.items m.value.stream t → t.rest ≡ None }
+        requires count { (m : Arc Message Global) → m ≡ slice_index_or stock.old.queue.items next.place m → next.count ≤ length (cut self.now.fragment m.value.bytes.items) }
         requires sized { IsSized self.now.fragment stock.old }
+        requires room { length stock.old.outstanding.items + next.count ≤ stock.old.outstanding.capacity }
+        requires told { vec_len stock.old.tickets < vec_capacity stock.old.tickets }
         ensures kept { (m : Arc Message Global) → m ≡ slice_index_or stock.old.queue.items next.place m → suc (number_on (stocked (bare self.now) stock.old).tracks (lane_meaning m.value)) < 2 ^ 64
-            → OnOk result (stocked (bare self.now) stock.new
-            ≡ begun (stocked (bare self.now) stock.old) (queued_meaning self.now.fragment m.value) next.place next.count next.turn stock.new.outstanding.capacity) }
-        ensures room { OnOk result (ends_of stock.old.streams + 1 + length stock.new.outstanding.items ≤ stock.new.outstanding.capacity) }
-        ensures told { (m : Arc Message Global) → m ≡ slice_index_or stock.old.queue.items next.place m → OnOk result (numbers_of stock.new.tickets.items ≡ numbers_of stock.old.tickets.items ++ m.value.ticket ∷ []) }
-        ensures more { OnOk result (length stock.old.outstanding.items < length stock.new.outstanding.items) }
-        ensures behind { IsBehind stock.old stock.new }
+            → stocked (bare self.now) stock.new
+            ≡ begun (stocked (bare self.now) stock.old) (queued_meaning self.now.fragment m.value) next.place next.count next.turn stock.old.outstanding.capacity }
+        ensures told { (m : Arc Message Global) → m ≡ slice_index_or stock.old.queue.items next.place m → numbers_of stock.new.tickets.items ≡ numbers_of stock.old.tickets.items ++ m.value.ticket ∷ [] }
+        ensures more { length stock.old.outstanding.items < length stock.new.outstanding.items }
+        ensures sized { IsSized self.now.fragment stock.new }
+        ensures one { vec_len stock.new.tickets ≡ vec_len stock.old.tickets + 1 }
+        ensures capacity { vec_capacity stock.old.tickets ≤ vec_capacity stock.new.tickets }
     {
-        self.room_to_begin(stock, next.count)?;
-        let Some(message) = stock.queue.remove(next.place) else {
-            return Err(NoMemory);
+        let Some(waiting) = stock.queue.remove(next.place) else {
+            return;
         };
+        let Waiting {
+            message,
+            mut others,
+        } = waiting;
         let stream = message.stream;
         let kind = message.kind;
-        let from = stock.outstanding.len();
         tell(&mut stock.tickets, message.ticket);
         let number = number_one(&mut stock.streams, stream, kind);
         push_fragment(&mut stock.outstanding, message, number, 0, Standing::Sent);
-        let change = Change::Begun {
-            place: next.place,
-            from,
-            turn: stock.turn,
-        };
-        note(&mut stock.log, change);
+        push_further(&mut stock.outstanding, &mut others, number, next.count);
+        let rest = rest_behind(others, next.count);
         leave_rest(&mut stock.streams, stream, rest);
         stock.turn = next.turn;
-        push_further(&mut stock.outstanding, from, number, next.count)
     }
 
-    /// Room for what a message that begins with so many fragments comes to: its entries, and the end marks of the messages in part, of which it
-    /// may be one.
-    ///
-    /// # Errors
-    /// `NoMemory`.
-    #[inline(always)]
-    fn room_to_begin(&self, stock: &mut Stock, count: usize) -> Result<(), NoMemory>
-        requires { count ≤ WINDOW + 1 }
-        ensures same { stock.new ≡ record stock.old { outstanding = stock.new.outstanding; tickets = stock.new.tickets; log = stock.new.log } }
-        ensures size { stock.new.outstanding.size ≡ stock.old.outstanding.size }
-        ensures items { stock.new.outstanding.items ≡ stock.old.outstanding.items }
-        ensures capacity { stock.old.outstanding.capacity ≤ stock.new.outstanding.capacity }
-        ensures entries { OnOk result (ends_of stock.old.streams + 1 + (length stock.new.outstanding.items + count) ≤ stock.new.outstanding.capacity) }
-        ensures tickets { stock.new.tickets.items ≡ stock.old.tickets.items }
-        ensures told { OnOk result (vec_len stock.new.tickets < vec_capacity stock.new.tickets) }
-        ensures log { stock.new.log.items ≡ stock.old.log.items }
-        ensures noted { OnOk result (vec_len stock.new.log < vec_capacity stock.new.log) }
-    {
-        reserve_change(&mut stock.log)?;
-        reserve_tickets(&mut stock.tickets)?;
-        let ends = stock.streams.in_part() as usize + 1;
-        stock.outstanding.reserve(count + ends)
-    }
-
-    /// The message in part of a stream takes its next index, and so much is left of it then. All memory is taken first.
-    ///
-    /// # Errors
-    /// `NoMemory`: the stock has its parts as before.
-    pub(crate) fn go_on(
-        &self,
-        stock: &mut Stock,
-        stream: u16,
-        left: Option<Rest>,
-    ) -> Result<(), NoMemory>
+    /// The message in part of a stream takes its next index.
+    pub(crate) fn go_on(&self, stock: &mut Stock, stream: u16)
         requires within { stream < self.now.streams }
         requires stream { stream < length stock.old.streams.items }
         requires part { has_rest (rest_at (stocked (bare self.now) stock.old).tracks stream) ≡ true }
         requires sized { IsSized self.now.fragment stock.old }
+        requires room { length stock.old.outstanding.items < stock.old.outstanding.capacity }
         ensures kept { (rest : KeptRest) → Some rest ≡ rest_at (stocked (bare self.now) stock.old).tracks stream
-            → rests_meaning self.now.fragment (track_of (stocked (bare self.now) stock.old).tracks stream) left ≡ rest_after rest.entry rest.message
-            → OnOk result (stocked (bare self.now) stock.new ≡ gone_on (stocked (bare self.now) stock.old) rest stream (suc stream % self.now.streams) stock.new.outstanding.capacity) }
-        ensures more { OnOk result (length stock.old.outstanding.items < length stock.new.outstanding.items) }
-        ensures room { OnOk result (ends_of stock.old.streams + length stock.new.outstanding.items ≤ stock.new.outstanding.capacity) }
-        ensures told { OnOk result (stock.new.tickets ≡ stock.old.tickets) }
-        ensures behind { IsBehind stock.old stock.new }
+            → stocked (bare self.now) stock.new ≡ gone_on (stocked (bare self.now) stock.old) rest stream (suc stream % self.now.streams) stock.old.outstanding.capacity }
+        ensures more { length stock.old.outstanding.items < length stock.new.outstanding.items }
+        ensures tickets { stock.new.tickets ≡ stock.old.tickets }
+        ensures sized { IsSized self.now.fragment stock.new }
     {
-        reserve_change(&mut stock.log)?;
-        let ends = stock.streams.in_part() as usize;
-        stock.outstanding.reserve(ends + 1)?;
-        let before = stock.streams.leave(usize::from(stream), left);
-        let Some(next) = ending_of(before) else {
-            return Err(NoMemory);
+        let Some(next) = stock.streams.take_fragment(usize::from(stream)) else {
+            return;
         };
-        let Ending { rest, number } = next;
-        let change = Change::Continued {
-            stream,
-            fragment: rest.fragment,
-            turn: stock.turn,
-        };
-        note(&mut stock.log, change);
+        let Taken {
+            message,
+            fragment,
+            number,
+        } = next;
         push_fragment(
             &mut stock.outstanding,
-            rest.message,
+            message,
             number,
-            rest.fragment,
+            fragment,
             Standing::Sent,
         );
         stock.turn = stream_after(stream, self.streams);
-        Ok(())
     }
 }
 
@@ -163,7 +117,6 @@ fn number_one(streams: &mut Streams, stream: u16, kind: Kind) -> u64
     requires { stream < length streams.old.items }
     ensures number { (size : ℕ) → result ≡ number_in (kind_meaning kind) (track_of (map (track_meaning size) streams.old.items) stream) }
     ensures counted { streams.new ≡ record streams.old { items = changed_at (counted_to kind ((result + 1) % 2 ^ 64)) stream streams.old.items } }
-    ensures before { changed_at (counted_to kind result) stream streams.new.items ≡ streams.old.items }
 {
     let at = usize::from(stream);
     let number = number_next(&streams.tracks()[at], kind);
@@ -171,15 +124,33 @@ fn number_one(streams: &mut Streams, stream: u16, kind: Kind) -> u64
     number
 }
 
+/// What is left of a message of which so many fragments have an index, by the owners that are left: nothing, if there is none.
+#[inline(always)]
+fn rest_behind(owners: Vec<Arc<Message>>, count: usize) -> Option<Rest>
+    requires some { 0 < count }
+    requires few { count < 2 ^ 32 }
+    ensures owned { (size : ℕ) (m : Arc Message Global) → IsOwned size (count - 1) m owners.items → IsRestOwned size result }
+    ensures rest { (size : ℕ) (m : Arc Message Global) (t : KeptTrack) → IsOwned size (count - 1) m owners.items
+        → rests_meaning size t result ≡ rest_from size m.value (latest_in (kind_meaning m.value.kind) t) count }
+{
+    let mut others = owners;
+    let message = others.pop()?;
+    Some(Rest {
+        message,
+        fragment: count as u32,
+        others,
+    })
+}
+
 /// So much is left of the message that took the latest number on a stream, where nothing was.
 #[inline(always)]
 fn leave_rest(streams: &mut Streams, stream: u16, rest: Option<Rest>)
     requires stream { stream < length streams.old.items }
     requires idle { (t : TrackFields) → t ≡ slice_index_or streams.old.items stream t → t.rest ≡ None }
+    requires owned { IsRestOwned streams.old.size rest }
     ensures size { streams.new.size ≡ streams.old.size }
     ensures items { (size : ℕ) → map (track_meaning size) streams.new.items
         ≡ slice_set (map (track_meaning size) streams.old.items) stream (left_track (rests_meaning size (track_of (map (track_meaning size) streams.old.items) stream) rest) (track_of (map (track_meaning size) streams.old.items) stream)) }
-    ensures back { changed_at (resting None) stream streams.new.items ≡ streams.old.items }
 {
     if rest.is_some() {
         let _idle = streams.leave(usize::from(stream), rest);
@@ -190,7 +161,9 @@ fn leave_rest(streams: &mut Streams, stream: u16, rest: Option<Rest>)
 #[inline(always)]
 fn tell(tickets: &mut Vec<Ticket>, ticket: u64)
     requires { vec_len tickets.old < vec_capacity tickets.old }
-    ensures { numbers_of tickets.new.items ≡ numbers_of tickets.old.items ++ ticket ∷ [] }
+    ensures numbers { numbers_of tickets.new.items ≡ numbers_of tickets.old.items ++ ticket ∷ [] }
+    ensures one { vec_len tickets.new ≡ vec_len tickets.old + 1 }
+    ensures capacity { vec_capacity tickets.new ≡ vec_capacity tickets.old }
 {
     tickets.push_reserved(Ticket(ticket));
 }

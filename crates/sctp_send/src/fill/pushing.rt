@@ -1,17 +1,17 @@
-//! Fragments take the next indexes, as far as memory goes.
+//! Fragments take the next indexes: there is memory for their entries, and each has its owner.
 
-ghost use Rattle.std.specs.Prelude.{◌≡◌, ℕ, ◌+◌, ◌<◌, ◌≤◌, ◌^◌, List, ◌∷◌, [], ◌++◌, map, take, length, slice_index_or, OnOk};
+ghost use Rattle.std.specs.Prelude.{◌≡◌, ℕ, ◌+◌, ◌-◌, ◌<◌, ◌≤◌, ◌^◌, List, ◌∷◌, [], ◌++◌, map, length};
 ghost use Rattle.sctp_send.specs.OutstandingFields.{item_meaning, lane_meaning, message_meaning};
 ghost use Rattle.sctp_send.specs.PartsKept.{IsSameRoom};
 ghost use Rattle.sctp_send.specs.inner.Newcomers.{begun_items};
+ghost use Rattle.sctp_send.specs.inner.Owning.{AreOf, IsOwned};
 ghost use Rattle.sctp_send.specs.SenderKept.{Item};
-ghost use Rattle.sctp_send.specs.inner.Undoing.{fragment_entry};
-ghost use Rattle.sctp_send.specs.declared.kept.entry.Entry.{Entry as Fields};
+ghost use Rattle.sctp_send.specs.inner.Entering.{fragment_entry};
 
 use crate::kept::entry::{Content, Entry, Standing};
-use crate::kept::message::{Message, shared};
+use crate::kept::message::Message;
 use crate::kept::outstanding::Outstanding;
-use sctp_values::NoMemory;
+use std::alloc::Global;
 use std::sync::Arc;
 
 /// A fragment takes the next index: its entry is one more owner of its message. There is room for it.
@@ -37,59 +37,59 @@ pub(crate) fn push_fragment(
     });
 }
 
-/// The further ones of the first so many fragments of a message take the next indexes, as far as memory goes. Its very first one stands at an
-/// offset, behind all others, and there is room.
+/// The further ones of the first so many fragments of a message take the next indexes, behind its very first one. Each takes one of the message's
+/// owners.
 #[inline(always)]
 pub(crate) fn push_further(
     outstanding: &mut Outstanding,
-    from: usize,
+    others: &mut Vec<Arc<Message>>,
     number: u64,
     count: usize,
-) -> Result<(), NoMemory>
-    requires some { 0 < count }
-    requires few { count < 2 ^ 32 }
-    requires last { length outstanding.old.items ≡ from + 1 }
-    requires room { from + count ≤ outstanding.old.capacity }
-    ensures items { (size : ℕ) (before : List Item) (e : Fields) → e ≡ slice_index_or outstanding.old.items from e
-        → map (item_meaning size) outstanding.old.items ≡ before ++ begun_items (lane_meaning e.message.value) number (message_meaning size e.message.value) 1
-        → OnOk result (map (item_meaning size) outstanding.new.items ≡ before ++ begun_items (lane_meaning e.message.value) number (message_meaning size e.message.value) count) }
-    ensures before { outstanding.old.items ≡ take (length outstanding.old.items) outstanding.new.items }
-    ensures long { OnOk result (length outstanding.new.items ≡ from + count) }
-    ensures room { IsSameRoom outstanding.old outstanding.new }
-{
-    if count == 1 {
-        return Ok(());
-    }
-    let message = shared(&outstanding.get(from).message)?;
-    push_fragments(outstanding, &message, number, count)
-}
-
-/// The fragments of a message behind its first one take the next indexes, up to so many with that, as far as memory goes.
-#[inline(never)]
-fn push_fragments(
-    outstanding: &mut Outstanding,
-    message: &Arc<Message>,
-    number: u64,
-    count: usize,
-) -> Result<(), NoMemory>
+)
     requires some { 0 < count }
     requires few { count < 2 ^ 32 }
     requires room { length outstanding.old.items + count ≤ outstanding.old.capacity + 1 }
-    ensures items { (size : ℕ) (before : List Item) → map (item_meaning size) outstanding.old.items ≡ before ++ begun_items (lane_meaning message.now.value) number (message_meaning size message.now.value) 1
-        → OnOk result (map (item_meaning size) outstanding.new.items ≡ before ++ begun_items (lane_meaning message.now.value) number (message_meaning size message.now.value) count) }
-    ensures before { outstanding.old.items ≡ take (length outstanding.old.items) outstanding.new.items }
-    ensures long { OnOk result (length outstanding.new.items + 1 ≡ length outstanding.old.items + count) }
+    requires owners { count ≤ length others.old.items + 1 }
+    ensures items { (size : ℕ) (before : List Item) (m : Arc Message Global) → AreOf m.value others.old.items
+        → map (item_meaning size) outstanding.old.items ≡ before ++ begun_items (lane_meaning m.value) number (message_meaning size m.value) 1
+        → map (item_meaning size) outstanding.new.items ≡ before ++ begun_items (lane_meaning m.value) number (message_meaning size m.value) count }
+    ensures owned { (size : ℕ) (m : Arc Message Global) → IsOwned size 0 m others.old.items → IsOwned size (count - 1) m others.new.items }
+    ensures long { length outstanding.new.items + 1 ≡ length outstanding.old.items + count }
+    ensures room { IsSameRoom outstanding.old outstanding.new }
+{
+    if count > 1 {
+        push_fragments(outstanding, others, number, count);
+    }
+}
+
+/// `push_further`, if there are such. A function of its own, so that a message of one fragment costs one test.
+#[inline(never)]
+fn push_fragments(
+    outstanding: &mut Outstanding,
+    others: &mut Vec<Arc<Message>>,
+    number: u64,
+    count: usize,
+)
+    requires some { 0 < count }
+    requires few { count < 2 ^ 32 }
+    requires room { length outstanding.old.items + count ≤ outstanding.old.capacity + 1 }
+    requires owners { count ≤ length others.old.items + 1 }
+    ensures items { (size : ℕ) (before : List Item) (m : Arc Message Global) → AreOf m.value others.old.items
+        → map (item_meaning size) outstanding.old.items ≡ before ++ begun_items (lane_meaning m.value) number (message_meaning size m.value) 1
+        → map (item_meaning size) outstanding.new.items ≡ before ++ begun_items (lane_meaning m.value) number (message_meaning size m.value) count }
+    ensures owned { (size : ℕ) (m : Arc Message Global) → IsOwned size 0 m others.old.items → IsOwned size (count - 1) m others.new.items }
+    ensures long { length outstanding.new.items + 1 ≡ length outstanding.old.items + count }
     ensures room { IsSameRoom outstanding.old outstanding.new }
 {
     for fragment in 1..count {
-        let owner = shared(message)?;
-        push_fragment(
-            outstanding,
-            owner,
-            number,
-            fragment as u32,
-            Standing::Unsent,
-        );
+        if let Some(owner) = others.pop() {
+            push_fragment(
+                outstanding,
+                owner,
+                number,
+                fragment as u32,
+                Standing::Unsent,
+            );
+        }
     }
-    Ok(())
 }

@@ -77,7 +77,7 @@ impl ByTicket {
         ensures capacity { deque_capacity self.old.spots ≤ deque_capacity self.new.spots }
         ensures room { OnOk result (length self.new.spots.items + more ≤ deque_capacity self.new.spots) }
     {
-        self.spots.reserve(more).map_err(|_| NoMemory)
+        self.spots.reserve_exact(more).map_err(|_| NoMemory)
     }
 
     /// Gives memory back, but for so many entries; all of it stays if a smaller block can't be allocated.
@@ -160,18 +160,6 @@ impl ByTicket {
         ensures capacity { deque_capacity self.new.spots ≡ deque_capacity self.old.spots }
     {
         self.spots.clear();
-    }
-
-    /// The last entry goes, which is of this ticket.
-    pub(crate) fn pop_back(&mut self, ticket: u64)
-        ensures order { (tickets : List ℕ) → IsOrderOf (tickets ++ ticket ∷ []) self.old.first self.old.spots.items
-            → IsOrderOf tickets self.new.first self.new.spots.items }
-        ensures below { AreUpTo self.old.highest self.old.spots.items → AreUpTo self.new.highest self.new.spots.items }
-        ensures capacity { deque_capacity self.new.spots ≡ deque_capacity self.old.spots }
-        ensures first { self.new.first ≡ self.old.first }
-    {
-        let offset = self.spots.len().saturating_sub(1);
-        self.remove(ticket, offset);
     }
 
     /// How many spots lie before an entry of this ticket at this offset, or would lie before it: its rank.

@@ -12,19 +12,19 @@ use sctp_sequence::{give_back, is_roomy, kept_for};
 const FEW: usize = 64;
 
 impl Outstanding {
-    /// Less than an eighth of the memory is used.
+    /// Less than an eighth of the memory is used by the entries and this many to come.
     #[inline(always)]
-    pub(crate) fn is_roomy(&self) -> bool {
-        is_roomy(self.room, self.entries.len())
+    pub(crate) fn is_roomy(&self, owed: usize) -> bool {
+        is_roomy(self.room, self.entries.len().saturating_add(owed))
     }
 
-    /// Gives memory back, but for the entries and for this many end marks.
-    pub(crate) fn give_back(&mut self, ends: usize)
+    /// Gives memory back, but for the entries and for this many to come.
+    pub(crate) fn give_back(&mut self, owed: usize)
         ensures size { self.new.size ≡ self.old.size }
         ensures items { self.new.items ≡ self.old.items }
-        ensures room { length self.old.items + ends ≤ self.old.capacity → length self.new.items + ends ≤ self.new.capacity }
+        ensures room { length self.old.items + owed ≤ self.old.capacity → length self.new.items + owed ≤ self.new.capacity }
     {
-        let used = self.entries.len().saturating_add(ends);
+        let used = self.entries.len().saturating_add(owed);
         if is_roomy(self.room, used) {
             self.shrink_to(kept_for(used));
             self.forget_stretches();

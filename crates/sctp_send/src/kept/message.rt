@@ -1,6 +1,6 @@
 //! A message as it was handed in, and what became of it.
 
-ghost use Rattle.std.specs.Prelude.{◌≡◌, ℕ, Some, IfOk, ◌<◌, ◌%◌, ◌^◌, length, unwrap_or};
+ghost use Rattle.std.specs.Prelude.{◌≡◌, ℕ, [], Some, IfOk, IfSome, ◌<◌, ◌≤◌, ◌%◌, ◌^◌, length, vec_capacity, unwrap_or};
 ghost use Rattle.sctp_model.specs.numbers.Limits.{LAST_MOMENT};
 ghost use Rattle.sctp_model.specs.sender.Queueing.{cut, owed_for};
 ghost use Rattle.sctp_send.specs.OutstandingFields.{message_meaning};
@@ -8,6 +8,7 @@ ghost use Rattle.sctp_send.specs.inner.Counting.{moment_from};
 
 use sctp_values::{Kind, NoMemory};
 use std::alloc::Global;
+use std::mem::replace;
 use std::sync::Arc;
 
 /// What `queue` was given for a message. Its bytes are kept once: fragments are ranges of them.
@@ -41,8 +42,12 @@ pub(crate) fn moment_in(until: Option<u64>) -> u64
     }
 }
 
-/// The most shells that are kept. A shell is the memory of a message that is gone, without its bytes, for a message to come.
+/// The most shells that are kept. A shell is the memory of a message that is gone, for a message to come; with the buffer of its bytes, if that is
+/// small.
 pub(crate) const MOST_SHELLS: usize = 64;
+
+/// The most bytes of a buffer that a shell keeps.
+pub(crate) const LONGEST_BUFFER: usize = 128;
 
 /// Keeps the shell of a message, where nothing else has it and there is room. What is kept shows in no answer, so that its contract says
 /// nothing.
@@ -53,10 +58,34 @@ pub(crate) fn keep_shell(shells: &mut Vec<Arc<Message>>, alloc: Global, message:
     }
     let mut shell = message;
     match Arc::get_mut(&mut shell) {
-        Some(gone) => gone.bytes = Vec::new(alloc),
+        Some(gone) => {
+            if gone.bytes.capacity() > LONGEST_BUFFER {
+                gone.bytes = Vec::new(alloc);
+            }
+        }
         None => return,
     }
     shells.push_reserved(shell);
+}
+
+/// The buffer of the shell that the next message takes, empty, if it has capacity for `least` bytes. The shell is then without one.
+#[inline(always)]
+pub(crate) fn buffer_of(
+    shells: &mut Vec<Arc<Message>>,
+    alloc: Global,
+    least: usize,
+) -> Option<Vec<u8>>
+    ensures empty { IfSome result (λ buffer. buffer.items ≡ []) }
+    ensures room { IfSome result (λ buffer. least ≤ vec_capacity buffer) }
+{
+    let shell = shells.last_mut()?;
+    let gone = Arc::get_mut(shell)?;
+    if gone.bytes.capacity() < least {
+        return None;
+    }
+    let mut buffer = replace(&mut gone.bytes, Vec::new(alloc));
+    buffer.clear();
+    Some(buffer)
 }
 
 /// A message takes a shell that was kept, or else new memory.

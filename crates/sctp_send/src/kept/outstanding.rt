@@ -1,6 +1,6 @@
 //! The outstanding entries, those above the cumulative TSN acknowledged (CUM), with counts of them, so that no call has to look at all.
 
-ghost use Rattle.std.specs.Prelude.{◌≡◌, ℕ, ◌+◌, ◌*◌, ◌-◌, ◌<◌, ◌≤◌, ◌%◌, ◌^◌, ◌++◌, ◌∷◌, [], take, drop, map, length, slice_index_or, OnOk, OnErr, IfSome, IfNone};
+ghost use Rattle.std.specs.Prelude.{◌≡◌, ℕ, ◌+◌, ◌*◌, ◌-◌, ◌<◌, ◌≤◌, ◌%◌, ◌^◌, ◌++◌, ◌∷◌, [], drop, true, false, map, length, slice_index_or, OnOk, OnErr};
 ghost use Rattle.sctp_send.specs.OutstandingFields.{item_meaning};
 ghost use Rattle.sctp_send.specs.PartsKept.{changed};
 ghost use Rattle.sctp_send.specs.inner.Changes.{stood};
@@ -10,6 +10,7 @@ ghost use Rattle.sctp_send.specs.inner.Wishing.{item_flight};
 use crate::kept::by_ticket::{ByTicket, MOST};
 use crate::kept::counts::{Counts, front_behind, stand_one};
 use crate::kept::entry::{CoveredRun, Entry, State};
+use crate::kept::growing::grown;
 use crate::kept::message::Message;
 use crate::kept::stretches::{Stretch, forget_stretch, keep_stretches};
 use sctp_values::NoMemory;
@@ -30,7 +31,7 @@ pub(crate) struct Outstanding {
     pub(crate) room: usize,
     // the slots of what is known of stretches; none until there are many entries
     pub(crate) stretches: Vec<Stretch>,
-    // empty: the memory for a SACK's runs and for the next one's, from the first entry on until a SACK is accepted
+    // empty: the memory for a SACK's runs and for the next one's, from the room for the first entry on until a SACK is accepted
     pub(crate) covered: Vec<CoveredRun>,
     pub(crate) spare: Vec<CoveredRun>,
 }
@@ -104,6 +105,15 @@ impl Outstanding {
         self.counts.front
     }
 
+    /// There is space for this many further entries.
+    #[inline(always)]
+    pub(crate) fn has_room(&self, more: usize) -> bool
+        ensures room { result ≡ true → length self.now.items + more ≤ self.now.capacity }
+        ensures none { result ≡ false → self.now.capacity < length self.now.items + more }
+    {
+        more <= self.room - self.entries.len()
+    }
+
     /// Reserves space for this many further entries.
     ///
     /// # Errors
@@ -117,7 +127,7 @@ impl Outstanding {
         ensures had_room { length self.old.items + more ≤ self.old.capacity → self.new ≡ self.old }
         ensures refused { OnErr result (self.old.capacity < length self.old.items + more) }
     {
-        if more <= self.room - self.entries.len() {
+        if self.has_room(more) {
             return Ok(());
         }
         self.reserve_anew(more)
@@ -132,8 +142,9 @@ impl Outstanding {
         ensures capacity { self.old.capacity ≤ self.new.capacity }
         ensures room { OnOk result (length self.new.items + more ≤ self.new.capacity) }
     {
-        self.entries.reserve(more).map_err(|_| NoMemory)?;
-        self.by_ticket.reserve(more)?;
+        let wide = grown(self.room, self.entries.len(), more);
+        self.entries.reserve_exact(wide).map_err(|_| NoMemory)?;
+        self.by_ticket.reserve(wide)?;
         self.reserve_runs()?;
         self.keep_stretches();
         self.room = self
@@ -141,7 +152,7 @@ impl Outstanding {
             .capacity()
             .min(self.by_ticket.capacity())
             .min(MOST);
-        if more <= self.room - self.entries.len() {
+        if self.has_room(more) {
             Ok(())
         } else {
             Err(NoMemory)
@@ -200,32 +211,6 @@ impl Outstanding {
             return Some(message);
         }
         None
-    }
-
-    /// Removes the last entry, if there is one, and returns it.
-    pub(crate) fn pop_back(&mut self) -> Option<Entry>
-        ensures entries { self.new ≡ record self.old { items = take (length self.old.items - 1) self.old.items } }
-        ensures last { IfSome result (λ entry. self.old.items ≡ self.new.items ++ entry ∷ []) }
-        ensures none { IfNone result (self.old.items ≡ []) }
-    {
-        if let Some(entry) = self.entries.pop_back() {
-            self.by_ticket.pop_back(entry.message.ticket);
-            self.counts.leave(&entry, self.size);
-            self.counts.marked = self.counts.marked.min(self.entries.len());
-            self.counts.unsent = self.counts.unsent.min(self.entries.len());
-            self.counts.front = self.counts.front.min(self.entries.len());
-            return Some(entry);
-        }
-        None
-    }
-
-    /// Removes the entries after the first `many`.
-    pub(crate) fn truncate(&mut self, many: usize)
-        ensures { self.new ≡ record self.old { items = take many self.old.items } }
-    {
-        for _ in many..self.len() {
-            let _gone = self.pop_back();
-        }
     }
 
     /// Sets what became of the entry at an offset.

@@ -1,20 +1,19 @@
 //! A fragment's bytes and its chunk (RFC 9260, 3.3.1 and 6.9; RFC 8260, 2.1).
 
-ghost use Rattle.std.specs.Prelude.{◌≡◌, ℕ, ◌<◌, ◌≤◌, ◌^◌, length, IfOk, OnErr, Option, Some};
+ghost use Rattle.std.specs.Prelude.{◌≡◌, ℕ, ◌<◌, ◌≤◌, ◌^◌, ◌∷◌, [], length, Option, Some, true};
 ghost use Rattle.sctp_model.specs.messages.Format.{Lane};
 ghost use Rattle.sctp_model.specs.messages.Plan.{Message as Said, Entry};
 ghost use Rattle.sctp_model.specs.numbers.Limits.{GREATEST_FRAGMENT};
 ghost use Rattle.sctp_model.specs.numbers.Serial as serial;
 ghost use Rattle.sctp_model.specs.sender.Entries.{entry_fragment, bytes_in};
-ghost use Rattle.sctp_packet.specs.Draft.{has_room, after_try};
+ghost use Rattle.sctp_packet.specs.Draft.{Draft, room_in, has_room, with_chunks};
 ghost use Rattle.sctp_send.specs.OutstandingFields.{message_meaning, entry_meaning, no_base};
-ghost use Rattle.sctp_send.specs.inner.Stocking.{fragment_chunk, said_chunk};
+ghost use Rattle.sctp_send.specs.inner.Stocking.{fragment_chunk, said_chunk, FitsInto};
 
 use crate::kept::entry::Content;
 use crate::kept::message::{Message, fragments_of};
 use sctp_framing::Framing;
 use sctp_packet::PacketWriter;
-use sctp_values::NoMemory;
 use sctp_wire::{Piece, padded};
 
 /// The bytes of a fragment: a range of its message's. An end mark has none.
@@ -57,18 +56,16 @@ fn payload_of(message: &Message) -> u32
     message.payload_id
 }
 
-/// A chunk with so many bytes of data fits into what is left of a packet.
-pub(crate) fn fits<F: Framing>(bytes: usize, packet: &PacketWriter) -> bool
+/// A chunk with so many bytes of data fits a packet with so many bytes left.
+#[inline(always)]
+pub(crate) fn fits<F: Framing>(bytes: usize, room: usize) -> bool
     requires { bytes < 2 ^ 63 }
-    ensures { (base : Lane → ℕ) (initial i : ℕ) (e : Entry) (m : Option Said) → bytes ≡ length (bytes_in e m) → result ≡ has_room packet.now (said_chunk F.format base initial i e m) }
+    ensures { (p : Draft) (base : Lane → ℕ) (initial i : ℕ) (e : Entry) (m : Option Said) → room ≡ room_in p → bytes ≡ length (bytes_in e m) → result ≡ has_room p (said_chunk F.format base initial i e m) }
 {
-    padded(F::header() + bytes) <= packet.room()
+    padded(F::header() + bytes) <= room
 }
 
-/// Puts the chunk of a fragment into a packet, if it fits. `number` is its message's number since the last reset of its stream.
-///
-/// # Errors
-/// `NoMemory`; the packet is then as before.
+/// Puts the chunk of a fragment, which fits, into a packet. `number` is its message's number since the last reset of its stream.
 #[inline(always)]
 pub(crate) fn put_fragment<F: Framing>(
     message: &Message,
@@ -77,13 +74,15 @@ pub(crate) fn put_fragment<F: Framing>(
     size: u16,
     tsn: u32,
     packet: &mut PacketWriter,
-) -> Result<bool, NoMemory>
+)
     requires some { 0 < size }
     requires short { size ≤ GREATEST_FRAGMENT }
-    ensures answer { (initial i : ℕ) → tsn ≡ serial.tsn initial i → IfOk result (λ put. put ≡ has_room packet.old (fragment_chunk F.format no_base size initial i message.now number content)) }
-    ensures after { (initial i : ℕ) → tsn ≡ serial.tsn initial i → IfOk result (λ put. packet.new ≡ after_try packet.old (fragment_chunk F.format no_base size initial i message.now number content) put) }
-    ensures unchanged { OnErr result (packet.new ≡ packet.old) }
+    requires reserved { packet.old.space ≡ true }
+    requires fits { FitsInto F.format packet.old size message.now content }
+    ensures after { (initial i : ℕ) → tsn ≡ serial.tsn initial i → packet.new ≡ with_chunks packet.old (fragment_chunk F.format no_base size initial i message.now number content ∷ []) }
+    ensures reserved { packet.new.space ≡ true }
 {
+    let bytes = bytes_of(message, content, size);
     let fragment = fragment_of(content);
     let stream = stream_of(message);
     let payload_id = payload_of(message);
@@ -97,7 +96,7 @@ pub(crate) fn put_fragment<F: Framing>(
         stream,
         number: F::wire_number(kind, number),
         word: F::wire_word(payload_id, fragment),
-        bytes: bytes_of(message, content, size),
+        bytes,
     };
-    packet.try_chunk(&F::data_chunk(piece))
+    packet.put(&F::data_chunk(piece));
 }

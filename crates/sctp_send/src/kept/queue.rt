@@ -1,11 +1,12 @@
 //! The messages that wait for their numbers, the first to come in front, and what is counted of them.
 
-ghost use Rattle.std.specs.Prelude.{◌≡◌, ℕ, ◌+◌, ◌<◌, ◌≤◌, ◌%◌, ◌^◌, ◌↔◌, ◌++◌, ◌∷◌, [], true, false, map, length, insert, remove, slice_index_or, OnOk, OnErr, OnSome, IsSome, IfSome, IfNone};
-ghost use Rattle.std.specs.VecDeque.{deque_len, deque_capacity};
+ghost use Rattle.std.specs.Prelude.{◌≡◌, ℕ, ◌+◌, ◌<◌, ◌≤◌, ◌%◌, ◌^◌, ◌++◌, ◌∷◌, [], true, false, map, length, remove, slice_index_or, IfOk, OnOk, OnErr, IfSome, IfNone};
+ghost use Rattle.sctp_model.specs.numbers.Limits.{LONGEST_MESSAGE};
 ghost use Rattle.sctp_model.specs.sender.Queueing.{owed_by_queue};
 ghost use Rattle.sctp_model.specs.sender.Abandoning.{waits};
 ghost use Rattle.sctp_send.specs.SenderFields.{queued_by};
 ghost use Rattle.sctp_send.specs.Waiting.{waiting_bytes};
+ghost use Rattle.sctp_send.specs.inner.Owning.{IsOwned};
 ghost use Rattle.sctp_send.specs.inner.Seating.{AreLower, NextOnAnswer};
 
 use crate::kept::message::{Message, bytes_of, owed_by_message};
@@ -13,6 +14,7 @@ use crate::kept::seats::{
     Found, add_seat, first_from, fits_at, free_seat, is_in_front, make_room, next_by_looking,
     remove_at, seat_of,
 };
+use crate::kept::waiting::Waiting;
 use sctp_sequence::Pairs;
 use sctp_values::NoMemory;
 use std::alloc::Global;
@@ -25,7 +27,7 @@ use std::sync::Arc;
 pub(crate) struct Queue {
     // the most bytes of a fragment
     pub(crate) size: u16,
-    pub(crate) messages: VecDeque<Arc<Message>>,
+    pub(crate) messages: VecDeque<Waiting>,
     // the TSNs that they may take, modulo 2^64
     pub(crate) owed: u64,
     // their bytes, modulo 2^64
@@ -38,14 +40,14 @@ pub(crate) struct Queue {
 }
 
 impl Model for Queue {
-    ghost use Rattle.std.specs.VecDeque.{deque_capacity};
     ghost use Rattle.sctp_send.specs.PartsKept.{QueueKept};
 
     ghost Value = { QueueKept };
 
+    ghost use Rattle.sctp_send.specs.inner.Owning.{messages_of};
     ghost use Rattle.sctp_send.specs.inner.Seating.{IsQueueOf};
 
-    ghost view = { λ w. record { size = w.size; items = w.messages.items; capacity = deque_capacity w.messages } };
+    ghost view = { λ w. record { size = w.size; items = messages_of w.messages.items } };
 
     ghost invariant = { λ w. IsQueueOf w.size w.messages.items w.owed w.rises w.is_seated w.seats.items w.bytes };
 }
@@ -72,8 +74,7 @@ impl Queue {
 
     /// How many messages wait.
     pub(crate) fn len(&self) -> usize
-        ensures len { result ≡ length self.now.items }
-        ensures within { length self.now.items ≤ self.now.capacity }
+        ensures { result ≡ length self.now.items }
     {
         self.messages.len()
     }
@@ -83,7 +84,7 @@ impl Queue {
         requires { at < length self.now.items }
         ensures { result.now ≡ slice_index_or self.now.items at result.now }
     {
-        &self.messages[at]
+        &self.messages[at].message
     }
 
     /// The TSNs that the messages may take, modulo 2^64.
@@ -100,23 +101,38 @@ impl Queue {
         self.bytes
     }
 
+    /// A message with the owners of its fragments, as it comes to wait.
+    ///
+    /// # Errors
+    /// `NoMemory`.
+    #[inline(always)]
+    pub(crate) fn owners(&self, alloc: Global, message: Arc<Message>) -> Result<Waiting, NoMemory>
+        requires some { 0 < length message.value.bytes.items }
+        requires short { length message.value.bytes.items ≤ LONGEST_MESSAGE }
+        ensures { IfOk result (λ w. (w.message ≡ message) × IsOwned self.now.size 0 w.message w.others.items) }
+    {
+        Waiting::new(alloc, self.size, message)
+    }
+
     /// A message waits behind the others.
     ///
     /// # Errors
     /// `NoMemory`: it doesn't wait.
     #[inline(always)]
-    pub(crate) fn push(&mut self, message: Arc<Message>) -> Result<(), NoMemory>
+    pub(crate) fn push(&mut self, waiting: Waiting) -> Result<(), NoMemory>
+        requires { IsOwned self.old.size 0 waiting.message waiting.others.items }
         ensures size { self.new.size ≡ self.old.size }
-        ensures items { OnOk result (self.new.items ≡ self.old.items ++ message ∷ []) }
+        ensures items { OnOk result (self.new.items ≡ self.old.items ++ waiting.message ∷ []) }
         ensures unchanged { OnErr result (self.new.items ≡ self.old.items) }
     {
-        let owed = owed_by_message(&message, self.size);
-        let bytes = bytes_of(&message);
-        let seat = seat_of(&message);
+        let message: &Message = &waiting.message;
+        let owed = owed_by_message(message, self.size);
+        let bytes = bytes_of(message);
+        let seat = seat_of(message);
         let behind = self.messages.len();
         let fits = fits_at(&self.messages, self.rises, behind, seat.second);
         make_room(&mut self.seats, self.is_seated)?;
-        match self.messages.push_back(message) {
+        match self.messages.push_back(waiting) {
             Ok(()) => {}
             Err(_) => return Err(NoMemory),
         }
@@ -129,40 +145,20 @@ impl Queue {
 
     /// The message at a place waits no more, where there is one.
     #[inline(always)]
-    pub(crate) fn remove(&mut self, place: usize) -> Option<Arc<Message>>
+    pub(crate) fn remove(&mut self, place: usize) -> Option<Waiting>
         ensures some { place < length self.old.items → self.new ≡ record self.old { items = remove self.old.items place } }
-        ensures message { IfSome result (λ message. (place < length self.old.items) × (message ≡ slice_index_or self.old.items place message)) }
+        ensures message { IfSome result (λ w. (place < length self.old.items) × (w.message ≡ slice_index_or self.old.items place w.message)) }
+        ensures owned { IfSome result (λ w. IsOwned self.old.size 0 w.message w.others.items) }
         ensures none { IfNone result ((length self.old.items ≤ place) × (self.new ≡ self.old)) }
     {
-        let message = remove_at(&mut self.messages, place)?;
-        let owed = owed_by_message(&message, self.size);
+        let waiting = remove_at(&mut self.messages, place)?;
+        let message: &Message = &waiting.message;
+        let owed = owed_by_message(message, self.size);
         self.owed = self.owed.wrapping_sub(owed);
-        self.bytes = self.bytes.wrapping_sub(bytes_of(&message));
-        let seat = seat_of(&message);
+        self.bytes = self.bytes.wrapping_sub(bytes_of(message));
+        let seat = seat_of(message);
         free_seat(&mut self.seats, self.is_seated, seat);
-        Some(message)
-    }
-
-    /// A message waits again at its place, where there is room since it went.
-    pub(crate) fn put_back(&mut self, place: usize, message: Arc<Message>)
-        requires place { place ≤ length self.old.items }
-        requires room { length self.old.items < self.old.capacity }
-        ensures size { self.new.size ≡ self.old.size }
-        ensures items { self.new.items ≡ insert self.old.items place message }
-        ensures capacity { self.old.capacity ≤ self.new.capacity }
-    {
-        let owed = owed_by_message(&message, self.size);
-        let bytes = bytes_of(&message);
-        let seat = seat_of(&message);
-        let fits = fits_at(&self.messages, self.rises, place, seat.second);
-        match self.messages.insert(place, message) {
-            Ok(()) => {}
-            Err(_) => return,
-        }
-        self.owed = self.owed.wrapping_add(owed);
-        self.bytes = self.bytes.wrapping_add(bytes);
-        self.rises = fits;
-        self.is_seated = add_seat(&mut self.seats, self.is_seated, seat);
+        Some(waiting)
     }
 
     /// How many of the first messages have lower tickets, where tickets rise; else none.
@@ -183,7 +179,7 @@ impl Queue {
         if !self.rises {
             return false;
         }
-        let message = &self.messages[0];
+        let message = &self.messages[0].message;
         if last < message.ticket {
             return true;
         }
@@ -209,7 +205,7 @@ impl Queue {
         match self.seats.first_from(u64::from(from)) {
             Some(seat) => {
                 let place = first_from(&self.messages, rises, seat.second);
-                let message = &self.messages[place];
+                let message = &self.messages[place].message;
                 let stream = message.stream;
                 if stream >= below {
                     return None;

@@ -1,4 +1,5 @@
-//! Memory for the runs of a SACK: it is allocated with the first entry, so that a sender that never sent has none and a SACK allocates nothing.
+//! Memory for the runs of a SACK: it is allocated with that for the first entry, so that a sender that had no message has none and a SACK allocates
+//! nothing.
 
 ghost use Rattle.std.specs.Prelude.{◌≡◌};
 

@@ -1,19 +1,20 @@
 //! Where a message that waits stands: by its ticket among the others, and by its stream.
 
-ghost use Rattle.std.specs.Prelude.{◌≡◌, ℕ, ◌+◌, ◌-◌, ◌<◌, ◌≤◌, ◌↔◌, ◌∷◌, true, List, nat_lt, map, length, remove, slice_index_or, IfSome, IfNone, OnSome, IsSome};
+ghost use Rattle.std.specs.Prelude.{◌≡◌, ℕ, ◌-◌, ◌<◌, ◌≤◌, ◌↔◌, ◌∷◌, true, List, nat_lt, map, length, remove, slice_index_or, IfSome, IfNone, OnSome, IsSome};
 ghost use Rattle.std.specs.List.{Contains};
-ghost use Rattle.std.specs.VecDeque.{deque_len, deque_capacity};
+ghost use Rattle.std.specs.VecDeque.{deque_len};
 ghost use Rattle.sctp_send.specs.SenderFields.{queued_by};
 ghost use Rattle.sctp_send.specs.inner.Newcomers.{FirstOnAnswer, IsFirstOn};
+ghost use Rattle.sctp_send.specs.inner.Owning.{messages_of};
 ghost use Rattle.sctp_send.specs.inner.Seating.{ticket_in, AreLower, DoTicketsRise, IsBetween, IsPlaceOf, NextOnAnswer};
 ghost use Rattle.sctp_sequence.specs.Pairs.{AreSame};
 ghost use Rattle.sctp_sequence.specs.declared.pairs.Pair.{Pair};
 
 use crate::kept::message::Message;
+use crate::kept::waiting::Waiting;
 use sctp_sequence::{Pair, Pairs};
 use sctp_values::NoMemory;
 use std::collections::VecDeque;
-use std::sync::Arc;
 
 /// A stream on which a message waits, and the place of the message that has waited longest on it.
 #[derive(Clone, Copy)]
@@ -35,34 +36,29 @@ pub(crate) fn seat_of(message: &Message) -> Pair
 
 /// Tickets rise, and go on rising with one at a place: it lies between those of its neighbours there.
 #[inline(always)]
-pub(crate) fn fits_at(
-    messages: &VecDeque<Arc<Message>>,
-    rises: bool,
-    place: usize,
-    ticket: u64,
-) -> bool
+pub(crate) fn fits_at(messages: &VecDeque<Waiting>, rises: bool, place: usize, ticket: u64) -> bool
     requires { place ≤ length messages.now.items }
     ensures rises { result ≡ true → rises ≡ true }
-    ensures between { result ≡ true → IsBetween place ticket messages.now.items }
+    ensures between { result ≡ true → IsBetween place ticket (messages_of messages.now.items) }
 {
     rises
-        && (place == 0 || messages[place - 1].ticket < ticket)
-        && (place == messages.len() || ticket < messages[place].ticket)
+        && (place == 0 || messages[place - 1].message.ticket < ticket)
+        && (place == messages.len() || ticket < messages[place].message.ticket)
 }
 
 /// How many of the first messages have lower tickets, by halves, where tickets rise; else none.
 #[inline(always)]
-pub(crate) fn first_from(messages: &VecDeque<Arc<Message>>, rises: bool, ticket: u64) -> usize
-    requires { rises ≡ true → DoTicketsRise 0 messages.now.items }
-    ensures place { rises ≡ true → IsPlaceOf ticket result messages.now.items }
-    ensures lower { AreLower ticket result messages.now.items }
+pub(crate) fn first_from(messages: &VecDeque<Waiting>, rises: bool, ticket: u64) -> usize
+    requires { rises ≡ true → DoTicketsRise 0 (messages_of messages.now.items) }
+    ensures place { rises ≡ true → IsPlaceOf ticket result (messages_of messages.now.items) }
+    ensures lower { AreLower ticket result (messages_of messages.now.items) }
     ensures within { result ≤ length messages.now.items }
 {
     if !rises || messages.len() == 0 {
         return 0;
     }
     // The first one is asked for most often.
-    if messages[0].ticket >= ticket {
+    if messages[0].message.ticket >= ticket {
         return 0;
     }
     first_by_halves(messages, ticket)
@@ -71,14 +67,14 @@ pub(crate) fn first_from(messages: &VecDeque<Arc<Message>>, rises: bool, ticket:
 /// How many of the first messages have lower tickets, by a binary search, when tickets rise. A function of its own, since the first one is
 /// asked for most often.
 #[inline(never)]
-fn first_by_halves(messages: &VecDeque<Arc<Message>>, ticket: u64) -> usize
-    requires { DoTicketsRise 0 messages.now.items }
-    ensures { IsPlaceOf ticket result messages.now.items }
+fn first_by_halves(messages: &VecDeque<Waiting>, ticket: u64) -> usize
+    requires { DoTicketsRise 0 (messages_of messages.now.items) }
+    ensures { IsPlaceOf ticket result (messages_of messages.now.items) }
 {
     messages.partition_point(
-        |message: &Arc<Message>| -> bool
-            ensures { result ≡ nat_lt (ticket_in message.now) ticket }
-        { message.ticket < ticket },
+        |waiting: &Waiting| -> bool
+            ensures { result ≡ nat_lt (ticket_in waiting.now.message) ticket }
+        { waiting.message.ticket < ticket },
     )
 }
 
@@ -113,12 +109,11 @@ pub(crate) fn free_seat(seats: &mut Pairs, is_seated: bool, seat: Pair)
 
 /// The message at a place goes, where there is one. The first one moves no other.
 #[inline(always)]
-pub(crate) fn remove_at(messages: &mut VecDeque<Arc<Message>>, place: usize) -> Option<Arc<Message>>
-    ensures value { IfSome result (λ message. message ≡ slice_index_or messages.old.items place message) }
+pub(crate) fn remove_at(messages: &mut VecDeque<Waiting>, place: usize) -> Option<Waiting>
+    ensures value { IfSome result (λ w. w ≡ slice_index_or messages.old.items place w) }
     ensures items { OnSome result (messages.new.items ≡ remove messages.old.items place) }
     ensures variant { IsSome result ↔ (place < deque_len messages.old) }
     ensures unchanged { IfNone result (messages.new ≡ messages.old) }
-    ensures capacity { deque_capacity messages.new ≡ deque_capacity messages.old }
 {
     if place > 0 || messages.is_empty() {
         return remove_among(messages, place);
@@ -128,23 +123,22 @@ pub(crate) fn remove_at(messages: &mut VecDeque<Arc<Message>>, place: usize) -> 
 
 /// Removes the message at a place other than the front. A function of its own, so that the first one is removed cheaply.
 #[inline(never)]
-fn remove_among(messages: &mut VecDeque<Arc<Message>>, place: usize) -> Option<Arc<Message>>
-    ensures value { IfSome result (λ message. message ≡ slice_index_or messages.old.items place message) }
+fn remove_among(messages: &mut VecDeque<Waiting>, place: usize) -> Option<Waiting>
+    ensures value { IfSome result (λ w. w ≡ slice_index_or messages.old.items place w) }
     ensures items { OnSome result (messages.new.items ≡ remove messages.old.items place) }
     ensures variant { IsSome result ↔ (place < deque_len messages.old) }
     ensures unchanged { IfNone result (messages.new ≡ messages.old) }
-    ensures capacity { deque_capacity messages.new ≡ deque_capacity messages.old }
 {
     messages.remove(place)
 }
 
 /// The place of the message that has waited longest on a stream.
-fn first_on(messages: &VecDeque<Arc<Message>>, stream: u16) -> Option<usize>
-    ensures first { (size : ℕ) → FirstOnAnswer stream (map (queued_by size) messages.now.items) result }
+fn first_on(messages: &VecDeque<Waiting>, stream: u16) -> Option<usize>
+    ensures first { (size : ℕ) → FirstOnAnswer stream (map (queued_by size) (messages_of messages.now.items)) result }
     ensures within { IfSome result (λ at. at < length messages.now.items) }
 {
     for at in 0..messages.len() {
-        let message = &messages[at];
+        let message = &messages[at].message;
         if message.stream == stream {
             return Some(at);
         }
@@ -154,15 +148,15 @@ fn first_on(messages: &VecDeque<Arc<Message>>, stream: u16) -> Option<usize>
 
 /// The message in front of all is of a stream, which is below another.
 #[inline(always)]
-pub(crate) fn is_in_front(messages: &VecDeque<Arc<Message>>, stream: u16, below: u16) -> bool
-    ensures first { (size : ℕ) → result ≡ true → IsFirstOn stream 0 (map (queued_by size) messages.now.items) }
+pub(crate) fn is_in_front(messages: &VecDeque<Waiting>, stream: u16, below: u16) -> bool
+    ensures first { (size : ℕ) → result ≡ true → IsFirstOn stream 0 (map (queued_by size) (messages_of messages.now.items)) }
     ensures low { result ≡ true → stream < below }
     ensures within { result ≡ true → 0 < length messages.now.items }
 {
     if messages.len() == 0 || stream >= below {
         return false;
     }
-    let message = &messages[0];
+    let message = &messages[0].message;
     if message.stream == stream {
         return true;
     }
@@ -171,12 +165,8 @@ pub(crate) fn is_in_front(messages: &VecDeque<Arc<Message>>, stream: u16, below:
 
 /// The first stream from one on, below another, on which a message waits, and where, by looking through all messages for each.
 #[inline(never)]
-pub(crate) fn next_by_looking(
-    messages: &VecDeque<Arc<Message>>,
-    from: u16,
-    below: u16,
-) -> Option<Found>
-    ensures next { (size : ℕ) → NextOnAnswer from below (map (queued_by size) messages.now.items) result }
+pub(crate) fn next_by_looking(messages: &VecDeque<Waiting>, from: u16, below: u16) -> Option<Found>
+    ensures next { (size : ℕ) → NextOnAnswer from below (map (queued_by size) (messages_of messages.now.items)) result }
     ensures within { IfSome result (λ found. found.place < length messages.now.items) }
 {
     for stream in from..below {

@@ -1,10 +1,11 @@
 //! What is kept of each stream, and what is counted of all: how many messages are sent in part, and the TSNs that they may take.
 
-ghost use Rattle.std.specs.Prelude.{◌≡◌, ℕ, ◌+◌, ◌<◌, ◌≤◌, ◌%◌, ◌^◌, true, false, map, length, set, replicate, slice_index_or, IfOk, IfSome, IfNone};
+ghost use Rattle.std.specs.Prelude.{◌≡◌, ℕ, ◌<◌, ◌≤◌, ◌%◌, ◌^◌, true, false, map, length, set, replicate, slice_index_or, IfOk, IfSome, IfNone};
 ghost use Rattle.sctp_send.specs.SenderFields.{track_meaning};
 ghost use Rattle.sctp_send.specs.inner.Walks.{total, one_if_rest, rest_owes, any_rest, GoesOnAt};
 ghost use Rattle.sctp_send.specs.inner.Newcomers.{IsNextPart, rest_at, has_rest};
-ghost use Rattle.sctp_send.specs.inner.Undoing.{counted_to};
+ghost use Rattle.sctp_send.specs.inner.Owning.{IsRestOwned};
+ghost use Rattle.sctp_send.specs.inner.Entering.{counted_to};
 ghost use Rattle.sctp_send.specs.PartsKept.{changed_at};
 
 use crate::kept::looking::{
@@ -21,12 +22,12 @@ use std::mem;
 #[derive(Drop)]
 pub(crate) struct Streams {
     // the most bytes of a fragment
-    size: u16,
-    tracks: Vec<Track>,
+    pub(crate) size: u16,
+    pub(crate) tracks: Vec<Track>,
     // how many messages are in part
     parts: u32,
     // the TSNs that they may take, modulo 2^64
-    owed: u64,
+    pub(crate) owed: u64,
     // of each stream with a message in part its ticket
     lists: TwoWayMap,
 }
@@ -103,9 +104,11 @@ impl Streams {
     /// So much is left of the message in part of a stream. It answers how the stream was.
     #[inline(never)]
     pub(crate) fn leave(&mut self, at: usize, rest: Option<Rest>) -> Track
-        requires { at < length self.old.items }
+        requires within { at < length self.old.items }
+        requires owned { IsRestOwned self.old.size rest }
         ensures before { result ≡ slice_index_or self.old.items at result }
         ensures after { self.new ≡ record self.old { items = set self.old.items at (record result { rest = rest }) } }
+        ensures owned { IsRestOwned self.old.size result.rest }
     {
         let track = &self.tracks()[at];
         let next = Track {
@@ -119,9 +122,11 @@ impl Streams {
     /// A stream goes on with this, instead of what it answers.
     #[inline(always)]
     fn replace(&mut self, at: usize, track: Track) -> Track
-        requires { at < length self.old.items }
+        requires within { at < length self.old.items }
+        requires owned { IsRestOwned self.old.size track.rest }
         ensures before { result ≡ slice_index_or self.old.items at result }
         ensures after { self.new ≡ record self.old { items = set self.old.items at track } }
+        ensures owned { IsRestOwned self.old.size result.rest }
     {
         self.parts = self.parts.wrapping_add(one_if_in_part(&track));
         self.owed = self.owed.wrapping_add(owed_by_track(&track, self.size));

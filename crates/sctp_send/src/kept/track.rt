@@ -1,22 +1,29 @@
 //! What is kept of a stream, and what is left of its message in part.
 
-ghost use Rattle.std.specs.Prelude.{◌≡◌, ℕ, ◌<◌, ◌%◌, ◌^◌, nat_lt, length, option_map, IfOk};
-ghost use Rattle.sctp_model.specs.sender.Queueing.{cut};
+ghost use Rattle.std.specs.Prelude.{◌≡◌, ℕ, ◌<◌, ◌%◌, ◌^◌, option_map};
 ghost use Rattle.sctp_values.specs.Meanings.{kind_meaning};
-ghost use Rattle.sctp_send.specs.SenderKept.{Track as KeptTrack};
-ghost use Rattle.sctp_send.specs.SenderFields.{latest_in, track_meaning, rests_meaning, endings_meaning};
-ghost use Rattle.sctp_send.specs.inner.Stocking.{rest_from};
+ghost use Rattle.sctp_send.specs.SenderFields.{latest, track_meaning, endings_meaning};
 ghost use Rattle.sctp_send.specs.inner.Walks.{rest_owes};
 
-use crate::kept::message::{Message, fragments_of, owed, shared};
-use sctp_values::{Kind, NoMemory};
+use crate::kept::message::{Message, fragments_of, owed};
+use sctp_values::Kind;
 use std::sync::Arc;
 
-/// What is left of a message in part: the fragment that it takes next. Its number is the latest that its kind took on its stream.
+/// What is left of a message in part: the fragment that it takes next, and an owner of the message for each fragment behind that. Its number is the latest
+/// that its kind took on its stream.
 #[derive(Drop)]
 pub(crate) struct Rest {
     pub(crate) message: Arc<Message>,
     pub(crate) fragment: u32,
+    pub(crate) others: Vec<Arc<Message>>,
+}
+
+/// A fragment of a message in part, which takes its index, and the message's number.
+#[derive(Drop)]
+pub(crate) struct Taken {
+    pub(crate) message: Arc<Message>,
+    pub(crate) fragment: u32,
+    pub(crate) number: u64,
 }
 
 /// A track: of one stream, how many messages of each kind have a number, and its message in part.
@@ -41,14 +48,8 @@ pub(crate) fn ending_of(track: Track) -> Option<Ending>
 {
     let (ordered, unordered) = (track.ordered, track.unordered);
     let rest = track.rest?;
-    let counted = match rest.message.kind {
-        Kind::Ordered => ordered,
-        Kind::Unordered => unordered,
-    };
-    Some(Ending {
-        rest,
-        number: counted.saturating_sub(1),
-    })
+    let number = latest_of(rest.message.kind, ordered, unordered);
+    Some(Ending { rest, number })
 }
 
 /// What the message in part of a stream owes.
@@ -65,21 +66,13 @@ pub(crate) fn owed_by_track(track: &Track, size: u16) -> u64
     }
 }
 
-/// What is left of a message from a fragment on, where it has such a one.
-#[inline(always)]
-pub(crate) fn rest_where(
-    more: bool,
-    message: &Arc<Message>,
-    next: u32,
-) -> Result<Option<Rest>, NoMemory>
-    ensures { (size : ℕ) (t : KeptTrack) → more ≡ nat_lt next (length (cut size message.now.value.bytes.items))
-        → IfOk result (λ rest. rests_meaning size t rest ≡ rest_from size message.now.value (latest_in (kind_meaning message.now.value.kind) t) next) }
+/// Of so many ordered and so many unordered messages that have a number, the number of the latest of a kind.
+pub(crate) fn latest_of(kind: Kind, ordered: u64, unordered: u64) -> u64
+    ensures { result ≡ latest (kind_meaning kind) ordered unordered }
 {
-    if !more {
-        return Ok(None);
-    }
-    Ok(Some(Rest {
-        message: shared(message)?,
-        fragment: next,
-    }))
+    let counted = match kind {
+        Kind::Ordered => ordered,
+        Kind::Unordered => unordered,
+    };
+    counted.saturating_sub(1)
 }

@@ -25,11 +25,13 @@ use sctp_wire::{Blocks, Sack};
 #[tactic(auto, unfolding(crate::specs::SenderStands::StandsFor))]
 impl<F: Framing> Sender<F> {
     /// What a SACK does that `on_sack` would accept; asked before `on_sack`. `timed` is the index of the chunk that is timed, if there is one. It costs
-    /// the SACK's blocks, the runs of the last one, what CUM passes, and what is newly acknowledged.
+    /// the SACK's blocks, the runs of the last one, what CUM passes, and what is newly acknowledged; of one that would be refused its blocks alone.
     pub fn weigh(&self, sack: &Sack<'_>, timed: Option<u64>) -> Weight
         ensures { (v : SenderView) → StandsFor F.format self.now v → sack_fault v (sack_meaning sack.now) ≡ None → IsWeight v (sack_after v (sack_meaning sack.now)) timed result }
     {
-        let passed = self.passed_or_none(sack.cumulative);
+        let Ok(passed) = self.passed_by_sack(sack) else {
+            return Weight::none();
+        };
         let tally = Tally::of_blocks(
             &self.parts.outstanding,
             known_runs(&self.told),
@@ -44,7 +46,9 @@ impl<F: Framing> Sender<F> {
     pub fn weigh_shutdown(&self, tsn: u32, timed: Option<u64>) -> Weight
         ensures { (v : SenderView) → StandsFor F.format self.now v → shutdown_fault v tsn ≡ None → IsWeight v (shutdown_after v tsn) timed result }
     {
-        let passed = self.passed_or_none(tsn);
+        let Ok(passed) = self.passed_by(tsn) else {
+            return Weight::none();
+        };
         let tally = Tally::of_shutdown(
             &self.parts.outstanding,
             last_known(&self.told, &self.parts.outstanding),
@@ -52,16 +56,6 @@ impl<F: Framing> Sender<F> {
         );
         let acked = self.is_acked_by_shutdown(timed, passed);
         self.weight_of(passed, tally, acked)
-    }
-
-    /// How many entries a cumulative TSN passes; 0 if it is refused.
-    fn passed_or_none(&self, wire: u32) -> u32
-        ensures { (v : SenderView) → StandsFor F.format self.now v → shutdown_fault v wire ≡ None → IsPassing v wire result }
-    {
-        match self.passed_by(wire) {
-            Ok(passed) => passed,
-            Err(_) => 0,
-        }
     }
 
     /// The weight of an acknowledgement that moves CUM by so many, and acknowledges what is tallied.

@@ -17,3 +17,17 @@ pub struct Weight {
     /// It newly acknowledges the chunk that is timed, whose message was not abandoned; without such a chunk this is not read.
     pub acked: bool,
 }
+
+impl Weight {
+    /// What an acknowledgement does that is refused.
+    pub(crate) fn none() -> Weight {
+        Weight {
+            moved: false,
+            cum: 0,
+            newest: 0,
+            newest_in_recovery: 0,
+            bytes: 0,
+            acked: false,
+        }
+    }
+}

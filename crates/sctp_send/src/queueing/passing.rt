@@ -48,12 +48,13 @@ impl<F: Framing> Sender<F> {
         }
     }
 
-    /// Gives memory back that a burst took, if less than an eighth of it is used: of chunks that were outstanding, of the queue, of tickets. That for the end
-    /// marks of messages in part stays. It allocates smaller blocks in place of larger ones; one that can't be allocated leaves the larger one.
+    /// Gives memory back that a burst took, if less than an eighth of it is used: of chunks that were outstanding, of the queue, of tickets. That for the
+    /// chunks of accepted messages stays. It allocates smaller blocks in place of larger ones; one that can't be allocated leaves the larger one.
     pub fn trim(&mut self)
         ensures { (v : SenderView) → StandsFor F.format self.old v → StandsFor F.format self.new v }
     {
-        if self.parts.outstanding.is_roomy() || self.parts.queue.is_roomy() {
+        let owed = self.owed_by_accepted() as usize;
+        if self.parts.outstanding.is_roomy(owed) || self.parts.queue.is_roomy() {
             self.give_all_back();
         }
     }
@@ -70,12 +71,12 @@ impl<F: Framing> Sender<F> {
         self.told.dues.give_back();
     }
 
-    /// Gives back what isn't used of the memory for entries, but for end marks.
+    /// Gives back what isn't used of the memory for entries, but for those that the accepted messages may still take.
     fn give_entries_back(&mut self)
         ensures { (v : SenderView) → StandsFor F.format self.old v → StandsFor F.format self.new v }
     {
-        let ends = self.parts.streams.in_part() as usize;
-        self.parts.outstanding.give_back(ends);
+        let owed = self.owed_by_accepted() as usize;
+        self.parts.outstanding.give_back(owed);
     }
 
     /// From time to time the first tickets are passed, if nothing is kept of their messages.

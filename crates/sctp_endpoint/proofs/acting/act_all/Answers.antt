@@ -11,7 +11,7 @@ use Rattle.sctp_endpoint.proofs.CountLemmas.{counted_on, counted_all}
 use Rattle.sctp_endpoint.proofs.acting.act_all.Goals as goal
 
 pub loop-rest-init : goal.loop-rest-init
-loop-rest-init c = (λ v stands. ([], v, refl, stands, λ rest u n y all. all), refl)
+loop-rest-init c = (λ v stands. ([], v, refl, stands, λ rest u n y all. all), refl, c.requires)
 
 pub loop-rest-smaller : goal.loop-rest-smaller
 loop-rest-smaller c =
@@ -32,6 +32,7 @@ loop-rest-preserved c = (
       ),
   let s = begins c.loop-rest.rest (grind (arith, common_steps)) in
       counted_on _ _ _ _ _ _ s.2 (c.act_next.ensures.taken s.0 s.1 s.2) (c.act_next.ensures.sacks s.0 s.1 s.2) ∙ c.loop-rest.invariant.1,
+  c.loop-rest.invariant.2,
 )
 
 pub returns-then-branch-clause-step : goal.returns-then-branch-clause-step
@@ -68,7 +69,7 @@ pub returns-then-notes-clause-step : goal.returns-then-notes-clause-step
 returns-then-notes-clause-step c = λ v stands.
     let i = c.loop-rest.invariant.0 v stands in
     let none = ends c.loop-rest.rest (grind (arith, common_steps)) in
-    (i.1, model.Taken, behind_all c.args.tag v i.1 _ (notes_meaning c.loop-rest.notes) true _ i.0 _ c.if-notes.true i.2 none i.4, refl, tt, i.3)
+    rw c.loop-rest.invariant.2 (i.1, model.Taken, behind_all c.args.tag v i.1 _ (notes_meaning c.loop-rest.notes) true _ i.0 _ c.if-notes.true i.2 none i.4, refl, tt, i.3)
 
 pub returns-clause-step : goal.returns-clause-step
 returns-clause-step c = λ v stands.

@@ -34,4 +34,4 @@ returns-clause-step c = λ e now stands.
     (sym (c.has_association.ensures _ stands) ∙ c.if-has_association.false)
 
 pub returns-then-has_association-clause-sacks : goal.returns-then-has_association-clause-sacks
-returns-then-has_association-clause-sacks c = λ v stands. if_taken c.hear.result c.args.sacks.now c.hear.new.sacks c.args.packet.chunks c.args.packet.chunks refl c.hear.ensures.sacks
+returns-then-has_association-clause-sacks c = λ v stands. if_taken c.hear.result c.hear.new.told c.args.sacks.now c.hear.new.sacks c.args.packet.chunks c.args.packet.chunks refl c.hear.ensures.sacks

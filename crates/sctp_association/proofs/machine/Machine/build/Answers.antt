@@ -18,4 +18,5 @@ unfolding MachineStands
 returns-clause-built c = λ v stands.
     let n = c.max-moment.result in
     let clock : n ≡ max v.moment c.args.now = c.max-moment.ensures ∙ ap (λ (m : ℕ). max m c.args.now) stands.clock in
-    subst (λ (m : ℕ). IfOk c.build_any.result (λ built. BuildAnswer (record v { moment = m }) built c.build_any.new.self)) clock (c.build_any.ensures.built v stands)
+    rw c.apart.ensures
+    (subst (λ (m : ℕ). IfOk c.build_any.result (λ built. BuildAnswer (record v { moment = m }) built c.build_any.new.self)) clock (c.build_any.ensures.built v stands))

@@ -6,4 +6,5 @@ use Rattle.sctp_association.proofs.machine.Machine.trim.Goals as goal
 pub returns-in-Joined : goal.returns-in-Joined
 unfolding MachineStands
 returns-in-Joined c = λ v stands.
-    with_traffic _ _ _ v v.sender v.receiver c.in-Joined.is stands (c.trim.ensures _ v.sender v.receiver (joined _ _ v c.in-Joined.is stands).traffic) refl refl
+    with_traffic _ _ _ v v.sender v.receiver c.in-Joined.is stands
+    (c.trim_receiver.ensures _ v.sender v.receiver (c.trim_sender.ensures _ v.sender v.receiver (joined _ _ v c.in-Joined.is stands).traffic)) refl refl

@@ -1,4 +1,6 @@
 use Rattle.std.proofs.Common.{refl, ◌∙◌}
+use Rattle.std.specs.Prelude.{Ok, Err}
+use Rattle.std.proofs.lemmas.Result.{err_from_is_err_and}
 use Rattle.sctp_model.specs.end.Clock.{at_moment}
 use Rattle.sctp_model.specs.end.PeerFaults.{FAULT}
 use Rattle.sctp_model.specs.end.Strays as model
@@ -26,28 +28,46 @@ returns-in-Err-clause-logs c = λ v stands.
 
 -- ---- a packet
 
-pub returns-in-Ok-clause-step : goal.returns-in-Ok-clause-step
+pub returns-in_ok-arrive-in-Ok-clause-step : goal.returns-in_ok-arrive-in-Ok-clause-step
 unfolding EndpointStands
-returns-in-Ok-clause-step c = λ v o stands read.
-    let e : Endpoint = record { machine = c.arrive-answer.new.machine; tally = c.hear-in-Ok.new.self } in
-    handled c.arrive-answer.result v c.args.now c.args.draw c.args.bytes.now o _ e c.in-Ok.ensures.exact
-    (reads_one _ o _ read c.in-Ok.ensures.packet c.in-Ok.ensures.fault) (c.arrive-answer.ensures.step v c.args.now (c.advance_clock.ensures v stands))
+returns-in_ok-arrive-in-Ok-clause-step c = λ v o stands read.
+    let e : Endpoint = record { machine = c.arrive.new.machine; tally = c.hear-in-Ok.new.self } in
+    handled (Ok c.arrive.new.told) v c.args.now c.args.draw c.args.bytes.now o _ e c.in-Ok.ensures.exact
+    (reads_one _ o _ read c.in-Ok.ensures.packet c.in-Ok.ensures.fault) (c.in_ok-arrive-in-Ok.ensures.step v c.args.now (c.advance_clock.ensures v stands))
 
-pub returns-in-Ok-clause-within : goal.returns-in-Ok-clause-within
+pub returns-in_ok-arrive-in-Ok-clause-within : goal.returns-in_ok-arrive-in-Ok-clause-within
 unfolding EndpointStands
-returns-in-Ok-clause-within c = λ v stands.
-    answered_within c.arrive-answer.result v c.args.now c.args.draw _ _ (c.arrive-answer.ensures.step v c.args.now (c.advance_clock.ensures v stands))
+returns-in_ok-arrive-in-Ok-clause-within c = λ v stands.
+    answered_within (Ok c.arrive.new.told) v c.args.now c.args.draw _ _ (c.in_ok-arrive-in-Ok.ensures.step v c.args.now (c.advance_clock.ensures v stands))
 
-pub returns-in-Ok-clause-logs : goal.returns-in-Ok-clause-logs
+pub returns-in_ok-arrive-in-Ok-clause-logs : goal.returns-in_ok-arrive-in-Ok-clause-logs
 unfolding EndpointStands
-returns-in-Ok-clause-logs c = λ v stands.
-    let e : Endpoint = record { machine = c.arrive-answer.new.machine; tally = c.hear-in-Ok.new.self } in
-    handled_logs c.arrive-answer.result v c.args.now c.args.draw _ e (c.sound.ensures v stands)
-    (handled c.arrive-answer.result v c.args.now c.args.draw c.args.bytes.now _ _ e c.in-Ok.ensures.exact refl (c.arrive-answer.ensures.step v c.args.now (c.advance_clock.ensures v stands)))
+returns-in_ok-arrive-in-Ok-clause-logs c = λ v stands.
+    let e : Endpoint = record { machine = c.arrive.new.machine; tally = c.hear-in-Ok.new.self } in
+    handled_logs (Ok c.arrive.new.told) v c.args.now c.args.draw _ e (c.sound.ensures v stands)
+    (handled (Ok c.arrive.new.told) v c.args.now c.args.draw c.args.bytes.now _ _ e c.in-Ok.ensures.exact refl (c.in_ok-arrive-in-Ok.ensures.step v c.args.now (c.advance_clock.ensures v stands)))
 
-pub returns-in-Ok-clause-counts : goal.returns-in-Ok-clause-counts
+pub returns-in_ok-arrive-in-Ok-clause-counts : goal.returns-in_ok-arrive-in-Ok-clause-counts
 unfolding EndpointStands counted
-returns-in-Ok-clause-counts c = λ v o stands read.
+returns-in_ok-arrive-in-Ok-clause-counts c = λ v o stands read.
     rw (reads_one _ o _ read c.in-Ok.ensures.packet c.in-Ok.ensures.fault)
     (c.hear-in-Ok.ensures
-    ∙ heard_sacks c.arrive-answer.result _ c.arrive-answer.new.sacks c.in-Ok.packet.chunks _ (c.arrive-answer.ensures.sacks (at_moment v c.args.now) (c.advance_clock.ensures v stands)))
+    ∙ heard_sacks (Ok c.arrive.new.told) _ c.arrive.new.sacks c.in-Ok.packet.chunks _ (c.in_ok-arrive-in-Ok.ensures.sacks (at_moment v c.args.now) (c.advance_clock.ensures v stands)))
+
+-- ---- an allocation that failed
+
+pub returns-in_err-arrive-in-Ok-clause-step : goal.returns-in_err-arrive-in-Ok-clause-step
+unfolding EndpointStands
+returns-in_err-arrive-in-Ok-clause-step c = λ v o stands read.
+    let e : Endpoint = record c.args.self.now { machine = c.arrive.new.machine } in
+    let p = err_from_is_err_and c.from_residual.result c.from_residual.ensures.1 in
+    rw p.1 (handled (Err p.0) v c.args.now c.args.draw c.args.bytes.now o _ e c.in-Ok.ensures.exact
+    (reads_one _ o _ read c.in-Ok.ensures.packet c.in-Ok.ensures.fault) (c.in_err-arrive-in-Ok.ensures.step v c.args.now (c.advance_clock.ensures v stands)))
+
+pub returns-in_err-arrive-in-Ok-clause-logs : goal.returns-in_err-arrive-in-Ok-clause-logs
+unfolding EndpointStands
+returns-in_err-arrive-in-Ok-clause-logs c = λ v stands.
+    let e : Endpoint = record c.args.self.now { machine = c.arrive.new.machine } in
+    let p = err_from_is_err_and c.from_residual.result c.from_residual.ensures.1 in
+    handled_logs (Err p.0) v c.args.now c.args.draw _ e (c.sound.ensures v stands)
+    (handled (Err p.0) v c.args.now c.args.draw c.args.bytes.now _ _ e c.in-Ok.ensures.exact refl (c.in_err-arrive-in-Ok.ensures.step v c.args.now (c.advance_clock.ensures v stands)))

@@ -1,4 +1,4 @@
-use Rattle.std.proofs.Common.{◌≡◌, [], ap, drop, length, refl, arith}
+use Rattle.std.proofs.Common.{◌≡◌, false, true, [], ap, drop, length, refl, arith}
 use Rattle.sctp_model.specs.wire.Packet.{HEADER_ROOM}
 use Rattle.sctp_wire.specs.Reading.{chunks_of}
 use Rattle.sctp_packet.specs.PacketBytes.{header_bytes}
@@ -15,6 +15,8 @@ invariant_of-result c = record {
   header = record { source = omega arith; destination = omega arith; tag = omega arith };
   draft = rw c.clear.ensures.items (draft_empty c.args.limit (header_bytes c.args.source c.args.destination c.args.tag 0));
   room = rw c.clear.ensures.items (λ two. absurd (omega (arith, two, ap length (none c))));
+  begun = λ reserved. absurd (let clash : false ≡ true = reserved in cc);
+  whole = λ reserved. absurd (let clash : false ≡ true = reserved in cc);
 }
 
 pub returns : goal.returns

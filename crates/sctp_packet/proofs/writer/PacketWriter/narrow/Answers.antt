@@ -38,6 +38,8 @@ invariant_of-self c =
       header = old.header;
       draft = record { front = old.draft.front; writes = old.draft.writes; within = λ some. grind (arith, common_steps) };
       room = λ two. let whole = old.room two in omega (arith, less, whole);
+      begun = old.begun;
+      whole = λ reserved. let whole = old.whole reserved in omega (arith, less, whole);
     }
 
 pub returns-then-from-room-clause-narrowed : goal.returns-then-from-room-clause-narrowed

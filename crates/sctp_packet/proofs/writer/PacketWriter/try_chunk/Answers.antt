@@ -1,4 +1,4 @@
-use Rattle.std.proofs.Common.{◌≡◌, ◌<◌, ◌≤◌, ◌++◌, length, drop, refl, arith}
+use Rattle.std.proofs.Common.{◌≡◌, ◌<◌, ◌≤◌, ◌++◌, length, drop, refl, ap, ◌∙◌, arith, length-append}
 use Rattle.std.specs.Prelude.{vec_capacity}
 use Rattle.std.proofs.lemmas.Grind.{common_steps}
 use Rattle.std.proofs.lemmas.Result.{err_from_is_err_and}
@@ -7,6 +7,7 @@ use Rattle.sctp_wire.specs.ChunkTree.{chunk_meaning}
 use Rattle.sctp_wire.specs.Reading.{chunks_of}
 use Rattle.sctp_packet.specs.PacketBytes.{header_bytes}
 use Rattle.sctp_wire.specs.Writes.{written}
+use Rattle.sctp_wire.proofs.WriteLemmas.{length-written}
 use Rattle.sctp_packet.specs.Draft.{with_header}
 use Rattle.sctp_packet.proofs.DraftLemmas.{IsPut, IsReadBack, size_of_more, size_some, draft_put, draft_size, room_more}
 use Rattle.sctp_packet.proofs.writer.PacketWriter.try_chunk.Goals as goal
@@ -60,7 +61,16 @@ room c two =
     omega (arith, whole, c.put.ensures.capacity)
 
 pub invariant_of-self-2 : goal.invariant_of-self-2
-invariant_of-self-2 c = record { header = c.self.invariant.header; draft = (is_put c).draft; room = room c }
+invariant_of-self-2 c =
+    let m = chunk_meaning c.args.chunk.now in
+    let put = ap length c.put.ensures.put ∙ length-append c.begin.new.bytes.items (written m) in
+    record {
+      header = c.self.invariant.header;
+      draft = (is_put c).draft;
+      room = room c;
+      begun = λ reserved. omega (arith, put, length-written m, size_some m);
+      whole = λ reserved. let whole = c.self.invariant.whole reserved in omega (arith, whole, c.in_ok-begin.ensures.capacity, c.put.ensures.capacity);
+    }
 
 pub returns-clause-answer : goal.returns-clause-answer
 returns-clause-answer c =

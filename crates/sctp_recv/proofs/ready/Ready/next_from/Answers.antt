@@ -1,7 +1,10 @@
 use Rattle.std.proofs.Common.{◌<◌, refl, arith, w64}
 use Rattle.std.specs.Int.{trailing_zeros}
-use Rattle.sctp_recv.proofs.BitLemmas.{read_word, tops_some, lowest_bit, top_found}
+use Rattle.sctp_recv.proofs.BitLemmas.{read_word, tops_some, lowest_bit, top_found, past_bits}
 use Rattle.sctp_recv.proofs.ready.Ready.next_from.Goals as goal
+
+pub returns-then-at-len : goal.returns-then-at-len
+returns-then-at-len c = λ j le. past_bits c.args.self.now.words.items j (omega arith)
 
 pub overflow_cast-result-2 : goal.overflow_cast-result-2
 overflow_cast-result-2 c =

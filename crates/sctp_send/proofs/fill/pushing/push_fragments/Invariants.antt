@@ -1,5 +1,5 @@
-use Rattle.sctp_send.proofs.fill.EnterLemmas.{IsPushed}
+use Rattle.sctp_send.proofs.fill.OwnerLemmas.{IsPushed}
 use Rattle.sctp_send.proofs.fill.pushing.push_fragments.Given as goal
 
 abbrev pub invariant-loop-fragment : goal.invariant-loop-fragment
-invariant-loop-fragment l = IsPushed l.fn.outstanding l.outstanding l.message.value l.number l.fragment
+invariant-loop-fragment l = IsPushed l.fn.outstanding l.outstanding l.fn.others.items l.others.items l.number l.fragment

@@ -3,7 +3,7 @@ use Rattle.sctp_send.specs.PartsKept.{changed_at}
 use Rattle.sctp_send.specs.inner.Changes.{stood}
 use Rattle.sctp_send.specs.inner.Stocking.{went_out}
 use Rattle.sctp_send.specs.declared.kept.entry.Standing.TheVariants.{Sent}
-use Rattle.sctp_send.proofs.fill.UndoLemmas.{changed_at_like}
+use Rattle.sctp_send.proofs.kept.ChangedLemmas.{changed_at_like}
 use Rattle.sctp_send.proofs.kept.going_out.send_again.Goals as goal
 
 pub returns-clause-items : goal.returns-clause-items

@@ -8,29 +8,30 @@ use Rattle.sctp_send.proofs.fill.ChunkLemmas.{piece_fits}
 use Rattle.sctp_send.proofs.fill.EnterLemmas.{same_chunk}
 use Rattle.sctp_send.proofs.kept.pieces.put_fragment.Goals as goal
 
-pub try_chunk-requires : goal.try_chunk-requires
-try_chunk-requires g c =
+pub put-requires-clause-fits : goal.put-requires-clause-fits
+put-requires-clause-fits g c =
     let f = g.F.Framing.format in
     let m = c.args.message.now in
     let own : c.args.tsn ≡ tsn c.args.tsn 1 = omega arith in
     let count = c.fragments_of.ensures ∙ ap (λ b. length (cut c.args.size b)) c.deref.ensures.value in
     let is : chunk_meaning c.data_chunk.result ≡ fragment_chunk f no_base c.args.size c.args.tsn 1 m c.args.number c.args.content =
-    c.data_chunk.ensures ∙ same_chunk f c.args.size c.args.tsn 1 c.args.number c.args.tsn c.fragment_of-fragment.result c.fragments_of.result c.wire_number.result c.wire_word.result c.stream_of-stream.result c.payload_of-payload_id.result c.flag.result m c.args.content c.bytes_of.result.now
-    own c.fragment_of-fragment.ensures count c.wire_number.ensures c.wire_word.ensures c.stream_of-stream.ensures c.payload_of-payload_id.ensures c.flag.ensures c.bytes_of.ensures in
+    c.data_chunk.ensures ∙ same_chunk f c.args.size c.args.tsn 1 c.args.number c.args.tsn c.fragment_of-fragment.result c.fragments_of.result c.wire_number.result c.wire_word.result c.stream_of-stream.result c.payload_of-payload_id.result c.flag.result m c.args.content c.bytes_of-bytes.result.now
+    own c.fragment_of-fragment.ensures count c.wire_number.ensures c.wire_word.ensures c.stream_of-stream.ensures c.payload_of-payload_id.ensures c.flag.ensures c.bytes_of-bytes.ensures in
     let few = c.fragment_of-fragment.ensures (lane_meaning m) c.args.number in
     let stream : m.stream < 2 ^ 16 = omega (arith, c.stream_of-stream.ensures, c.stream_of-stream.type_inv) in
     let payload : m.payload_id < 2 ^ 32 = omega (arith, c.payload_of-payload_id.ensures, c.payload_of-payload_id.type_inv) in
     rw is (piece_fits f c.args.tsn 1 c.args.number c.args.size m c.args.content c.requires.short stream payload (omega (arith, few)))
 
-pub returns-clause-answer : goal.returns-clause-answer
-returns-clause-answer g c = λ initial i first.
+pub put-requires-clause-room : goal.put-requires-clause-room
+put-requires-clause-room g c =
     let f = g.F.Framing.format in
     let m = c.args.message.now in
+    let own : c.args.tsn ≡ tsn c.args.tsn 1 = omega arith in
     let count = c.fragments_of.ensures ∙ ap (λ b. length (cut c.args.size b)) c.deref.ensures.value in
-    let is : chunk_meaning c.data_chunk.result ≡ fragment_chunk f no_base c.args.size initial i m c.args.number c.args.content =
-    c.data_chunk.ensures ∙ same_chunk f c.args.size initial i c.args.number c.args.tsn c.fragment_of-fragment.result c.fragments_of.result c.wire_number.result c.wire_word.result c.stream_of-stream.result c.payload_of-payload_id.result c.flag.result m c.args.content c.bytes_of.result.now
-    first c.fragment_of-fragment.ensures count c.wire_number.ensures c.wire_word.ensures c.stream_of-stream.ensures c.payload_of-payload_id.ensures c.flag.ensures c.bytes_of.ensures in
-    rw is at c.try_chunk.ensures.answer
+    let is : chunk_meaning c.data_chunk.result ≡ fragment_chunk f no_base c.args.size c.args.tsn 1 m c.args.number c.args.content =
+    c.data_chunk.ensures ∙ same_chunk f c.args.size c.args.tsn 1 c.args.number c.args.tsn c.fragment_of-fragment.result c.fragments_of.result c.wire_number.result c.wire_word.result c.stream_of-stream.result c.payload_of-payload_id.result c.flag.result m c.args.content c.bytes_of-bytes.result.now
+    own c.fragment_of-fragment.ensures count c.wire_number.ensures c.wire_word.ensures c.stream_of-stream.ensures c.payload_of-payload_id.ensures c.flag.ensures c.bytes_of-bytes.ensures in
+    rw is (c.requires.fits no_base c.args.tsn 1 c.args.number)
 
 pub returns-clause-after : goal.returns-clause-after
 returns-clause-after g c = λ initial i first.
@@ -38,6 +39,6 @@ returns-clause-after g c = λ initial i first.
     let m = c.args.message.now in
     let count = c.fragments_of.ensures ∙ ap (λ b. length (cut c.args.size b)) c.deref.ensures.value in
     let is : chunk_meaning c.data_chunk.result ≡ fragment_chunk f no_base c.args.size initial i m c.args.number c.args.content =
-    c.data_chunk.ensures ∙ same_chunk f c.args.size initial i c.args.number c.args.tsn c.fragment_of-fragment.result c.fragments_of.result c.wire_number.result c.wire_word.result c.stream_of-stream.result c.payload_of-payload_id.result c.flag.result m c.args.content c.bytes_of.result.now
-    first c.fragment_of-fragment.ensures count c.wire_number.ensures c.wire_word.ensures c.stream_of-stream.ensures c.payload_of-payload_id.ensures c.flag.ensures c.bytes_of.ensures in
-    rw is at c.try_chunk.ensures.after
+    c.data_chunk.ensures ∙ same_chunk f c.args.size initial i c.args.number c.args.tsn c.fragment_of-fragment.result c.fragments_of.result c.wire_number.result c.wire_word.result c.stream_of-stream.result c.payload_of-payload_id.result c.flag.result m c.args.content c.bytes_of-bytes.result.now
+    first c.fragment_of-fragment.ensures count c.wire_number.ensures c.wire_word.ensures c.stream_of-stream.ensures c.payload_of-payload_id.ensures c.flag.ensures c.bytes_of-bytes.ensures in
+    rw is at c.put.ensures

@@ -1,12 +1,15 @@
-use Rattle.std.proofs.Common.{◌≡◌, ◌∙◌, ◌+◌, ◌∷◌, ◌++◌, [], ℕ, List, subst, sym, refl, arith}
+use Rattle.std.proofs.Common.{◌≡◌, ◌∙◌, suc, ◌+◌, ◌%◌, ◌^◌, ◌∷◌, ◌++◌, [], ℕ, List, length, ap, subst, sym, refl, arith}
 use Rattle.std.specs.Prelude.{None, unwrap_or}
+use Rattle.std.proofs.lemmas.List.{length-map}
 use Rattle.sctp_model.specs.numbers.Limits.{LAST_MOMENT}
-use Rattle.sctp_model.specs.sender.Queueing.{refusal}
+use Rattle.sctp_model.specs.sender.Queueing.{cut, owed_for, refusal}
+use Rattle.sctp_send.specs.OutstandingFields.{item_meaning}
 use Rattle.sctp_send.specs.SenderKept.{Kept}
 use Rattle.sctp_send.specs.SenderStands.{StandsFor, Keeps}
 use Rattle.sctp_send.specs.SenderAnswers.{lane_for, refused_with}
+use Rattle.sctp_send.specs.declared.kept.entry.Entry.{Entry as EntryFields}
 use Rattle.sctp_send.specs.declared.kept.message.Fate.TheVariants.{Queued as StillQueued}
-use Rattle.sctp_send.proofs.QueueLemmas.{memory_told, keeps_queued, fates_given}
+use Rattle.sctp_send.proofs.QueueLemmas.{memory_told, keeps_queued, room_queued, fates_given}
 use Rattle.sctp_send.proofs.sender.Sender.accept.Goals as goal
 
 pub returns-in-Some-clause-answer : goal.returns-in-Some-clause-answer
@@ -40,5 +43,9 @@ returns-clause-step g c = λ v stands.
     let moments : c.push-2.new.self.moments ≡ s.told.dues.moments ++ unwrap_or c.args.until LAST_MOMENT ∷ [] = rw (c.push-2.ensures.moments, c.in-Ok.ensures.moments) refl in
     let passed : c.push-2.new.self.passed ≡ s.told.dues.passed = rw (c.push-2.ensures.passed, c.in-Ok.ensures.passed) refl in
     let asleep : c.push-2.new.self.asleep ≡ s.told.dues.asleep = rw (c.push-2.ensures.asleep, c.in-Ok.ensures.asleep) refl in
-    let taken = keeps_queued g.F.Framing.format _ v (lane_for c.args.stream c.args.ordered) c.args.payload_id (c.len-given.result + 1) c.args.bytes.items c.args.until c.args.limit keeps none (omega (arith, given)) c.push-2.ensures.small in
-    rw (c.in_ok-enqueue.ensures.waits s.told.fragment, fates, ended, abandoned, moments, passed, asleep, c.of_flag.ensures) taken
+    let ticket : c.len-given.result + 1 ≡ suc v.tickets = omega (arith, given) in
+    let long = length-map s.parts.outstanding.items (item_meaning s.told.fragment) in
+    let more = c.owed-more.ensures ∙ ap (λ (n : ℕ). owed_for n % 2 ^ 64) (c.fragments_of.ensures ∙ ap (λ (b : List ℕ). length (cut s.told.fragment b)) c.deref-2.ensures.value) in
+    let room = room_queued g.F.Framing.format _ v c.args.stream c.args.bytes.items c.owed_by_accepted.result c.owed-more.result _ keeps none (c.owed_by_accepted.ensures v stands) more (omega (arith, c.in-Ok.ensures.fits, ap (λ (es : List EntryFields). length es) c.in-Ok.ensures.entries, long)) in
+    let taken = keeps_queued g.F.Framing.format _ v (lane_for c.args.stream c.args.ordered) c.args.payload_id (c.len-given.result + 1) c.args.bytes.items c.args.until c.args.limit _ keeps none ticket c.push-2.ensures.small room in
+    rw (c.in-Ok.ensures.entries, c.in_ok-enqueue.ensures.waits s.told.fragment, fates, ended, abandoned, moments, passed, asleep, c.of_flag.ensures) taken

@@ -22,4 +22,4 @@ returns g c = λ v stands yes.
     let long = length-map s.parts.queue.items (queued_by size) in
     let next = c.next_part.ensures size in
     let last : c.next_part.result ≡ s.told.streams = omega (arith, c.if-next_part-streams.false, next.within) in
-    at_rest f _ v keeps marked unsent (omega (arith, long, c.len.ensures.len, c.if-len-gt0.false)) (subst (λ (n : ℕ). IsNextPart 0 s.told.streams (map (track_meaning size) s.parts.streams.items) n) last next)
+    at_rest f _ v keeps marked unsent (omega (arith, long, c.len.ensures, c.if-len-gt0.false)) (subst (λ (n : ℕ). IsNextPart 0 s.told.streams (map (track_meaning size) s.parts.streams.items) n) last next)

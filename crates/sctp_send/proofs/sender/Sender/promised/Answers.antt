@@ -11,6 +11,6 @@ unfolding StandsFor
 returns g c = λ v stands.
     let s = c.self.inside in
     let keeps = subst (λ (k : Kept). Keeps g.F.Framing.format k v) (sym c.self.view_is) stands in
-    let is = promised_is g.F.Framing.format _ v keeps in
+    let is = promised_is g.F.Framing.format _ v c.owed_by_accepted.result keeps (c.owed_by_accepted.ensures v stands) in
     let long = length-map s.parts.outstanding.items (item_meaning s.told.fragment) in
-    rw (c.len.ensures, c.owed.ensures, c.owed-2.ensures, c.self.invariant.queue, c.self.invariant.tracks) (rw long at is)
+    rw c.len.ensures (rw long at is)

@@ -6,7 +6,7 @@ use Rattle.sctp_send.specs.SenderKept.{Item, Kept}
 use Rattle.sctp_send.specs.SenderStands.{StandsFor}
 use Rattle.sctp_send.specs.CoveredRuns.{AreCovered}
 use Rattle.sctp_send.specs.inner.Weighing.{IsTallied, LieCovered}
-use Rattle.sctp_send.proofs.pace.AfterLemmas.{sound, shutdown_none, after_sack, lie_covered}
+use Rattle.sctp_send.proofs.pace.AfterLemmas.{sound, after_sack, lie_covered}
 use Rattle.sctp_send.proofs.sender.Sender.weigh.Goals as goal
 
 pub returns : goal.returns
@@ -15,8 +15,8 @@ returns g c = λ v stands none.
     let f = g.F.Framing.format in
     let s = c.self.inside in
     let x = sack_meaning c.args.sack.now in
-    let n = c.passed_or_none-passed.result in
-    let p = c.passed_or_none-passed.ensures v stands (shutdown_none v x none) in
+    let n = c.in-Ok.passed in
+    let p = (c.in-Ok.ensures.answer v stands).0 in
     let items = ap (λ (m : ℕ). map (item_meaning m) s.parts.outstanding.items) c.self.invariant.window ∙ ap (λ (k : Kept). k.items) c.self.view_is in
     let runs = ap (λ (k : Kept). k.runs) c.self.view_is in
     let covered = subst (λ (o : _). AreCovered o v.covered v.cum) (sym runs) stands.holds.covered in

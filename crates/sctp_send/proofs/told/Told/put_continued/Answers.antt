@@ -1,15 +1,14 @@
-use Rattle.std.proofs.Common.{◌≡◌, ℕ, suc, ◌+◌, ◌%◌, ◌^◌, List, length, map, Some, refl, sym, ap, ◌∙◌, arith}
-use Rattle.std.specs.Prelude.{nat_lt}
-use Rattle.sctp_model.specs.messages.Plan.{Part}
-use Rattle.sctp_model.specs.sender.Queueing.{cut}
-use Rattle.sctp_send.specs.OutstandingFields.{lane_meaning, message_meaning}
-use Rattle.sctp_send.specs.SenderFields.{number_left, track_meaning, rest_meaning}
-use Rattle.sctp_send.specs.inner.Newcomers.{rest_at, has_rest, track_of}
-use Rattle.sctp_send.specs.inner.Stocking.{bare, let_in, rest_from, IsRefused}
+use Rattle.std.proofs.Common.{◌≡◌, suc, ◌+◌, Bool, List, [], ◌∷◌, map, Some, refl, sym, subst, ap, ◌∙◌, arith}
+use Rattle.sctp_packet.specs.Draft.{with_chunks}
+use Rattle.sctp_send.specs.ResetsKept.{base_of}
+use Rattle.sctp_send.specs.declared.kept.entry.Content.TheVariants.{Fragment}
 use Rattle.sctp_send.specs.declared.kept.message.Message.{Message as MessageFields}
+use Rattle.sctp_send.specs.SenderFields.{track_meaning, rest_meaning}
+use Rattle.sctp_send.specs.inner.Asking.{IsAsked}
+use Rattle.sctp_send.specs.inner.Newcomers.{rest_at, has_rest, track_of}
+use Rattle.sctp_send.specs.inner.Stocking.{bare, fragment_chunk, FitsInto}
 use Rattle.sctp_send.specs.declared.kept.track.Track.{Track as TrackFields}
-use Rattle.sctp_send.proofs.fill.NewMayLemmas.{more_read, of_ok, on_err, of_err, no_item}
-use Rattle.sctp_send.proofs.fill.ContinuedPut.{never_ended, continued_few, continued_held, continued_full, continued_put, continued_refused}
+use Rattle.sctp_send.proofs.fill.ContinuedPut.{never_ended, continued_there, continued_put, continued_room, latest_read}
 use Rattle.sctp_send.proofs.told.Told.put_continued.Goals as goal
 
 pub returns-in_default-clause-put : goal.returns-in_default-clause-put
@@ -18,8 +17,8 @@ returns-in_default-clause-put g c = λ v k stands next flying.
     absurd (never_ended g.F.Framing.format (bare c.args.self.now) v c.args.stock.now c.args.stream k next
     (c.in_default.ensures.rest n ∙ ap (λ (ts : List TrackFields). rest_at (map (track_meaning n) ts) c.args.stream) c.tracks.ensures))
 
-pub returns-then-not-has_window-clause-put : goal.returns-then-not-has_window-clause-put
-returns-then-not-has_window-clause-put g c = λ v k stands next flying.
+pub returns-then-not-lets_go_on-clause-put : goal.returns-then-not-lets_go_on-clause-put
+returns-then-not-lets_go_on-clause-put g c = λ v k stands next flying.
     let f = g.F.Framing.format in
     let s = bare c.args.self.now in
     let d = c.args.stock.now in
@@ -27,69 +26,33 @@ returns-then-not-has_window-clause-put g c = λ v k stands next flying.
     let r = c.in-Some.rest.now in
     let t = track_of (map (track_meaning s.fragment) d.streams.items) c.args.stream in
     let its : Some (rest_meaning s.fragment t r) ≡ rest_at (map (track_meaning s.fragment) d.streams.items) c.args.stream = rw c.tracks.ensures at (c.in-Some.ensures.rest s.fragment) in
-    let few = continued_few f s v d t r c.args.stream k stands next its in
-    let more = more_read r.fragment c.args.self.now.fragment s.fragment c.fragments_of.result c.deref-2.result.now r.message.value.bytes.items few c.fragments_of.ensures refl
-    (c.deref-2.ensures.value ∙ ap (λ (m : MessageFields). m.bytes.items) c.deref.ensures) in
-    let left = nat_lt ((r.fragment + 1) % 2 ^ 32) c.fragments_of.result in
-    let window = sym (c.has_window.ensures.fits s.fragment (sym c.requires.sized.tracks)) ∙ c.if-not-has_window.true in
-    continued_full f s v d t r c.args.stream k stands next its p p _ left more window refl refl refl
+    let asked = subst (λ (b : Bool). IsAsked f v p b) c.if-not-lets_go_on.true (c.lets_go_on.ensures.asked v p k c.room.ensures.room stands next flying its) in
+    record { none = asked; packet = refl; kept = refl; tickets = refl }
 
-pub returns-then-not-is_let_in-clause-put : goal.returns-then-not-is_let_in-clause-put
-returns-then-not-is_let_in-clause-put g c = λ v k stands next flying.
+pub returns-then-not-has_room-clause-put : goal.returns-then-not-has_room-clause-put
+returns-then-not-has_room-clause-put g c = λ v k stands next flying.
     let f = g.F.Framing.format in
     let s = bare c.args.self.now in
     let d = c.args.stock.now in
-    let p = c.args.packet.now in
     let r = c.in-Some.rest.now in
     let t = track_of (map (track_meaning s.fragment) d.streams.items) c.args.stream in
     let its : Some (rest_meaning s.fragment t r) ≡ rest_at (map (track_meaning s.fragment) d.streams.items) c.args.stream = rw c.tracks.ensures at (c.in-Some.ensures.rest s.fragment) in
-    let i = suc (s.cum + length d.outstanding.items) in
-    let e = Part (lane_meaning r.message.value) (number_left t r) r.fragment in
-    let on = sym (c.is_let_in.ensures (number_left t r) i ∙ ap (λ (n : ℕ). let_in f n s i p e (Some (message_meaning s.fragment r.message.value))) flying) ∙ c.if-not-is_let_in.true in
-    continued_held f s v d t r c.args.stream k stands next its p p _ on refl refl refl
+    let room = continued_room f s v d t r c.args.stream k stands next its in
+    let full = c.has_room.ensures.none c.if-not-has_room.true in
+    absurd (omega (arith, room, full))
 
-pub returns-in_err-left-clause-refused : goal.returns-in_err-left-clause-refused
-returns-in_err-left-clause-refused g c = λ v k stands next flying.
-    let f = g.F.Framing.format in
-    let s = bare c.args.self.now in
-    let d = c.args.stock.now in
-    let p = c.args.packet.now in
+pub put_piece-requires-clause-fits : goal.put_piece-requires-clause-fits
+put_piece-requires-clause-fits g c =
     let r = c.in-Some.rest.now in
-    let t = track_of (map (track_meaning s.fragment) d.streams.items) c.args.stream in
-    let its : Some (rest_meaning s.fragment t r) ≡ rest_at (map (track_meaning s.fragment) d.streams.items) c.args.stream = rw c.tracks.ensures at (c.in-Some.ensures.rest s.fragment) in
-    let few = continued_few f s v d t r c.args.stream k stands next its in
-    let more = more_read r.fragment c.args.self.now.fragment s.fragment c.fragments_of.result c.deref-2.result.now r.message.value.bytes.items few c.fragments_of.ensures refl
-    (c.deref-2.ensures.value ∙ ap (λ (m : MessageFields). m.bytes.items) c.deref.ensures) in
-    let left = nat_lt ((r.fragment + 1) % 2 ^ 32) c.fragments_of.result in
-    let window = sym (c.has_window.ensures.fits s.fragment (sym c.requires.sized.tracks)) ∙ c.if-not-has_window.false in
-    let i = suc (s.cum + length d.outstanding.items) in
-    let e = Part (lane_meaning r.message.value) (number_left t r) r.fragment in
-    let on = sym (c.is_let_in.ensures (number_left t r) i ∙ ap (λ (n : ℕ). let_in f n s i p e (Some (message_meaning s.fragment r.message.value))) flying) ∙ c.if-not-is_let_in.false in
-    on_err (IsRefused f v p p) _ (continued_refused f s v d t r c.args.stream k stands next its p p left more window on refl)
+    subst (λ (m : MessageFields). FitsInto g.F.Framing.format c.args.packet.now c.args.self.now.fragment m (Fragment r.fragment)) (sym c.deref-2.ensures) (c.lets_go_on.ensures.fits c.args.packet.now c.room.ensures.room c.if-not-lets_go_on.false)
 
 pub go_on-requires-clause-part : goal.go_on-requires-clause-part
 go_on-requires-clause-part g c =
     let n = c.args.self.now.fragment in
     sym (ap has_rest (c.in-Some.ensures.rest n ∙ ap (λ (ts : List TrackFields). rest_at (map (track_meaning n) ts) c.args.stream) c.tracks.ensures))
 
-pub returns-in_err-go_on-clause-refused : goal.returns-in_err-go_on-clause-refused
-returns-in_err-go_on-clause-refused g c = λ v k stands next flying.
-    let f = g.F.Framing.format in
-    let s = bare c.args.self.now in
-    let d = c.args.stock.now in
-    let p = c.args.packet.now in
-    let r = c.in-Some.rest.now in
-    let t = track_of (map (track_meaning s.fragment) d.streams.items) c.args.stream in
-    let its : Some (rest_meaning s.fragment t r) ≡ rest_at (map (track_meaning s.fragment) d.streams.items) c.args.stream = rw c.tracks.ensures at (c.in-Some.ensures.rest s.fragment) in
-    let few = continued_few f s v d t r c.args.stream k stands next its in
-    let more = more_read r.fragment c.args.self.now.fragment s.fragment c.fragments_of.result c.deref-2.result.now r.message.value.bytes.items few c.fragments_of.ensures refl
-    (c.deref-2.ensures.value ∙ ap (λ (m : MessageFields). m.bytes.items) c.deref.ensures) in
-    let left = nat_lt ((r.fragment + 1) % 2 ^ 32) c.fragments_of.result in
-    let window = sym (c.has_window.ensures.fits s.fragment (sym c.requires.sized.tracks)) ∙ c.if-not-has_window.false in
-    let i = suc (s.cum + length d.outstanding.items) in
-    let e = Part (lane_meaning r.message.value) (number_left t r) r.fragment in
-    let on = sym (c.is_let_in.ensures (number_left t r) i ∙ ap (λ (n : ℕ). let_in f n s i p e (Some (message_meaning s.fragment r.message.value))) flying) ∙ c.if-not-is_let_in.false in
-    on_err (IsRefused f v p p) _ (continued_refused f s v d t r c.args.stream k stands next its p p left more window on refl)
+pub go_on-requires-clause-room : goal.go_on-requires-clause-room
+go_on-requires-clause-room g c = let room = c.has_room.ensures.room c.if-not-has_room.false in omega (arith, room)
 
 pub returns-clause-put : goal.returns-clause-put
 returns-clause-put g c = λ v k stands next flying.
@@ -98,39 +61,12 @@ returns-clause-put g c = λ v k stands next flying.
     let d = c.args.stock.now in
     let p = c.args.packet.now in
     let r = c.in-Some.rest.now in
+    let number = c.saturating_sub-number.result in
     let t = track_of (map (track_meaning s.fragment) d.streams.items) c.args.stream in
     let its : Some (rest_meaning s.fragment t r) ≡ rest_at (map (track_meaning s.fragment) d.streams.items) c.args.stream = rw c.tracks.ensures at (c.in-Some.ensures.rest s.fragment) in
-    let few = continued_few f s v d t r c.args.stream k stands next its in
-    let more = more_read r.fragment c.args.self.now.fragment s.fragment c.fragments_of.result c.deref-2.result.now r.message.value.bytes.items few c.fragments_of.ensures refl
-    (c.deref-2.ensures.value ∙ ap (λ (m : MessageFields). m.bytes.items) c.deref.ensures) in
-    let left = nat_lt ((r.fragment + 1) % 2 ^ 32) c.fragments_of.result in
-    let window = sym (c.has_window.ensures.fits s.fragment (sym c.requires.sized.tracks)) ∙ c.if-not-has_window.false in
-    let i = suc (s.cum + length d.outstanding.items) in
-    let e = Part (lane_meaning r.message.value) (number_left t r) r.fragment in
-    let on = sym (c.is_let_in.ensures (number_left t r) i ∙ ap (λ (n : ℕ). let_in f n s i p e (Some (message_meaning s.fragment r.message.value))) flying) ∙ c.if-not-is_let_in.false in
-    let after : (r.fragment + 1) % 2 ^ 32 ≡ suc r.fragment = omega (arith, few) in
-    let rest = c.in_ok-left.ensures s.fragment t (more ∙ ap (λ (n : ℕ). nat_lt n (length (cut s.fragment r.message.value.bytes.items))) (sym after)) ∙ ap (rest_from s.fragment r.message.value (number_left t r)) after in
-    let new = c.go_on.new.stock in
-    let kept = c.in_ok-go_on.ensures.kept (rest_meaning s.fragment t r) its rest in
-    of_ok _ _ c.put_at.result
-    (λ put tried. continued_put f s v d t r c.args.stream k stands next its p c.put_at.new.packet new left c.len-at.result new.outstanding.capacity no_item put more window on c.len-at.ensures kept c.requires.sized.tracks c.in_ok-go_on.ensures.room c.in_ok-go_on.ensures.told tried)
-    (c.put_at.ensures.tried no_item)
-
-pub returns-clause-refused : goal.returns-clause-refused
-returns-clause-refused g c = λ v k stands next flying.
-    let f = g.F.Framing.format in
-    let s = bare c.args.self.now in
-    let d = c.args.stock.now in
-    let p = c.args.packet.now in
-    let r = c.in-Some.rest.now in
-    let t = track_of (map (track_meaning s.fragment) d.streams.items) c.args.stream in
-    let its : Some (rest_meaning s.fragment t r) ≡ rest_at (map (track_meaning s.fragment) d.streams.items) c.args.stream = rw c.tracks.ensures at (c.in-Some.ensures.rest s.fragment) in
-    let few = continued_few f s v d t r c.args.stream k stands next its in
-    let more = more_read r.fragment c.args.self.now.fragment s.fragment c.fragments_of.result c.deref-2.result.now r.message.value.bytes.items few c.fragments_of.ensures refl
-    (c.deref-2.ensures.value ∙ ap (λ (m : MessageFields). m.bytes.items) c.deref.ensures) in
-    let left = nat_lt ((r.fragment + 1) % 2 ^ 32) c.fragments_of.result in
-    let window = sym (c.has_window.ensures.fits s.fragment (sym c.requires.sized.tracks)) ∙ c.if-not-has_window.false in
-    let i = suc (s.cum + length d.outstanding.items) in
-    let e = Part (lane_meaning r.message.value) (number_left t r) r.fragment in
-    let on = sym (c.is_let_in.ensures (number_left t r) i ∙ ap (λ (n : ℕ). let_in f n s i p e (Some (message_meaning s.fragment r.message.value))) flying) ∙ c.if-not-is_let_in.false in
-    of_err _ _ c.put_at.result (λ same. continued_refused f s v d t r c.args.stream k stands next its p c.put_at.new.packet left more window on same) c.put_at.ensures.unchanged
+    let asked = subst (λ (b : Bool). IsAsked f v p b) c.if-not-lets_go_on.false (c.lets_go_on.ensures.asked v p k c.room.ensures.room stands next flying its) in
+    let low = continued_there f s v d t r c.args.stream k stands next its in
+    let latest = latest_read s.fragment c.args.stream c.number_next.result number c.tracks-2.result.now d.streams.items c.index-tracks-from.result r.message.value c.deref.result.now c.tracks-2.ensures c.deref.ensures low
+    (rw c.from.ensures at c.index-tracks-from.is) (c.number_next.ensures s.fragment) c.saturating_sub-number.ensures in
+    let put = c.put_piece.ensures.put ∙ ap (λ (m : MessageFields). with_chunks p (fragment_chunk f (base_of s.resets) s.fragment s.initial (suc (s.cum + c.len-at.result)) m number (Fragment r.fragment) ∷ [])) c.deref-2.ensures in
+    continued_put f s v d t r c.args.stream k stands next its p c.put_piece.new.packet c.go_on.new.stock c.len-at.result number asked c.len-at.ensures latest (c.go_on.ensures.kept (rest_meaning s.fragment t r) its) c.go_on.ensures.tickets put

@@ -1,15 +1,11 @@
-use Rattle.std.proofs.Common.{◌≡◌, ◌∙◌, ◌+◌, ◌%◌, ◌^◌, Bool, refl, subst, None, Some}
-use Rattle.std.specs.Prelude.{IfOk, OnErr}
-use Rattle.sctp_model.specs.sender.Filling.{next_wish}
+use Rattle.std.proofs.Common.{◌∙◌, refl, subst, None, Some}
 use Rattle.sctp_send.specs.SenderStands.{Keeps}
 use Rattle.sctp_send.specs.PartsKept.{OutstandingKept}
 use Rattle.sctp_send.specs.inner.Wishing.{is_item_marked, is_item_unsent}
-use Rattle.sctp_send.specs.inner.Stocking.{bare, stocked, PutAnswer, IsRefused, IsNextEntry, IsNextUnsent, IsFlying, NothingStands}
-use Rattle.sctp_send.specs.inner.Sending.{resent_if, resent_by}
-use Rattle.sctp_send.specs.inner.Undoing.{IsBehind}
+use Rattle.sctp_send.specs.inner.Stocking.{bare, stocked, PutAnswer, IsNextEntry, IsNextUnsent, IsFlying, NothingStands}
 use Rattle.sctp_send.proofs.fill.NewMayLemmas.{flying_is, no_item}
 use Rattle.sctp_send.proofs.fill.PutLemmas.{searched, marked_next, marked_sent, unsent_next, nothing_stands}
-use Rattle.sctp_send.proofs.fill.SendingLemmas.{counted_again, counted_unsent, counted_new, of_any, of_ok}
+use Rattle.sctp_send.proofs.fill.SendingLemmas.{counted_again, counted_unsent, counted_new}
 use Rattle.sctp_send.proofs.told.Told.put_found.Goals as goal
 
 pub returns-in-Some-clause-put : goal.returns-in-Some-clause-put
@@ -18,26 +14,11 @@ returns-in-Some-clause-put g c = λ v keeps.
     let s = bare c.args.self.now in
     let d = c.args.stock.now in
     let at = c.in-Some.at in
-    let found = searched s d d.outstanding is_item_marked (Some at) refl c.requires.window c.in-Some.ensures.first in
+    let found = searched s d d.outstanding is_item_marked (Some at) refl c.requires.sized.window c.in-Some.ensures.first in
     let next = (marked_next f (stocked s d) v at no_item keeps found).1 in
-    let put = subst (λ (w : OutstandingKept). Keeps f (stocked s (record d { outstanding = w })) v → IsNextEntry f v at → IfOk c.put_again.result (λ put. PutAnswer f s v c.args.packet.now c.put_again.new.packet (record d { outstanding = w }) c.put_again.new.stock put))
+    let put = subst (λ (w : OutstandingKept). Keeps f (stocked s (record d { outstanding = w })) v → IsNextEntry f v at → PutAnswer f s v c.args.packet.now c.put_again.new.packet (record d { outstanding = w }) c.put_again.new.stock c.put_again.result)
     c.first_marked.ensures.same (c.put_again.ensures.put v) in
     put keeps next
-
-pub returns-in-Some-clause-refused : goal.returns-in-Some-clause-refused
-returns-in-Some-clause-refused g c = λ v keeps.
-    let f = g.F.Framing.format in
-    let s = bare c.args.self.now in
-    let d = c.args.stock.now in
-    let at = c.in-Some.at in
-    let found = searched s d d.outstanding is_item_marked (Some at) refl c.requires.window c.in-Some.ensures.first in
-    let next = (marked_next f (stocked s d) v at no_item keeps found).1 in
-    let refused = subst (λ (w : OutstandingKept). Keeps f (stocked s (record d { outstanding = w })) v → IsNextEntry f v at → OnErr c.put_again.result (IsRefused f v c.args.packet.now c.put_again.new.packet))
-    c.first_marked.ensures.same (c.put_again.ensures.refused v) in
-    refused keeps next
-
-pub returns-in-Some-clause-behind : goal.returns-in-Some-clause-behind
-returns-in-Some-clause-behind g c = subst (λ (w : OutstandingKept). IsBehind (record c.args.stock.now { outstanding = w }) c.put_again.new.stock) c.first_marked.ensures.same c.put_again.ensures.behind
 
 pub returns-in-Some-clause-counted : goal.returns-in-Some-clause-counted
 returns-in-Some-clause-counted g c = λ v keeps.
@@ -45,12 +26,10 @@ returns-in-Some-clause-counted g c = λ v keeps.
     let s = bare c.args.self.now in
     let d = c.args.stock.now in
     let at = c.in-Some.at in
-    let r = c.args.resent.now in
-    let found = searched s d d.outstanding is_item_marked (Some at) refl c.requires.window c.in-Some.ensures.first in
+    let found = searched s d d.outstanding is_item_marked (Some at) refl c.requires.sized.window c.in-Some.ensures.first in
     let next = marked_next f (stocked s d) v at no_item keeps found in
     let sent = marked_sent f (stocked s d) v at no_item keeps found in
-    of_ok c.put_again.result (λ (put : Bool). c.put_again.new.resent ≡ resent_if put ((c.args.self.now.cum + at + 1) % 2 ^ 64) r) (λ (put : Bool). c.put_again.new.resent ≡ resent_by put (next_wish f v) r) c.put_again.ensures.counted
-    (λ put is. is ∙ counted_again f (stocked s d) v at put r keeps next.0 next.1 sent)
+    c.put_again.ensures.counted ∙ counted_again f (stocked s d) v at c.put_again.result c.args.resent.now keeps next.0 next.1 sent
 
 pub returns-in-Some-first_unsent-clause-put : goal.returns-in-Some-first_unsent-clause-put
 returns-in-Some-first_unsent-clause-put g c = λ v keeps.
@@ -59,34 +38,14 @@ returns-in-Some-first_unsent-clause-put g c = λ v keeps.
     let d = c.args.stock.now in
     let first = c.first_marked.ensures.same in
     let at = c.in-Some-first_unsent.at in
-    let nomark = searched s d d.outstanding is_item_marked None refl c.requires.window c.in_default.ensures.first in
-    let found = searched s d c.first_marked.new.self is_item_unsent (Some at) first c.requires.window c.in-Some-first_unsent.ensures.first in
+    let nomark = searched s d d.outstanding is_item_marked None refl c.requires.sized.window c.in_default.ensures.first in
+    let found = searched s d c.first_marked.new.self is_item_unsent (Some at) first c.requires.sized.window c.in-Some-first_unsent.ensures.first in
     let next = (unsent_next f (stocked s d) v at no_item keeps nomark found).1 in
-    let flying = flying_is f s v d c.first_marked.new.self c.flight-flying.result keeps first c.requires.window c.flight-flying.ensures.flight c.flight-flying.ensures.bound in
+    let flying = flying_is f s v d c.first_marked.new.self c.flight-flying.result keeps first c.requires.sized.window c.flight-flying.ensures.flight c.flight-flying.ensures.bound in
     let put = subst (λ (w : OutstandingKept). Keeps f (stocked s (record d { outstanding = w })) v → IsNextUnsent f v at → IsFlying s (record d { outstanding = w }) c.flight-flying.result
-    → IfOk c.put_unsent.result (λ put. PutAnswer f s v c.args.packet.now c.put_unsent.new.packet (record d { outstanding = w }) c.put_unsent.new.stock put))
+    → PutAnswer f s v c.args.packet.now c.put_unsent.new.packet (record d { outstanding = w }) c.put_unsent.new.stock c.put_unsent.result)
     (c.first_unsent.ensures.same ∙ first) (c.put_unsent.ensures.put v) in
     put keeps next flying
-
-pub returns-in-Some-first_unsent-clause-refused : goal.returns-in-Some-first_unsent-clause-refused
-returns-in-Some-first_unsent-clause-refused g c = λ v keeps.
-    let f = g.F.Framing.format in
-    let s = bare c.args.self.now in
-    let d = c.args.stock.now in
-    let first = c.first_marked.ensures.same in
-    let at = c.in-Some-first_unsent.at in
-    let nomark = searched s d d.outstanding is_item_marked None refl c.requires.window c.in_default.ensures.first in
-    let found = searched s d c.first_marked.new.self is_item_unsent (Some at) first c.requires.window c.in-Some-first_unsent.ensures.first in
-    let next = (unsent_next f (stocked s d) v at no_item keeps nomark found).1 in
-    let flying = flying_is f s v d c.first_marked.new.self c.flight-flying.result keeps first c.requires.window c.flight-flying.ensures.flight c.flight-flying.ensures.bound in
-    let refused = subst (λ (w : OutstandingKept). Keeps f (stocked s (record d { outstanding = w })) v → IsNextUnsent f v at → IsFlying s (record d { outstanding = w }) c.flight-flying.result
-    → OnErr c.put_unsent.result (IsRefused f v c.args.packet.now c.put_unsent.new.packet))
-    (c.first_unsent.ensures.same ∙ first) (c.put_unsent.ensures.refused v) in
-    refused keeps next flying
-
-pub returns-in-Some-first_unsent-clause-behind : goal.returns-in-Some-first_unsent-clause-behind
-returns-in-Some-first_unsent-clause-behind g c =
-    subst (λ (w : OutstandingKept). IsBehind (record c.args.stock.now { outstanding = w }) c.put_unsent.new.stock) (c.first_unsent.ensures.same ∙ c.first_marked.ensures.same) c.put_unsent.ensures.behind
 
 pub returns-in-Some-first_unsent-clause-counted : goal.returns-in-Some-first_unsent-clause-counted
 returns-in-Some-first_unsent-clause-counted g c = λ v keeps.
@@ -94,21 +53,18 @@ returns-in-Some-first_unsent-clause-counted g c = λ v keeps.
     let s = bare c.args.self.now in
     let d = c.args.stock.now in
     let at = c.in-Some-first_unsent.at in
-    let r = c.args.resent.now in
-    let nomark = searched s d d.outstanding is_item_marked None refl c.requires.window c.in_default.ensures.first in
-    let found = searched s d c.first_marked.new.self is_item_unsent (Some at) c.first_marked.ensures.same c.requires.window c.in-Some-first_unsent.ensures.first in
-    let next = (unsent_next f (stocked s d) v at no_item keeps nomark found).1 in
-    of_any c.put_unsent.result (λ (put : Bool). r ≡ resent_by put (next_wish f v) r) (λ put. counted_unsent f v at put r next)
+    let nomark = searched s d d.outstanding is_item_marked None refl c.requires.sized.window c.in_default.ensures.first in
+    let found = searched s d c.first_marked.new.self is_item_unsent (Some at) c.first_marked.ensures.same c.requires.sized.window c.in-Some-first_unsent.ensures.first in
+    counted_unsent f v at c.put_unsent.result c.args.resent.now (unsent_next f (stocked s d) v at no_item keeps nomark found).1
 
 pub returns-clause-counted : goal.returns-clause-counted
 returns-clause-counted g c = λ v keeps.
     let f = g.F.Framing.format in
     let s = bare c.args.self.now in
     let d = c.args.stock.now in
-    let r = c.args.resent.now in
-    let nomark = searched s d d.outstanding is_item_marked None refl c.requires.window c.in_default.ensures.first in
-    let none = searched s d c.first_marked.new.self is_item_unsent None c.first_marked.ensures.same c.requires.window c.in_default-first_unsent.ensures.first in
-    of_any c.put_new.result (λ (put : Bool). r ≡ resent_by put (next_wish f v) r) (λ put. counted_new f (stocked s d) v put r keeps (nothing_stands f (stocked s d) v keeps nomark none))
+    let nomark = searched s d d.outstanding is_item_marked None refl c.requires.sized.window c.in_default.ensures.first in
+    let none = searched s d c.first_marked.new.self is_item_unsent None c.first_marked.ensures.same c.requires.sized.window c.in_default-first_unsent.ensures.first in
+    counted_new f (stocked s d) v c.put_new.result c.args.resent.now keeps (nothing_stands f (stocked s d) v keeps nomark none)
 
 pub returns-clause-put : goal.returns-clause-put
 returns-clause-put g c = λ v keeps.
@@ -116,27 +72,10 @@ returns-clause-put g c = λ v keeps.
     let s = bare c.args.self.now in
     let d = c.args.stock.now in
     let first = c.first_marked.ensures.same in
-    let nomark = searched s d d.outstanding is_item_marked None refl c.requires.window c.in_default.ensures.first in
-    let none = searched s d c.first_marked.new.self is_item_unsent None first c.requires.window c.in_default-first_unsent.ensures.first in
-    let flying = flying_is f s v d c.first_marked.new.self c.flight-flying.result keeps first c.requires.window c.flight-flying.ensures.flight c.flight-flying.ensures.bound in
+    let nomark = searched s d d.outstanding is_item_marked None refl c.requires.sized.window c.in_default.ensures.first in
+    let none = searched s d c.first_marked.new.self is_item_unsent None first c.requires.sized.window c.in_default-first_unsent.ensures.first in
+    let flying = flying_is f s v d c.first_marked.new.self c.flight-flying.result keeps first c.requires.sized.window c.flight-flying.ensures.flight c.flight-flying.ensures.bound in
     let put = subst (λ (w : OutstandingKept). Keeps f (stocked s (record d { outstanding = w })) v → NothingStands f v → IsFlying s (record d { outstanding = w }) c.flight-flying.result
-    → IfOk c.put_new.result (λ put. PutAnswer f s v c.args.packet.now c.put_new.new.packet (record d { outstanding = w }) c.put_new.new.stock put))
+    → PutAnswer f s v c.args.packet.now c.put_new.new.packet (record d { outstanding = w }) c.put_new.new.stock c.put_new.result)
     (c.first_unsent.ensures.same ∙ first) (c.put_new.ensures.put v) in
     put keeps (nothing_stands f (stocked s d) v keeps nomark none) flying
-
-pub returns-clause-refused : goal.returns-clause-refused
-returns-clause-refused g c = λ v keeps.
-    let f = g.F.Framing.format in
-    let s = bare c.args.self.now in
-    let d = c.args.stock.now in
-    let first = c.first_marked.ensures.same in
-    let nomark = searched s d d.outstanding is_item_marked None refl c.requires.window c.in_default.ensures.first in
-    let none = searched s d c.first_marked.new.self is_item_unsent None first c.requires.window c.in_default-first_unsent.ensures.first in
-    let flying = flying_is f s v d c.first_marked.new.self c.flight-flying.result keeps first c.requires.window c.flight-flying.ensures.flight c.flight-flying.ensures.bound in
-    let refused = subst (λ (w : OutstandingKept). Keeps f (stocked s (record d { outstanding = w })) v → NothingStands f v → IsFlying s (record d { outstanding = w }) c.flight-flying.result → OnErr c.put_new.result (IsRefused f v c.args.packet.now c.put_new.new.packet))
-    (c.first_unsent.ensures.same ∙ first) (c.put_new.ensures.refused v) in
-    refused keeps (nothing_stands f (stocked s d) v keeps nomark none) flying
-
-pub returns-clause-behind : goal.returns-clause-behind
-returns-clause-behind g c =
-    subst (λ (w : OutstandingKept). IsBehind (record c.args.stock.now { outstanding = w }) c.put_new.new.stock) (c.first_unsent.ensures.same ∙ c.first_marked.ensures.same) c.put_new.ensures.behind

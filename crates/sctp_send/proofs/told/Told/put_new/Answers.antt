@@ -13,23 +13,11 @@ returns-in-Some-Begins-clause-put g c = λ v keeps stands flying.
     let next = subst (λ (n : Next). NewAnswer g.F.Framing.format v (Some n)) c.in-Some-Begins.field-0-is (c.in-Some-Begins.ensures.next s v refl refl keeps) in
     c.put_begun.ensures.put v keeps stands next flying
 
-pub returns-in-Some-Begins-clause-refused : goal.returns-in-Some-Begins-clause-refused
-returns-in-Some-Begins-clause-refused g c = λ v keeps stands flying.
-    let s = bare c.args.self.now in
-    let next = subst (λ (n : Next). NewAnswer g.F.Framing.format v (Some n)) c.in-Some-Begins.field-0-is (c.in-Some-Begins.ensures.next s v refl refl keeps) in
-    c.put_begun.ensures.refused v keeps stands next flying
-
 pub returns-in-Some-Continues-clause-put : goal.returns-in-Some-Continues-clause-put
 returns-in-Some-Continues-clause-put g c = λ v keeps stands flying.
     let s = bare c.args.self.now in
     let next = subst (λ (n : Next). NewAnswer g.F.Framing.format v (Some n)) c.in-Some-Continues.field-0-is (c.in-Some-Continues.ensures.next s v refl refl keeps) in
     c.put_continued.ensures.put v keeps stands next flying
-
-pub returns-in-Some-Continues-clause-refused : goal.returns-in-Some-Continues-clause-refused
-returns-in-Some-Continues-clause-refused g c = λ v keeps stands flying.
-    let s = bare c.args.self.now in
-    let next = subst (λ (n : Next). NewAnswer g.F.Framing.format v (Some n)) c.in-Some-Continues.field-0-is (c.in-Some-Continues.ensures.next s v refl refl keeps) in
-    c.put_continued.ensures.refused v keeps stands next flying
 
 pub returns-in-None-clause-put : goal.returns-in-None-clause-put
 returns-in-None-clause-put g c = λ v keeps stands flying.

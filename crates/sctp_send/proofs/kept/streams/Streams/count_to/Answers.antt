@@ -1,7 +1,7 @@
 use Rattle.std.proofs.Common.{List, sym, ap, ◌∙◌, subst}
 use Rattle.sctp_send.specs.PartsKept.{StreamsKept, changed_at}
 use Rattle.sctp_send.specs.inner.PartSeats.{IsStreamsOf}
-use Rattle.sctp_send.specs.inner.Undoing.{counted_to}
+use Rattle.sctp_send.specs.inner.Entering.{counted_to}
 use Rattle.sctp_send.specs.declared.kept.track.Track.{Track as TrackFields}
 use Rattle.sctp_send.proofs.kept.TrackCounts.{streams_counted, set_changed}
 use Rattle.sctp_send.proofs.kept.streams.Streams.count_to.Goals as goal

@@ -1,0 +1,35 @@
+-- What filling a packet makes of a stock's parts: entries of fragments and the counts of a stream; and their sizes.
+use Rattle.std.specs.Prelude.{◌≡◌, ℕ, ◌<◌, ◌≤◌, false}
+use Rattle.std.specs.declared.sync.Arc.{Arc}
+use Rattle.std.specs.declared.alloc.Global.{Global}
+use Rattle.sctp_model.specs.numbers.Limits.{GREATEST_FRAGMENT}
+use Rattle.sctp_send.specs.declared.stock.Stock.{Stock}
+use Rattle.sctp_send.specs.declared.kept.message.Message.{Message}
+use Rattle.sctp_send.specs.declared.kept.entry.Entry.{Entry as EntryFields}
+use Rattle.sctp_send.specs.declared.kept.entry.Standing.{Standing}
+use Rattle.sctp_send.specs.declared.kept.entry.Content.TheVariants.{Fragment}
+use Rattle.sctp_values.specs.declared.kind.Kind.{Kind}
+use Rattle.sctp_values.specs.declared.kind.Kind.TheVariants.{Ordered, Unordered}
+use Rattle.sctp_send.specs.declared.kept.track.Track.{Track}
+
+-- the entry of a fragment
+abbrev pub fragment_entry : Arc Message Global → (number fragment : ℕ) → Standing → EntryFields
+fragment_entry m n k standing = record { message = m; number = n; content = Fragment k; standing = standing; covered = false; abandoned = false; repeats = 0 }
+
+-- how many messages of a kind have a number on a stream
+abbrev pub count_of : Kind → Track → ℕ
+count_of Ordered t = t.ordered
+count_of Unordered t = t.unordered
+
+-- a stream on which so many have one
+abbrev pub counted_to : Kind → ℕ → Track → Track
+counted_to Ordered n t = record t { ordered = n }
+counted_to Unordered n t = record t { unordered = n }
+
+-- all parts have fragments of the same size, which is within its limits
+pub record IsSized (size : ℕ) (d : Stock) : Type 0 where
+  pub some : 0 < size
+  pub short : size ≤ GREATEST_FRAGMENT
+  pub window : d.outstanding.size ≡ size
+  pub queue : d.queue.size ≡ size
+  pub tracks : d.streams.size ≡ size
