@@ -14,10 +14,10 @@ ghost use Rattle.sctp_endpoint.specs.inner.SacksHeard.{after_chunk, after_chunks
 use crate::after::{After, Notes, Verdict};
 use crate::closing::{on_abort, on_complete, on_error, on_shutdown_ack};
 use crate::forwards::on_forward;
-use crate::noting::{act_piece, note};
+use crate::noting::{act_piece, act_sack, note};
 use crate::opening::{on_cookie_ack, on_cookie_echo, on_init_ack};
 use crate::pieces::on_piece;
-use crate::sacks::{counts, on_sack};
+use crate::sacks::on_sack;
 use crate::shutdowns::on_shutdown;
 use crate::small::{on_heartbeat, on_unknown};
 use sctp_association::Machine;
@@ -95,35 +95,11 @@ fn act_noted(
     Ok(note(machine, notes, told, after))
 }
 
-/// The same; a SACK that counts, as most do, leaves nothing to return.
-///
-/// # Errors
-/// `NoMemory` if an allocation failed; nothing changed then.
-#[inline(always)]
-fn act_chunk(
-    machine: &mut Machine,
-    tag: u32,
-    notes: &mut Notes,
-    told: &mut Verdict,
-    chunk: &Chunk<'_>,
-) -> Result<bool, NoMemory>
-    ensures { (v : EndView) → MachineStands machine.old v → ActsOne tag v notes.old (chunk_meaning chunk.now) (told_by result told.new) machine.new notes.new }
-{
-    if let Chunk::Sack(sack) = chunk {
-        if counts(machine, sack) {
-            machine.advance_closing();
-            notes.listed = true;
-            return Ok(false);
-        }
-    }
-    act_noted(machine, tag, notes, told, chunk)
-}
-
 /// The first chunk, whatever its type, is taken off and acts, and what it left is noted; a SACK is counted. True if the packet ends with it.
 ///
 /// # Errors
 /// `NoMemory` if an allocation failed; nothing changed but that the chunk is taken off, and counted.
-#[inline(always)]
+#[inline(never)]
 fn act_any(
     machine: &mut Machine,
     tag: u32,
@@ -140,14 +116,14 @@ fn act_any(
     match &chunks.next() {
         Some(chunk) => {
             count_sack(chunk, sacks);
-            act_chunk(machine, tag, notes, told, chunk)
+            act_noted(machine, tag, notes, told, chunk)
         }
         None => Ok(false),
     }
 }
 
-/// The first chunk is taken off and acts, and what it left is noted; a SACK is counted. True if the packet ends with it. Most are DATA or I-DATA, which
-/// are read from the bytes directly, without a `Chunk` between.
+/// The first chunk is taken off and acts, and what it left is noted; a SACK is counted. True if the packet ends with it. Most are DATA, SACK
+/// or I-DATA, which are read from the bytes directly, without a `Chunk` between.
 ///
 /// # Errors
 /// `NoMemory` if an allocation failed; nothing changed but that the chunk is taken off, and counted.
@@ -167,6 +143,10 @@ fn act_next(
 {
     if let Some(piece) = chunks.next_data() {
         return act_piece(machine, false, notes, told, &piece);
+    }
+    if let Some(sack) = chunks.next_sack() {
+        *sacks = sacks.wrapping_add(1);
+        return act_sack(machine, notes, told, &sack);
     }
     if let Some(piece) = chunks.next_i_data() {
         return act_piece(machine, true, notes, told, &piece);

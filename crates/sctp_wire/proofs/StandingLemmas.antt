@@ -1,17 +1,15 @@
 -- The first bytes of a chunk give its type, and so whether it is data, an INIT or reflected, and how it may be bundled.
 use Rattle.std.proofs.Common.{◌≡◌, ℕ, ◌<◌, false, List, [], ◌∷◌, ◌++◌, length, drop, refl, sym, ap, ◌∙◌, arith, Ok}
-use Rattle.std.specs.Prelude.{◌==◌, ◌||◌, ◌&&◌, None, slice_index}
+use Rattle.std.specs.Prelude.{◌==◌, ◌||◌, ◌&&◌, slice_index}
 use Rattle.std.proofs.lemmas.Grind.{common_steps}
-use Rattle.sctp_model.specs.wire.Chunk.{PieceMeaning, ChunkMeaning, Data, IData, Init, InitAck, Sack, Heartbeat, HeartbeatAck, Abort, Shutdown, ShutdownAck, Error, CookieEcho, CookieAck, ShutdownComplete, ForwardTsn, IForwardTsn, Unknown, kind_of, padded}
+use Rattle.sctp_model.specs.wire.Chunk.{ChunkMeaning, Data, IData, Init, InitAck, Sack, Heartbeat, HeartbeatAck, Abort, Shutdown, ShutdownAck, Error, CookieEcho, CookieAck, ShutdownComplete, ForwardTsn, IForwardTsn, Unknown, kind_of, padded}
 use Rattle.sctp_model.specs.numbers.Numbers.{AreBytes}
 use Rattle.sctp_model.specs.wire.Places.{stands_alone, never_follows}
 use Rattle.sctp_wire.specs.FirstFault.{stated_length, value_at}
 use Rattle.sctp_wire.specs.Layouts.{ReadsFlags, IsReadable}
-use Rattle.sctp_wire.specs.Reading.{body_at, chunk_at, AreChunks, chunks_of}
-use Rattle.sctp_wire.specs.Starts.{first_data, first_i_data, starts_with_init, starts_reflected}
+use Rattle.sctp_wire.specs.Reading.{chunk_at, AreChunks, chunks_of}
+use Rattle.sctp_wire.specs.Starts.{starts_with_init, starts_reflected}
 use Rattle.sctp_wire.specs.chunks.Flags.{has_flag}
-use Rattle.sctp_wire.specs.chunks.Data.{data_at}
-use Rattle.sctp_wire.specs.chunks.IData.{i_data_at}
 use Rattle.sctp_wire.specs.inner.Frame.{IsWhole}
 use Rattle.sctp_wire.specs.inner.Standing.{is_alone, IsParted}
 use Rattle.sctp_wire.proofs.KindLemmas.{unlike}
@@ -102,52 +100,6 @@ reflected_told (ForwardTsn f) ms flags r split = refl
 reflected_told (IForwardTsn f) ms flags r split = refl
 reflected_told (Unknown kind kept value) ms flags r split = let other = r.fields.other in sym (rw (unlike kind 6 other refl, unlike kind 14 other refl) refl)
 
-no_data : (m : ChunkMeaning) (ms : List ChunkMeaning) → (kind_of m == 0) ≡ false → first_data (m ∷ ms) ≡ None
-no_data (Data p) ms e = cc
-no_data (IData p) ms e = refl
-no_data (Init i) ms e = refl
-no_data (InitAck i) ms e = refl
-no_data (Sack s) ms e = refl
-no_data (Heartbeat info) ms e = refl
-no_data (HeartbeatAck info) ms e = refl
-no_data (Abort t causes) ms e = refl
-no_data (Shutdown n) ms e = refl
-no_data ShutdownAck ms e = refl
-no_data (Error causes) ms e = refl
-no_data (CookieEcho cookie) ms e = refl
-no_data CookieAck ms e = refl
-no_data (ShutdownComplete t) ms e = refl
-no_data (ForwardTsn f) ms e = refl
-no_data (IForwardTsn f) ms e = refl
-no_data (Unknown kind flags value) ms e = refl
-
-no_i_data : (m : ChunkMeaning) (ms : List ChunkMeaning) → (kind_of m == 64) ≡ false → first_i_data (m ∷ ms) ≡ None
-no_i_data (Data p) ms e = refl
-no_i_data (IData p) ms e = cc
-no_i_data (Init i) ms e = refl
-no_i_data (InitAck i) ms e = refl
-no_i_data (Sack s) ms e = refl
-no_i_data (Heartbeat info) ms e = refl
-no_i_data (HeartbeatAck info) ms e = refl
-no_i_data (Abort t causes) ms e = refl
-no_i_data (Shutdown n) ms e = refl
-no_i_data ShutdownAck ms e = refl
-no_i_data (Error causes) ms e = refl
-no_i_data (CookieEcho cookie) ms e = refl
-no_i_data CookieAck ms e = refl
-no_i_data (ShutdownComplete t) ms e = refl
-no_i_data (ForwardTsn f) ms e = refl
-no_i_data (IForwardTsn f) ms e = refl
-no_i_data (Unknown kind flags value) ms e = refl
-
-data_body : (kind flags : ℕ) (value : List ℕ) → kind ≡ 0 → body_at kind flags value ≡ Data (data_at flags value)
-unfolding body_at
-data_body kind flags value e = rw e refl
-
-i_data_body : (kind flags : ℕ) (value : List ℕ) → kind ≡ 64 → body_at kind flags value ≡ IData (i_data_at flags value)
-unfolding body_at
-i_data_body kind flags value e = rw e refl
-
 -- ---- the first chunk, and what stands behind it
 
 -- whole chunks begin with one that is right
@@ -168,27 +120,16 @@ parted_is bytes some chunks = by (first_chunk_is bytes some)
         let step = chunks_of-chunk bytes _ some (chunk_at-shaped bytes s) chunks in
         record { head = s.whole.head; laid = s.laid; list = s.list; listed = step.1; chunks = step.0 }
 
--- a piece of data, and what follows it
-pub data_parted : (bytes value others : List ℕ) (p : PieceMeaning) → IsParted bytes value others → slice_index bytes 0 ≡ 0 → p ≡ data_at (slice_index bytes 1) value
-    → (chunks_of bytes ≡ Data p ∷ chunks_of others) × AreChunks others
-data_parted bytes value others p parted kind read =
-    (parted.listed ∙ ap (λ (m : ChunkMeaning). m ∷ chunks_of others) (data_body (slice_index bytes 0) (slice_index bytes 1) value kind ∙ ap (λ (q : PieceMeaning). Data q) (sym read)), parted.chunks)
-
-pub i_data_parted : (bytes value others : List ℕ) (p : PieceMeaning) → IsParted bytes value others → slice_index bytes 0 ≡ 64 → p ≡ i_data_at (slice_index bytes 1) value
-    → (chunks_of bytes ≡ IData p ∷ chunks_of others) × AreChunks others
-i_data_parted bytes value others p parted kind read =
-    (parted.listed ∙ ap (λ (m : ChunkMeaning). m ∷ chunks_of others) (i_data_body (slice_index bytes 0) (slice_index bytes 1) value kind ∙ ap (λ (q : PieceMeaning). IData q) (sym read)), parted.chunks)
-
 -- what the first two bytes of chunks tell of the first one
-record IsTold (bytes : List ℕ) : Type 0 where
-  first : ChunkMeaning
-  others : List ChunkMeaning
-  listed : chunks_of bytes ≡ first ∷ others
-  kind : slice_index bytes 0 ≡ kind_of first
-  readable : IsReadable first
-  flagged : ReadsFlags (slice_index bytes 1) first
+pub record IsTold (bytes : List ℕ) : Type 0 where
+  pub first : ChunkMeaning
+  pub others : List ChunkMeaning
+  pub listed : chunks_of bytes ≡ first ∷ others
+  pub kind : slice_index bytes 0 ≡ kind_of first
+  pub readable : IsReadable first
+  pub flagged : ReadsFlags (slice_index bytes 1) first
 
-told : (bytes : List ℕ) → AreBytes bytes → 0 < length bytes → AreChunks bytes → IsTold bytes
+pub told : (bytes : List ℕ) → AreBytes bytes → 0 < length bytes → AreChunks bytes → IsTold bytes
 told bytes ranged some chunks = by (first_chunk_is bytes some)
   where
     of : (m : ChunkMeaning) (rest : List ℕ) → chunk_at bytes ≡ Ok (m, rest) → IsTold bytes
@@ -213,14 +154,6 @@ pub reflected_first : (bytes : List ℕ) → AreBytes bytes → 0 < length bytes
     → starts_reflected (chunks_of bytes) ≡ (((slice_index bytes 0 == 6) || (slice_index bytes 0 == 14)) && has_flag (slice_index bytes 1) 1)
 reflected_first bytes ranged some chunks =
     let t = told bytes ranged some chunks in rw (t.listed, t.kind) (reflected_told t.first t.others (slice_index bytes 1) t.readable t.flagged)
-
-pub no_data_first : (bytes : List ℕ) → AreBytes bytes → 0 < length bytes → AreChunks bytes → (slice_index bytes 0 == 0) ≡ false → first_data (chunks_of bytes) ≡ None
-no_data_first bytes ranged some chunks other =
-    let t = told bytes ranged some chunks in rw t.listed (no_data t.first t.others (rw t.kind at other))
-
-pub no_i_data_first : (bytes : List ℕ) → AreBytes bytes → 0 < length bytes → AreChunks bytes → (slice_index bytes 0 == 64) ≡ false → first_i_data (chunks_of bytes) ≡ None
-no_i_data_first bytes ranged some chunks other =
-    let t = told bytes ranged some chunks in rw t.listed (no_i_data t.first t.others (rw t.kind at other))
 
 none_of : (n : ℕ) → 0 < n → (n == 0) ≡ false
 none_of n some = grind (arith, common_steps)

@@ -1,6 +1,6 @@
 -- What a list of chunks starts with.
 use Rattle.std.specs.Prelude.{Bool, true, false, List, ◌∷◌, Option, Some, None}
-use Rattle.sctp_model.specs.wire.Chunk.{PieceMeaning, ChunkMeaning, Data, IData, Init, Abort, ShutdownComplete}
+use Rattle.sctp_model.specs.wire.Chunk.{PieceMeaning, SackMeaning, ChunkMeaning, Data, IData, Init, Sack, Abort, ShutdownComplete}
 
 -- the piece of the first chunk, where this is a DATA
 abbrev pub first_data : List ChunkMeaning → Option PieceMeaning
@@ -11,6 +11,11 @@ first_data ms = None
 abbrev pub first_i_data : List ChunkMeaning → Option PieceMeaning
 first_i_data (IData p ∷ ms) = Some p
 first_i_data ms = None
+
+-- what the first chunk says, where this is a SACK
+abbrev pub first_sack : List ChunkMeaning → Option SackMeaning
+first_sack (Sack s ∷ ms) = Some s
+first_sack ms = None
 
 -- The first chunk is an INIT.
 abbrev pub starts_with_init : List ChunkMeaning → Bool

@@ -2,10 +2,10 @@
 
 ghost use Rattle.std.specs.Prelude.{◌≡◌, ◌==◌, ◌||◌, ◌<◌, ◌≤◌, ◌^◌, ◌∷◌, length, MatchOption, MatchResult, IfOk, None, Ok, Err};
 ghost use Rattle.sctp_model.specs.wire.Chunk as meaning;
-ghost use Rattle.sctp_wire.specs.ChunkTree.{piece_meaning};
+ghost use Rattle.sctp_wire.specs.ChunkTree.{piece_meaning, sack_meaning};
 ghost use Rattle.sctp_wire.specs.FirstFault.{stated_length};
 ghost use Rattle.sctp_wire.specs.Reading.{frame_at, chunk_at, AreChunks, chunks_of};
-ghost use Rattle.sctp_wire.specs.Starts.{first_data, first_i_data, starts_with_init, starts_reflected};
+ghost use Rattle.sctp_wire.specs.Starts.{first_data, first_i_data, first_sack, starts_with_init, starts_reflected};
 ghost use Rattle.sctp_wire.specs.inner.Frame.{IsWhole};
 ghost use Rattle.sctp_wire.specs.inner.Standing.{first_of, IsParted};
 
@@ -13,8 +13,9 @@ use crate::body::{has_layout, has_list};
 use crate::chunks::flags::is_set;
 use crate::chunks::i_data::read_i_data;
 use crate::chunks::piece::Piece;
+use crate::chunks::sack::{Sack, read_sack};
 use crate::chunks::user_data::read_data;
-use crate::codes::{ABORT, DATA, I_DATA, INIT, REFLECTED, SHUTDOWN_COMPLETE};
+use crate::codes::{ABORT, DATA, I_DATA, INIT, REFLECTED, SACK, SHUTDOWN_COMPLETE};
 use crate::fault::Reason;
 use crate::numbers::{padded, read_u16};
 
@@ -67,6 +68,7 @@ pub(crate) fn starts_with_init(chunks: &[u8]) -> bool
 }
 
 /// Whether the first of whole chunks is an ABORT or a SHUTDOWN COMPLETE with the flag T.
+#[inline(always)]
 pub(crate) fn starts_reflected(chunks: &[u8]) -> bool
     requires { AreChunks chunks.now }
     ensures { result ≡ starts_reflected (chunks_of chunks.now) }
@@ -121,6 +123,25 @@ pub(crate) fn split_i_data(chunks: &[u8]) -> Option<(Piece<'_>, &[u8])>
     let (value, behind) = parted(chunks);
     let piece = read_i_data(chunks[1], value);
     Some((piece, behind))
+}
+
+/// The first of whole chunks and what follows it, if it is a SACK.
+#[inline(always)]
+pub(crate) fn split_sack(chunks: &[u8]) -> Option<(Sack<'_>, &[u8])>
+    requires { AreChunks chunks.now }
+    ensures { MatchOption result (first_sack (chunks_of chunks.now) ≡ None)
+        (λ found. (chunks_of chunks.now ≡ meaning.Sack (sack_meaning found.0) ∷ chunks_of found.1.now)
+        × AreChunks found.1.now) }
+{
+    if chunks.is_empty() {
+        return None;
+    }
+    if chunks[0] != SACK {
+        return None;
+    }
+    let (value, behind) = parted(chunks);
+    let sack = read_sack(value);
+    Some((sack, behind))
 }
 
 /// The length field of the first chunk, if the header, the length and the padding are right; else what is wrong.

@@ -22,7 +22,7 @@
 //! | each of these and `write_chunk` leave everything as it was if allocation fails, and can't fail if capacity was there | `refused`, `memory` |
 //! | parameters and causes can be read in one way only, what is written for them is read back, and a list is plain (`is_plain`) if and only if it is what is written for its items | law [`typed_one_reading`] |
 //! | chunks after chunks are those of both, read or written | law [`chunks_join`] |
-//! | [`Chunks::next_data`], [`Chunks::next_i_data`] take the first chunk if it is a DATA, an I-DATA; any other is left | their contracts |
+//! | [`Chunks::next_data`], [`Chunks::next_i_data`], [`Chunks::next_sack`] take the first chunk if it is a DATA, an I-DATA, a SACK; any other is left | their contracts |
 //! | [`Chunks::is_empty`], [`Chunks::starts_with_init`], [`Chunks::starts_reflected`]: whether no chunk is left, whether the first is an INIT, whether it is an ABORT or SHUTDOWN COMPLETE with the flag T | their contracts |
 //! | [`Chunks::again`] is a second iterator over the chunks that are left | its contract |
 //! | each cause's and each parameter's number is that of the definitions, and so are the known ones and those that are passed over | law [`codes_are_the_definitions`] |

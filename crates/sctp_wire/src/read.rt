@@ -5,19 +5,20 @@ ghost use Rattle.std.specs.Prelude.{◌≡◌, ◌*◌, ◌==◌, ◌≤◌, len
 ghost use Rattle.std.specs.Iterator.{YieldsFirstBy, item_count};
 ghost use Rattle.sctp_model.specs.wire.Chunk.{ChunkMeaning};
 ghost use Rattle.sctp_model.specs.wire.Chunk as meaning;
-ghost use Rattle.sctp_wire.specs.ChunkTree.{chunk_meaning, piece_meaning};
+ghost use Rattle.sctp_wire.specs.ChunkTree.{chunk_meaning, piece_meaning, sack_meaning};
 ghost use Rattle.sctp_wire.specs.FaultTree.{offset_of};
 ghost use Rattle.sctp_wire.specs.FirstFault.{Faults};
 ghost use Rattle.sctp_wire.specs.Reads.{Reads};
-ghost use Rattle.sctp_wire.specs.Starts.{first_data, first_i_data, starts_with_init, starts_reflected};
+ghost use Rattle.sctp_wire.specs.Starts.{first_data, first_i_data, first_sack, starts_with_init, starts_reflected};
 
 use crate::body::{read_seen, read_value};
 use crate::chunk::Chunk;
 use crate::chunks::piece::Piece;
+use crate::chunks::sack::Sack;
 use crate::codes::SACK;
 use crate::fault::WireFault;
 use crate::first::{
-    behind_first, parted, split_data, split_i_data, starts_reflected, starts_with_init,
+    behind_first, parted, split_data, split_i_data, split_sack, starts_reflected, starts_with_init,
 };
 use crate::places::found_by;
 use std::marker::Model;
@@ -57,6 +58,7 @@ impl<'a> Chunks<'a> {
     }
 
     /// Whether the next chunk is an ABORT or a SHUTDOWN COMPLETE with the flag T (RFC 9260, 8.5.1).
+    #[inline(always)]
     pub fn starts_reflected(&self) -> bool
         ensures { result ≡ starts_reflected self.now }
     {
@@ -93,6 +95,21 @@ impl<'a> Chunks<'a> {
             Some((piece, behind)) => {
                 self.rest = behind;
                 Some(piece)
+            }
+            None => None,
+        }
+    }
+
+    /// Takes the next chunk if it is a SACK; any other is left.
+    #[inline(always)]
+    pub fn next_sack(&mut self) -> Option<Sack<'a>>
+        ensures { MatchOption result ((self.new ≡ self.old) × (first_sack self.old ≡ None))
+            (λ sack. self.old ≡ meaning.Sack (sack_meaning sack) ∷ self.new) }
+    {
+        match split_sack(self.rest) {
+            Some((sack, behind)) => {
+                self.rest = behind;
+                Some(sack)
             }
             None => None,
         }

@@ -41,6 +41,7 @@ impl Unjoined {
 
 impl Association {
     /// In an association: the tag that is asked for; once it is over, every tag.
+    #[inline(always)]
     fn passes_tag(&self, reflected: bool, tag: u32) -> bool
         ensures { result ≡ passes_tag (phase_in self.now.tags self.now.progress) reflected tag }
     {

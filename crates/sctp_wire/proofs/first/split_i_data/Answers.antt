@@ -1,7 +1,7 @@
 use Rattle.std.proofs.Common.{refl, arith}
 use Rattle.std.proofs.lemmas.Grind.{common_steps}
 use Rattle.sctp_wire.proofs.OneReading.{chunks_of-nil}
-use Rattle.sctp_wire.proofs.StandingLemmas.{no_i_data_first, i_data_parted}
+use Rattle.sctp_wire.proofs.FirstLemmas.{no_i_data_first, i_data_parted}
 use Rattle.sctp_wire.proofs.first.split_i_data.Goals as goal
 
 pub returns-then-is_empty : goal.returns-then-is_empty
