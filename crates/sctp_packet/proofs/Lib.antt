@@ -7,6 +7,7 @@ pub mod StandardFacts
 pub mod HeaderLemmas
 pub mod PacketLemmas
 pub mod DraftLemmas
+pub mod PutLemmas
 pub mod StepLemmas
 pub mod EightLemmas
 pub mod TableLemmas

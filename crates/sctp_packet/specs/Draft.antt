@@ -1,6 +1,6 @@
 -- A packet in the making.
 use Rattle.std.specs.Prelude.{◌≡◌, ℕ, ◌+◌, ◌-◌, ◌<◌, ◌≤◌, min, Bool, true, false, nat_le, if◌then◌else◌, ◌==◌, List, ◌∷◌, [], ◌++◌, length, take, drop}
-use Rattle.sctp_model.specs.wire.Chunk.{ChunkMeaning}
+use Rattle.sctp_model.specs.wire.Chunk.{PieceMeaning, ChunkMeaning, Data, IData}
 use Rattle.sctp_model.specs.wire.Packet.{Packet, HEADER_ROOM, size_of_packet}
 use Rattle.sctp_wire.specs.Reading.{chunks_of}
 use Rattle.sctp_wire.specs.Writes.{Writes}
@@ -47,6 +47,10 @@ has_room d m = nat_le (size_of_packet (d.chunks ++ m ∷ [])) d.limit
 -- the same packet, whose memory is reserved, or counts as not reserved any more
 abbrev pub with_space : Draft → (space : Bool) → Draft
 with_space d space = record d { space = space }
+
+-- the chunk of a piece: an I-DATA, or a DATA
+abbrev pub piece_chunk : (interleaved : Bool) → PieceMeaning → ChunkMeaning
+piece_chunk interleaved p = if interleaved then IData p else Data p
 
 -- the draft after a chunk was put in, or not
 abbrev pub after_try : Draft → ChunkMeaning → Bool → Draft

@@ -1,15 +1,16 @@
 //! A packet that has its whole memory: nothing is refused any more.
 
-ghost use Rattle.std.specs.Prelude.{◌≡◌, ◌<◌, ◌≤◌, ◌^◌, ◌∷◌, [], true, max, length, vec_capacity, IfOk, OnOk, OnErr};
-ghost use Rattle.sctp_wire.specs.ChunkTree.{chunk_meaning};
+ghost use Rattle.std.specs.Prelude.{◌≡◌, ◌+◌, ◌<◌, ◌≤◌, ◌^◌, ◌∷◌, ◌++◌, [], true, max, length, vec_len, vec_capacity, IfOk, OnOk, OnErr};
+ghost use Rattle.sctp_wire.specs.ChunkTree.{piece_meaning, chunk_meaning};
 ghost use Rattle.sctp_wire.specs.Layouts.{Fits};
+ghost use Rattle.sctp_wire.specs.Writes.{written};
 ghost use Rattle.sctp_packet.specs.PacketBytes.{header_bytes};
-ghost use Rattle.sctp_packet.specs.Draft.{has_room, with_chunks, with_header, with_space};
+ghost use Rattle.sctp_packet.specs.Draft.{has_room, piece_chunk, with_chunks, with_header, with_space};
 
 use crate::checksum::HEADER;
 use crate::writer::{PacketWriter, header, put};
 use sctp_values::NoMemory;
-use sctp_wire::{Chunk, chunks_are_read, written_each_reads};
+use sctp_wire::{Chunk, Piece, chunks_are_read, write_data, write_i_data, written_each_reads};
 
 impl PacketWriter {
     /// Takes memory for all that the packet may have: [`PacketWriter::put`] is allowed then, which allocates nothing. Returns whether that was so before.
@@ -52,6 +53,38 @@ impl PacketWriter {
         written_each_reads();
         chunks_are_read();
         put(&mut self.bytes, chunk);
+    }
+
+    /// Appends a chunk with these fields, an I-DATA if `interleaved`, else a DATA, to a packet whose memory is reserved, as [`PacketWriter::put`] does.
+    #[inline(always)]
+    pub fn put_piece(&mut self, piece: &Piece<'_>, interleaved: bool)
+        requires reserved { self.old.space ≡ true }
+        requires fits { Fits (piece_chunk interleaved (piece_meaning piece.now)) }
+        requires room { has_room self.old (piece_chunk interleaved (piece_meaning piece.now)) ≡ true }
+        ensures { self.new ≡ with_chunks self.old (piece_chunk interleaved (piece_meaning piece.now) ∷ []) }
+    {
+        // By these laws the bytes with this chunk read as the chunks with it.
+        written_each_reads();
+        chunks_are_read();
+        put_piece(&mut self.bytes, piece, interleaved);
+    }
+}
+
+/// Appends the bytes of an I-DATA or a DATA, for which there is capacity.
+#[inline(always)]
+fn put_piece(bytes: &mut Vec<u8>, piece: &Piece<'_>, interleaved: bool)
+    requires fits { Fits (piece_chunk interleaved (piece_meaning piece.now)) }
+    requires room { vec_len bytes.old + length (written (piece_chunk interleaved (piece_meaning piece.now))) ≤ vec_capacity bytes.old }
+    ensures put { bytes.new.items ≡ bytes.old.items ++ written (piece_chunk interleaved (piece_meaning piece.now)) }
+    ensures capacity { vec_capacity bytes.old ≤ vec_capacity bytes.new }
+{
+    let put = if interleaved {
+        write_i_data(bytes, piece)
+    } else {
+        write_data(bytes, piece)
+    };
+    if put.is_err() {
+        unreachable!()
     }
 }
 

@@ -15,11 +15,12 @@
 //! | the iterator returns the chunks in order, with their data and lists | `Chunks`: `next_gives` |
 //! | unused flags, reserved bits and padding may have any value, also in parameters and causes; a final padding that a list's length counts is accepted | `ReadsFlags`, `ReadsValue`, `ReadsChunk`, `ReadsTyped`, which `exact` names |
 //! | what [`write_chunk`] appends is the chunk's bytes, with unused flags, reserved bits and padding zero, and parsing it alone gives the chunk | `written`, `writes`, `reads`; laws [`written_reads`], [`written_each_reads`] |
+//! | what [`write_data`], [`write_i_data`] append is what `write_chunk` appends for a DATA, an I-DATA with these fields | `written` |
 //! | [`Chunk::written_length`] is the one size of a chunk, and the length of what is written | `size`, `written` |
 //! | [`Chunk::fits`] is true if and only if the fields and the length are within their bits, lists of parameters and causes have zero padding and none after the last item, reserved bits are zero, and an unknown type is none that has a case of its own | `fits` |
 //! | [`put_block`], [`put_word`], [`put_skip`] append one item's bytes; appended to whole items, the list is these and the new one | `bytes`, `blocks`, `words`, `skips` |
 //! | [`put_parameter`], [`put_cause`] pad the list, however long it is, to a multiple of 4 with zeros and append the item; the list is then its items and the new one. The item's length must fit 16 bits | `bytes`, `reads`, `writes`, `len` |
-//! | each of these and `write_chunk` leave everything as it was if allocation fails, and can't fail if capacity was there | `refused`, `memory` |
+//! | each of these, `write_data`, `write_i_data` and `write_chunk` leave everything as it was if allocation fails, and can't fail if capacity was there | `refused`, `memory` |
 //! | parameters and causes can be read in one way only, what is written for them is read back, and a list is plain (`is_plain`) if and only if it is what is written for its items | law [`typed_one_reading`] |
 //! | chunks after chunks are those of both, read or written | law [`chunks_join`] |
 //! | [`Chunks::next_data`], [`Chunks::next_i_data`], [`Chunks::next_sack`] take the first chunk if it is a DATA, an I-DATA, a SACK; any other is left | their contracts |
@@ -58,9 +59,11 @@ mod write;
 
 pub use chunk::Chunk;
 pub use chunks::forward::Forward;
+pub use chunks::i_data::write_i_data;
 pub use chunks::init::Init;
 pub use chunks::piece::Piece;
 pub use chunks::sack::Sack;
+pub use chunks::user_data::write_data;
 pub use fault::WireFault;
 pub use items::{put_block, put_cause, put_parameter, put_word};
 pub use laws::{

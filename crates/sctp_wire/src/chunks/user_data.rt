@@ -62,7 +62,8 @@ pub(crate) fn read_data(flags: u8, value: &[u8]) -> Piece<'_>
 ///
 /// # Errors
 /// `NoMemory` if allocation fails; `out` is then unchanged.
-pub(crate) fn write_data(out: &mut Vec<u8>, piece: &Piece<'_>) -> Result<(), NoMemory>
+#[inline(always)]
+pub fn write_data(out: &mut Vec<u8>, piece: &Piece<'_>) -> Result<(), NoMemory>
     requires { Fits (meaning.Data (piece_meaning piece.now)) }
     ensures written { OnOk result (out.new.items ≡ out.old.items ++ written (meaning.Data (piece_meaning piece.now))) }
     ensures refused { OnErr result (out.new.items ≡ out.old.items) }
