@@ -3,11 +3,13 @@ use Rattle.std.proofs.Common.{◌≡◌, ℕ, zero, suc, ◌+◌, ◌-◌, ◌*�
 use Rattle.std.specs.Prelude.{◌==◌, nat_le}
 use Rattle.std.proofs.lemmas.Bool.Decides.{nat_tests}
 use Rattle.std.proofs.lemmas.List.{length-map, map-append, map-set, take-map, drop-map, take_all}
-use Rattle.sctp_model.specs.messages.Format.{Format, Lane, Kind, Ordered, Unordered}
-use Rattle.sctp_model.specs.messages.Framing.{lane_kind, data_chunk, wire_number}
+use Rattle.sctp_model.specs.messages.Format.{Format, Plain, Interleaved, Lane, Kind, Ordered, Unordered}
+use Rattle.sctp_model.specs.messages.Framing.{lane_kind, data_chunk, takes_turns, wire_number}
 use Rattle.sctp_values.specs.Meanings.{kind_meaning}
 use Rattle.sctp_model.specs.messages.Pieces.{word_of}
 use Rattle.sctp_model.specs.numbers.Serial as serial
+use Rattle.sctp_model.specs.wire.Chunk.{PieceMeaning}
+use Rattle.sctp_packet.specs.Draft.{piece_chunk}
 use Rattle.sctp_model.specs.messages.Plan.{Message, Part}
 use Rattle.sctp_model.specs.sender.Entries.{entry_fragment, bytes_in}
 use Rattle.sctp_model.specs.sender.Queueing.{cut}
@@ -86,6 +88,11 @@ range_is size k bytes from to some is end = cut_short size (k * size) from to by
 said_unordered : (b : Bool) (k : Kind) → lane_kind b ≡ k → b ≡ is_unordered k
 said_unordered true k is = ap is_unordered is
 said_unordered false k is = ap is_unordered is
+
+-- an I-DATA if and only if streams take turns
+pub chosen_chunk : (f : Format) (turns : Bool) (p : PieceMeaning) → turns ≡ takes_turns f → piece_chunk turns p ≡ data_chunk f p
+chosen_chunk Plain turns p is = ap (λ (t : Bool). piece_chunk t p) is
+chosen_chunk Interleaved turns p is = ap (λ (t : Bool). piece_chunk t p) is
 
 -- the chunk of the piece that the code makes says what is to be said
 pub same_chunk : (f : Format) (size initial i n tsn fragment count number word stream payload : ℕ) (unordered : Bool) (m : MessageFields) (p : Content) (bytes : List ℕ) → tsn ≡ serial.tsn initial i

@@ -98,5 +98,5 @@ pub(crate) fn put_fragment<F: Framing>(
         word: F::wire_word(payload_id, fragment),
         bytes,
     };
-    packet.put(&F::data_chunk(piece));
+    packet.put_piece(&piece, F::takes_turns());
 }
