@@ -5,7 +5,7 @@ use crate::numbers::as_number;
 use sctp_serial::{S16, Serial};
 use sctp_values::Kind;
 use sctp_wire::codes::DATA_HEADER;
-use sctp_wire::{Chunk, Forward, Piece, SkipForm};
+use sctp_wire::{Chunk, Forward, SkipForm};
 
 /// User data in DATA chunks.
 #[derive(Clone, Copy, Debug)]
@@ -21,10 +21,6 @@ impl Framing for DataFraming {
     ghost whole = { whole_law Plain };
 
     ghost skipping = { skip_law Plain };
-
-    fn data_chunk(piece: Piece<'_>) -> Chunk<'_> {
-        Chunk::Data(piece)
-    }
 
     fn header() -> usize {
         DATA_HEADER

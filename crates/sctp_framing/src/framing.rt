@@ -1,7 +1,7 @@
 //! The trait of a format, with its laws.
 
 use sctp_values::Kind;
-use sctp_wire::{Chunk, Forward, Piece, SkipForm};
+use sctp_wire::{Chunk, Forward, SkipForm};
 
 /// A format of user data: DATA or I-DATA.
 ///
@@ -10,10 +10,10 @@ use sctp_wire::{Chunk, Forward, Piece, SkipForm};
 pub trait Framing {
     ghost use Rattle.std.specs.Prelude.{◌≡◌};
     ghost use Rattle.sctp_model.specs.messages.Format.{Format, is_numbered};
-    ghost use Rattle.sctp_model.specs.messages.Framing.{data_chunk, header_of, wire_number, takes_turns, number_near, place_in, begins_in, payload_in, forward_chunk, lets_go};
+    ghost use Rattle.sctp_model.specs.messages.Framing.{header_of, wire_number, takes_turns, number_near, place_in, begins_in, payload_in, forward_chunk, lets_go};
     ghost use Rattle.sctp_model.specs.messages.Pieces.{word_of};
     ghost use Rattle.sctp_values.specs.Meanings.{kind_meaning};
-    ghost use Rattle.sctp_wire.specs.ChunkTree.{piece_meaning, forward_meaning, chunk_meaning};
+    ghost use Rattle.sctp_wire.specs.ChunkTree.{forward_meaning, chunk_meaning};
     ghost use Rattle.sctp_framing.specs.SkipForms.{skip_form};
     ghost use Rattle.sctp_model.specs.messages.FormatLaws.{WholeLaw, SkipLaw};
 
@@ -21,10 +21,6 @@ pub trait Framing {
     ghost format: { Format };
 
     // ---- what a sender writes
-
-    /// The chunk with these fields: a DATA or an I-DATA (RFC 9260, 3.3.1; RFC 8260, 2.1).
-    fn data_chunk(piece: Piece<'_>) -> Chunk<'_>
-        ensures { chunk_meaning result ≡ data_chunk format (piece_meaning piece.entry) };
 
     /// The bytes of a chunk before its data, 16 or 20 (RFC 9260, 3.3.1; RFC 8260, 2.1).
     fn header() -> usize

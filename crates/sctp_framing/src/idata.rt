@@ -5,7 +5,7 @@ use crate::numbers::as_number;
 use sctp_serial::{S32, Serial};
 use sctp_values::Kind;
 use sctp_wire::codes::I_DATA_HEADER;
-use sctp_wire::{Chunk, Forward, Piece, SkipForm};
+use sctp_wire::{Chunk, Forward, SkipForm};
 
 /// User data in I-DATA chunks.
 #[derive(Clone, Copy, Debug)]
@@ -21,10 +21,6 @@ impl Framing for IDataFraming {
     ghost whole = { whole_law Interleaved };
 
     ghost skipping = { skip_law Interleaved };
-
-    fn data_chunk(piece: Piece<'_>) -> Chunk<'_> {
-        Chunk::IData(piece)
-    }
 
     fn header() -> usize {
         I_DATA_HEADER

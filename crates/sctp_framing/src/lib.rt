@@ -8,12 +8,12 @@
 //!
 //! | promise | contract |
 //! |---|---|
-//! | a fragment is sent as DATA or as I-DATA, abandoned messages are skipped by FORWARD-TSN or by I-FORWARD-TSN | `data_chunk`, `forward_chunk` |
+//! | abandoned messages are skipped by FORWARD-TSN or by I-FORWARD-TSN | `forward_chunk` |
 //! | the entries of a FORWARD-TSN have 4 bytes, those of an I-FORWARD-TSN 8 | `skip_form` |
 //! | a chunk's bytes before its data: 16 for DATA, 20 for I-DATA | `header`: `header_of` |
 //! | a message's number on the wire: an SSN, 0 for an unordered DATA, or a MID | `wire_number` |
 //! | the last word of a fragment's header: the payload protocol identifier; after an I-DATA message's first fragment the fragment sequence number | `wire_word`: `word_of` |
-//! | under I-DATA streams take turns, a fragment each; under DATA all fragments of a message get consecutive TSNs | `takes_turns` |
+//! | fragments are sent as I-DATA where streams take turns, a fragment each; else as DATA, all fragments of a message with consecutive TSNs | `takes_turns` |
 //! | all messages have numbers but the unordered ones of DATA: a FORWARD lists those, and a receiver files them by number | `is_numbered` |
 //! | a wire value is read as the count near a reference; None if the format has no number, if no count is near, and for 2^64 - 1 | `number_near` |
 //! | what increases by one from each fragment of a message to the next: the index, or the fragment number; which chunk begins a message; the payload protocol identifier that it has | `place`, `begins`, `payload` |
