@@ -76,6 +76,7 @@ impl<F: Framing> Sender<F> {
     ///
     /// # Errors
     /// As `queue`.
+    #[inline(always)]
     pub fn queue_limited(
         &mut self,
         stream: u16,

@@ -36,6 +36,7 @@ impl<F: Framing> Sender<F> {
 }
 
 /// Takes room for a ticket more, and for so many entries beside those that there are.
+#[inline(always)]
 pub(crate) fn reserve_message(
     fates: &mut Fates,
     dues: &mut Dues,
