@@ -17,7 +17,7 @@ use Rattle.sctp_send.specs.SenderKept.{Item, Rest, Track, Kept}
 use Rattle.sctp_send.specs.SenderStands.{item_here, items_from, table, rest_here, track_here, fate_here, fate_named, Keeps}
 use Rattle.sctp_send.specs.inner.Expiring.{rest_message}
 use Rattle.sctp_send.specs.inner.Walks.{is_numbered_fate, any_rest, any_uncovered}
-use Rattle.sctp_send.specs.inner.Dues.{IsUntilOf, IsOpenUntil}
+use Rattle.sctp_send.specs.inner.Dues.{has_come, IsUntilOf, IsOpenUntil}
 use Rattle.sctp_send.specs.declared.kept.message.Fate.{Fate}
 use Rattle.sctp_send.specs.declared.kept.message.Fate.TheVariants.{Queued as StillQueued, Numbered, Withdrawn, Abandoned as WasAbandoned}
 use Rattle.sctp_send.proofs.OverLemmas.{neither}
@@ -25,10 +25,6 @@ use Rattle.sctp_send.proofs.QueueLemmas.{fates_given}
 use Rattle.sctp_send.proofs.abandon.EndLemmas.{get-table}
 use Rattle.sctp_send.proofs.abandon.AbandonedLemmas.{kept_name}
 use Rattle.sctp_send.proofs.abandon.AnswerLemmas.{answered_abandoned, abandoned_may, whole_is}
-
--- a moment has come
-abbrev pub has_come : (now : ℕ) → Option ℕ → Bool
-has_come now o = some_passes (λ until. nat_le until now) o
 
 with_false : (b : Bool) → (b && false) ≡ false
 with_false true = refl
