@@ -1,23 +1,18 @@
 -- What is kept when moments of tickets are told anew, are woken, or are passed.
 use Rattle.std.proofs.Common.{◌≡◌, ℕ, suc, ◌+◌, ◌<◌, ◌≤◌, ◌⊎◌, inl, inr, List, [], ◌∷◌, length, get_or, map, drop, Bool, true, false, Option, Some, None, refl, sym, ap, ◌∙◌, subst, arith, length-drop}
-use Rattle.std.specs.Prelude.{◌==◌, ◌||◌, ◌&&◌, nat_lt, if◌then◌else◌, unwrap_or}
+use Rattle.std.specs.Prelude.{◌==◌, ◌&&◌, nat_lt, if◌then◌else◌, unwrap_or}
 use Rattle.std.proofs.lemmas.Bool.{cases_lt, cases_eq}
 use Rattle.std.proofs.lemmas.Bool.Decides.{nat_tests}
 use Rattle.std.specs.declared.sync.Arc.{Arc}
 use Rattle.std.specs.declared.alloc.Global.{Global}
 use Rattle.sctp_model.specs.numbers.Limits.{LAST_MOMENT}
 use Rattle.sctp_model.specs.messages.Format.{Format}
-use Rattle.sctp_model.specs.messages.Plan.{Entry}
 use Rattle.sctp_model.specs.sender.SenderView.{SenderView}
-use Rattle.sctp_model.specs.sender.Entries.{entry_message}
-use Rattle.sctp_model.specs.sender.Abandoning.{waits, has_ticket, is_to_expire}
-use Rattle.sctp_model.proofs.sender.OwnLaws.{AllOwn}
-use Rattle.sctp_model.proofs.sender.TicketLaws.{is_ticketed}
-use Rattle.sctp_model.proofs.sender.ExpiredLaws.{all_own_drop}
+use Rattle.sctp_model.specs.sender.Abandoning.{waits, is_to_expire}
 use Rattle.sctp_send.specs.SenderKept.{Item, Kept}
 use Rattle.sctp_send.specs.OutstandingFields.{item_meaning, message_meaning}
 use Rattle.sctp_send.specs.SenderFields.{queued_by}
-use Rattle.sctp_send.specs.SenderStands.{items_from, Keeps}
+use Rattle.sctp_send.specs.SenderStands.{Keeps}
 use Rattle.sctp_send.specs.inner.Walks.{any_item, any_rest}
 use Rattle.sctp_send.specs.inner.Seating.{ticket_in, DoTicketsRise}
 use Rattle.sctp_send.specs.inner.Dues.{due_at, is_late, some_late, standing_message, standing_messages, AreWoken, has_come, IsIdle}

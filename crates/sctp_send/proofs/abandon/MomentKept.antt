@@ -1,6 +1,6 @@
 -- From which moment on the message of a ticket is to expire, as what is kept of it tells.
 use Rattle.std.proofs.Common.{◌≡◌, ℕ, zero, suc, ◌+◌, ◌<◌, ◌≤◌, ◌⊎◌, inl, inr, List, [], ◌∷◌, length, drop, Bool, true, false, Option, Some, None, refl, sym, ap, ◌∙◌, arith}
-use Rattle.std.specs.Prelude.{◌==◌, not, ◌&&◌, nat_le, if◌then◌else◌, option_map, option_and_then, find, slice_get}
+use Rattle.std.specs.Prelude.{◌==◌, not, ◌&&◌, if◌then◌else◌, option_map, option_and_then, find, slice_get}
 use Rattle.std.specs.Option.{option_map_or}
 use Rattle.sctp_model.specs.messages.Format.{Format}
 use Rattle.sctp_model.specs.messages.Plan.{Message, Entry, message_at}
