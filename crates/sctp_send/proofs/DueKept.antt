@@ -1,52 +1,41 @@
 -- What is kept when moments of tickets are told anew, are woken, or are passed.
 use Rattle.std.proofs.Common.{◌≡◌, ℕ, suc, ◌+◌, ◌<◌, ◌≤◌, ◌⊎◌, inl, inr, List, [], ◌∷◌, length, get_or, map, drop, Bool, true, false, Option, Some, None, refl, sym, ap, ◌∙◌, subst, arith, length-drop}
-use Rattle.std.specs.Prelude.{◌==◌, ◌||◌, if◌then◌else◌, unwrap_or}
+use Rattle.std.specs.Prelude.{◌==◌, ◌&&◌, nat_lt, if◌then◌else◌, unwrap_or}
 use Rattle.std.proofs.lemmas.Bool.{cases_lt, cases_eq}
 use Rattle.std.proofs.lemmas.Bool.Decides.{nat_tests}
 use Rattle.std.specs.declared.sync.Arc.{Arc}
 use Rattle.std.specs.declared.alloc.Global.{Global}
 use Rattle.sctp_model.specs.numbers.Limits.{LAST_MOMENT}
 use Rattle.sctp_model.specs.messages.Format.{Format}
-use Rattle.sctp_model.specs.messages.Plan.{Entry}
 use Rattle.sctp_model.specs.sender.SenderView.{SenderView}
-use Rattle.sctp_model.specs.sender.Entries.{entry_message}
-use Rattle.sctp_model.specs.sender.Abandoning.{waits, has_ticket, is_to_expire}
-use Rattle.sctp_model.proofs.sender.OwnLaws.{AllOwn}
-use Rattle.sctp_model.proofs.sender.TicketLaws.{is_ticketed}
-use Rattle.sctp_model.proofs.sender.ExpiredLaws.{all_own_drop}
+use Rattle.sctp_model.specs.sender.Abandoning.{waits, is_to_expire}
 use Rattle.sctp_send.specs.SenderKept.{Item, Kept}
 use Rattle.sctp_send.specs.OutstandingFields.{item_meaning, message_meaning}
 use Rattle.sctp_send.specs.SenderFields.{queued_by}
-use Rattle.sctp_send.specs.SenderStands.{items_from, Keeps}
+use Rattle.sctp_send.specs.SenderStands.{Keeps}
 use Rattle.sctp_send.specs.inner.Walks.{any_item, any_rest}
 use Rattle.sctp_send.specs.inner.Seating.{ticket_in, DoTicketsRise}
-use Rattle.sctp_send.specs.inner.Dues.{due_at, is_late, some_late, standing_message, standing_messages, AreWoken, IsIdle}
+use Rattle.sctp_send.specs.inner.Dues.{due_at, is_late, some_late, standing_message, standing_messages, AreWoken, has_come, IsIdle}
 use Rattle.sctp_send.specs.declared.kept.message.Message.{Message as MessageFields}
 use Rattle.sctp_send.specs.declared.kept.entry.Entry.{Entry as EntryFields}
 use Rattle.sctp_send.proofs.HeldLemmas.{still_held}
-use Rattle.sctp_send.proofs.DueLemmas.{late_before, late_other_items, over_idle}
-use Rattle.sctp_send.proofs.kept.MomentPages.{due_behind}
-use Rattle.sctp_send.proofs.abandon.MomentKept.{has_come}
+use Rattle.sctp_send.proofs.DueLemmas.{both_off, late_before, late_other_items, over_idle}
+use Rattle.sctp_send.proofs.kept.MomentLemmas.{not_come, due_behind}
+use Rattle.sctp_send.proofs.KeepLemmas.{items_given}
 use Rattle.sctp_send.proofs.abandon.ExpireKept.{fewer_late, stays_idle}
-
-clash : {b : Bool} → b ≡ true → b ≡ false → ⊥
-clash on off = cc
-
-both_off : (a b : Bool) → a ≡ false → b ≡ false → (a || b) ≡ false
-both_off a b x y = rw (x, y) refl
 
 -- ---- told anew
 
-not_come : (now : ℕ) (r : Option ℕ) → now < unwrap_or r LAST_MOMENT → has_come now r ≡ false
-not_come now None lt = refl
-not_come now (Some until) lt = grind (arith, nat_tests)
-
 -- less is said of a ticket
 idle_asleep : (s : Kept) (now t : ℕ) (ms : List ℕ) → IsIdle s now t → IsIdle (record s { moments = ms; asleep = true }) now t
-idle_asleep s now t ms i = record { queue = i.queue; items = λ on. fewer_late now t s.asleep s.items (i.items on); tracks = i.tracks }
+idle_asleep s now t ms i = record { queue = i.queue; items = λ on. by_past (nat_lt s.passed t) (i.items on); tracks = i.tracks }
+  where
+    by_past : (c : Bool) → some_late now t (standing_messages (c && s.asleep) s.items) ≡ false → some_late now t (standing_messages (c && true) s.items) ≡ false
+    by_past true none = fewer_late now t s.asleep s.items none
+    by_past false none = none
 
 pub keeps_told : (f : Format) (s : Kept) (v : SenderView) (t : ℕ) (r : Option ℕ) (ms : List ℕ) → Keeps f s v → ((now : ℕ) → is_to_expire v now t ≡ has_come now r) → length ms ≡ length s.moments
-    → ((now : ℕ) → now < due_at s.passed ms t → (now < unwrap_or r LAST_MOMENT) ⊎ (now < due_at s.passed s.moments t)) → ((u : ℕ) → (u ≡ t → ⊥) → due_at s.passed ms u ≡ due_at s.passed s.moments u)
+    → ((now : ℕ) → now < due_at s.passed ms t → ((s.passed < t) × (now < unwrap_or r LAST_MOMENT)) ⊎ (now < due_at s.passed s.moments t)) → ((u : ℕ) → (u ≡ t → ⊥) → due_at s.passed ms u ≡ due_at s.passed s.moments u)
     → Keeps f (record s { moments = ms; asleep = true }) v
 keeps_told f s v t r ms k told long here others = record {
   holds = still_held s v s.ended s.passed ms true k.holds;
@@ -67,20 +56,11 @@ keeps_told f s v t r ms k told long here others = record {
   reached = k.reached;
 }
   where
-    by_moment : (now : ℕ) → (now < unwrap_or r LAST_MOMENT) ⊎ (now < due_at s.passed s.moments t) → IsIdle (record s { moments = ms; asleep = true }) now t
-    by_moment now (inl below) = stays_idle f s v now t ms k (told now ∙ not_come now r below)
+    by_moment : (now : ℕ) → ((s.passed < t) × (now < unwrap_or r LAST_MOMENT)) ⊎ (now < due_at s.passed s.moments t) → IsIdle (record s { moments = ms; asleep = true }) now t
+    by_moment now (inl below) = stays_idle f s v now t ms k below.0 (told now ∙ not_come now r below.1)
     by_moment now (inr below) = idle_asleep s now t ms (k.due.each t now below)
 
 -- ---- woken
-
--- no entry has a ticket that was not given
-none_given : (v : SenderView) (t i : ℕ) (es : List Entry) → AllOwn v.plan v.tickets v.plan.entries es → v.tickets < t → any_item t (items_from v i es) ≡ false
-none_given v t i [] own lt = refl
-none_given v t i (e ∷ es) own lt = both_off (has_ticket t (entry_message v.plan e)) (any_item t (items_from v (suc i) es)) (by_ticket (has_ticket t (entry_message v.plan e)) refl) (none_given v t (suc i) es own.1 lt)
-  where
-    by_ticket : (b : Bool) → has_ticket t (entry_message v.plan e) ≡ b → b ≡ false
-    by_ticket false is = refl
-    by_ticket true is = let given = (own.0 t is).1 in absurd (omega (arith, given, lt))
 
 -- entries none of which is late
 all_idle : (now t size : ℕ) (es : List EntryFields) → ((k : ℕ) (d : EntryFields) → k < length es → is_late now t (Some (message_meaning size (get_or es k d).message.value)) ≡ false) → some_late now t (standing_messages false (map (item_meaning size) es)) ≡ false
@@ -101,7 +81,7 @@ keeps_awake f s v size es ms b k are long each woken = record {
     many = let many = k.due.many in omega (arith, many, long);
     each = λ t now lt.
         let i = k.due.each t now (each t now lt) in
-        record { queue = i.queue; items = λ on. by_sleep t now lt s.asleep b refl refl (i.items on); tracks = i.tracks };
+        record { queue = i.queue; items = λ on. by_past t now lt (nat_lt s.passed t) refl (i.items on); tracks = i.tracks };
   };
   forward = k.forward;
   resets = k.resets;
@@ -110,28 +90,27 @@ keeps_awake f s v size es ms b k are long each woken = record {
   reached = k.reached;
 }
   where
-    by_at : (t now : ℕ) → now < due_at s.passed ms t → s.asleep ≡ true → b ≡ false → some_late now t (standing_messages false s.items) ≡ false
-    by_at t now lt is off = elim (cases_lt s.passed t) [
-      | inr le ↦ late_other_items now t false s.items (k.over.each t (omega (arith, le))).items
-      | inl past ↦ elim (cases_lt v.tickets t) [
-        | inl beyond ↦
-            let own = all_own_drop v.plan v.tickets v.cum v.plan.entries v.plan.entries (is_ticketed f v k.reached).owned in
-            late_other_items now t false s.items (ap (any_item t) k.holds.items ∙ none_given v t (suc v.cum) (drop v.cum v.plan.entries) own beyond)
-        | inr given ↦
-            let many = k.due.many in
-            ap (λ (xs : List Item). some_late now t (standing_messages false xs)) are
-            ∙ all_idle now t size es (λ n d within. late_before now t (message_meaning size (get_or es n d).message.value) (λ same.
-            let low = woken is off n d within within (omega (arith, past, same)) (omega (arith, given, same, many, long)) in
-            let here : now < due_at s.passed ms (get_or es n d).message.value.ticket = subst (λ (x : ℕ). now < due_at s.passed ms x) same lt in
-            omega (arith, here, low)))
-      ]
+    by_at : (t now : ℕ) → now < due_at s.passed ms t → s.passed < t → s.asleep ≡ true → b ≡ false → some_late now t (standing_messages false s.items) ≡ false
+    by_at t now lt past is off = elim (cases_lt v.tickets t) [
+      | inl beyond ↦ late_other_items now t false s.items (items_given f s v t k beyond)
+      | inr given ↦
+          let many = k.due.many in
+          ap (λ (xs : List Item). some_late now t (standing_messages false xs)) are
+          ∙ all_idle now t size es (λ n d within. late_before now t (message_meaning size (get_or es n d).message.value) (λ same.
+          let low = woken is off n d within within (omega (arith, past, same)) (omega (arith, given, same, many, long)) in
+          let here : now < due_at s.passed ms (get_or es n d).message.value.ticket = subst (λ (x : ℕ). now < due_at s.passed ms x) same lt in
+          not_come now (get_or es n d).message.value.until (omega (arith, here, low))))
     ]
 
-    by_sleep : (t now : ℕ) → now < due_at s.passed ms t → (was is : Bool) → s.asleep ≡ was → b ≡ is → some_late now t (standing_messages was s.items) ≡ false → some_late now t (standing_messages is s.items) ≡ false
-    by_sleep t now lt true false asleep awake none = by_at t now lt asleep awake
-    by_sleep t now lt true true asleep awake none = none
-    by_sleep t now lt false false asleep awake none = none
-    by_sleep t now lt false true asleep awake none = fewer_late now t false s.items none
+    by_sleep : (t now : ℕ) → now < due_at s.passed ms t → s.passed < t → (was is : Bool) → s.asleep ≡ was → b ≡ is → some_late now t (standing_messages was s.items) ≡ false → some_late now t (standing_messages is s.items) ≡ false
+    by_sleep t now lt past true false asleep awake none = by_at t now lt past asleep awake
+    by_sleep t now lt past true true asleep awake none = none
+    by_sleep t now lt past false false asleep awake none = none
+    by_sleep t now lt past false true asleep awake none = fewer_late now t false s.items none
+
+    by_past : (t now : ℕ) → now < due_at s.passed ms t → (c : Bool) → nat_lt s.passed t ≡ c → some_late now t (standing_messages (c && s.asleep) s.items) ≡ false → some_late now t (standing_messages (c && b) s.items) ≡ false
+    by_past t now lt false is none = none
+    by_past t now lt true is none = let past : s.passed < t = grind (arith, nat_tests) in by_sleep t now lt past s.asleep b refl refl none
 
 -- ---- passed
 
@@ -139,17 +118,15 @@ pub keeps_passed : (f : Format) (s : Kept) (v : SenderView) (n last : ℕ) → K
     → ((t : ℕ) → t ≤ last → any_rest t s.tracks ≡ false) → ((t : ℕ) → t ≤ last → any_item t s.items ≡ false) → Keeps f (record s { passed = s.passed + n; moments = drop n s.moments }) v
 keeps_passed f s v n last k end most queue rests items = record {
   holds = still_held s v s.ended (s.passed + n) (drop n s.moments) s.asleep k.holds;
-  over = record {
-    within = k.over.within;
-    each = λ t le. elim (cases_lt last t) [
-      | inl past ↦ let o = k.over.each t (omega (arith, le, past, end)) in record { queue = o.queue; tracks = o.tracks; items = o.items }
-      | inr within ↦ record { queue = queue t within; tracks = rests t within; items = items t within }
-    ];
-  };
+  over = record { within = k.over.within; each = λ t le. let o = k.over.each t le in record { queue = o.queue; tracks = o.tracks; items = o.items } };
   due = record {
     many = let many = k.due.many in let long = length-drop n s.moments in omega (arith, many, long, most);
     each = λ t now lt. elim (cases_lt last t) [
-      | inl past ↦ let i = k.due.each t now (due_behind s.passed s.moments n t now most (omega (arith, past, end)) lt) in record { queue = i.queue; items = i.items; tracks = i.tracks }
+      | inl past ↦
+          let i = k.due.each t now (due_behind s.passed s.moments n t now most (omega (arith, past, end)) lt) in
+          let is : nat_lt (s.passed + n) t ≡ true = grind (arith, nat_tests) in
+          let was : nat_lt s.passed t ≡ true = grind (arith, nat_tests) in
+          record { queue = i.queue; items = λ on. ap (λ (c : Bool). some_late now t (standing_messages (c && s.asleep) s.items)) (is ∙ sym was) ∙ i.items on; tracks = i.tracks }
       | inr within ↦ over_idle (record s { passed = s.passed + n; moments = drop n s.moments }) now t (record { queue = queue t within; tracks = rests t within; items = items t within })
     ];
   };

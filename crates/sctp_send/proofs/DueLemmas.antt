@@ -1,19 +1,18 @@
 -- What is idle stays so, whatever is done to the entries, the streams and the queue.
 use Rattle.std.proofs.Common.{◌≡◌, ℕ, zero, suc, ◌<◌, List, [], ◌∷◌, ◌++◌, length, get_or, map, drop, set, Bool, true, false, Option, Some, None, refl, sym, ap, ◌∙◌, arith}
-use Rattle.std.specs.Prelude.{◌==◌, ◌&&◌, ◌||◌, nat_le, nat_lt, if◌then◌else◌, slice_get, replicate, unwrap_or, option_and_then}
+use Rattle.std.specs.Prelude.{◌==◌, ◌&&◌, ◌||◌, nat_lt, if◌then◌else◌, slice_get, replicate, option_and_then}
 use Rattle.std.proofs.lemmas.Bool.Decides.{nat_tests}
 use Rattle.sctp_model.specs.messages.Format.{Lane}
 use Rattle.sctp_model.specs.messages.Plan.{Message, Entry, Part, End}
 use Rattle.sctp_model.specs.sender.SenderView.{Queued}
 use Rattle.sctp_model.specs.sender.Entries.{fragments_in}
-use Rattle.sctp_model.specs.numbers.Limits.{LAST_MOMENT}
-use Rattle.sctp_model.specs.sender.Words.{when, some_passes}
+use Rattle.sctp_model.specs.sender.Words.{when}
 use Rattle.sctp_model.specs.sender.Abandoning.{waits, without, has_ticket, is_past}
 use Rattle.sctp_send.specs.SenderKept.{Item, Rest, Track, Kept}
 use Rattle.sctp_send.specs.SenderStands.{IsOver}
 use Rattle.sctp_send.specs.inner.Expiring.{queue_messages, rest_message, rest_messages}
 use Rattle.sctp_send.specs.inner.Walks.{any_item, any_rest, rest_has, end_item}
-use Rattle.sctp_send.specs.inner.Dues.{is_late, some_late, standing_message, standing_messages, IsIdle}
+use Rattle.sctp_send.specs.inner.Dues.{is_late, some_late, standing_message, standing_messages, has_come, is_asleep, IsIdle}
 use Rattle.sctp_send.specs.inner.Newcomers.{gone_item, new_item, new_items, begun_items, begun_track, rest_after, number_in, without_place}
 use Rattle.sctp_send.proofs.sack.CoverLemmas.{items_told}
 use Rattle.sctp_send.proofs.abandon.AbandonedLemmas.{abandoned_item}
@@ -161,16 +160,12 @@ late_end now t true r = refl
 late_end now t false r = refl
 
 -- a message isn't late before its moment
-pub late_before : (now t : ℕ) (m : Message) → (t ≡ m.ticket → now < unwrap_or m.until LAST_MOMENT) → is_late now t (Some m) ≡ false
+pub late_before : (now t : ℕ) (m : Message) → (t ≡ m.ticket → has_come now m.until ≡ false) → is_late now t (Some m) ≡ false
 late_before now t m below = by_ticket (m.ticket == t) refl
   where
-    by_until : (o : Option ℕ) → now < unwrap_or o LAST_MOMENT → some_passes (λ until. nat_le until now) o ≡ false
-    by_until None lt = refl
-    by_until (Some until) lt = grind (arith, nat_tests)
-
     by_ticket : (c : Bool) → (m.ticket == t) ≡ c → (c && is_past now m) ≡ false
     by_ticket false other = refl
-    by_ticket true same = let here : m.ticket ≡ t = grind (arith, nat_tests) in by_until m.until (below (sym here))
+    by_ticket true same = let here : m.ticket ≡ t = grind (arith, nat_tests) in below (sym here)
 
 -- what is over is idle
 late_other_queue : (now t : ℕ) (qs : List Queued) → waits t qs ≡ false → some_late now t (queue_messages qs) ≡ false
@@ -198,6 +193,6 @@ late_other_rests now t (x ∷ xs) none =
 pub over_idle : (s : Kept) (now t : ℕ) → IsOver s t → IsIdle s now t
 over_idle s now t o = record {
   queue = late_other_queue now t s.queue o.queue;
-  items = λ on. late_other_items now t s.asleep s.items o.items;
+  items = λ on. late_other_items now t (is_asleep s t) s.items o.items;
   tracks = λ on. late_other_rests now t s.tracks o.tracks;
 }

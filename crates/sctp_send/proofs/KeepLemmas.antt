@@ -1,7 +1,8 @@
 -- What a SACK and a SHUTDOWN leave of what is kept, for each view that it stands for.
 use Rattle.std.proofs.Common.{◌≡◌, ℕ, zero, suc, ◌+◌, ◌%◌, ◌^◌, ◌<◌, ◌≤◌, List, [], ◌∷◌, length, drop, Bool, true, false, Some, None, refl, sym, ap, ◌∙◌, arith, length-drop}
-use Rattle.std.specs.Prelude.{nat_le, if◌then◌else◌, not, ◌&&◌, ◌||◌, Option, option_map}
+use Rattle.std.specs.Prelude.{nat_le, nat_lt, if◌then◌else◌, not, ◌&&◌, ◌||◌, Option, option_map}
 use Rattle.std.proofs.lemmas.List.{drop-drop}
+use Rattle.std.proofs.lemmas.Bool.{and_parts}
 use Rattle.std.proofs.lemmas.Bool.Decides.{nat_tests}
 use Rattle.sctp_model.specs.messages.Format.{Format}
 use Rattle.sctp_model.specs.wire.Chunk.{BlockMeaning, SackMeaning}
@@ -12,6 +13,10 @@ use Rattle.sctp_model.specs.sender.SackTaken.{index_of, sack_fault, sack_covers,
 use Rattle.sctp_model.specs.sender.Entries.{entry_message, is_of_abandoned}
 use Rattle.sctp_model.specs.sender.Words.{last_that}
 use Rattle.sctp_model.specs.sender.Reached.{Covers, Closes}
+use Rattle.sctp_model.specs.sender.Abandoning.{has_ticket}
+use Rattle.sctp_model.proofs.sender.OwnLaws.{AllOwn}
+use Rattle.sctp_model.proofs.sender.TicketLaws.{is_ticketed}
+use Rattle.sctp_model.proofs.sender.ExpiredLaws.{all_own_drop}
 use Rattle.sctp_model.proofs.sender.Bounds.{is_bounded}
 use Rattle.sctp_model.proofs.sender.OwedLaws.{is_promised}
 use Rattle.sctp_send.specs.SenderKept.{Item, Kept}
@@ -19,7 +24,8 @@ use Rattle.sctp_send.specs.CoveredRuns.{AreCovered, runs_behind}
 use Rattle.sctp_send.specs.declared.kept.entry.CoveredRun.{CoveredRun}
 use Rattle.sctp_send.specs.SenderStands.{item_here, items_from, Keeps}
 use Rattle.sctp_send.specs.inner.Acknowledging.{IsPassing}
-use Rattle.sctp_send.specs.inner.Dues.{is_late, some_late, standing_message, standing_messages}
+use Rattle.sctp_send.specs.inner.Walks.{any_item}
+use Rattle.sctp_send.specs.inner.Dues.{is_late, some_late, standing_message, standing_messages, is_asleep}
 use Rattle.sctp_send.proofs.sack.RunLemmas.{AreOfBlocks, covered_behind}
 use Rattle.sctp_send.proofs.sack.CoverLemmas.{item_told, items_told, count_items_told}
 use Rattle.sctp_send.proofs.OverLemmas.{neither, no_item_behind, same_told}
@@ -36,6 +42,20 @@ pub kept_length : (f : Format) (s : Kept) (v : SenderView) → Keeps f s v → l
 kept_length f s v k =
     let items = ap (λ (xs : List Item). length xs) k.holds.items ∙ count_items v (drop v.cum v.plan.entries) (suc v.cum) in
     omega (arith, items, length-drop v.cum v.plan.entries, (is_bounded f v k.reached).within)
+
+-- no entry has a ticket that was not given
+none_given : (v : SenderView) (t i : ℕ) (es : List Entry) → AllOwn v.plan v.tickets v.plan.entries es → v.tickets < t → any_item t (items_from v i es) ≡ false
+none_given v t i [] own lt = refl
+none_given v t i (e ∷ es) own lt = both_off (has_ticket t (entry_message v.plan e)) (any_item t (items_from v (suc i) es)) (by_ticket (has_ticket t (entry_message v.plan e)) refl) (none_given v t (suc i) es own.1 lt)
+  where
+    by_ticket : (b : Bool) → has_ticket t (entry_message v.plan e) ≡ b → b ≡ false
+    by_ticket false is = refl
+    by_ticket true is = let given = (own.0 t is).1 in absurd (omega (arith, given, lt))
+
+pub items_given : (f : Format) (s : Kept) (v : SenderView) (t : ℕ) → Keeps f s v → v.tickets < t → any_item t s.items ≡ false
+items_given f s v t k lt =
+    ap (any_item t) k.holds.items
+    ∙ none_given v t (suc v.cum) (drop v.cum v.plan.entries) (all_own_drop v.plan v.tickets v.cum v.plan.entries v.plan.entries (is_ticketed f v k.reached).owned) lt
 
 -- ---- CUM moves
 
@@ -147,7 +167,7 @@ keeps_sacked f s v x n b rs k before stays p none runs =
             let i = k.due.each t now lt in
             record {
               queue = i.queue;
-              items = λ on. idle_sacked v now t n s.asleep (in_blocks 0 x.blocks) s.items (left_items f s v n k) stays (i.items on);
+              items = λ on. idle_sacked v now t n (is_asleep s t) (in_blocks 0 x.blocks) s.items (left_items f s v n k) (λ asleep. stays (and_parts (nat_lt s.passed t) s.asleep asleep).1) (i.items on);
               tracks = i.tracks;
             };
       };
@@ -199,7 +219,7 @@ keeps_shut f s v wire n b k before p none =
         room = omega (arith, fewer, room);
       };
       over = record { within = k.over.within; each = λ t le. let o = k.over.each t le in record { queue = o.queue; tracks = o.tracks; items = no_item_behind t n s.items o.items } };
-      due = record { many = k.due.many; each = λ t now lt. let i = k.due.each t now lt in record { queue = i.queue; items = λ on. late_behind now t n s.asleep s.items (i.items on); tracks = i.tracks } };
+      due = record { many = k.due.many; each = λ t now lt. let i = k.due.each t now lt in record { queue = i.queue; items = λ on. late_behind now t n (is_asleep s t) s.items (i.items on); tracks = i.tracks } };
       forward = k.forward;
       resets = k.resets;
       before = before ∙ ap (last_that v.sent) (sym p.index);

@@ -1,7 +1,7 @@
 -- Fragments counted, sums over the streams, what is promised, and a message more in the queue.
-use Rattle.std.proofs.Common.{◌≡◌, ℕ, zero, suc, ◌+◌, ◌*◌, ◌/◌, ◌%◌, ◌^◌, ◌<◌, ◌≤◌, List, [], ◌∷◌, ◌++◌, length, Bool, true, false, Option, Some, None, refl, sym, ap, ◌∙◌, subst, arith}
-use Rattle.std.specs.Prelude.{min, nat_lt, nat_le, if◌then◌else◌, ◌==◌, ◌||◌, Result, Ok, Err, IsErrAnd, unwrap_or}
-use Rattle.std.proofs.lemmas.List.{length_push}
+use Rattle.std.proofs.Common.{◌≡◌, ℕ, zero, suc, ◌+◌, ◌*◌, ◌/◌, ◌%◌, ◌^◌, ◌<◌, ◌≤◌, inl, inr, List, [], ◌∷◌, ◌++◌, length, Bool, true, false, Option, Some, None, refl, sym, ap, ◌∙◌, subst, arith}
+use Rattle.std.specs.Prelude.{min, nat_lt, nat_le, if◌then◌else◌, ◌==◌, ◌&&◌, ◌||◌, Result, Ok, Err, IsErrAnd, unwrap_or}
+use Rattle.std.proofs.lemmas.Bool.{cases_lt}
 use Rattle.std.specs.Int.{div_ceil}
 use Rattle.std.proofs.lemmas.Bool.Decides.{nat_tests}
 use Rattle.sctp_model.specs.numbers.Limits.{LONGEST_MESSAGE, QUEUE_LIMIT, TICKET_LIMIT, TSN_LIMIT, LAST_MOMENT}
@@ -21,22 +21,23 @@ use Rattle.sctp_model.proofs.sender.CutLaws.{length-cut}
 use Rattle.sctp_model.proofs.sender.SetLaws.{is_set, accepted}
 use Rattle.sctp_model.proofs.sender.OwedLaws.{is_promised, owed_push}
 use Rattle.sctp_model.proofs.sender.TicketLaws.{waits_push}
-use Rattle.sctp_send.specs.SenderAnswers.{refused_with, QueueAnswer}
+use Rattle.sctp_send.specs.SenderAnswers.{refused_with, QueueAnswer, queue_after}
 use Rattle.sctp_values.specs.declared.ticket.Ticket.{Ticket}
 use Rattle.sctp_send.specs.declared.queueing.SendFault.{SendFault}
 use Rattle.sctp_send.specs.declared.queueing.SendFault.TheVariants.{NoMemory}
 use Rattle.sctp_send.specs.SenderKept.{Track, Kept}
 use Rattle.sctp_send.specs.ResetsKept.{sending_under}
 use Rattle.sctp_send.specs.SenderStands.{table, rest_here, track_here, fate_here, fate_named, Keeps}
+use Rattle.sctp_send.specs.inner.Dues.{some_late, standing_messages, IsPushed}
 use Rattle.sctp_send.specs.inner.Walks.{total, one_if_rest, rest_owes}
 use Rattle.sctp_send.specs.declared.kept.message.Fate.{Fate}
 use Rattle.sctp_send.specs.declared.kept.message.Fate.TheVariants.{Queued as StillQueued}
 use Rattle.sctp_send.proofs.TableLemmas.{table-push, table-same, length-table}
 use Rattle.sctp_send.proofs.OverLemmas.{not_waiting_more}
-use Rattle.sctp_send.proofs.DueLemmas.{late_queue_more, late_before}
-use Rattle.sctp_send.proofs.kept.MomentLemmas.{due_push}
+use Rattle.sctp_send.proofs.DueLemmas.{late_queue_more, late_before, late_other_items}
+use Rattle.sctp_send.proofs.kept.MomentLemmas.{many_pushed, due_pushed}
 use Rattle.sctp_send.proofs.kept.GivenUpLemmas.{push_open}
-use Rattle.sctp_send.proofs.KeepLemmas.{kept_length}
+use Rattle.sctp_send.proofs.KeepLemmas.{kept_length, items_given}
 use Rattle.sctp_send.proofs.ResetLemmas.{sends_by}
 
 -- ---- fragments
@@ -104,21 +105,21 @@ promised_is f s v owed k is =
 
 -- ---- a message more
 
-pub keeps_queued : (f : Format) (s : Kept) (v : SenderView) (lane : Lane) (payload ticket : ℕ) (bytes : List ℕ) (until limit : Option ℕ) (capacity : ℕ) → Keeps f s v → refusal v lane.stream bytes ≡ None → ticket ≡ suc v.tickets → unwrap_or until LAST_MOMENT < 2 ^ 64
+pub keeps_queued : (f : Format) (s : Kept) (v : SenderView) (lane : Lane) (payload ticket : ℕ) (bytes : List ℕ) (until limit : Option ℕ) (capacity q : ℕ) (ns : List ℕ) → Keeps f s v → refusal v lane.stream bytes ≡ None → ticket ≡ suc v.tickets → IsPushed s.passed q s.moments ns until → unwrap_or until LAST_MOMENT < 2 ^ 64
     → length s.items + (owed_by_queue v.queue + owed_by_parts v + owed_for (length (cut v.fragment bytes))) ≤ capacity
-    → Keeps f (record s { queue = s.queue ++ record { lane = lane; message = record { ticket = ticket; payload = payload; fragments = cut s.fragment bytes; until = until; limit = limit } } ∷ []; fates = s.fates ++ StillQueued ∷ []; moments = s.moments ++ unwrap_or until LAST_MOMENT ∷ []; capacity = capacity })
+    → Keeps f (record s { queue = s.queue ++ record { lane = lane; message = record { ticket = ticket; payload = payload; fragments = cut s.fragment bytes; until = until; limit = limit } } ∷ []; fates = s.fates ++ StillQueued ∷ []; passed = q; moments = ns; capacity = capacity })
     (queued v lane payload bytes until limit)
-keeps_queued f s v lane payload ticket bytes until limit capacity k free given small space =
+keeps_queued f s v lane payload ticket bytes until limit capacity q ns k free given pushed small space =
     let u = queued v lane payload bytes until limit in
-    let q : Queued = record { lane = lane; message = record { ticket = suc v.tickets; payload = payload; fragments = cut v.fragment bytes; until = until; limit = limit } } in
+    let x : Queued = record { lane = lane; message = record { ticket = suc v.tickets; payload = payload; fragments = cut v.fragment bytes; until = until; limit = limit } } in
     let last : fate_here u (1 + v.tickets) ≡ StillQueued =
     let one : 1 + v.tickets ≡ suc v.tickets = omega arith in
     let here : (suc v.tickets == suc v.tickets) ≡ true = grind (arith, nat_tests) in
-    let waiting : waits (suc v.tickets) (v.queue ++ q ∷ []) ≡ true = waits_push (suc v.tickets) v.queue q ∙ rw here (or_true (waits (suc v.tickets) v.queue)) in
+    let waiting : waits (suc v.tickets) (v.queue ++ x ∷ []) ≡ true = waits_push (suc v.tickets) v.queue x ∙ rw here (or_true (waits (suc v.tickets) v.queue)) in
     rw one (ap (λ (b : Bool). if b then StillQueued else fate_named u (name_of u (suc v.tickets))) waiting) in
     let same : (t : ℕ) → 1 ≤ t → t < 1 + v.tickets → fate_here u t ≡ fate_here v t = λ t lo hi.
     let off : (suc v.tickets == t) ≡ false = grind (arith, nat_tests) in
-    let waiting : waits t (v.queue ++ q ∷ []) ≡ waits t v.queue = waits_push t v.queue q ∙ rw off (or_false (waits t v.queue)) in
+    let waiting : waits t (v.queue ++ x ∷ []) ≡ waits t v.queue = waits_push t v.queue x ∙ rw off (or_false (waits t v.queue)) in
     ap (λ (b : Bool). if b then StillQueued else fate_named u (name_of u t)) waiting in
     let fates : s.fates ++ StillQueued ∷ [] ≡ table (fate_here u) 1 (suc v.tickets) = rw (table-push (fate_here u) 1 v.tickets, last, table-same (fate_here u) (fate_here v) 1 v.tickets same, k.holds.fates) refl in
     record {
@@ -135,21 +136,21 @@ keeps_queued f s v lane payload ticket bytes until limit capacity k free given s
         tracks = k.holds.tracks;
         fates = fates;
         covered = k.holds.covered;
-        room = let more = owed_push v.queue q in omega (arith, more, space);
+        room = let more = owed_push v.queue x in omega (arith, more, space);
       };
       over = let within = k.over.within in let held = k.due.many in record {
         within = omega arith;
         each = λ t le. let o = k.over.each t le in record { queue = not_waiting_more t s.queue _ o.queue (λ is. omega arith); tracks = o.tracks; items = o.items };
       };
       due = record {
-        many = let long = length_push s.moments (unwrap_or until LAST_MOMENT) in let held = k.due.many in omega (arith, long, held);
+        many = let held = k.due.many in let more = many_pushed s.passed q s.moments ns until pushed in omega (arith, more, held);
         each = λ t now lt.
-            let more = due_push s.passed s.moments (unwrap_or until LAST_MOMENT) t now small lt in
+            let more = due_pushed s.passed q s.moments ns until t now pushed small lt in
             let i = k.due.each t now more.0 in
             let held = k.due.many in
             record {
               queue = late_queue_more now t s.queue _ i.queue (late_before now t (record { ticket = ticket; payload = payload; fragments = cut s.fragment bytes; until = until; limit = limit }) (λ same. more.1 (omega (arith, held, given, same))));
-              items = i.items;
+              items = λ on. by_pushed t now pushed (i.items on);
               tracks = i.tracks;
             };
       };
@@ -167,6 +168,22 @@ keeps_queued f s v lane payload ticket bytes until limit capacity k free given s
     or_false : (b : Bool) → (b || false) ≡ b
     or_false true = refl
     or_false false = refl
+
+    -- what is passed waits alone: no entry has its ticket
+    by_pushed : (t now : ℕ) → IsPushed s.passed q s.moments ns until → some_late now t (standing_messages (nat_lt s.passed t && s.asleep) s.items) ≡ false → some_late now t (standing_messages (nat_lt q t && s.asleep) s.items) ≡ false
+    by_pushed t now (inl more) idle = rw more.0 idle
+    by_pushed t now (inr none) idle =
+        let last = none.1 in
+        elim (cases_lt q t) [
+          | inl past ↦
+              let is : nat_lt q t ≡ true = grind (arith, nat_tests) in
+              let was : nat_lt s.passed t ≡ true = let lt : s.passed < t = omega (arith, past, last) in grind (arith, nat_tests) in
+              ap (λ (c : Bool). some_late now t (standing_messages (c && s.asleep) s.items)) (is ∙ sym was) ∙ idle
+          | inr le ↦ let is : nat_lt q t ≡ false = grind (arith, nat_tests) in ap (λ (c : Bool). some_late now t (standing_messages (c && s.asleep) s.items)) is ∙ elim (cases_lt s.passed t) [
+            | inl past ↦ let many = k.due.many in let empty = ap (λ (ms : List ℕ). length ms) none.2 in late_other_items now t false s.items (items_given f s v t k (omega (arith, past, many, empty)))
+            | inr low ↦ let was : nat_lt s.passed t ≡ false = grind (arith, nat_tests) in ap (λ (c : Bool). some_late now t (standing_messages (c && s.asleep) s.items)) (sym was) ∙ idle
+          ]
+        ]
 
 -- the room that is taken for it
 pub room_queued : (f : Format) (s : Kept) (v : SenderView) (stream : ℕ) (bytes : List ℕ) (owed more capacity : ℕ) → Keeps f s v → refusal v stream bytes ≡ None → owed ≡ owed_by_queue v.queue + owed_by_parts v
@@ -258,3 +275,8 @@ none_refuses f s v stream bytes p o k fit under promise owed within =
 pub memory_told : (v : SenderView) (stream : ℕ) (bytes : List ℕ) (r : Result Ticket SendFault) (P : SendFault → Type 0) → IsErrAnd r P → ((e : SendFault) → P e → e ≡ NoMemory) → refusal v stream bytes ≡ None → QueueAnswer v stream bytes r
 memory_told v stream bytes (Err e) P told only none = subst (λ (x : SendFault). refused_with (refusal v stream bytes) x) (sym (only e told)) none
 memory_told v stream bytes (Ok t) P told only none = absurd told
+
+-- and nothing is queued then
+pub none_queued : (v : SenderView) (lane : Lane) (payload : ℕ) (bytes : List ℕ) (until limit : Option ℕ) (r : Result Ticket SendFault) (P : SendFault → Type 0) → IsErrAnd r P → queue_after v lane payload bytes until limit r ≡ v
+none_queued v lane payload bytes until limit (Err e) P told = refl
+none_queued v lane payload bytes until limit (Ok t) P told = absurd told

@@ -12,7 +12,7 @@ use Rattle.sctp_model.proofs.sender.PointLaws.{get-drop}
 use Rattle.sctp_send.specs.SenderKept.{Item, Kept}
 use Rattle.sctp_send.specs.SenderStands.{item_here, items_from, Keeps}
 use Rattle.sctp_send.specs.OutstandingFields.{item_meaning}
-use Rattle.sctp_send.specs.inner.Dues.{some_late, standing_message, standing_messages}
+use Rattle.sctp_send.specs.inner.Dues.{some_late, standing_message, standing_messages, is_asleep}
 use Rattle.sctp_send.specs.inner.Walks.{any_item}
 use Rattle.sctp_send.specs.inner.Marking.{AreCapped}
 use Rattle.sctp_send.specs.declared.kept.entry.Entry.{Entry as EntryFields}
@@ -111,7 +111,7 @@ keeps_marked f s v test from to k tells =
         room = omega (arith, long, room);
       };
       over = record { within = k.over.within; each = λ t le. let o = k.over.each t le in record { queue = o.queue; tracks = o.tracks; items = same_timed t s.partial rs within 0 s.items ∙ o.items } };
-      due = record { many = k.due.many; each = λ t now lt. let i = k.due.each t now lt in record { queue = i.queue; items = λ on. late_timed now t s.asleep s.partial rs within 0 s.items ∙ i.items on; tracks = i.tracks } };
+      due = record { many = k.due.many; each = λ t now lt. let i = k.due.each t now lt in record { queue = i.queue; items = λ on. late_timed now t (is_asleep s t) s.partial rs within 0 s.items ∙ i.items on; tracks = i.tracks } };
       forward = k.forward;
       resets = k.resets;
       before = k.before;

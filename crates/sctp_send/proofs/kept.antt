@@ -2,7 +2,6 @@ pub mod ChangedLemmas
 pub mod StoodLemmas
 pub mod ItemLemmas
 pub mod MomentLemmas
-pub mod MomentPages
 pub mod LoadLemmas
 pub mod QueuedOnLemmas
 pub mod OwedLemmas

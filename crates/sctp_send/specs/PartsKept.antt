@@ -33,16 +33,8 @@ pub record FatesKept : Type 0 where
 
 -- from which moment on each ticket's message may be late: so many of the first tickets are passed; of how many behind them there is room for; and whether
 -- that is said only of what isn't covered
-pub record DueTableKept : Type 0 where
-  pub passed : ℕ
-  pub moments : List ℕ
-  pub asleep : Bool
-  pub capacity : ℕ
-
--- the same, where so many of the first moments are one
 pub record DuesKept : Type 0 where
   pub passed : ℕ
-  pub alike : ℕ
   pub moments : List ℕ
   pub asleep : Bool
   pub capacity : ℕ

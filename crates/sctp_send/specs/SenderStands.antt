@@ -1,5 +1,5 @@
 -- When a sender stands for a view: what it keeps is what the view says, and the view is one that calls reach.
-use Rattle.std.specs.Prelude.{◌≡◌, ℕ, zero, suc, ◌+◌, ◌≤◌, min, max, false, if◌then◌else◌, List, [], ◌∷◌, length, drop, Option, None, Some}
+use Rattle.std.specs.Prelude.{◌≡◌, ℕ, zero, suc, ◌+◌, ◌≤◌, min, false, if◌then◌else◌, List, [], ◌∷◌, length, drop, Option, None, Some}
 use Rattle.sctp_model.specs.messages.Format.{Format, ordered_lane, unordered_lane}
 use Rattle.sctp_model.specs.messages.Plan.{Entry, Plan}
 use Rattle.sctp_model.specs.sender.SenderView.{SenderView}
@@ -84,10 +84,10 @@ pub record IsOver (s : Kept) (t : ℕ) : Type 0 where
   pub tracks : any_rest t s.tracks ≡ false
   pub items : any_item t s.items ≡ false
 
--- So it is with the first of the tickets that were given: those whose fates stand for good, and those that are passed.
+-- So it is with the first of the tickets that were given: those whose fates stand for good.
 pub record AreOver (s : Kept) (given : ℕ) : Type 0 where
   pub within : s.ended ≤ given
-  pub each : (t : ℕ) → t ≤ max s.ended s.passed → IsOver s t
+  pub each : (t : ℕ) → t ≤ s.ended → IsOver s t
 
 -- It is a view that calls reach; tickets that count as ended are over, no ticket is late before its moment, the FORWARD that was built last is still true
 -- of the entries that it was built from, resets are those that are kept, and the messages that were abandoned are counted.

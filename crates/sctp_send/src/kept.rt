@@ -7,7 +7,7 @@
 //! | `Fates` (`AreFates`) | of the first tickets, which are over, a block for each 4,096: one fate if all ended alike, else one each; of the tickets after them one fate each | how many tickets are over, how often one was abandoned |
 //! | `Queue` (`IsQueueOf`, `IsOwedOf`) | the messages without a TSN; under I-DATA a seat (stream, ticket) for each (`Pairs` of sctp_sequence); both in deques, where removing one shifts the shorter side | the TSNs that they may take, and their bytes |
 //! | `Streams` (`IsStreamsOf`, `IsCountedOf`) | the numbers of each stream, and its message in part (a track); under I-DATA the tickets of the messages in part, by stream and by ticket (`TwoWayMap` of sctp_sequence). Under DATA no message is ever in part, and nothing is listed | how many messages are in part; the TSNs that they may take |
-//! | `Dues`, over `DueTable` (`PagedNumbers` of sctp_sequence) | of each ticket a time before which its message is not late; 8 bytes a ticket from the first message with a lifetime on, and before it only how many tickets there are | the least time of 64 tickets in a row, and the least of all |
+//! | `Dues` (`PagedNumbers` of sctp_sequence) | of each ticket a time before which its message is not late; 8 bytes a ticket from the first message with a lifetime on, and before it only how many tickets there are | the least time of 64 tickets in a row, and the least of all |
 //!
 //! Words: a *place* is where a message is in the queue, counted from 0; a *rank* is how many are before one in an ordered list; an *offset* is where an
 //! entry is, counted from CUM + 1; the *content* of an index is a fragment or an end mark; a *spot* is an entry's ticket and index, a *seat* a message's
@@ -21,7 +21,6 @@ pub mod blocks;
 pub mod by_message;
 pub mod by_ticket;
 pub mod counts;
-pub mod due_table;
 pub mod dues;
 pub mod entry;
 pub mod fates;

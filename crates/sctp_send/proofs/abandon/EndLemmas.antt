@@ -24,7 +24,7 @@ use Rattle.sctp_send.specs.SenderKept.{Item, Rest, Track, Kept}
 use Rattle.sctp_send.specs.SenderStands.{item_here, items_from, table, rest_here, track_here, Keeps}
 use Rattle.sctp_send.specs.inner.Walks.{any_rest, rest_has, end_item, EndsAt}
 use Rattle.sctp_send.specs.inner.Expiring.{rest_messages}
-use Rattle.sctp_send.specs.inner.Dues.{some_late}
+use Rattle.sctp_send.specs.inner.Dues.{some_late, is_asleep}
 use Rattle.sctp_send.specs.declared.kept.message.Fate.TheVariants.{Abandoned as WasAbandoned}
 use Rattle.sctp_send.proofs.forward.StillForward.{still_forward}
 use Rattle.sctp_send.proofs.TableLemmas.{table-set, table-same}
@@ -132,7 +132,7 @@ keeps_abandoned f s v t n k m off partial few none =
         room = omega (arith, long, owed, room);
       };
       over = record { within = k.over.within; each = λ x le. let o = k.over.each x le in record { queue = o.queue; tracks = o.tracks; items = same_items x (abandoned_item t) s.items (abandoned_message t) ∙ o.items } };
-      due = record { many = k.due.many; each = λ x now lt. let i = k.due.each x now lt in record { queue = i.queue; items = λ on. late_abandoned now x t s.asleep s.items (i.items on); tracks = i.tracks } };
+      due = record { many = k.due.many; each = λ x now lt. let i = k.due.each x now lt in record { queue = i.queue; items = λ on. late_abandoned now x t (is_asleep s x) s.items (i.items on); tracks = i.tracks } };
       forward = still_forward f v.resets.base v.streams v.plan.entries [] u.plan.entries s.forward (entries ∙ sym (append-nil v.plan.entries)) k.forward;
       resets = k.resets;
       before = k.before;
@@ -228,7 +228,7 @@ keeps_ended f s v t n r tracks k m off partial few ends =
               let i = k.due.each x now lt in
               record {
                 queue = i.queue;
-                items = λ on. late_items_more now x s.asleep (map (abandoned_item t) s.items) (end_item r ∷ []) (late_abandoned now x t s.asleep s.items (i.items on)) (late_end now x s.asleep r);
+                items = λ on. late_items_more now x (is_asleep s x) (map (abandoned_item t) s.items) (end_item r ∷ []) (late_abandoned now x t (is_asleep s x) s.items (i.items on)) (late_end now x (is_asleep s x) r);
                 tracks = λ on. ap (λ (ts : List Track). some_late now x (rest_messages ts)) ends.now ∙ late_rest_set now x ends.at s.tracks (record ends.track { rest = None }) (i.tracks on) refl;
               };
         };

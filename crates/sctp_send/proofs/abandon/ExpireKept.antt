@@ -21,7 +21,7 @@ use Rattle.sctp_send.specs.SenderAnswers.{next_late}
 use Rattle.sctp_send.specs.SenderKept.{Item, Rest, Track, Kept}
 use Rattle.sctp_send.specs.SenderStands.{items_from, table, rest_here, track_here, Keeps}
 use Rattle.sctp_send.specs.inner.Expiring.{queue_messages, rest_message, rest_messages}
-use Rattle.sctp_send.specs.inner.Dues.{is_late, some_late, standing_message, standing_messages, due_at, IsIdle, NextLateAnswer}
+use Rattle.sctp_send.specs.inner.Dues.{is_late, some_late, standing_message, standing_messages, due_at, IsIdle, NextLateAnswer, is_asleep}
 use Rattle.sctp_send.proofs.OverLemmas.{neither}
 
 late_queue : (now t : ℕ) (qs : List Queued) → some_late now t (queue_messages qs) ≡ late_waits now t qs
@@ -94,7 +94,7 @@ idle_stays : (f : Format) (s : Kept) (v : SenderView) (now t : ℕ) → Keeps f 
 idle_stays f s v now t k i = never_late f v now t k.reached (record {
   queue = sym (late_queue now t v.queue) ∙ ap (λ (qs : List Queued). some_late now t (queue_messages qs)) (sym k.holds.queue) ∙ i.queue;
   entries = λ on.
-      let items = fewer_late now t s.asleep s.items (i.items (k.holds.partial ∙ on)) in
+      let items = fewer_late now t (is_asleep s t) s.items (i.items (k.holds.partial ∙ on)) in
       sym (late_items v now t (drop v.cum v.plan.entries) (suc v.cum)) ∙ ap (λ (xs : List Item). some_late now t (standing_messages true xs)) (sym k.holds.items) ∙ items;
   rests = λ on j e lt is.
       let tracks = ap (λ (ts : List Track). some_late now t (rest_messages ts)) (sym k.holds.tracks) ∙ i.tracks (k.holds.partial ∙ on) in
@@ -106,8 +106,8 @@ pub due_stays : (f : Format) (s : Kept) (v : SenderView) (now t : ℕ) → Keeps
 due_stays f s v now t k lt = idle_stays f s v now t k (k.due.each t now lt)
 
 -- a ticket that isn't to expire is idle, but for what is covered
-pub stays_idle : (f : Format) (s : Kept) (v : SenderView) (now t : ℕ) (ms : List ℕ) → Keeps f s v → is_to_expire v now t ≡ false → IsIdle (record s { moments = ms; asleep = true }) now t
-stays_idle f s v now t ms k off = record { queue = by_queue (some_late now t (queue_messages s.queue)) refl; items = λ on. by_items on (some_late now t (standing_messages true s.items)) refl; tracks = λ on. by_tracks on (some_late now t (rest_messages s.tracks)) refl }
+pub stays_idle : (f : Format) (s : Kept) (v : SenderView) (now t : ℕ) (ms : List ℕ) → Keeps f s v → s.passed < t → is_to_expire v now t ≡ false → IsIdle (record s { moments = ms; asleep = true }) now t
+stays_idle f s v now t ms k past off = record { queue = by_queue (some_late now t (queue_messages s.queue)) refl; items = λ on. let over : nat_lt s.passed t ≡ true = grind (arith, nat_tests) in rw over (by_items on (some_late now t (standing_messages true s.items)) refl); tracks = λ on. by_tracks on (some_late now t (rest_messages s.tracks)) refl }
   where
     by_queue : (b : Bool) → some_late now t (queue_messages s.queue) ≡ b → b ≡ false
     by_queue false is = refl

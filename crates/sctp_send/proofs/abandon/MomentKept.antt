@@ -1,6 +1,6 @@
 -- From which moment on the message of a ticket is to expire, as what is kept of it tells.
 use Rattle.std.proofs.Common.{◌≡◌, ℕ, zero, suc, ◌+◌, ◌<◌, ◌≤◌, ◌⊎◌, inl, inr, List, [], ◌∷◌, length, drop, Bool, true, false, Option, Some, None, refl, sym, ap, ◌∙◌, arith}
-use Rattle.std.specs.Prelude.{◌==◌, not, ◌&&◌, nat_le, if◌then◌else◌, option_map, option_and_then, find, slice_get}
+use Rattle.std.specs.Prelude.{◌==◌, not, ◌&&◌, if◌then◌else◌, option_map, option_and_then, find, slice_get}
 use Rattle.std.specs.Option.{option_map_or}
 use Rattle.sctp_model.specs.messages.Format.{Format}
 use Rattle.sctp_model.specs.messages.Plan.{Message, Entry, message_at}
@@ -17,7 +17,7 @@ use Rattle.sctp_send.specs.SenderKept.{Item, Rest, Track, Kept}
 use Rattle.sctp_send.specs.SenderStands.{item_here, items_from, table, rest_here, track_here, fate_here, fate_named, Keeps}
 use Rattle.sctp_send.specs.inner.Expiring.{rest_message}
 use Rattle.sctp_send.specs.inner.Walks.{is_numbered_fate, any_rest, any_uncovered}
-use Rattle.sctp_send.specs.inner.Dues.{IsUntilOf, IsOpenUntil}
+use Rattle.sctp_send.specs.inner.Dues.{has_come, IsUntilOf, IsOpenUntil}
 use Rattle.sctp_send.specs.declared.kept.message.Fate.{Fate}
 use Rattle.sctp_send.specs.declared.kept.message.Fate.TheVariants.{Queued as StillQueued, Numbered, Withdrawn, Abandoned as WasAbandoned}
 use Rattle.sctp_send.proofs.OverLemmas.{neither}
@@ -25,10 +25,6 @@ use Rattle.sctp_send.proofs.QueueLemmas.{fates_given}
 use Rattle.sctp_send.proofs.abandon.EndLemmas.{get-table}
 use Rattle.sctp_send.proofs.abandon.AbandonedLemmas.{kept_name}
 use Rattle.sctp_send.proofs.abandon.AnswerLemmas.{answered_abandoned, abandoned_may, whole_is}
-
--- a moment has come
-abbrev pub has_come : (now : ℕ) → Option ℕ → Bool
-has_come now o = some_passes (λ until. nat_le until now) o
 
 with_false : (b : Bool) → (b && false) ≡ false
 with_false true = refl

@@ -22,7 +22,7 @@ use Rattle.sctp_model.specs.sender.Abandoning.{waits, has_ticket}
 use Rattle.sctp_send.specs.SenderStands.{rest_here, track_here, Holds, Keeps}
 use Rattle.sctp_send.specs.inner.Walks.{total, one_if_rest, rest_has}
 use Rattle.sctp_send.specs.inner.Expiring.{queue_messages}
-use Rattle.sctp_send.specs.inner.Dues.{is_late, some_late}
+use Rattle.sctp_send.specs.inner.Dues.{is_late, some_late, is_asleep}
 use Rattle.sctp_send.specs.declared.kept.message.Fate.TheVariants.{Numbered}
 pub use Rattle.sctp_send.specs.inner.Newcomers.{begun_items}
 use Rattle.sctp_send.proofs.KeepLemmas.{kept_length}
@@ -178,7 +178,7 @@ begun_kept f s v q rest d turn capacity room x k taken idle low first space =
             let left = idle now t (ap (λ (qs : List Queued). some_late now t (queue_messages qs)) (sym k.holds.queue) ∙ i.queue) in
             record {
               queue = left.others;
-              items = λ on. late_items_more now t s.asleep s.items (begun_items q.lane n q.message (suc d)) (i.items on) (late_begun now t s.asleep q.lane n q.message d left.one);
+              items = λ on. late_items_more now t (is_asleep s t) s.items (begun_items q.lane n q.message (suc d)) (i.items on) (late_begun now t (is_asleep s t) q.lane n q.message d left.one);
               tracks = λ on. late_rest_set now t q.lane.stream s.tracks (begun_track q (suc d) (get_or s.tracks q.lane.stream x)) (i.tracks on) (late_rest_begun now t q (suc d) (get_or s.tracks q.lane.stream x) left.one);
             };
       };
@@ -246,7 +246,7 @@ continued_kept f s v j turn capacity room e x k low on first space =
             let other : s.partial ≡ true → is_late now t r.message ≡ false = λ may. ap (λ (o : Option Rest). is_late now t (option_and_then (λ y. y.message) o)) (sym there) ∙ late_rest_at now t j s.tracks x (omega (arith, long)) (i.tracks may) in
             record {
               queue = i.queue;
-              items = λ may. late_item_one now t s.asleep s.items (gone_item (rest_item r)) (i.items may) (other may);
+              items = λ may. late_item_one now t (is_asleep s t) s.items (gone_item (rest_item r)) (i.items may) (other may);
               tracks = λ may. late_rest_set now t j s.tracks (record (get_or s.tracks j x) { rest = rest_after r.entry r.message }) (i.tracks may) (late_rest_after now t (get_or s.tracks j x) r.entry r.message (other may));
             };
       };

@@ -13,6 +13,7 @@ use Rattle.sctp_model.proofs.sender.FillLaws.{goes_parts}
 use Rattle.sctp_send.specs.SenderKept.{Item, Kept}
 use Rattle.sctp_send.specs.SenderStands.{item_here, items_from, Holds, Keeps}
 use Rattle.sctp_send.proofs.OverLemmas.{same_gone}
+use Rattle.sctp_send.specs.inner.Dues.{is_asleep}
 use Rattle.sctp_send.proofs.DueLemmas.{late_gone}
 use Rattle.sctp_send.specs.inner.Newcomers.{repeats_after}
 pub use Rattle.sctp_send.specs.inner.Newcomers.{gone_item}
@@ -85,7 +86,7 @@ keeps_gone f s v room at d k first low =
     record {
       holds = holds_sent s v at d k.holds low;
       over = record { within = k.over.within; each = λ t le. let o = k.over.each t le in record { queue = o.queue; tracks = o.tracks; items = same_gone t at s.items d ∙ o.items } };
-      due = record { many = k.due.many; each = λ t now lt. let i = k.due.each t now lt in record { queue = i.queue; items = λ on. late_gone now t at s.asleep s.items d ∙ i.items on; tracks = i.tracks } };
+      due = record { many = k.due.many; each = λ t now lt. let i = k.due.each t now lt in record { queue = i.queue; items = λ on. late_gone now t at (is_asleep s t) s.items d ∙ i.items on; tracks = i.tracks } };
       forward = k.forward;
       resets = k.resets;
       before = k.before ∙ sym (sent_above v.sent (suc (v.cum + at)) v.cum (omega arith));

@@ -1,5 +1,5 @@
 -- From which moment on the message of a ticket may be past its time: ticket by ticket.
-use Rattle.std.specs.Prelude.{◌≡◌, ℕ, suc, ◌+◌, ◌-◌, ◌^◌, ◌<◌, ◌≤◌, min, nat_le, ◌==◌, ◌&&◌, ◌||◌, not, ◌⊎◌, Bool, true, false, if◌then◌else◌, List, map, length, slice_index_or, slice_get, Option, None, Some, unwrap_or, option_and_then}
+use Rattle.std.specs.Prelude.{◌≡◌, ℕ, suc, ◌+◌, ◌-◌, ◌^◌, ◌<◌, ◌≤◌, nat_le, nat_lt, ◌==◌, ◌&&◌, ◌||◌, not, ◌⊎◌, Bool, true, false, if◌then◌else◌, List, [], ◌∷◌, ◌++◌, map, length, slice_index_or, slice_get, Option, None, Some, unwrap_or, option_and_then}
 use Rattle.std.specs.List.{list_any}
 use Rattle.std.specs.declared.sync.Arc.{Arc}
 use Rattle.std.specs.declared.alloc.Global.{Global}
@@ -25,9 +25,13 @@ use Rattle.sctp_send.specs.declared.kept.track.Rest.{Rest as RestFields}
 unfoldable pub due_at : (passed : ℕ) → (moments : List ℕ) → (ticket : ℕ) → ℕ
 due_at p ms t = if nat_le t p then 2 ^ 64 else slice_index_or ms (t - suc p) (2 ^ 64)
 
--- How many of the first tickets are passed together: of those with one moment up to 64; where there is none, a page.
-abbrev pub front_of : (alike : ℕ) → ℕ
-front_of n = if n == 0 then 64 else min n 64
+-- A ticket more was given: it has its message's deadline as its moment, or the last; or it has none, and is passed where none before it has one.
+abbrev pub IsPushed : (p q : ℕ) (ms ns : List ℕ) (until : Option ℕ) → Type 0
+IsPushed p q ms ns until = ((q ≡ p) × (ns ≡ ms ++ unwrap_or until LAST_MOMENT ∷ [])) ⊎ ((until ≡ None) × (q ≡ suc p) × (ms ≡ []) × (ns ≡ []))
+
+-- a deadline has come
+abbrev pub has_come : (now : ℕ) → Option ℕ → Bool
+has_come now o = some_passes (λ until. nat_le until now) o
 
 -- ---- who is late
 
@@ -47,10 +51,14 @@ standing_message asleep x = if (asleep && x.covered) || x.abandoned then None el
 abbrev pub standing_messages : (asleep : Bool) → List Item → List (Option Message)
 standing_messages asleep xs = map (standing_message asleep) xs
 
+-- what is said of a ticket is said only of what isn't covered: not of one that is passed
+abbrev pub is_asleep : Kept → (ticket : ℕ) → Bool
+is_asleep s t = nat_lt s.passed t && s.asleep
+
 -- Nothing that is kept of the message with a ticket is late and may be abandoned (RFC 3758, 3.5): it waits, it stands above CUM, or it is in part.
 pub record IsIdle (s : Kept) (now ticket : ℕ) : Type 0 where
   pub queue : some_late now ticket (queue_messages s.queue) ≡ false
-  pub items : s.partial ≡ true → some_late now ticket (standing_messages s.asleep s.items) ≡ false
+  pub items : s.partial ≡ true → some_late now ticket (standing_messages (is_asleep s ticket) s.items) ≡ false
   pub tracks : s.partial ≡ true → some_late now ticket (rest_messages s.tracks) ≡ false
 
 -- Each ticket that was given has its moment or is passed, and is idle before that.

@@ -1,5 +1,5 @@
 use Rattle.std.proofs.Common.{◌∙◌, ap, sym}
-use Rattle.sctp_send.proofs.abandon.MomentKept.{has_come}
+use Rattle.sctp_send.specs.inner.Dues.{has_come}
 use Rattle.sctp_send.specs.SenderStands.{StandsFor}
 use Rattle.sctp_send.proofs.sender.Sender.is_late.Goals as goal
 

@@ -4,10 +4,11 @@ use Rattle.sctp_model.specs.sender.SenderView.{Queued as QueuedMessage}
 use Rattle.sctp_send.specs.SenderKept.{Kept}
 use Rattle.sctp_send.specs.SenderStands.{StandsFor, Keeps}
 use Rattle.sctp_send.specs.inner.Walks.{is_numbered_fate}
+use Rattle.sctp_send.specs.inner.Dues.{has_come}
 use Rattle.sctp_send.specs.declared.kept.message.Fate.TheVariants.{Queued as StillQueued, Numbered, Withdrawn, Abandoned as WasAbandoned}
 use Rattle.sctp_send.proofs.abandon.AnswerLemmas.{fate_read}
 use Rattle.sctp_send.proofs.abandon.UntilLemmas.{with_ticket}
-use Rattle.sctp_send.proofs.abandon.MomentKept.{has_come, unknown_late, LateBy, late_by, waiting_moment}
+use Rattle.sctp_send.proofs.abandon.MomentKept.{unknown_late, LateBy, late_by, waiting_moment}
 use Rattle.sctp_send.proofs.sender.Sender.moment.Goals as goal
 
 pub returns-then-at-eq0 : goal.returns-then-at-eq0

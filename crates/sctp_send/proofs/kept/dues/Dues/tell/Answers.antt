@@ -1,29 +1,23 @@
-use Rattle.std.proofs.Common.{◌≡◌, ℕ, ◌+◌, ◌-◌, ◌<◌, ◌++◌, ◌⊎◌, subst, arith}
-use Rattle.std.specs.Prelude.{replicate, unwrap_or}
-use Rattle.sctp_model.specs.numbers.Limits.{LAST_MOMENT}
+use Rattle.std.proofs.Common.{◌≡◌, ℕ, ◌+◌, List, inl, length, sym, ◌∙◌, ap, arith}
 use Rattle.sctp_send.specs.PartsKept.{DuesKept}
 use Rattle.sctp_send.specs.inner.Dues.{due_at}
-use Rattle.sctp_send.proofs.kept.MomentPages.{run_here, run_same}
+use Rattle.sctp_send.proofs.kept.MomentLemmas.{due_set_same, due_set_other}
 use Rattle.sctp_send.proofs.kept.dues.Dues.tell.Goals as goal
 
-pub returns-clause-here : goal.returns-clause-here
-returns-clause-here c = λ now lt.
+pub returns-in-Some-clause-here : goal.returns-in-Some-clause-here
+returns-in-Some-clause-here c = λ now lt.
     let s = c.self.inside in
-    let p = s.behind.passed - s.alike in
-    let first : s.behind.passed ≡ p + s.alike = omega (arith, c.self.invariant) in
-    let t = c.args.ticket in
-    let early = now < unwrap_or c.args.until LAST_MOMENT in
-    let ms = s.behind.moments in
-    let ns = c.tell.new.self.moments in
-    let behind = subst (λ (x : ℕ). now < due_at x ns t → early ⊎ (now < due_at x ms t)) first (c.tell.ensures.here now) in
-    subst (λ (w : DuesKept). now < due_at w.passed (replicate s.alike s.common ++ ns) t → early ⊎ (now < due_at w.passed w.moments t)) c.self.view_is (run_here p s.alike s.common ms ns early now t (λ after. behind)) lt
+    let p = c.args.self.now.passed in
+    let some = c.in-Some.ensures.some in
+    let same = ap (λ (w : DuesKept). length w.moments) c.self.view_is in
+    let place : c.args.ticket ≡ p + 1 + c.in-Some.at = some.1 ∙ ap (λ (w : DuesKept). w.passed + 1 + c.in-Some.at) c.self.view_is in
+    let set_is = ap (λ (ms : List ℕ). due_at p ms c.args.ticket) c.set.ensures in
+    let is = due_set_same p s.moments.items c.in-Some.at c.moment_in.result c.args.ticket place (omega (arith, same, some.0)) in
+    inl (omega (arith, place), omega (arith, set_is, is, lt, c.moment_in.ensures))
 
-pub returns-clause-others : goal.returns-clause-others
-returns-clause-others c = λ t other.
+pub returns-in-Some-clause-others : goal.returns-in-Some-clause-others
+returns-in-Some-clause-others c = λ t other.
     let s = c.self.inside in
-    let p = s.behind.passed - s.alike in
-    let first : s.behind.passed ≡ p + s.alike = omega (arith, c.self.invariant) in
-    let ms = s.behind.moments in
-    let ns = c.tell.new.self.moments in
-    let behind = subst (λ (x : ℕ). due_at x ns t ≡ due_at x ms t) first (c.tell.ensures.others t other) in
-    subst (λ (w : DuesKept). due_at w.passed (replicate s.alike s.common ++ ns) t ≡ due_at w.passed w.moments t) c.self.view_is (run_same p s.alike s.common ms ns t (λ after. behind))
+    let p = c.args.self.now.passed in
+    let place : c.args.ticket ≡ p + 1 + c.in-Some.at = c.in-Some.ensures.some.1 ∙ ap (λ (w : DuesKept). w.passed + 1 + c.in-Some.at) c.self.view_is in
+    ap (λ (ms : List ℕ). due_at p ms t) c.set.ensures ∙ due_set_other p s.moments.items c.in-Some.at c.moment_in.result t (λ same. other (same ∙ sym place)) ∙ ap (λ (w : DuesKept). due_at p w.moments t) c.self.view_is
