@@ -125,9 +125,8 @@ impl Dues {
         ensures asleep { self.new.asleep ≡ self.old.asleep }
     {
         if let Some(at) = self.index_of(ticket) {
-            if moment < self.moments.get(at) {
-                self.moments.set(at, moment);
-            }
+            let least = moment.min(self.moments.get(at));
+            self.moments.set(at, least);
         }
     }
 
