@@ -9,7 +9,6 @@
 pub mod asking;
 pub mod assigning;
 pub mod entering;
-pub mod indexed;
 pub mod pushing;
 pub mod putting;
 pub mod sendings;
@@ -135,7 +134,8 @@ impl<F: Framing> Sender<F> {
         ensures some { (v : SenderView) → StandsFor F.format self.old v → OnErr result (PutSomeOf F.format v packet.now packet.now) }
     {
         begin_anew(&mut self.parts);
-        if self.told.is_any_let_in::<F>(&mut self.parts, packet.room()) {
+        let room = packet.room();
+        if let Some(_going) = self.told.next_going::<F>(&mut self.parts, room) {
             return Err(NoMemory);
         }
         let tickets = Vec::new(self.told.alloc);
@@ -177,9 +177,11 @@ impl Told {
         let mut resent = Resent::none(missed);
         let most = most_chunks(packet.room());
         for turn in 0..most {
-            if !self.put_next::<F>(stock, &mut resent, packet) {
+            let Some(going) = self.next_going::<F>(stock, packet.room()) else {
                 return resent.of_all(turn);
-            }
+            };
+            resent.count(going, self.cum);
+            self.go::<F>(stock, going, packet);
         }
         resent.of_all(most)
     }

@@ -69,11 +69,12 @@
 //! `kept`, and each part's counts are its invariant: an entry
 //! takes 32 bytes with the count of its retransmissions, which ends at 65,535, as limits do.
 //!
-//! The files of `src` form a path on which each imports only what is before it: `last_forward`, `message`, `resets`, `sendings`; `blocks`, `by_ticket`,
+//! The files of `src` form a path on which each imports only what is before it: `last_forward`, `message`, `resets`; `blocks`, `by_ticket`,
 //! `due_table`, `entry`, `seats`, `track`; `dues`, `fates`, `pieces`; `looking`, `queue`, `told`, `wishes`; `counts`, `queued_on`, `streams`; `stretches`;
 //! `outstanding`; `by_message`, `entries`, `flying`, `giving_back`, `going_out`, `lanes`, `marking`, `pushing`, `repeats`, `run_room`, `searching`, `stock`, `table`, `tally`, `telling`,
-//! `weight`; `assigning`, `covered`, `indexed`, `restarting`, `sender`, `still`, `waking`; `answering`, `asking`, `at_limit`, `entering`, `fill`, `last`, `laws`, `owing`, `pace`,
-//! `readers`, `resetting`, `sack`, `wear`, `weighing`; `abandon`, `keeping`, `moments`, `passing`, `queueing`; `expire`, `forward`, `putting`.
+//! `weight`; `assigning`, `covered`, `restarting`, `sender`, `still`, `waking`; `answering`, `asking`, `at_limit`, `entering`, `last`, `laws`, `owing`, `pace`,
+//! `readers`, `resetting`, `sack`, `wear`, `weighing`; `abandon`, `keeping`, `moments`, `passing`, `putting`, `queueing`, `sendings`;
+//! `expire`, `fill`, `forward`.
 //!
 //! What a body may still get away with: nothing that a caller can see but costs, how much memory is kept, and the texts of `Debug` and of faults. Only
 //! tested: `crates/sctp_call_rows` compares each answer and each packet's bytes at the limits (docs/CALLS.md).

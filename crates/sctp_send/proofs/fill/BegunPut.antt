@@ -1,12 +1,12 @@
 -- A message that begins is put into a packet, or isn't; and what it takes is there.
-use Rattle.std.proofs.Common.{◌≡◌, ℕ, suc, ◌+◌, ◌^◌, ◌<◌, ◌≤◌, inl, inr, List, [], ◌∷◌, ◌++◌, length, map, get_or, Bool, true, false, Some, sym, ap, ◌∙◌, subst, arith}
-use Rattle.std.specs.Prelude.{nat_le, nat_lt, ◌&&◌, Option, IsSome, None}
+use Rattle.std.proofs.Common.{◌≡◌, ℕ, suc, ◌+◌, ◌^◌, ◌<◌, inl, inr, List, [], ◌∷◌, ◌++◌, length, map, get_or, Bool, true, false, Some, None, sym, ap, ◌∙◌, subst, arith}
+use Rattle.std.specs.Prelude.{nat_le, nat_lt, ◌&&◌}
 use Rattle.std.proofs.lemmas.Option.{get_or_from_slice_get}
 use Rattle.std.proofs.lemmas.List.{length-map}
 use Rattle.std.specs.declared.sync.Arc.{Arc}
 use Rattle.std.specs.declared.alloc.Global.{Global}
 use Rattle.sctp_model.specs.numbers.Limits.{WINDOW}
-use Rattle.sctp_model.specs.messages.Format.{Format, Kind}
+use Rattle.sctp_model.specs.messages.Format.{Format}
 use Rattle.sctp_model.specs.wire.Chunk.{ChunkMeaning}
 use Rattle.sctp_model.specs.messages.Framing.{data_chunk}
 use Rattle.sctp_model.specs.sender.PieceSaid.{piece_said}
@@ -28,14 +28,10 @@ use Rattle.sctp_send.specs.OutstandingFields.{item_meaning, lane_meaning, messag
 use Rattle.sctp_send.specs.ResetsKept.{base_of}
 use Rattle.sctp_send.specs.SenderFields.{queued_by, track_meaning}
 use Rattle.sctp_send.specs.inner.Walks.{total, one_if_rest}
-use Rattle.sctp_send.specs.inner.Newcomers.{number_in, begun_track, rest_at, has_rest, one_if, without_place, fresh_track, track_of, number_on, begun, IsBegun}
-use Rattle.sctp_send.specs.inner.Wishing.{item_flight}
-use Rattle.sctp_send.specs.inner.Asking.{IsAsked}
-use Rattle.sctp_send.specs.inner.Stocking.{numbers_of, stocked, fragment_chunk, let_in, IsPut, NothingStands}
-use Rattle.sctp_values.specs.Meanings.{kind_meaning}
+use Rattle.sctp_send.specs.inner.Newcomers.{number_in, begun_track, rest_at, has_rest, one_if, without_place, fresh_track, number_on, begun, IsBegun}
+use Rattle.sctp_send.specs.inner.Asking.{IsAsked, flows, let_in, IsEntrance}
+use Rattle.sctp_send.specs.inner.Stocking.{numbers_of, stocked, fragment_chunk, IsPut, NothingStands}
 use Rattle.std.proofs.lemmas.Option.{slice_get-get_or}
-use Rattle.sctp_send.specs.declared.kept.track.Track.{Track as TrackFields}
-use Rattle.sctp_send.proofs.WalkLemmas.{track_read}
 use Rattle.sctp_send.specs.declared.stock.Stock.{Stock}
 use Rattle.sctp_send.specs.declared.kept.message.Message.{Message as MessageFields}
 use Rattle.sctp_send.specs.declared.kept.entry.Content.TheVariants.{Fragment}
@@ -49,7 +45,7 @@ use Rattle.sctp_send.proofs.fill.AssignedKept.{begun_kept, outstanding_begun}
 use Rattle.sctp_send.proofs.fill.ChunkLemmas.{chunk_begun, bytes_begun}
 use Rattle.sctp_send.proofs.fill.FewLemmas.{few_messages}
 use Rattle.sctp_send.proofs.fill.NewlyLemmas.{newly_begun}
-use Rattle.sctp_send.proofs.fill.NewMayLemmas.{flows, in_window, new_may, next_is, asked_new, few_parts, rest_read, when_rest, window_test, and_off, map_read}
+use Rattle.sctp_send.proofs.fill.NewMayLemmas.{in_window, new_may, next_is, asked_is, few_parts, rest_read, when_rest, window_test, and_off, map_read}
 use Rattle.sctp_send.proofs.RoomKept.{room_assigned, room_begins}
 use Rattle.sctp_send.proofs.fill.IdleLemmas.{ready}
 
@@ -95,41 +91,9 @@ begun_by f s v place count turn k b =
     now : assigned f v ≡ Some (numbered v b.message (suc b.less) (without_place place v.queue) turn)
     now = b.assigned ∙ ap (λ (n : ℕ). Some (numbered v b.message n (without_place place v.queue) turn)) b.some
 
--- its stream is there
-pub begun_there : (f : Format) (s : Kept) (v : SenderView) (old : Stock) (m : MessageFields) (place count turn : ℕ) → Keeps f (stocked s old) v → (b : IsBegun f v place count turn) → queued_meaning s.fragment m ≡ b.message
-    → m.stream < length old.streams.items
-begun_there f s v old m place count turn k b mine =
-    let tracks = ap (λ (ts : List Track). length ts) k.holds.tracks ∙ length-table (track_here v) 0 v.streams in
-    let long = length-map old.streams.items (track_meaning s.fragment) in
-    let low = (begun_by f (stocked s old) v place count turn k b).low in
-    let stream = ap (λ (q : Queued). q.lane.stream) mine in
-    omega (arith, tracks, long, low, stream)
-
--- the number that a kind takes next on a stream, as it was read
-pub number_at : (n i number : ℕ) (xs ts : List TrackFields) (x : TrackFields) (kind : Kind) → xs ≡ ts → i < length ts → x ≡ get_or xs i x → number ≡ number_in kind (track_meaning n x) → number ≡ number_in kind (track_of (map (track_meaning n) ts) i)
-number_at n i number xs ts x kind all low read is =
-    let long = length-map ts (track_meaning n) in
-    let here = track_read n ts i x (read ∙ ap (λ (zs : List TrackFields). get_or zs i x) all) in
-    let one = slice_get-get_or (map (track_meaning n) ts) i (track_meaning n x) (omega (arith, long, low)) in
-    let two = slice_get-get_or (map (track_meaning n) ts) i fresh_track (omega (arith, long, low)) in
-    let other : get_or (map (track_meaning n) ts) i (track_meaning n x) ≡ get_or (map (track_meaning n) ts) i fresh_track = let both = sym one ∙ two in cc in
-    is ∙ ap (number_in kind) (sym here ∙ other)
-
--- that of a message that begins
-pub number_read : (n i number : ℕ) (xs ts : List TrackFields) (x : TrackFields) (m y z : MessageFields) → xs ≡ ts → i ≡ y.stream → y ≡ m → z ≡ m → i < length ts → x ≡ get_or xs i x
-    → number ≡ number_in (kind_meaning z.kind) (track_meaning n x) → number ≡ number_on (map (track_meaning n) ts) (lane_meaning m)
-number_read n i number xs ts x m y z all stream same also low read is =
-    number_at n i number xs ts x (kind_meaning m.kind) all low read (is ∙ ap (λ (w : MessageFields). number_in (kind_meaning w.kind) (track_meaning n x)) also)
-    ∙ ap (λ (j : ℕ). number_in (kind_meaning m.kind) (track_of (map (track_meaning n) ts) j)) (stream ∙ ap (λ (w : MessageFields). w.stream) same)
-
 -- the test of the window, as it was read
 pub window_read : (x : ℕ) (ts : List Track) (m y : MessageFields) (r b : Bool) → y ≡ m → r ≡ nat_le x (WINDOW + one_if (has_rest (rest_at ts y.stream))) → r ≡ b → nat_le x (WINDOW + one_if (has_rest (rest_at ts m.stream))) ≡ b
 window_read x ts m y r b same is tested = ap (λ (z : MessageFields). nat_le x (WINDOW + one_if (has_rest (rest_at ts z.stream)))) (sym same) ∙ sym is ∙ tested
-
--- a stream that is there was found
-pub never_none : {A : Type 0} (o : Option A) (P : Type 0) → o ≡ None → (P → IsSome o) → P → ⊥
-never_none None P is found p = let off = found p in cc
-never_none (Some x) P is found p = absurd (cc)
 
 -- a stock, and the message that begins: it stands at a place of the queue, and this is its number
 module _ (f : Format) (s : Kept) (v : SenderView) (old : Stock) (m : MessageFields) (place count turn number : ℕ) (k : Keeps f (stocked s old) v) (stands : NothingStands f v) (b : IsBegun f v place count turn)
@@ -165,6 +129,29 @@ module _ (f : Format) (s : Kept) (v : SenderView) (old : Stock) (m : MessageFiel
       let bytes = bytes_begun f (stocked s old) v q (without_place place v.queue) by.less turn fresh_track k by.low in
       new_may f s v led p old _ _ k by.assigned begun_chunk (bytes ∙ ap (λ (n : ℕ). bytes_in (Part q.lane n 0) (Some q.message)) (sym its))
 
+  -- it can enter its stream: it has so many fragments, nothing is in part there, and its entries have room
+  pub begun_enters : IsEntrance s.fragment old m.stream count (length (cut s.fragment m.bytes.items))
+  begun_enters =
+      let ts = (stocked s old).tracks in
+      let j = m.stream in
+      let x = track_here v j in
+      let wide = ap (λ (ys : List Track). length ys) k.holds.tracks ∙ length-table (track_here v) 0 v.streams in
+      let long = length-map old.streams.items (track_meaning s.fragment) in
+      let low = by.low in
+      let here : rest_at ts j ≡ rest_here v.plan (continued v.plan j) = rw (slice_get-get_or ts j x (omega (arith, wide, low))) (ap (λ (t : Track). t.rest) (track_at f (stocked s old) v j x k low)) in
+      let is_ready = ready f v place count turn k.reached b in
+      let all = ap (λ (q : Queued). length q.message.fragments) mine in
+      let many = is_ready.within in
+      let none = ap (λ (q : Queued). continued v.plan q.lane.stream) mine ∙ is_ready.idle in
+      let space = room_begins f (stocked s old) v place count turn k b in
+      let entries = length-map old.outstanding.items (item_meaning s.fragment) in
+      record {
+        there = omega (arith, wide, long, low);
+        within = omega (arith, all, many);
+        idle = ap has_rest (here ∙ ap (rest_here v.plan) none);
+        room = omega (arith, space, entries);
+      }
+
   -- how the code tests the window
   begun_window : (more : Bool) → more ≡ nat_lt count (length (cut s.fragment m.bytes.items)) → nat_le (outstanding led) WINDOW
       ≡ in_window s old count m.stream more
@@ -173,7 +160,7 @@ module _ (f : Format) (s : Kept) (v : SenderView) (old : Stock) (m : MessageFiel
       let ts = map (track_meaning s.fragment) old.streams.items in
       let long = length-map old.outstanding.items (item_meaning s.fragment) in
       let wide = length-map old.streams.items (track_meaning s.fragment) in
-      let there = begun_there f s v old m place count turn k b mine in
+      let there = begun_enters.there in
       let had = rest_read ts m.stream fresh_track (omega arith) in
       let all = outstanding_begun f (stocked s old) v q (without_place place v.queue) by.less turn fresh_track k by.low in
       let left : one_if_rest (begun_track q (suc by.less) (get_or ts m.stream fresh_track)).rest ≡ one_if more =
@@ -184,14 +171,14 @@ module _ (f : Format) (s : Kept) (v : SenderView) (old : Stock) (m : MessageFiel
 
   begun_goes : (p : PacketDraft) (more : Bool) → more ≡ nat_lt count (length (cut s.fragment m.bytes.items))
       → in_window s old count m.stream more ≡ true
-      → let_in f (item_flight (map (item_meaning s.fragment) old.outstanding.items)) s (suc (s.cum + length old.outstanding.items)) p (Part (lane_meaning m) number 0) (Some (message_meaning s.fragment m)) ≡ true
+      → let_in f false s old (suc (s.cum + length old.outstanding.items)) p (Part (lane_meaning m) number 0) (Some (message_meaning s.fragment m)) ≡ true
       → goes f (room_in p) v ≡ Some (newcomer v led)
   begun_goes p more is window on =
       goes_is f (room_in p) v (newcomer v led) (next_is f v led stands by.assigned) (begun_may p ∙ ap (λ (x : Bool). x && nat_le (outstanding led) WINDOW) on ∙ begun_window more is ∙ window)
 
   -- within the window it may go if it is let in
   pub begun_asked : (p : PacketDraft) (more b : Bool) → more ≡ nat_lt count (length (cut s.fragment m.bytes.items)) → in_window s old count m.stream more ≡ true
-      → let_in f (item_flight (map (item_meaning s.fragment) old.outstanding.items)) s (suc (s.cum + length old.outstanding.items)) p (Part (lane_meaning m) number 0) (Some (message_meaning s.fragment m)) ≡ b → IsAsked f v p b
+      → let_in f false s old (suc (s.cum + length old.outstanding.items)) p (Part (lane_meaning m) number 0) (Some (message_meaning s.fragment m)) ≡ b → IsAsked f v p b
   begun_asked p more true is window on = (newcomer v led, begun_goes p more is window on)
   begun_asked p more false is window off = goes_not f (room_in p) v (newcomer v led) (next_is f v led stands by.assigned) (begun_may p ∙ ap (λ (x : Bool). x && nat_le (outstanding led) WINDOW) off)
 
@@ -206,7 +193,7 @@ module _ (f : Format) (s : Kept) (v : SenderView) (old : Stock) (m : MessageFiel
   begun_put p r new at asked here kept tickets put =
       let q = queued_meaning s.fragment m in
       let capacity = old.outstanding.capacity in
-      let goes_now = asked_new f v led p stands by.assigned asked in
+      let goes_now = asked_is f v (newcomer v led) p (next_is f v led stands by.assigned) asked in
       let room = room_assigned f (stocked s old) v led k by.assigned in
       let h = begun_kept f (stocked s old) v q (without_place place v.queue) by.less turn capacity (room_in p) fresh_track k by.taken by.idle by.low goes_now room in
       let queue = subst (λ (qs : List Queued). Keeps f (record (begun (stocked s old) q place (suc by.less) turn capacity) { queue = without_place place qs }) (gone (newcomer v led))) (sym k.holds.queue) h in
@@ -220,26 +207,3 @@ module _ (f : Format) (s : Kept) (v : SenderView) (old : Stock) (m : MessageFiel
         keeps = subst (λ (y : Kept). Keeps f y (gone (newcomer v led))) (sym kept) counted;
         told = tickets ∙ ap (λ (ts : List ℕ). numbers_of old.tickets.items ++ ts) (sym (newly_begun v q (without_place place v.queue) by.less turn));
       }
-
-  -- it has so many fragments
-  pub begun_within : count ≤ length (cut s.fragment m.bytes.items)
-  begun_within =
-      let long = ap (λ (q : Queued). length q.message.fragments) mine in
-      let within = (ready f v place count turn k.reached b).within in
-      omega (arith, long, within)
-
-  -- nothing is in part on its stream
-  pub begun_idle : has_rest (rest_at (map (track_meaning s.fragment) old.streams.items) m.stream) ≡ false
-  begun_idle =
-      let ts = (stocked s old).tracks in
-      let j = m.stream in
-      let x = track_here v j in
-      let wide = ap (λ (ys : List Track). length ys) k.holds.tracks ∙ length-table (track_here v) 0 v.streams in
-      let low = by.low in
-      let there : rest_at ts j ≡ rest_here v.plan (continued v.plan j) = rw (slice_get-get_or ts j x (omega (arith, wide, low))) (ap (λ (t : Track). t.rest) (track_at f (stocked s old) v j x k low)) in
-      let none = ap (λ (q : Queued). continued v.plan q.lane.stream) mine ∙ (ready f v place count turn k.reached b).idle in
-      ap has_rest (there ∙ ap (rest_here v.plan) none)
-
-  -- its entries have room
-  pub begun_room : length old.outstanding.items + count ≤ old.outstanding.capacity
-  begun_room = let room = room_begins f (stocked s old) v place count turn k b in let long = length-map old.outstanding.items (item_meaning s.fragment) in omega (arith, room, long)

@@ -1,5 +1,5 @@
 -- One wish after the other: the packet and the stock after some steps, and when none may go any more.
-use Rattle.std.proofs.Common.{◌≡◌, ℕ, ◌+◌, ◌*◌, ◌-◌, ◌<◌, ◌≤◌, List, [], ◌∷◌, ◌++◌, length, map, true, false, Option, Some, None, refl, sym, ap, ◌∙◌, subst, arith, append-nil, append_assoc, length-append}
+use Rattle.std.proofs.Common.{◌≡◌, ℕ, ◌+◌, ◌*◌, ◌-◌, ◌<◌, ◌≤◌, List, [], ◌∷◌, ◌++◌, length, map, true, Option, Some, None, refl, sym, ap, ◌∙◌, subst, arith, append-nil, append_assoc, length-append}
 use Rattle.std.proofs.lemmas.List.{map-append}
 use Rattle.std.specs.Vec.{vec_len, vec_capacity}
 use Rattle.sctp_model.specs.messages.Format.{Format, Plain, Interleaved}
@@ -11,7 +11,7 @@ use Rattle.sctp_model.proofs.sender.FillLaws.{goes_parts, room_fits, room_after,
 use Rattle.sctp_packet.specs.Draft.{Draft as PacketDraft, room_in, with_chunks}
 use Rattle.sctp_send.specs.SenderKept.{Kept}
 use Rattle.sctp_send.specs.SenderStands.{Keeps}
-use Rattle.sctp_send.specs.inner.Stocking.{numbers_of, stocked, IsPut, IsStopped, AllPut}
+use Rattle.sctp_send.specs.inner.Stocking.{numbers_of, stocked, IsPut, AllPut}
 use Rattle.sctp_send.specs.inner.Sending.{resent_by, IsResent}
 use Rattle.sctp_send.specs.inner.Entering.{IsSized}
 use Rattle.sctp_send.specs.declared.fill.sendings.Resent.{Resent}
@@ -85,7 +85,7 @@ chunks_more f p now later ws xs here then =
     then ∙ ap (λ (y : PacketDraft). with_chunks y (map (chunk_of f) xs)) here ∙ chunks_joined p (map (chunk_of f) ws) (map (chunk_of f) xs) ∙ ap (with_chunks p) (sym (map-append (chunk_of f) ws xs))
 
 abbrev pub loop_more : (f : Format) (s : Kept) (v : SenderView) (p now later : PacketDraft) (old new : Stock) (steps n : ℕ) (r q : Resent) → (x : IsSoFar f s v p now old steps n r) → steps < 65536 → IsPut f s x.view now later old new
-    → q ≡ resent_by true (next_wish f x.view) r → IsSoFar f s v p later new (steps + 1) n q
+    → q ≡ resent_by (next_wish f x.view) r → IsSoFar f s v p later new (steps + 1) n q
 loop_more f s v p now later old new steps n r q x few put counted =
     let next : goes f (room_after f (room_in p) x.wishes) x.view ≡ Some put.wish = ap (λ (n : ℕ). goes f n x.view) (sym (room_now f s v p now old steps n r x)) ∙ put.next in
     record {
@@ -99,39 +99,34 @@ loop_more f s v p now later old new steps n r q x few put counted =
       many = let long = length-append x.wishes (put.wish ∷ []) in let before = x.many in omega (arith, long, before);
       resent =
           let many = x.many in
-          let wish = ap (λ (o : Option Wish). resent_by true o r) (goes_parts f (room_in now) x.view put.wish put.next).0 in
+          let wish = ap (λ (o : Option Wish). resent_by o r) (goes_parts f (room_in now) x.view put.wish put.next).0 in
           subst (λ (y : Resent). IsResent n (x.wishes ++ put.wish ∷ []) y) (sym (counted ∙ wish)) (one_resent n x.wishes put.wish r x.resent (omega (arith, few, many)));
     }
 
--- What holds at each step: the packet has its whole memory, the stock has parts of one size, there is room for more tickets, one at most is told in a
--- step, and so many wishes went.
+-- What holds at each step: the packet has its whole memory, the stock has parts of one size, each step takes room for one ticket at most, and so many
+-- wishes went.
 pub record IsFilledSoFar (f : Format) (s : Kept) (p now : PacketDraft) (old new : Stock) (steps n : ℕ) (r : Resent) : Type 0 where
   pub reserved : now.space ≡ true
   pub sized : IsSized s.fragment new
-  pub few : vec_len new.tickets ≤ steps
-  pub capacity : vec_capacity old.tickets ≤ vec_capacity new.tickets
+  pub left : vec_capacity old.tickets + vec_len new.tickets ≤ vec_capacity new.tickets + steps
   pub so_far : (v : SenderView) → Keeps f (stocked s old) v → IsSoFar f s v p now new steps n r
 
 -- ---- the end
 
 -- the next wish may not go
-pub loop_stopped : (f : Format) (s : Kept) (v : SenderView) (p now later : PacketDraft) (old new : Stock) (steps n : ℕ) (r q : Resent) (y : Sendings) → (x : IsSoFar f s v p now old steps n r) → IsStopped f s x.view now later old new
-    → q ≡ resent_by false (next_wish f x.view) r → (q.timed + q.missed ≤ steps → y ≡ record { first = steps - (q.timed + q.missed); timed = q.timed; missed = q.missed }) → AllPut f s v p later new n y
-loop_stopped f s v p now later old new steps n r q y x stop counted here =
-    let none : goes f (room_after f (room_in p) x.wishes) x.view ≡ None = ap (λ (n : ℕ). goes f n x.view) (sym (room_now f s v p now old steps n r x)) ∙ stop.none in
+pub loop_stopped : (f : Format) (s : Kept) (v : SenderView) (p now : PacketDraft) (d : Stock) (steps n : ℕ) (r : Resent) (y : Sendings) → (x : IsSoFar f s v p now d steps n r) → goes f (room_in now) x.view ≡ None
+    → (r.timed + r.missed ≤ steps → y ≡ record { first = steps - (r.timed + r.missed); timed = r.timed; missed = r.missed }) → AllPut f s v p now d n y
+loop_stopped f s v p now d steps n r y x stop here =
+    let none : goes f (room_after f (room_in p) x.wishes) x.view ≡ None = ap (λ (m : ℕ). goes f m x.view) (sym (room_now f s v p now d steps n r x)) ∙ stop in
     record {
       wishes = x.wishes;
       view = x.view;
       fill = stopped_is_fill f v x.view (room_in p) x.wishes x.follows none;
-      chunks = stop.packet ∙ x.chunks;
-      keeps = subst (λ (y : Kept). Keeps f y x.view) (sym stop.kept) x.keeps;
-      told = ap (λ (ts : _). numbers_of ts.items) stop.tickets ∙ x.told;
-      counts = all_sent n x.wishes q steps y (subst (IsResent n x.wishes) (sym (counted ∙ stays (next_wish f x.view))) x.resent) x.many here;
+      chunks = x.chunks;
+      keeps = x.keeps;
+      told = x.told;
+      counts = all_sent n x.wishes r steps y x.resent x.many here;
     }
-  where
-    stays : (o : Option Wish) → resent_by false o r ≡ r
-    stays None = refl
-    stays (Some w) = refl
 
 -- no more go than there is room for
 pub loop_ends : (f : Format) (s : Kept) (v : SenderView) (p now : PacketDraft) (d : Stock) (steps n : ℕ) (r : Resent) → IsSoFar f s v p now d steps n r → room_in p < 16 * steps → ⊥

@@ -4,48 +4,36 @@ use Rattle.std.specs.Prelude.{nat_le, ◌&&◌, option_map, Result, Ok, Err, OnE
 use Rattle.std.proofs.lemmas.Bool.Decides.{nat_tests}
 use Rattle.std.proofs.lemmas.Option.{slice_get-get_or}
 use Rattle.sctp_model.specs.numbers.Limits.{WINDOW}
-use Rattle.sctp_model.specs.messages.Format.{Format, Lane, ordered_lane}
+use Rattle.sctp_model.specs.messages.Format.{Format, ordered_lane}
 use Rattle.sctp_model.specs.wire.Chunk.{ChunkMeaning}
-use Rattle.sctp_model.specs.messages.Plan.{Entry, Part, End}
+use Rattle.sctp_model.specs.messages.Plan.{End}
 use Rattle.sctp_model.specs.sender.SenderView.{SenderView}
-use Rattle.sctp_model.specs.sender.Entries.{bytes_in}
 use Rattle.sctp_model.specs.sender.Words.{when}
 use Rattle.sctp_model.specs.sender.Queueing.{cut}
 use Rattle.sctp_model.specs.sender.Assigning.{assigned}
 use Rattle.sctp_model.specs.sender.Readers.{outstanding}
-use Rattle.sctp_model.specs.sender.Filling.{newcomer, next_wish, may_go, bytes_of_wish, chunk_of, room_of, goes}
+use Rattle.sctp_model.specs.sender.Filling.{Wish, newcomer, next_wish, may_go, bytes_of_wish, chunk_of, room_of, goes}
 use Rattle.sctp_model.proofs.sender.Bounds.{is_bounded}
 use Rattle.sctp_model.proofs.sender.FillLaws.{goes_parts}
 use Rattle.sctp_model.proofs.sender.OwedLaws.{is_windowed}
 use Rattle.sctp_packet.specs.Draft.{Draft as PacketDraft, room_in, has_room}
 use Rattle.sctp_send.specs.SenderKept.{Item, Rest, Track, Kept}
 use Rattle.sctp_send.specs.SenderStands.{Keeps}
-use Rattle.sctp_send.specs.OutstandingFields.{item_meaning, message_meaning, entry_meaning}
+use Rattle.sctp_send.specs.OutstandingFields.{item_meaning}
 use Rattle.sctp_send.specs.SenderFields.{track_meaning}
 use Rattle.sctp_send.specs.inner.Walks.{total, one_if_rest}
 use Rattle.sctp_send.specs.inner.Wishing.{item_flight, lets_flow}
 use Rattle.sctp_send.specs.inner.Newcomers.{rest_at, has_rest, one_if}
 use Rattle.sctp_send.specs.inner.Asking.{IsAsked}
-use Rattle.sctp_send.specs.inner.Stocking.{stocked, fragment_chunk, let_in, FitsInto, IsFlying, NothingStands}
-use Rattle.sctp_send.specs.PartsKept.{OutstandingKept}
+use Rattle.sctp_send.specs.inner.Stocking.{stocked, NothingStands}
 use Rattle.sctp_send.proofs.KeepLemmas.{kept_length}
 use Rattle.std.proofs.lemmas.List.{length-map}
 use Rattle.sctp_send.specs.declared.stock.Stock.{Stock}
 use Rattle.sctp_send.specs.declared.kept.message.Message.{Message as MessageFields}
-use Rattle.sctp_send.specs.declared.kept.entry.Entry.{Entry as EntryFields}
-use Rattle.sctp_send.specs.declared.kept.entry.Content.{Content}
 use Rattle.sctp_send.proofs.QueueLemmas.{kept_in_part}
-use Rattle.sctp_send.specs.OutstandingFields.{lane_meaning}
-use Rattle.sctp_send.specs.ResetsKept.{base_of}
-use Rattle.sctp_send.specs.declared.kept.entry.Content.TheVariants.{Fragment}
-use Rattle.std.proofs.lemmas.Bool.{and_parts}
-use Rattle.sctp_send.proofs.fill.RoomLemmas.{has_room_is, fits_by_length, go_new}
+use Rattle.sctp_send.proofs.fill.RoomLemmas.{has_room_is, go_new}
 
 -- ---- the tests, as the code makes them
-
--- these bytes may flow, by what a stock keeps
-abbrev pub flows : Kept → Stock → List ℕ → Bool
-flows s d bytes = lets_flow (item_flight (map (item_meaning s.fragment) d.outstanding.items)) (length bytes) s.rwnd
 
 -- the window has room for so many indexes more of a stream, whose message then has more fragments or not
 abbrev pub in_window : Kept → Stock → (count stream : ℕ) → (more : Bool) → Bool
@@ -77,9 +65,9 @@ new_may f s v u p old c bytes k is chunk said =
 pub next_is : (f : Format) (v u : SenderView) → NothingStands f v → assigned f v ≡ Some u → next_wish f v ≡ Some (newcomer v u)
 next_is f v u stands is = stands ∙ ap (option_map (newcomer v)) is
 
--- so a wish that may go is this one
-pub asked_new : (f : Format) (v u : SenderView) (p : PacketDraft) → NothingStands f v → assigned f v ≡ Some u → IsAsked f v p true → goes f (room_in p) v ≡ Some (newcomer v u)
-asked_new f v u p stands is asked = asked.1 ∙ (sym (goes_parts f (room_in p) v asked.0 asked.1).0 ∙ next_is f v u stands is)
+-- the wish that may go is the next one
+pub asked_is : (f : Format) (v : SenderView) (w : Wish) (p : PacketDraft) → next_wish f v ≡ Some w → IsAsked f v p true → goes f (room_in p) v ≡ Some w
+asked_is f v w p next asked = asked.1 ∙ (sym (goes_parts f (room_in p) v asked.0 asked.1).0 ∙ next)
 
 -- ---- the window
 
@@ -115,16 +103,15 @@ and_off false b is = refl
 -- ---- what is in flight
 
 -- what is counted modulo 2^64 is all that is in flight: so few entries hold no more
-pub flying_is : (f : Format) (s : Kept) (v : SenderView) (d : Stock) (w : OutstandingKept) (flying : ℕ) → Keeps f (stocked s d) v → w ≡ d.outstanding → d.outstanding.size ≡ s.fragment
-    → flying ≡ item_flight (map (item_meaning w.size) w.items) % 2 ^ 64 → item_flight (map (item_meaning w.size) w.items) ≤ length w.items * 65535 → IsFlying s d flying
-flying_is f s v d w flying k same sized counted few =
-    let here = ap (λ (y : OutstandingKept). item_flight (map (item_meaning y.size) y.items)) same ∙ ap (λ (n : ℕ). item_flight (map (item_meaning n) d.outstanding.items)) sized in
-    let items = ap (λ (y : OutstandingKept). length y.items) same in
+pub flying_is : (f : Format) (s : Kept) (v : SenderView) (d : Stock) (flying : ℕ) → Keeps f (stocked s d) v → d.outstanding.size ≡ s.fragment
+    → flying ≡ item_flight (map (item_meaning d.outstanding.size) d.outstanding.items) % 2 ^ 64 → item_flight (map (item_meaning d.outstanding.size) d.outstanding.items) ≤ length d.outstanding.items * 65535
+    → flying ≡ item_flight (map (item_meaning s.fragment) d.outstanding.items)
+flying_is f s v d flying k sized counted few =
     let count = kept_length f (stocked s d) v k in
     let long = length-map d.outstanding.items (item_meaning s.fragment) in
     let most = is_windowed f v k.reached in
-    let all : item_flight (map (item_meaning w.size) w.items) % 2 ^ 64 ≡ item_flight (map (item_meaning w.size) w.items) = omega (arith, few, items, count, long, most) in
-    counted ∙ all ∙ here
+    let all : flying ≡ item_flight (map (item_meaning d.outstanding.size) d.outstanding.items) = omega (arith, counted, few, count, long, most) in
+    all ∙ ap (λ (n : ℕ). item_flight (map (item_meaning n) d.outstanding.items)) sized
 
 -- ---- lists
 
@@ -138,28 +125,6 @@ map_read g xs i x read = of_map xs i x ∙ ap g (sym read)
     of_map (y ∷ ys) (suc j) d = of_map ys j d
 
 -- ---- as the code reads it
-
--- whether a fragment may flow, with size, window and message as they were read
-pub flow_read : (size fragment rwnd window : ℕ) (es : List EntryFields) (bytes : List ℕ) (l : Lane) (n : ℕ) (p : Content) (m x : MessageFields) → size ≡ fragment → rwnd ≡ window → m ≡ x
-    → bytes ≡ bytes_in (entry_meaning l n p) (Some (message_meaning size m)) → lets_flow (item_flight (map (item_meaning size) es)) (length bytes) rwnd
-    ≡ lets_flow (item_flight (map (item_meaning fragment) es)) (length (bytes_in (entry_meaning l n p) (Some (message_meaning fragment x)))) window
-flow_read size fragment rwnd window es bytes l n p m x one two three is =
-    ap (λ (ds : List ℕ). lets_flow (item_flight (map (item_meaning size) es)) (length ds) rwnd) is
-    ∙ ap (λ (k : ℕ). lets_flow (item_flight (map (item_meaning k) es)) (length (bytes_in (entry_meaning l n p) (Some (message_meaning k m)))) rwnd) one
-    ∙ ap (λ (y : MessageFields). lets_flow (item_flight (map (item_meaning fragment) es)) (length (bytes_in (entry_meaning l n p) (Some (message_meaning fragment y)))) rwnd) three
-    ∙ ap (lets_flow (item_flight (map (item_meaning fragment) es)) (length (bytes_in (entry_meaning l n p) (Some (message_meaning fragment x))))) two
-
--- how many bytes an entry's data has, with size and message as they were read
-pub length_read : (size fragment : ℕ) (bytes : List ℕ) (e : Entry) (m x : MessageFields) → size ≡ fragment → m ≡ x → bytes ≡ bytes_in e (Some (message_meaning size m)) → length bytes ≡ length (bytes_in e (Some (message_meaning fragment x)))
-length_read size fragment bytes e m x one two is =
-    ap (λ (ds : List ℕ). length ds) is ∙ ap (λ (k : ℕ). length (bytes_in e (Some (message_meaning k m)))) one ∙ ap (λ (y : MessageFields). length (bytes_in e (Some (message_meaning fragment y)))) two
-
--- both tests, of which the second is made where the first one passes
-pub both_pass : (first second a b : Bool) → first ≡ a → first ≡ true → second ≡ b → second ≡ (a && b)
-both_pass first second a b one on two = two ∙ ap (λ (x : Bool). x && b) (sym on ∙ one)
-
-pub first_fails : (first a b : Bool) → first ≡ a → first ≡ false → false ≡ (a && b)
-first_fails first a b one off = ap (λ (x : Bool). x && b) (sym off ∙ one)
 
 -- what is so anyway is so after an error
 pub on_err : {A E : Type 0} (P : Type 0) (r : Result A E) → P → OnErr r P
@@ -181,13 +146,3 @@ left_over count size n many bytes m y all one read same =
 -- an item, for an offset at which there is none
 pub no_item : Item
 no_item = record { entry = End (ordered_lane 0) 0; message = None; sent = false; marked = false; covered = false; abandoned = false; repeats = 0 }
-
--- ---- a chunk fits
-
--- what is let in fits, whatever number and index it has
-pub let_fits : (f : Format) (flying : ℕ) (s : Kept) (p : PacketDraft) (m : MessageFields) (k : ℕ) → let_in f flying s 0 p (Part (lane_meaning m) 0 k) (Some (message_meaning s.fragment m)) ≡ true → FitsInto f p s.fragment m (Fragment k)
-let_fits f flying s p m k on = λ base initial i n.
-    let e = Part (lane_meaning m) n k in
-    let said = Some (message_meaning s.fragment m) in
-    let here = (and_parts (lets_flow flying (length (bytes_in (Part (lane_meaning m) 0 k) said)) s.rwnd) (has_room p (fragment_chunk f (base_of s.resets) s.fragment s.initial 0 m 0 (Fragment k))) on).1 in
-    fits_by_length f p base initial i e said ∙ sym (fits_by_length f p (base_of s.resets) s.initial 0 (Part (lane_meaning m) 0 k) said) ∙ here

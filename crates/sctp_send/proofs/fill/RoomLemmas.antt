@@ -7,7 +7,7 @@ use Rattle.sctp_model.specs.messages.Format.{Format, Plain, Interleaved, Lane}
 use Rattle.sctp_model.specs.wire.Chunk.{ChunkMeaning, padded, size_of_chunk}
 use Rattle.sctp_model.specs.wire.Packet.{size_of_chunks, size_of_packet}
 use Rattle.sctp_model.specs.messages.Framing.{header_of}
-use Rattle.sctp_model.specs.messages.Plan.{Message, Entry}
+use Rattle.sctp_model.specs.messages.Plan.{Message, Entry, Part}
 use Rattle.sctp_model.specs.sender.SenderView.{SenderView}
 use Rattle.sctp_model.specs.sender.Entries.{bytes_in, sum_from, flight_of, in_flight, in_part}
 use Rattle.sctp_model.specs.sender.Assigning.{assigned}
@@ -22,7 +22,10 @@ use Rattle.sctp_model.proofs.sender.OwedLaws.{is_windowed}
 use Rattle.sctp_packet.specs.Draft.{Draft, room_in, has_room, with_chunks}
 use Rattle.sctp_send.specs.SenderKept.{Kept}
 use Rattle.sctp_send.specs.SenderStands.{items_from, Keeps}
-use Rattle.sctp_send.specs.inner.Stocking.{said_chunk}
+use Rattle.sctp_send.specs.inner.Stocking.{said_chunk, FitsInto}
+use Rattle.sctp_send.specs.OutstandingFields.{lane_meaning, message_meaning}
+use Rattle.sctp_send.specs.declared.kept.entry.Content.TheVariants.{Fragment}
+use Rattle.sctp_send.specs.declared.kept.message.Message.{Message as MessageFields}
 pub use Rattle.sctp_send.specs.inner.Wishing.{item_bytes, item_weight, item_flight, lets_flow}
 
 -- ---- room in the packet
@@ -45,6 +48,12 @@ has_room_is f d w = fits_room d (chunk_of f w) (room_some f w)
 pub fits_by_length : (f : Format) (d : Draft) (base : Lane → ℕ) (initial i : ℕ) (e : Entry) (m : Option Message) → has_room d (said_chunk f base initial i e m) ≡ nat_le (padded (header_of f + length (bytes_in e m))) (room_in d)
 fits_by_length Plain d base initial i e m = fits_room d (said_chunk Plain base initial i e m) (omega arith)
 fits_by_length Interleaved d base initial i e m = fits_room d (said_chunk Interleaved base initial i e m) (omega arith)
+
+-- so it fits whatever number and index it has
+pub fits_any : (f : Format) (d : Draft) (size n : ℕ) (m : MessageFields) (k : ℕ) → ((base : Lane → ℕ) (initial i : ℕ) → has_room d (said_chunk f base initial i (Part (lane_meaning m) n k) (Some (message_meaning size m))) ≡ true) → FitsInto f d size m (Fragment k)
+fits_any f d size n m k fits = λ base initial i j.
+    let said = Some (message_meaning size m) in
+    fits_by_length f d base initial i (Part (lane_meaning m) j k) said ∙ sym (fits_by_length f d base initial i (Part (lane_meaning m) n k) said) ∙ fits base initial i
 
 -- what is left behind a chunk
 pub room_more : (d : Draft) (m : ChunkMeaning) → room_in (with_chunks d (m ∷ [])) ≡ room_in d - size_of_chunk m

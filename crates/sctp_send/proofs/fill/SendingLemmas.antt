@@ -1,73 +1,64 @@
 -- Which wishes are sent again: the marked ones, and no others; and what is counted of them, one after the other.
 use Rattle.std.proofs.Common.{◌≡◌, ℕ, suc, ◌+◌, ◌-◌, ◌%◌, ◌^◌, ◌<◌, ◌≤◌, List, [], ◌∷◌, ◌++◌, length, Bool, true, false, Option, Some, None, refl, sym, ap, ◌∙◌, subst, arith}
 use Rattle.std.specs.Prelude.{nat_lt, not, ◌&&◌, if◌then◌else◌, cond, count_by, option_map}
+use Rattle.std.proofs.lemmas.List.{length-map}
 use Rattle.std.proofs.lemmas.List.Sums.{sum_by-cons, sum_by_push, count_by-le-length}
 use Rattle.sctp_model.specs.messages.Format.{Format}
 use Rattle.sctp_model.specs.sender.SenderView.{SenderView}
 use Rattle.sctp_model.specs.sender.Assigning.{assigned}
-use Rattle.sctp_model.specs.sender.Filling.{Wish, standing, newcomer, next_wish}
-use Rattle.sctp_model.proofs.sender.Bounds.{is_bounded}
+use Rattle.sctp_model.specs.sender.Filling.{Wish, newcomer, next_wish}
 use Rattle.sctp_model.proofs.sender.OwedLaws.{is_promised}
-use Rattle.sctp_model.proofs.sender.WishCases.{IsAssigned, Whole, Begun, Continued, assigned_cases}
+use Rattle.sctp_packet.specs.Draft.{Draft as PacketDraft}
 use Rattle.sctp_send.specs.SenderKept.{Kept}
 use Rattle.sctp_send.specs.SenderStands.{Keeps}
 use Rattle.sctp_send.specs.FillAnswers.{is_sent_first, is_timed, is_missed, sendings_of}
-use Rattle.sctp_send.specs.inner.Stocking.{IsNextEntry, IsNextUnsent, NothingStands}
-use Rattle.sctp_send.specs.inner.Sending.{resent_if, resent_by, IsResent}
+use Rattle.sctp_send.specs.OutstandingFields.{item_meaning}
+use Rattle.sctp_send.specs.inner.Asking.{CanGo, IsNext, IsNextPending}
+use Rattle.sctp_send.specs.inner.Stocking.{stocked, NothingStands}
+use Rattle.sctp_send.specs.inner.Sending.{resent_if, resent_by, resent_going, IsResent}
+use Rattle.sctp_send.specs.declared.fill.asking.Going.{Going}
+use Rattle.sctp_send.specs.declared.fill.asking.Going.TheVariants.{Indexed, New}
 use Rattle.sctp_send.specs.declared.fill.sendings.Resent.{Resent}
 use Rattle.sctp_send.specs.declared.fill.sendings.Sendings.{Sendings}
+use Rattle.sctp_send.specs.declared.stock.Stock.{Stock}
+use Rattle.sctp_send.specs.declared.told.Told.{Told}
 use Rattle.sctp_send.proofs.KeepLemmas.{kept_length}
+use Rattle.sctp_send.proofs.fill.RoomLemmas.{unsent_new}
 
 -- ---- the next wish
 
--- what is marked is sent again, at this index
-pub counted_again : (f : Format) (s : Kept) (v : SenderView) (at : ℕ) (put : Bool) (r : Resent) → Keeps f s v → at < length s.items → IsNextEntry f v at → v.sent (suc (v.cum + at)) ≡ true
-    → resent_if put ((s.cum + at + 1) % 2 ^ 64) r ≡ resent_by put (next_wish f v) r
-counted_again f s v at put r k low next sent =
+-- an entry counts where it was sent before, at its index
+counted_pending : (f : Format) (s : Kept) (v : SenderView) (at : ℕ) (again : Bool) (r : Resent) → Keeps f s v → at < length s.items → IsNextPending f v at again
+    → resent_if again ((s.cum + at + 1) % 2 ^ 64) r ≡ resent_by (next_wish f v) r
+counted_pending f s v at again r k low next =
     let long = kept_length f s v k in
     let most = is_promised f v k.reached in
     let cum = k.holds.cum in
     let index : (s.cum + at + 1) % 2 ^ 64 ≡ suc (v.cum + at) = omega (arith, low, long, most, cum) in
-    let and : (put && v.sent (suc (v.cum + at))) ≡ put = ap (λ (b : Bool). put && b) sent ∙ and_true put in
-    ap (λ (i : ℕ). resent_if put i r) index ∙ ap (λ (b : Bool). resent_if b (suc (v.cum + at)) r) (sym and) ∙ ap (λ (o : Option Wish). resent_by put o r) (sym next.next)
+    ap (λ (i : ℕ). resent_if again i r) index ∙ ap (λ (b : Bool). resent_if b (suc (v.cum + at)) r) (sym next.sent) ∙ ap (λ (o : Option Wish). resent_by o r) (sym next.next)
+
+-- what takes an index wasn't sent before, and doesn't count
+counted_new : (f : Format) (s : Kept) (v : SenderView) (r : Resent) → Keeps f s v → NothingStands f v → r ≡ resent_by (next_wish f v) r
+counted_new f s v r k stands = sym (ap (λ (o : Option Wish). resent_by o r) stands ∙ by_assigned (assigned f v) refl)
   where
-    and_true : (b : Bool) → (b && true) ≡ b
-    and_true true = refl
-    and_true false = refl
+    by_assigned : (o : Option SenderView) → assigned f v ≡ o → resent_by (option_map (newcomer v) o) r ≡ r
+    by_assigned None is = refl
+    by_assigned (Some u) is = ap (λ (b : Bool). resent_if b (suc (length v.plan.entries)) r) (unsent_new f v u k.reached is)
 
--- one that wasn't sent before doesn't count
-counts_not : (f : Format) (v : SenderView) (w : Wish) (put : Bool) (r : Resent) → next_wish f v ≡ Some w → w.view.sent w.index ≡ false → r ≡ resent_by put (next_wish f v) r
-counts_not f v w put r next unsent = sym (ap (λ (o : Option Wish). resent_by put o r) next ∙ ap (λ (b : Bool). resent_if b w.index r) (ap (λ (b : Bool). put && b) unsent ∙ and_false put))
-  where
-    and_false : (b : Bool) → (b && false) ≡ false
-    and_false true = refl
-    and_false false = refl
-
-pub counted_unsent : (f : Format) (v : SenderView) (at : ℕ) (put : Bool) (r : Resent) → IsNextUnsent f v at → r ≡ resent_by put (next_wish f v) r
-counted_unsent f v at put r next = counts_not f v (standing v (suc (v.cum + at))) put r next.next next.unsent
-
--- nothing more is sent where something is assigned
-same_sent : (f : Format) (v u : SenderView) → IsAssigned v f u → u.sent ≡ v.sent
-same_sent _ v _ (Whole q rest is) = refl
-same_sent _ v _ (Begun s q lt on first) = refl
-same_sent _ v _ (Continued s e lt on) = refl
-
-pub counted_new : (f : Format) (s : Kept) (v : SenderView) (put : Bool) (r : Resent) → Keeps f s v → NothingStands f v → r ≡ resent_by put (next_wish f v) r
-counted_new f s v put r k stands = by_assigned (assigned f v) refl
-  where
-    by_assigned : (o : Option SenderView) → assigned f v ≡ o → r ≡ resent_by put (next_wish f v) r
-    by_assigned None is = sym (ap (λ (o : Option Wish). resent_by put o r) (stands ∙ ap (option_map (newcomer v)) is))
-    by_assigned (Some u) is =
-        let unsent = (is_bounded f v k.reached).unsent (suc (length v.plan.entries)) (omega arith) in
-        let same = ap (λ (t : ℕ → Bool). t (suc (length v.plan.entries))) (same_sent f v u (assigned_cases f v u is)) in
-        counts_not f v (newcomer v u) put r (stands ∙ ap (option_map (newcomer v)) is) (same ∙ unsent)
+pub counted_going : (f : Format) (s : Kept) (v : SenderView) (p : PacketDraft) (h : Told) (d : Stock) (going : Going) (r : Resent) → Keeps f (stocked s d) v → CanGo f p h d going → IsNext f v going
+    → resent_going going s.cum r ≡ resent_by (next_wish f v) r
+counted_going f s v p h d (Indexed x) r k can next =
+    let long = length-map d.outstanding.items (item_meaning s.fragment) in
+    let low = can.0 in
+    counted_pending f (stocked s d) v x.at x.again r k (omega (arith, long, low)) next
+counted_going f s v p h d (New x) r k can next = counted_new f (stocked s d) v r k next.0
 
 -- ---- one after the other
 
 pub none_resent : (n : ℕ) (r : Resent) → r ≡ record { below = n; timed = 0; missed = 0 } → IsResent n [] r
 none_resent n r is = rw is (record { below = refl; timed = refl; missed = refl })
 
-pub one_resent : (n : ℕ) (ws : List Wish) (w : Wish) (r : Resent) → IsResent n ws r → length ws < 65536 → IsResent n (ws ++ w ∷ []) (resent_by true (Some w) r)
+pub one_resent : (n : ℕ) (ws : List Wish) (w : Wish) (r : Resent) → IsResent n ws r → length ws < 65536 → IsResent n (ws ++ w ∷ []) (resent_by (Some w) r)
 one_resent n ws w r is few = by_sent (w.view.sent w.index) refl
   where
     timed : count_by (is_timed n) (ws ++ w ∷ []) ≡ count_by (is_timed n) ws + cond (w.view.sent w.index && not (nat_lt w.index n)) 1 0

@@ -1,5 +1,5 @@
 -- What a sender's stock keeps, and what each wish makes of it and of the packet.
-use Rattle.std.specs.Prelude.{◌≡◌, ℕ, suc, nat_lt, ◌-◌, ◌<◌, ◌≤◌, Bool, true, false, List, [], ◌∷◌, ◌++◌, ◌+◌, ◌&&◌, map, length, slice_set, Option, None, Some, option_map}
+use Rattle.std.specs.Prelude.{◌≡◌, ℕ, nat_lt, ◌-◌, ◌<◌, ◌≤◌, true, false, List, [], ◌∷◌, ◌++◌, map, length, slice_set, Option, None, Some, option_map}
 use Rattle.sctp_model.specs.messages.Format.{Format, Kind, Lane}
 use Rattle.sctp_model.specs.messages.Plan.{Message, Entry, Part}
 use Rattle.sctp_model.specs.sender.Words.{when}
@@ -9,16 +9,13 @@ use Rattle.sctp_model.specs.wire.Chunk.{ChunkMeaning}
 use Rattle.sctp_model.specs.messages.Framing.{data_chunk}
 use Rattle.sctp_model.specs.sender.SenderView.{SenderView}
 use Rattle.sctp_model.specs.sender.PieceSaid.{piece_said}
-use Rattle.sctp_model.specs.sender.Filling.{Wish, standing, newcomer, next_wish, is_let_flow, goes, gone, IsFill, newly_numbered}
-use Rattle.sctp_model.specs.sender.Entries.{bytes_in}
-use Rattle.sctp_send.specs.inner.Wishing.{item_flight, lets_flow}
+use Rattle.sctp_model.specs.sender.Filling.{Wish, newcomer, next_wish, goes, gone, IsFill, newly_numbered}
 use Rattle.sctp_model.specs.sender.SentChunks.{chunk_of}
 use Rattle.sctp_packet.specs.Draft.{Draft as PacketDraft, room_in, with_chunks, has_room}
 use Rattle.sctp_send.specs.SenderKept.{Item, Rest, Track, Kept}
 use Rattle.sctp_send.specs.SenderStands.{Keeps}
 use Rattle.sctp_send.specs.FillAnswers.{sendings_of}
 use Rattle.sctp_send.specs.OutstandingFields.{was_sent, is_marked, item_meaning, lane_meaning, message_meaning, entry_meaning}
-use Rattle.sctp_send.specs.ResetsKept.{base_of}
 use Rattle.sctp_send.specs.SenderFields.{queued_by, track_meaning}
 use Rattle.sctp_send.specs.inner.Newcomers.{repeats_after, counted_in, IsBegun, IsContinued, IsTurnBegun, IsTurnContinued}
 use Rattle.sctp_send.specs.declared.fill.assigning.Next.{Next}
@@ -138,41 +135,11 @@ pub record IsPut (f : Format) (s : Kept) (v : SenderView) (before after : Packet
   pub keeps : Keeps f (stocked s new) (gone wish)
   pub told : numbers_of new.tickets.items ≡ numbers_of old.tickets.items ++ newly_numbered v (gone wish)
 
--- No wish may go.
-pub record IsStopped (f : Format) (s : Kept) (v : SenderView) (before after : PacketDraft) (old new : Stock) : Type 0 where
-  pub none : goes f (room_in before) v ≡ None
-  pub packet : after ≡ before
-  pub kept : stocked s new ≡ stocked s old
-  pub tickets : new.tickets ≡ old.tickets
-
--- the first or the second
-abbrev pub PutAnswer : Format → Kept → SenderView → (before after : PacketDraft) → (old new : Stock) → (put : Bool) → Type 0
-PutAnswer f s v before after old new true = IsPut f s v before after old new
-PutAnswer f s v before after old new false = IsStopped f s v before after old new
-
--- the premises on which an entry goes: it is the next wish, and may flow
-pub record IsNextEntry (f : Format) (v : SenderView) (at : ℕ) : Type 0 where
-  pub next : next_wish f v ≡ Some (standing v (suc (v.cum + at)))
-  pub flows : is_let_flow (standing v (suc (v.cum + at))) ≡ true
-
--- the same of one that never went out
-pub record IsNextUnsent (f : Format) (v : SenderView) (at : ℕ) : Type 0 where
-  pub next : next_wish f v ≡ Some (standing v (suc (v.cum + at)))
-  pub unsent : v.sent (suc (v.cum + at)) ≡ false
-
 -- nothing that has an index is to go out: then the next wish is for what is assigned next
 abbrev pub NothingStands : Format → SenderView → Type 0
 NothingStands f v = next_wish f v ≡ option_map (newcomer v) (assigned f v)
 
--- a message's entry may flow, while so much is in flight, and its chunk at an index fits
-abbrev pub let_in : Format → (flying : ℕ) → Kept → (i : ℕ) → PacketDraft → Entry → Option Message → Bool
-let_in f flying s i p e m = lets_flow flying (length (bytes_in e m)) s.rwnd && has_room p (said_chunk f (base_of s.resets) s.initial i e m)
-
--- ---- what is in flight, and all of FILL
-
--- so many bytes are in flight
-abbrev pub IsFlying : Kept → Stock → ℕ → Type 0
-IsFlying s d flying = flying ≡ item_flight (map (item_meaning s.fragment) d.outstanding.items)
+-- ---- all of FILL
 
 -- All of FILL is in the packet, and the stock keeps what it leaves; its chunks are counted, where all indexes below one were missed.
 pub record AllPut (f : Format) (s : Kept) (v : SenderView) (before after : PacketDraft) (d : Stock) (missed : ℕ) (sendings : Sendings) : Type 0 where

@@ -1,55 +1,55 @@
 //! A message takes its number, or its next index: what becomes of the stock. All that this needs was taken before: memory for the entries and the
 //! ticket, and the owners of the message.
 
-ghost use Rattle.std.specs.Prelude.{◌≡◌, ℕ, suc, ◌+◌, ◌-◌, ◌<◌, ◌≤◌, ◌%◌, ◌^◌, ◌∷◌, [], ◌++◌, true, None, Some, map, length, slice_set, slice_index_or};
+ghost use Rattle.std.specs.Prelude.{◌≡◌, ℕ, ◌+◌, ◌-◌, ◌<◌, ◌%◌, ◌^◌, ◌∷◌, [], ◌++◌, true, None, map, length, slice_set, slice_index_or};
 ghost use Rattle.std.specs.Vec.{vec_len, vec_capacity};
-ghost use Rattle.sctp_model.specs.numbers.Limits.{WINDOW};
-ghost use Rattle.sctp_model.specs.sender.Queueing.{cut};
+ghost use Rattle.sctp_model.specs.sender.SenderView.{SenderView};
 ghost use Rattle.sctp_values.specs.Meanings.{kind_meaning};
-ghost use Rattle.sctp_send.specs.OutstandingFields.{lane_meaning, queued_meaning};
-ghost use Rattle.sctp_send.specs.SenderKept.{Rest as KeptRest, Track as KeptTrack};
+ghost use Rattle.sctp_send.specs.SenderKept.{Track as KeptTrack};
 ghost use Rattle.sctp_send.specs.PartsKept.{changed_at};
 ghost use Rattle.sctp_send.specs.SenderFields.{latest_in, track_meaning, rests_meaning};
-ghost use Rattle.sctp_send.specs.inner.Newcomers.{number_in, number_on, rest_at, has_rest, track_of, begun, gone_on};
+ghost use Rattle.sctp_send.specs.SenderStands.{Keeps};
+ghost use Rattle.sctp_send.specs.inner.Asking.{CanBegin, CanGoOn, IsAsked};
+ghost use Rattle.sctp_send.specs.inner.Newcomers.{number_in, track_of, IsBegun, IsContinued};
 ghost use Rattle.sctp_send.specs.inner.Owning.{IsOwned, IsRestOwned};
-ghost use Rattle.sctp_send.specs.inner.Stocking.{bare, numbers_of, stocked, rest_from, left_track};
+ghost use Rattle.sctp_send.specs.inner.Stocking.{bare, numbers_of, stocked, rest_from, left_track, IsPut, NothingStands};
 ghost use Rattle.sctp_send.specs.inner.Entering.{counted_to, IsSized};
 ghost use Rattle.sctp_send.specs.declared.kept.track.Track.{Track as TrackFields};
 
 use crate::fill::assigning::{Beginning, stream_after};
 use crate::fill::pushing::{push_fragment, push_further};
-use crate::kept::entry::Standing;
+use crate::kept::entry::{Content, Standing};
 use crate::kept::message::Message;
 use crate::kept::streams::Streams;
-use crate::kept::track::{Rest, Taken, Track};
+use crate::kept::track::{Rest, Taken};
 use crate::kept::waiting::Waiting;
 use crate::stock::Stock;
 use crate::told::Told;
+use sctp_framing::Framing;
+use sctp_packet::PacketWriter;
 use sctp_values::{Kind, Ticket};
 use std::alloc::Global;
 use std::sync::Arc;
 
 impl Told {
-    /// The message at a place of the queue takes its number, and so many of its fragments their indexes.
+    /// The message at a place of the queue takes its number, and so many of its fragments their indexes: the first one's chunk is put.
     #[inline(always)]
-    pub(crate) fn begin(&self, stock: &mut Stock, next: Beginning)
-        requires some { 0 < next.count }
-        requires few { next.count ≤ WINDOW + 1 }
-        requires place { next.place < length stock.old.queue.items }
-        requires stream { (m : Arc Message Global) → m ≡ slice_index_or stock.old.queue.items next.place m → m.value.stream < length stock.old.streams.items }
-        requires idle { (m : Arc Message Global) (t : TrackFields) → m ≡ slice_index_or stock.old.queue.items next.place m → t ≡ slice_index_or stock.old.streams.items m.value.stream t → t.rest ≡ None }
-        requires count { (m : Arc Message Global) → m ≡ slice_index_or stock.old.queue.items next.place m → next.count ≤ length (cut self.now.fragment m.value.bytes.items) }
+    pub(crate) fn begin<F: Framing>(
+        &self,
+        stock: &mut Stock,
+        next: Beginning,
+        packet: &mut PacketWriter,
+    )
         requires sized { IsSized self.now.fragment stock.old }
-        requires room { length stock.old.outstanding.items + next.count ≤ stock.old.outstanding.capacity }
+        requires can { CanBegin F.format packet.old self.now.fragment stock.old next }
+        requires reserved { packet.old.space ≡ true }
         requires told { vec_len stock.old.tickets < vec_capacity stock.old.tickets }
-        ensures kept { (m : Arc Message Global) → m ≡ slice_index_or stock.old.queue.items next.place m → suc (number_on (stocked (bare self.now) stock.old).tracks (lane_meaning m.value)) < 2 ^ 64
-            → stocked (bare self.now) stock.new
-            ≡ begun (stocked (bare self.now) stock.old) (queued_meaning self.now.fragment m.value) next.place next.count next.turn stock.old.outstanding.capacity }
-        ensures told { (m : Arc Message Global) → m ≡ slice_index_or stock.old.queue.items next.place m → numbers_of stock.new.tickets.items ≡ numbers_of stock.old.tickets.items ++ m.value.ticket ∷ [] }
-        ensures more { length stock.old.outstanding.items < length stock.new.outstanding.items }
+        ensures put { (v : SenderView) → Keeps F.format (stocked (bare self.now) stock.old) v → NothingStands F.format v → IsBegun F.format v next.place next.count next.turn → IsAsked F.format v packet.old true
+            → IsPut F.format (bare self.now) v packet.old packet.new stock.old stock.new }
         ensures sized { IsSized self.now.fragment stock.new }
         ensures one { vec_len stock.new.tickets ≡ vec_len stock.old.tickets + 1 }
-        ensures capacity { vec_capacity stock.old.tickets ≤ vec_capacity stock.new.tickets }
+        ensures capacity { vec_capacity stock.new.tickets ≡ vec_capacity stock.old.tickets }
+        ensures reserved { packet.new.space ≡ true }
     {
         let Some(waiting) = stock.queue.remove(next.place) else {
             return;
@@ -59,9 +59,10 @@ impl Told {
             mut others,
         } = waiting;
         let stream = message.stream;
-        let kind = message.kind;
         tell(&mut stock.tickets, message.ticket);
-        let number = number_one(&mut stock.streams, stream, kind);
+        let number = number_one(&mut stock.streams, stream, message.kind);
+        let at = stock.outstanding.len();
+        self.put_piece::<F>(&message, number, Content::Fragment(0), at, packet);
         push_fragment(&mut stock.outstanding, message, number, 0, Standing::Sent);
         push_further(&mut stock.outstanding, &mut others, number, next.count);
         let rest = rest_behind(others, next.count);
@@ -69,18 +70,21 @@ impl Told {
         stock.turn = next.turn;
     }
 
-    /// The message in part of a stream takes its next index.
-    pub(crate) fn go_on(&self, stock: &mut Stock, stream: u16)
-        requires within { stream < self.now.streams }
-        requires stream { stream < length stock.old.streams.items }
-        requires part { has_rest (rest_at (stocked (bare self.now) stock.old).tracks stream) ≡ true }
+    /// The message in part of a stream takes its next index: its chunk is put.
+    pub(crate) fn go_on<F: Framing>(
+        &self,
+        stock: &mut Stock,
+        stream: u16,
+        packet: &mut PacketWriter,
+    )
         requires sized { IsSized self.now.fragment stock.old }
-        requires room { length stock.old.outstanding.items < stock.old.outstanding.capacity }
-        ensures kept { (rest : KeptRest) → Some rest ≡ rest_at (stocked (bare self.now) stock.old).tracks stream
-            → stocked (bare self.now) stock.new ≡ gone_on (stocked (bare self.now) stock.old) rest stream (suc stream % self.now.streams) stock.old.outstanding.capacity }
-        ensures more { length stock.old.outstanding.items < length stock.new.outstanding.items }
-        ensures tickets { stock.new.tickets ≡ stock.old.tickets }
+        requires can { CanGoOn F.format packet.old self.now stock.old stream }
+        requires reserved { packet.old.space ≡ true }
+        ensures put { (v : SenderView) → Keeps F.format (stocked (bare self.now) stock.old) v → NothingStands F.format v → IsContinued F.format v stream → IsAsked F.format v packet.old true
+            → IsPut F.format (bare self.now) v packet.old packet.new stock.old stock.new }
         ensures sized { IsSized self.now.fragment stock.new }
+        ensures tickets { stock.new.tickets ≡ stock.old.tickets }
+        ensures reserved { packet.new.space ≡ true }
     {
         let Some(next) = stock.streams.take_fragment(usize::from(stream)) else {
             return;
@@ -90,24 +94,12 @@ impl Told {
             fragment,
             number,
         } = next;
-        push_fragment(
-            &mut stock.outstanding,
-            message,
-            number,
-            fragment,
-            Standing::Sent,
-        );
+        let at = stock.outstanding.len();
+        let content = Content::Fragment(fragment);
+        self.put_piece::<F>(&message, number, content, at, packet);
+        let standing = Standing::Sent;
+        push_fragment(&mut stock.outstanding, message, number, fragment, standing);
         stock.turn = stream_after(stream, self.streams);
-    }
-}
-
-/// The number that the next message of this kind takes on a stream.
-pub(crate) fn number_next(track: &Track, kind: Kind) -> u64
-    ensures { (size : ℕ) → result ≡ number_in (kind_meaning kind) (track_meaning size track.now) }
-{
-    match kind {
-        Kind::Ordered => track.ordered,
-        Kind::Unordered => track.unordered,
     }
 }
 
@@ -119,7 +111,11 @@ fn number_one(streams: &mut Streams, stream: u16, kind: Kind) -> u64
     ensures counted { streams.new ≡ record streams.old { items = changed_at (counted_to kind ((result + 1) % 2 ^ 64)) stream streams.old.items } }
 {
     let at = usize::from(stream);
-    let number = number_next(&streams.tracks()[at], kind);
+    let track = &streams.tracks()[at];
+    let number = match kind {
+        Kind::Ordered => track.ordered,
+        Kind::Unordered => track.unordered,
+    };
     streams.count_to(at, kind, number.wrapping_add(1));
     number
 }

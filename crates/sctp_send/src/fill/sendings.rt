@@ -1,7 +1,9 @@
 //! How many chunks of a packet are sent for the first time, and how many again.
 
 ghost use Rattle.std.specs.Prelude.{◌≡◌, ◌+◌, ◌-◌, ◌<◌, ◌≤◌};
-ghost use Rattle.sctp_send.specs.inner.Sending.{resent_more};
+ghost use Rattle.sctp_send.specs.inner.Sending.{resent_going};
+
+use crate::fill::asking::Going;
 
 /// Of the DATA or I-DATA chunks that went into a packet, how many were sent for the first time, and how many again.
 #[derive(Clone, Copy, Debug, PartialEq, Eq)]
@@ -50,10 +52,18 @@ impl Resent {
         }
     }
 
-    /// One more, at this index.
-    pub(crate) fn count(&mut self, index: u64)
-        ensures { self.new ≡ resent_more index self.old }
+    /// A wish goes, above this cumulative TSN acknowledged (CUM): one more, if it was sent before.
+    #[inline(always)]
+    pub(crate) fn count(&mut self, going: Going, cum: u64)
+        ensures { self.new ≡ resent_going going cum self.old }
     {
+        let Going::Indexed(pending) = going else {
+            return;
+        };
+        if !pending.again {
+            return;
+        }
+        let index = cum.wrapping_add(pending.at as u64).wrapping_add(1);
         if index < self.below {
             self.missed = self.missed.wrapping_add(1);
         } else {

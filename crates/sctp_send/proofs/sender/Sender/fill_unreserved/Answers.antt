@@ -1,24 +1,23 @@
-use Rattle.std.proofs.Common.{Bool, [], refl, sym, subst, ap, ◌∙◌}
+use Rattle.std.proofs.Common.{[], refl, sym, subst, ap, ◌∙◌}
 use Rattle.sctp_model.specs.sender.Filling.{fill}
 use Rattle.sctp_model.proofs.sender.FillLaws.{stopped_is_fill, one_fill, fill_is_fill}
 use Rattle.sctp_packet.specs.Draft.{room_in}
 use Rattle.sctp_send.specs.FillAnswers.{sendings_of}
 use Rattle.sctp_send.specs.SenderKept.{Kept}
 use Rattle.sctp_send.specs.SenderStands.{StandsFor, Keeps}
-use Rattle.sctp_send.specs.inner.Asking.{IsAsked}
 use Rattle.sctp_send.specs.inner.Stocking.{bare, stocked}
 use Rattle.sctp_send.proofs.fill.FilledLemmas.{no_chunks}
 use Rattle.sctp_send.proofs.fill.NewlyLemmas.{newly_self}
 use Rattle.sctp_send.proofs.sender.Sender.fill_unreserved.Goals as goal
 
-pub returns-then-is_any_let_in-clause-some : goal.returns-then-is_any_let_in-clause-some
+pub returns-in-Some-clause-some : goal.returns-in-Some-clause-some
 unfolding StandsFor
-returns-then-is_any_let_in-clause-some g c = λ v stands.
+returns-in-Some-clause-some g c = λ v stands.
     let f = g.F.Framing.format in
     let p = c.args.packet.now in
     let keeps = subst (λ (k : Kept). Keeps f k v) (sym c.self.view_is) stands in
     let begun : Keeps f (stocked (bare c.self.inside.told) c.begin_anew.new.stock) v = rw (c.begin_anew.ensures.same, c.begin_anew.ensures.tickets) keeps in
-    let asked = subst (λ (b : Bool). IsAsked f v p b) c.if-is_any_let_in.true (c.is_any_let_in.ensures.asked v p begun c.room.ensures.room) in
+    let asked = (c.in-Some.ensures.goes v p begun c.room-room.ensures.room).1 in
     record { wishes = []; view = v; follows = refl; chunks = sym (no_chunks p); refused = asked.0; next = asked.1 }
 
 pub returns-clause-step : goal.returns-clause-step
@@ -28,13 +27,13 @@ returns-clause-step g c = λ v stands.
     let p = c.args.packet.now in
     let keeps = subst (λ (k : Kept). Keeps f k v) (sym c.self.view_is) stands in
     let begun : Keeps f (stocked (bare c.self.inside.told) c.begin_anew.new.stock) v = rw (c.begin_anew.ensures.same, c.begin_anew.ensures.tickets) keeps in
-    let none = subst (λ (b : Bool). IsAsked f v p b) c.if-is_any_let_in.false (c.is_any_let_in.ensures.asked v p begun c.room.ensures.room) in
+    let none = c.in_default.ensures.goes v p begun c.room-room.ensures.room in
     record {
       wishes = [];
       view = v;
       fill = stopped_is_fill f v v (room_in p) [] refl none;
       chunks = sym (no_chunks p);
-      stands = rw (c.is_any_let_in.ensures.same, c.begin_anew.ensures.same) keeps;
+      stands = rw (c.in_default.ensures.same, c.begin_anew.ensures.same) keeps;
       tickets = rw c.new-tickets.ensures.items (sym (newly_self v));
     }
 
@@ -45,6 +44,6 @@ returns-clause-sendings g c = λ v missed stands.
     let p = c.args.packet.now in
     let keeps = subst (λ (k : Kept). Keeps f k v) (sym c.self.view_is) stands in
     let begun : Keeps f (stocked (bare c.self.inside.told) c.begin_anew.new.stock) v = rw (c.begin_anew.ensures.same, c.begin_anew.ensures.tickets) keeps in
-    let none = subst (λ (b : Bool). IsAsked f v p b) c.if-is_any_let_in.false (c.is_any_let_in.ensures.asked v p begun c.room.ensures.room) in
+    let none = c.in_default.ensures.goes v p begun c.room-room.ensures.room in
     let rest = stopped_is_fill f v v (room_in p) [] refl none in
     c.none-sendings.ensures ∙ ap (sendings_of missed) (one_fill f v v (fill f (room_in p) v).view (room_in p) [] (fill f (room_in p) v).wishes rest (fill_is_fill f (room_in p) v)).0

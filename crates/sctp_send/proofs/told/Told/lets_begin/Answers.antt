@@ -1,61 +1,72 @@
-use Rattle.std.proofs.Common.{ℕ, suc, ◌+◌, length, map, true, false, Some, refl, sym, ap, ◌∙◌, arith}
+use Rattle.std.proofs.Common.{◌≡◌, ◌∙◌, ℕ, suc, ◌+◌, List, length, map, true, false, refl, sym, ap, subst}
 use Rattle.std.specs.declared.sync.Arc.{Arc}
 use Rattle.std.specs.declared.alloc.Global.{Global}
 use Rattle.std.proofs.lemmas.List.{get_or_default}
-use Rattle.sctp_model.specs.messages.Plan.{Part}
-use Rattle.sctp_send.specs.OutstandingFields.{lane_meaning, message_meaning}
+use Rattle.sctp_model.specs.sender.Queueing.{cut}
+use Rattle.sctp_send.specs.OutstandingFields.{lane_meaning}
 use Rattle.sctp_send.specs.SenderFields.{track_meaning}
+use Rattle.sctp_send.specs.inner.Asking.{IsEntrance}
 use Rattle.sctp_send.specs.inner.Newcomers.{number_on}
-use Rattle.sctp_send.specs.inner.Stocking.{bare, stocked, let_in}
+use Rattle.sctp_send.specs.inner.Stocking.{bare, stocked, FitsInto}
+use Rattle.sctp_send.specs.declared.kept.entry.Content.TheVariants.{Fragment}
 use Rattle.sctp_send.specs.declared.kept.message.Message.{Message as MessageFields}
-use Rattle.sctp_send.proofs.fill.BegunPut.{begun_message, begun_there, window_read, begun_asked, begun_full}
-use Rattle.sctp_send.proofs.fill.NewMayLemmas.{let_fits}
+use Rattle.sctp_send.proofs.fill.BegunPut.{begun_message, begun_enters, window_read, begun_asked, begun_full}
+use Rattle.sctp_send.proofs.fill.NewMayLemmas.{left_over}
 use Rattle.sctp_send.proofs.told.Told.lets_begin.Goals as goal
 
-pub returns-then-from-tracks-clause-asked : goal.returns-then-from-tracks-clause-asked
-returns-then-from-tracks-clause-asked g c = λ v p k room stands next flying.
+pub returns-then-not-can_begin-clause-asked : goal.returns-then-not-can_begin-clause-asked
+returns-then-not-can_begin-clause-asked g c = λ v p k room stands next.
     let f = g.F.Framing.format in
     let s = bare c.args.self.now in
     let d = c.args.stock.now in
-    let m = c.args.message.now.value in
-    let mine = begun_message f s v d c.args.next.place c.args.next.count c.args.next.turn c.args.message.now k next c.requires.message in
-    let there = begun_there f s v d m c.args.next.place c.args.next.count c.args.next.turn k next mine in
-    let stream = c.from.ensures ∙ ap (λ (y : MessageFields). y.stream) c.deref.ensures in
-    let wide = ap length c.tracks.ensures in
-    absurd (omega (arith, stream, there, wide, c.if-from-tracks.true))
+    let x = c.get-message.result.now in
+    let count = c.args.next.count in
+    let mine = begun_message f s v d c.args.next.place count c.args.next.turn x k next c.get-message.ensures in
+    let enters = begun_enters f s v d x.value c.args.next.place count c.args.next.turn (number_on (stocked s d).tracks (lane_meaning x.value)) k stands next mine refl in
+    let all = c.fragments_of-all.ensures ∙ ap (λ (bs : List _). length (cut s.fragment bs)) (c.deref-2.ensures.value ∙ ap (λ (m : MessageFields). m.bytes.items) c.deref.ensures) in
+    let here = subst (λ (n : ℕ). IsEntrance s.fragment d x.value.stream count n) (sym all) enters in
+    let can = c.can_begin.ensures.always s.fragment (subst (λ (m : MessageFields). IsEntrance s.fragment d m.stream count c.fragments_of-all.result) (sym c.deref-3.ensures) here) in
+    let clash : true ≡ false = sym can ∙ c.if-not-can_begin.true in
+    absurd (cc)
 
 pub returns-then-not-has_window-clause-asked : goal.returns-then-not-has_window-clause-asked
-returns-then-not-has_window-clause-asked g c = λ v p k room stands next flying.
+returns-then-not-has_window-clause-asked g c = λ v p k room stands next.
     let f = g.F.Framing.format in
     let s = bare c.args.self.now in
     let d = c.args.stock.now in
-    let m = c.args.message.now.value in
-    let number = number_on (stocked s d).tracks (lane_meaning m) in
-    let mine = begun_message f s v d c.args.next.place c.args.next.count c.args.next.turn c.args.message.now k next c.requires.message in
-    let window = window_read _ (map (track_meaning s.fragment) d.streams.items) m c.deref-2.result.now c.has_window.result false c.deref-2.ensures (c.has_window.ensures.fits s.fragment (sym c.requires.sized.tracks)) c.if-not-has_window.true in
-    begun_full f s v d m c.args.next.place c.args.next.count c.args.next.turn number k stands next mine refl p c.args.more c.requires.more window
+    let x = c.get-message.result.now in
+    let count = c.args.next.count in
+    let mine = begun_message f s v d c.args.next.place count c.args.next.turn x k next c.get-message.ensures in
+    let more = left_over count s.fragment s.fragment c.fragments_of-all.result c.deref-2.result.now x.value c.deref.result.now c.fragments_of-all.ensures refl c.deref-2.ensures.value c.deref.ensures in
+    let window = window_read _ (map (track_meaning s.fragment) d.streams.items) x.value c.deref-3.result.now c.has_window.result false c.deref-3.ensures (c.has_window.ensures.fits s.fragment (sym c.requires.sized.tracks)) c.if-not-has_window.true in
+    begun_full f s v d x.value c.args.next.place count c.args.next.turn (number_on (stocked s d).tracks (lane_meaning x.value)) k stands next mine refl p _ more window
 
 pub returns-clause-asked : goal.returns-clause-asked
-returns-clause-asked g c = λ v p k room stands next flying.
+returns-clause-asked g c = λ v p k room stands next.
     let f = g.F.Framing.format in
     let s = bare c.args.self.now in
     let d = c.args.stock.now in
-    let m = c.args.message.now.value in
-    let number = number_on (stocked s d).tracks (lane_meaning m) in
-    let mine = begun_message f s v d c.args.next.place c.args.next.count c.args.next.turn c.args.message.now k next c.requires.message in
-    let window = window_read _ (map (track_meaning s.fragment) d.streams.items) m c.deref-2.result.now c.has_window.result true c.deref-2.ensures (c.has_window.ensures.fits s.fragment (sym c.requires.sized.tracks)) c.if-not-has_window.false in
-    let i = suc (s.cum + length d.outstanding.items) in
-    let on = sym (c.is_let_in.ensures number i p room ∙ ap (λ (n : ℕ). let_in f n s i p (Part (lane_meaning m) number 0) (Some (message_meaning s.fragment m))) flying) in
-    begun_asked f s v d m c.args.next.place c.args.next.count c.args.next.turn number k stands next mine refl p c.args.more c.is_let_in.result c.requires.more window on
+    let x = c.get-message.result.now in
+    let count = c.args.next.count in
+    let number = number_on (stocked s d).tracks (lane_meaning x.value) in
+    let mine = begun_message f s v d c.args.next.place count c.args.next.turn x k next c.get-message.ensures in
+    let more = left_over count s.fragment s.fragment c.fragments_of-all.result c.deref-2.result.now x.value c.deref.result.now c.fragments_of-all.ensures refl c.deref-2.ensures.value c.deref.ensures in
+    let window = window_read _ (map (track_meaning s.fragment) d.streams.items) x.value c.deref-3.result.now c.has_window.result true c.deref-3.ensures (c.has_window.ensures.fits s.fragment (sym c.requires.sized.tracks)) c.if-not-has_window.false in
+    let on = rw c.deref-4.ensures at (c.is_let_in.ensures.asked v p number (suc (s.cum + length d.outstanding.items)) k room) in
+    begun_asked f s v d x.value c.args.next.place count c.args.next.turn number k stands next mine refl p _ c.is_let_in.result more window (sym on)
 
-pub returns-clause-stream : goal.returns-clause-stream
-returns-clause-stream g c = λ on m read.
-    let x = c.args.message.now in
-    let same = read ∙ get_or_default c.args.stock.now.queue.items c.args.next.place m x c.requires.place ∙ sym c.requires.message in
-    let stream = ap (λ (y : Arc MessageFields Global). y.value.stream) same in
-    let first = c.from.ensures ∙ ap (λ (y : MessageFields). y.stream) c.deref.ensures in
-    let wide = ap length c.tracks.ensures in
-    omega (arith, stream, first, wide, c.if-from-tracks.false)
-
-pub returns-clause-fits : goal.returns-clause-fits
-returns-clause-fits g c = λ p room on. let_fits g.F.Framing.format c.args.flying (bare c.args.self.now) p c.args.message.now.value 0 (sym (c.is_let_in.ensures 0 0 p room) ∙ on)
+pub returns-clause-can : goal.returns-clause-can
+returns-clause-can g c = λ p room on.
+    let size = c.args.self.now.fragment in
+    let d = c.args.stock.now in
+    let x = c.get-message.result.now in
+    let count = c.args.next.count in
+    let all = c.fragments_of-all.ensures ∙ ap (λ (bs : List _). length (cut size bs)) (c.deref-2.ensures.value ∙ ap (λ (m : MessageFields). m.bytes.items) c.deref.ensures) in
+    let same = λ (m : Arc MessageFields Global) (read : m ≡ _). sym (read ∙ get_or_default d.queue.items c.args.next.place m x c.requires.place ∙ sym c.get-message.ensures) in
+    record {
+      place = c.requires.place;
+      some = c.requires.some;
+      few = c.has_window.ensures.few c.if-not-has_window.false;
+      enters = λ m read. subst (λ (y : Arc MessageFields Global). IsEntrance size d y.value.stream count (length (cut size y.value.bytes.items))) (same m read) (rw (all, c.deref-3.ensures) at (c.can_begin.ensures.can size c.if-not-can_begin.false));
+      fits = λ m read. subst (λ (y : Arc MessageFields Global). FitsInto g.F.Framing.format p size y.value (Fragment 0)) (same m read) (rw c.deref-4.ensures at (c.is_let_in.ensures.fits p room on));
+    }

@@ -1,12 +1,22 @@
-use Rattle.std.proofs.Common.{Bool, refl, subst}
-use Rattle.sctp_send.specs.inner.Asking.{IsAsked}
+use Rattle.std.proofs.Common.{suc, ◌+◌, [], ◌∷◌, refl, ap, ◌∙◌, subst, sym}
+use Rattle.sctp_packet.specs.Draft.{with_chunks}
+use Rattle.sctp_send.specs.ResetsKept.{base_of}
+use Rattle.sctp_send.specs.declared.kept.message.Message.{Message as MessageFields}
+use Rattle.sctp_send.specs.inner.Stocking.{bare, fragment_chunk, FitsInto}
+use Rattle.sctp_send.proofs.fill.PutLemmas.{entry_goes, sent_stock}
 use Rattle.sctp_send.proofs.told.Told.put_entry.Goals as goal
 
-pub returns-then-not-is_entry_let_in-clause-put : goal.returns-then-not-is_entry_let_in-clause-put
-returns-then-not-is_entry_let_in-clause-put g c = λ v k premise.
-    let p = c.args.packet.now in
-    let none = subst (λ (b : Bool). IsAsked g.F.Framing.format v p b) c.if-not-is_entry_let_in.true (c.is_entry_let_in.ensures.asked v p k c.room.ensures.room premise) in
-    record { none = none; packet = refl; kept = refl; tickets = refl }
+pub put_piece-requires-clause-fits : goal.put_piece-requires-clause-fits
+put_piece-requires-clause-fits g c =
+    let x = c.get-entry.result.now in
+    subst (λ (m : MessageFields). FitsInto g.F.Framing.format c.args.packet.now c.args.self.now.fragment m x.content) (sym c.deref.ensures) (c.requires.fits x c.get-entry.ensures)
 
-pub put_out-requires-clause-fits : goal.put_out-requires-clause-fits
-put_out-requires-clause-fits g c = λ x read. c.is_entry_let_in.ensures.fits c.args.packet.now x read c.room.ensures.room c.if-not-is_entry_let_in.false
+pub returns-clause-put : goal.returns-clause-put
+returns-clause-put g c = λ v k again premise asked.
+    let f = g.F.Framing.format in
+    let s = bare c.args.self.now in
+    let x = c.get-entry.result.now in
+    let i = suc (s.cum + c.args.at) in
+    let put = c.put_piece.ensures.put ∙ ap (λ (m : MessageFields). with_chunks c.args.packet.now (fragment_chunk f (base_of s.resets) s.fragment s.initial i m x.number x.content ∷ [])) c.deref.ensures in
+    entry_goes f s v c.args.packet.now c.put_piece.new.packet c.args.stock.now _ c.args.at again x k premise asked c.requires.within c.get-entry.ensures put
+    (sent_stock s c.args.stock.now c.send.new.self c.args.at x c.get-entry.ensures c.send.ensures) refl
