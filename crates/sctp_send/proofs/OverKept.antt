@@ -1,6 +1,6 @@
 -- What is kept when more tickets are over; and the tickets that take their numbers are not over.
-use Rattle.std.proofs.Common.{◌≡◌, ℕ, suc, ◌+◌, ◌-◌, ◌<◌, ◌≤◌, inl, inr, List, [], ◌∷◌, length, get_or, drop, Bool, true, false, Option, Some, None, refl, sym, ap, ◌∙◌, subst, arith}
-use Rattle.std.specs.Prelude.{◌==◌, not, ◌&&◌, if◌then◌else◌}
+use Rattle.std.proofs.Common.{◌≡◌, ℕ, suc, ◌+◌, ◌-◌, ◌<◌, ◌≤◌, inl, inr, List, [], ◌∷◌, length, drop, Bool, true, false, Option, Some, None, refl, sym, ap, ◌∙◌, subst, arith}
+use Rattle.std.specs.Prelude.{◌==◌, not, ◌&&◌}
 use Rattle.std.proofs.lemmas.List.{drop-drop}
 use Rattle.std.proofs.lemmas.Bool.{cases_lt}
 use Rattle.std.proofs.lemmas.Bool.Decides.{nat_tests}
@@ -9,19 +9,16 @@ use Rattle.sctp_model.specs.messages.Plan.{Message, Entry}
 use Rattle.sctp_model.specs.sender.SenderView.{SenderView}
 use Rattle.sctp_model.specs.sender.Words.{when}
 use Rattle.sctp_model.specs.sender.Entries.{entry_message}
-use Rattle.sctp_model.specs.sender.Abandoning.{waits, name_of, has_ticket}
+use Rattle.sctp_model.specs.sender.Abandoning.{waits, has_ticket}
 use Rattle.sctp_model.specs.sender.Filling.{is_first, begun_ticket, begun_tickets, newly_numbered}
 use Rattle.sctp_model.proofs.sender.Bounds.{is_bounded}
 use Rattle.sctp_send.specs.SenderKept.{Item, Kept}
-use Rattle.sctp_send.specs.SenderStands.{items_from, fate_here, fate_named, Keeps}
-use Rattle.sctp_send.specs.inner.Walks.{any_item, any_rest, any_uncovered, is_queued_fate}
+use Rattle.sctp_send.specs.SenderStands.{items_from, Keeps}
+use Rattle.sctp_send.specs.inner.Walks.{any_item, any_rest, any_uncovered}
 use Rattle.sctp_send.specs.inner.Stocking.{AreOpen}
-use Rattle.sctp_send.specs.declared.kept.message.Fate.{Fate}
-use Rattle.sctp_send.specs.declared.kept.message.Fate.TheVariants.{Queued as StillQueued}
 use Rattle.sctp_send.proofs.HeldLemmas.{still_held}
 use Rattle.sctp_send.proofs.KeepLemmas.{items_beyond}
 use Rattle.sctp_send.proofs.QueueLemmas.{fates_given}
-use Rattle.sctp_send.proofs.ReaderLemmas.{fate_at}
 use Rattle.sctp_send.proofs.OverLemmas.{neither, no_item_behind}
 
 -- ---- more of them are over
@@ -29,26 +26,13 @@ use Rattle.sctp_send.proofs.OverLemmas.{neither, no_item_behind}
 clash : {b : Bool} → b ≡ true → b ≡ false → ⊥
 clash on off = cc
 
--- a ticket whose fate isn't that of a message that waits
-not_waiting : (f : Format) (s : Kept) (v : SenderView) (t : ℕ) (d : Fate) → Keeps f s v → t < length s.fates → is_queued_fate (get_or s.fates t d) ≡ false → waits (suc t) v.queue ≡ false
-not_waiting f s v t d k lt off = by_test (waits (suc t) v.queue) refl
-  where
-    by_test : (b : Bool) → waits (suc t) v.queue ≡ b → b ≡ false
-    by_test false is = refl
-    by_test true is =
-        let here : fate_here v (suc t) ≡ StillQueued = ap (λ (b : Bool). if b then StillQueued else fate_named v (name_of v (suc t))) is in
-        absurd (clash (ap is_queued_fate (fate_at f s v t d k lt ∙ here)) off)
-
-pub keeps_over : (f : Format) (s : Kept) (v : SenderView) (n last : ℕ) (d : Fate) → Keeps f s v → n ≤ length s.fates → n ≤ last → ((at : ℕ) → s.ended ≤ at → at < n → is_queued_fate (get_or s.fates at d) ≡ false)
+pub keeps_over : (f : Format) (s : Kept) (v : SenderView) (n last : ℕ) → Keeps f s v → n ≤ length s.fates → n ≤ last → ((t : ℕ) → t ≤ last → waits t s.queue ≡ false)
     → ((t : ℕ) → t ≤ last → any_rest t s.tracks ≡ false) → ((t : ℕ) → t ≤ last → any_item t s.items ≡ false) → Keeps f (record s { ended = n }) v
-keeps_over f s v n last d k given low moved rests items = record {
+keeps_over f s v n last k given low queue rests items = record {
   holds = still_held s v n s.passed s.moments s.asleep k.holds;
   over = record {
     within = let all = fates_given f s v k in omega (arith, all, given);
-    each = λ t le. elim (cases_lt n t) [
-      | inl past ↦ let o = k.over.each t (omega (arith, le, past)) in record { queue = o.queue; tracks = o.tracks; items = o.items }
-      | inr within ↦ record { queue = waiting t within; tracks = rests t (omega (arith, within, low)); items = items t (omega (arith, within, low)) }
-    ];
+    each = λ t le. record { queue = queue t (omega (arith, le, low)); tracks = rests t (omega (arith, le, low)); items = items t (omega (arith, le, low)) };
   };
   due = record { many = k.due.many; each = λ t now lt. let i = k.due.each t now lt in record { queue = i.queue; items = i.items; tracks = i.tracks } };
   forward = k.forward;
@@ -57,16 +41,6 @@ keeps_over f s v n last d k given low moved rests items = record {
   counted = k.counted;
   reached = k.reached;
 }
-  where
-    waiting : (t : ℕ) → t ≤ n → waits t s.queue ≡ false
-    waiting t le = elim (cases_lt s.ended t) [
-      | inl lt ↦
-          let there : t - 1 < length s.fates = omega (arith, given, le, lt) in
-          let back : suc (t - 1) ≡ t = omega (arith, lt) in
-          let off = not_waiting f s v (t - 1) d k there (moved (t - 1) (omega (arith, lt)) (omega (arith, le, lt))) in
-          ap (waits t) k.holds.queue ∙ subst (λ (x : ℕ). waits x v.queue ≡ false) back off
-      | inr ge ↦ (k.over.each t (omega (arith, ge))).queue
-    ]
 
 -- ---- what is still kept isn't over
 

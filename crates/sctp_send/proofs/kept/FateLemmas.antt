@@ -1,9 +1,8 @@
 -- Fates in blocks: how many they are, each of them, and a block more.
-use Rattle.std.proofs.Common.{◌≡◌, ℕ, zero, suc, ◌+◌, ◌-◌, ◌*◌, ◌/◌, ◌%◌, ◌<◌, ◌≤◌, List, [], ◌∷◌, ◌++◌, length, get_or, take, drop, Bool, true, false, refl, sym, ap, ◌∙◌, subst, arith, length-append, length-drop, append-nil, take_all}
-use Rattle.std.specs.Prelude.{◌||◌, replicate}
+use Rattle.std.proofs.Common.{◌≡◌, ℕ, zero, suc, ◌+◌, ◌-◌, ◌*◌, ◌/◌, ◌%◌, ◌<◌, ◌≤◌, List, [], ◌∷◌, ◌++◌, length, get_or, take, drop, refl, sym, ap, ◌∙◌, subst, arith, length-append, length-drop, append-nil, take_all}
+use Rattle.std.specs.Prelude.{replicate}
 use Rattle.std.proofs.lemmas.List.{get_or_default, append_assoc, length-replicate, length-take-le, get_or-replicate, get_or_append_left, get_or-append_right, get_or-take, get_or-drop, take-append-le, drop-append-le, take-append-drop, drop_at, length_push}
-use Rattle.sctp_send.specs.inner.Walks.{is_queued_fate}
-use Rattle.sctp_send.specs.inner.FateBlocks.{any_queued, fates_in, fates_of, IsWithin, AreWithin, AreFates, IsBlock, IsEnded}
+use Rattle.sctp_send.specs.inner.FateBlocks.{fates_in, fates_of, IsWithin, AreWithin, AreFates, IsBlock, IsEnded}
 use Rattle.sctp_send.specs.declared.kept.message.Fate.{Fate}
 use Rattle.sctp_send.specs.declared.kept.blocks.Block.{Block}
 use Rattle.sctp_send.specs.declared.kept.blocks.Block.TheVariants.{Alike, Each}
@@ -123,27 +122,6 @@ each_block fates old new k long start grown = record {
   within = let all = ap (λ (xs : List Fate). length xs) grown ∙ length-append old fates in omega (arith, all, long, start);
   same = ap (λ (xs : List Fate). take 4096 (drop k xs)) grown ∙ ap (take 4096) (drop_at old fates k (sym start)) ∙ take_all 4096 fates (omega (arith, long));
 }
-
-queued_at : (xs : List Fate) (i : ℕ) (d : Fate) → any_queued xs ≡ false → i < length xs → is_queued_fate (get_or xs i d) ≡ false
-queued_at [] i d none lt = absurd (omega arith)
-queued_at (x ∷ xs) zero d none lt = first (is_queued_fate x) (any_queued xs) none
-  where
-    first : (a b : Bool) → (a || b) ≡ false → a ≡ false
-    first false b is = refl
-    first true b is = absurd (cc)
-queued_at (x ∷ xs) (suc i) d none lt = queued_at xs i d (rest (is_queued_fate x) (any_queued xs) none) (omega arith)
-  where
-    rest : (a b : Bool) → (a || b) ≡ false → b ≡ false
-    rest false b is = is
-    rest true b is = absurd (cc)
-
--- none of the tickets of the block that is over waits
-pub settled_ended : (ended : ℕ) (olds recent : List Fate) (at : ℕ) (d : Fate) → length olds ≡ ended → 4096 ≤ length recent → any_queued (take 4096 recent) ≡ false → ended ≤ at → at < ended + 4096
-    → is_queued_fate (get_or (olds ++ recent) at d) ≡ false
-settled_ended ended olds recent at d long many none low high =
-    let within = length-take-le 4096 recent many in
-    ap is_queued_fate (get_or-append_right olds recent ended at d long low ∙ sym (get_or-take 4096 recent (at - ended) d (omega (arith, low, high))))
-    ∙ queued_at (take 4096 recent) (at - ended) d none (omega (arith, within, low, high))
 
 -- what is kept once it is over
 pub are_ended : (ended : ℕ) (bs more : List Block) (old new recent left : List Fate) → AreFates ended bs old recent → 4096 ≤ length recent → IsEnded bs more old new recent left → AreFates (ended + 4096) more new left

@@ -1,14 +1,8 @@
 -- Fates by ticket: of a block of tickets that ended alike for good, one; and else one for each.
-use Rattle.std.specs.Prelude.{◌≡◌, ℕ, ◌+◌, ◌*◌, ◌^◌, ◌<◌, ◌≤◌, Bool, false, ◌||◌, List, [], ◌∷◌, ◌++◌, length, take, drop, replicate}
-use Rattle.sctp_send.specs.inner.Walks.{is_queued_fate}
+use Rattle.std.specs.Prelude.{◌≡◌, ℕ, ◌+◌, ◌*◌, ◌^◌, ◌<◌, ◌≤◌, List, [], ◌∷◌, ◌++◌, length, take, drop, replicate}
 use Rattle.sctp_send.specs.declared.kept.message.Fate.{Fate}
 use Rattle.sctp_send.specs.declared.kept.blocks.Block.{Block}
 use Rattle.sctp_send.specs.declared.kept.blocks.Block.TheVariants.{Alike, Each}
-
--- some message waits for its number
-abbrev pub any_queued : List Fate → Bool
-any_queued [] = false
-any_queued (x ∷ xs) = is_queued_fate x || any_queued xs
 
 -- the fates of a block of 4,096 tickets, where those of blocks that didn't end alike are these
 abbrev pub fates_in : (mixed : List Fate) → Block → List Fate
@@ -43,10 +37,9 @@ pub record IsBlock (block : Block) (fates old new : List Fate) : Type 0 where
   pub within : IsWithin (length new) block
   pub same : fates_in new block ≡ fates
 
--- The first of the tickets that stood one by one are a block, and none of them waits.
+-- The first of the tickets that stood one by one are a block.
 pub record IsEnded (blocks after : List Block) (mixed more recent left : List Fate) : Type 0 where
   pub block : Block
   pub push : after ≡ blocks ++ block ∷ []
   pub is : IsBlock block (take 4096 recent) mixed more
   pub rest : left ≡ drop 4096 recent
-  pub none_queued : any_queued (take 4096 recent) ≡ false

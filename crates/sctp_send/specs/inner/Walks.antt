@@ -60,13 +60,6 @@ is_numbered_fate Numbered = true
 is_numbered_fate Withdrawn = false
 is_numbered_fate WasAbandoned = false
 
--- the message waits for its number
-abbrev pub is_queued_fate : Fate → Bool
-is_queued_fate StillQueued = true
-is_queued_fate Numbered = false
-is_queued_fate Withdrawn = false
-is_queued_fate WasAbandoned = false
-
 -- ---- a message by its ticket
 
 -- an item of the message with this ticket is not covered

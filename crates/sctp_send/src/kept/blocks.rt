@@ -1,8 +1,7 @@
 //! Blocks of tickets that are over: of one whose messages ended alike one fate is kept, and of another one for each ticket.
 
 ghost use Rattle.std.specs.Prelude.{◌≡◌, ◌*◌, ◌<◌, ◌≤◌, true, false, length, take, drop, replicate, slice_index_or, IfSome, IfNone};
-ghost use Rattle.sctp_send.specs.inner.Walks.{is_queued_fate};
-ghost use Rattle.sctp_send.specs.inner.FateBlocks.{any_queued, fates_of, AreWithin, IsBlock, IsEnded};
+ghost use Rattle.sctp_send.specs.inner.FateBlocks.{fates_of, AreWithin, IsBlock, IsEnded};
 
 use crate::kept::message::Fate;
 
@@ -30,7 +29,7 @@ pub(crate) fn fate_in(blocks: &[Block], mixed: &[Fate], at: usize) -> Fate
     }
 }
 
-/// The first of so many tickets are a block from now on, if none of them waits and there is memory for it.
+/// The first of so many tickets are a block from now on, if there is memory for it.
 pub(crate) fn end_first(
     blocks: &mut Vec<Block>,
     mixed: &mut Vec<Fate>,
@@ -65,17 +64,13 @@ fn drop_front(fates: &mut Vec<Fate>)
     fates.truncate(fates.len() - BLOCK);
 }
 
-/// The block of the first fates, if none of them is of a message that waits; they stand behind others where they aren't alike.
+/// The block of the first fates, if there is memory for it; they stand behind others where they aren't alike.
 fn block_of(recent: &[Fate], mixed: &mut Vec<Fate>) -> Option<Block>
     requires { 4096 ≤ length recent.now }
     ensures block { IfSome result (λ block. IsBlock block (take 4096 recent.now) mixed.old.items mixed.new.items) }
-    ensures none_queued { IfSome result (λ block. any_queued (take 4096 recent.now) ≡ false) }
     ensures same { IfNone result (mixed.new.items ≡ mixed.old.items) }
 {
     let fates = &recent[..BLOCK];
-    if is_any_queued(fates) {
-        return None;
-    }
     let first = fates[0];
     if are_alike(fates, first) {
         return Some(Block::Alike(first));
@@ -90,18 +85,6 @@ fn block_of(recent: &[Fate], mixed: &mut Vec<Fate>) -> Option<Block>
     }
 }
 
-/// Some message waits.
-fn is_any_queued(fates: &[Fate]) -> bool
-    ensures { result ≡ any_queued fates.now }
-{
-    for at in 0..fates.len() {
-        if is_queued(fates[at]) {
-            return true;
-        }
-    }
-    false
-}
-
 /// All fates are this one.
 fn are_alike(fates: &[Fate], fate: Fate) -> bool
     ensures { result ≡ true → fates.now ≡ replicate (length fates.now) fate }
@@ -112,16 +95,6 @@ fn are_alike(fates: &[Fate], fate: Fate) -> bool
         }
     }
     true
-}
-
-/// The message waits for its number.
-fn is_queued(fate: Fate) -> bool
-    ensures { result ≡ is_queued_fate fate }
-{
-    match fate {
-        Fate::Queued => true,
-        Fate::Numbered | Fate::Withdrawn | Fate::Abandoned => false,
-    }
 }
 
 /// Two fates are the same.

@@ -1,7 +1,6 @@
 //! What became of each ticket: one by one, and of a block of tickets that ended alike for good once for all of them; and how many were abandoned.
 
-ghost use Rattle.std.specs.Prelude.{◌≡◌, ℕ, ◌+◌, ◌%◌, ◌^◌, ◌<◌, ◌≤◌, ◌++◌, ◌∷◌, [], false, length, set, slice_index_or, OnOk, IfSome};
-ghost use Rattle.sctp_send.specs.inner.Walks.{is_queued_fate};
+ghost use Rattle.std.specs.Prelude.{◌≡◌, ℕ, ◌+◌, ◌%◌, ◌^◌, ◌<◌, ◌≤◌, ◌++◌, ◌∷◌, [], length, set, slice_index_or, OnOk, IfSome};
 ghost use Rattle.sctp_send.specs.declared.kept.message.Fate.TheVariants.{Abandoned};
 
 use crate::kept::blocks::{BLOCK, Block, end_first, fate_in};
@@ -176,13 +175,12 @@ impl Fates {
         }
     }
 
-    /// The next block of tickets is over, if there is one of which none waits, and memory for it.
+    /// The next block of tickets is over, if there is one, and memory for it.
     pub(crate) fn end_block(&mut self)
         ensures items { self.new.items ≡ self.old.items }
         ensures abandoned { self.new.abandoned ≡ self.old.abandoned }
         ensures within { self.new.ended ≤ self.old.ended + 4096 }
         ensures given { self.new.ended ≤ length self.new.items }
-        ensures none_queued { (at : ℕ) (fate : Fate) → self.old.ended ≤ at → at < self.new.ended → is_queued_fate (slice_index_or self.new.items at fate) ≡ false }
     {
         if self.recent.len() < BLOCK {
             return;

@@ -2,12 +2,14 @@
 
 ghost use Rattle.std.specs.Prelude.{◌≡◌, ℕ, ◌≤◌, true, false, map};
 ghost use Rattle.sctp_model.specs.sender.SenderView.{SenderView};
+ghost use Rattle.sctp_model.specs.sender.Abandoning.{waits};
 ghost use Rattle.sctp_send.specs.OutstandingFields.{item_meaning};
-ghost use Rattle.sctp_send.specs.SenderFields.{track_meaning};
+ghost use Rattle.sctp_send.specs.SenderFields.{queued_by, track_meaning};
 ghost use Rattle.sctp_send.specs.SenderStands.{StandsFor};
 ghost use Rattle.sctp_send.specs.inner.Walks.{any_item, any_rest};
 
 use crate::kept::outstanding::Outstanding;
+use crate::kept::queue::Queue;
 use crate::kept::streams::Streams;
 use crate::sender::Sender;
 use sctp_framing::Framing;
@@ -30,10 +32,12 @@ impl<F: Framing> Sender<F> {
         let Some(last) = self.told.fates.next_end() else {
             return;
         };
-        if !is_past(&self.parts.streams, &self.parts.outstanding, last) {
-            return;
-        }
-        if !self.parts.queue.is_past(last) {
+        if !is_past(
+            &self.parts.queue,
+            &self.parts.streams,
+            &self.parts.outstanding,
+            last,
+        ) {
             return;
         }
         self.told.fates.end_block();
@@ -95,10 +99,12 @@ impl<F: Framing> Sender<F> {
         let Some(last) = self.told.dues.first_page() else {
             return;
         };
-        if !is_past(&self.parts.streams, &self.parts.outstanding, last) {
-            return;
-        }
-        if !self.parts.queue.is_past(last) {
+        if !is_past(
+            &self.parts.queue,
+            &self.parts.streams,
+            &self.parts.outstanding,
+            last,
+        ) {
             return;
         }
         self.told.dues.pass_page();
@@ -114,10 +120,11 @@ impl<F: Framing> Sender<F> {
     }
 }
 
-/// No message up to this ticket is in part, or has an entry above CUM.
-fn is_past(streams: &Streams, outstanding: &Outstanding, last: u64) -> bool
+/// No message up to this ticket waits, is in part, or has an entry above CUM.
+fn is_past(queue: &Queue, streams: &Streams, outstanding: &Outstanding, last: u64) -> bool
+    ensures queue { (size t : ℕ) → result ≡ true → t ≤ last → waits t (map (queued_by size) queue.now.items) ≡ false }
     ensures tracks { (size t : ℕ) → result ≡ true → t ≤ last → any_rest t (map (track_meaning size) streams.now.items) ≡ false }
     ensures items { (size t : ℕ) → result ≡ true → t ≤ last → any_item t (map (item_meaning size) outstanding.now.items) ≡ false }
 {
-    outstanding.is_past(last) && streams.is_past(last)
+    outstanding.is_past(last) && streams.is_past(last) && queue.is_past(last)
 }

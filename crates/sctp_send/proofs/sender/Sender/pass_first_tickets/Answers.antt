@@ -11,6 +11,6 @@ returns g c = λ v stands.
     let keeps = subst (λ (k : Kept). Keeps g.F.Framing.format k v) (sym c.self.view_is) stands in
     let page = c.in-Some.ensures in
     rw (c.pass_page.ensures.passed, c.pass_page.ensures.moments, c.pass_page.ensures.asleep)
-    (keeps_passed g.F.Framing.format _ v 64 c.in-Some.last keeps page.0 page.1 (λ t le. c.is_past-2.ensures s.told.fragment t c.if-not-is_past-2.false le)
+    (keeps_passed g.F.Framing.format _ v 64 c.in-Some.last keeps page.0 page.1 (λ t le. c.is_past.ensures.queue s.told.fragment t c.if-not-is_past.false le)
     (λ t le. c.is_past.ensures.tracks s.told.fragment t c.if-not-is_past.false le)
     (λ t le. c.is_past.ensures.items s.told.fragment t c.if-not-is_past.false le))

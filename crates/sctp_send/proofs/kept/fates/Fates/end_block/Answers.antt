@@ -1,7 +1,6 @@
-use Rattle.std.proofs.Common.{◌≡◌, ◌≤◌, length, ap, ◌∙◌, subst, arith}
+use Rattle.std.proofs.Common.{◌≤◌, length, ap, ◌∙◌, subst, arith}
 use Rattle.sctp_send.specs.PartsKept.{FatesKept}
-use Rattle.sctp_send.specs.inner.FateBlocks.{fates_of}
-use Rattle.sctp_send.proofs.kept.FateLemmas.{long_of, long_all, are_ended, ended_same, settled_ended}
+use Rattle.sctp_send.proofs.kept.FateLemmas.{long_all, are_ended, ended_same}
 use Rattle.sctp_send.proofs.kept.fates.Fates.end_block.Goals as goal
 
 pub returns-then-len-lt-BLOCK-clause-given : goal.returns-then-len-lt-BLOCK-clause-given
@@ -27,15 +26,6 @@ returns-then-end_first-clause-given c =
     let long = long_all s.ended s.blocks.items s.mixed.items s.recent.items c.self.invariant in
     let same = ap length (ended_same s.ended s.blocks.items _ s.mixed.items _ s.recent.items _ c.self.invariant (c.end_first.ensures.ended c.if-end_first.true)) in
     omega (arith, long, same, c.if-len-lt-BLOCK.false, c.len.ensures, s.recent.ok)
-
-pub returns-then-end_first-clause-none_queued : goal.returns-then-end_first-clause-none_queued
-returns-then-end_first-clause-none_queued c = λ at fate low high.
-    let s = c.self.inside in
-    let olds = long_of s.mixed.items s.blocks.items c.self.invariant.within in
-    let is = c.end_first.ensures.ended c.if-end_first.true in
-    let ended : s.ended ≡ c.args.self.now.ended = ap (λ (k : FatesKept). k.ended) c.self.view_is in
-    rw (ended_same s.ended s.blocks.items _ s.mixed.items _ s.recent.items _ c.self.invariant is)
-    (settled_ended s.ended (fates_of s.mixed.items s.blocks.items) s.recent.items at fate (omega (arith, olds, c.self.invariant.many)) (omega (arith, c.if-len-lt-BLOCK.false, c.len.ensures, s.recent.ok)) is.none_queued (omega (arith, ended, low)) high)
 
 pub returns-else-end_first-clause-given : goal.returns-else-end_first-clause-given
 returns-else-end_first-clause-given c =
