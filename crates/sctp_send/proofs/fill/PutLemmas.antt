@@ -69,17 +69,17 @@ kept_there f s v at d k low =
     record { entry = r.0; item = ap (λ (xs : List Item). get_or xs at d) k.holds.items ∙ rw index at r.2 }
 
 -- what is marked is the next wish, and was sent; or else what never went out is
-pub pending_next : (f : Format) (s : Kept) (v : SenderView) (at : ℕ) (again : Bool) (d : Item) → Keeps f s v → IsPending s.items at again → IsNextPending f v at again
+pub pending_next : (f : Format) (s : Kept) (v : SenderView) (at : ℕ) (again : Bool) (d : Item) → Keeps f s v → IsPending s.items at again → (at < length s.items) × IsNextPending f v at again
 pending_next f s v at true d k is =
     let r = found is_item_marked s.items at d is in
     let there = kept_there f s v at d k r.within in
     let on : v.marked (suc (v.cum + at)) ≡ true = sym (ap (λ (x : Item). x.marked) there.item) ∙ r.passes in
-    record { next = wish_marked f s v at k is; sent = (is_marked_well f v k.reached).sent (suc (v.cum + at)) on }
+    (r.within, record { next = wish_marked f s v at k is; sent = (is_marked_well f v k.reached).sent (suc (v.cum + at)) on })
 pending_next f s v at false d k is =
     let r = found is_item_unsent s.items at d is.1 in
     let there = kept_there f s v at d k r.within in
     let wanted = and_parts (not (get_or s.items at d).sent) (not (get_or s.items at d).covered && not (get_or s.items at d).abandoned) r.passes in
-    record { next = wish_unsent f s v at k is.0 is.1; sent = sym (ap (λ (x : Item). x.sent) there.item) ∙ off (get_or s.items at d).sent wanted.0 }
+    (r.within, record { next = wish_unsent f s v at k is.0 is.1; sent = sym (ap (λ (x : Item). x.sent) there.item) ∙ off (get_or s.items at d).sent wanted.0 })
   where
     off : (b : Bool) → not b ≡ true → b ≡ false
     off true is_not = absurd (cc)
@@ -173,7 +173,7 @@ pub pending_asked : (f : Format) (s : Kept) (v : SenderView) (p : PacketDraft) (
     → IsNextPending f v at again × IsAsked f v p b
 pending_asked f s v p d w at again x m b k same sized is low read its let_is =
     let pending = subst (λ (n : ℕ). IsPending (map (item_meaning n) d.outstanding.items) at again) sized is in
-    let next = pending_next f (stocked s d) v at again no_item k pending in
+    let next = (pending_next f (stocked s d) v at again no_item k pending).1 in
     let by : b ≡ let_in f again s d (suc (s.cum + at)) p (entry_meaning (lane_meaning x.message.value) x.number x.content) (Some (message_meaning s.fragment x.message.value)) =
     rw (same, its) at let_is k in
     (next, entry_asked f s v p d at again x b k next low (read ∙ ap (λ (y : OutstandingKept). get_or y.items at x) same) by)

@@ -20,7 +20,8 @@ use Rattle.sctp_send.specs.inner.Wishing.{first_offset, is_item_marked, is_item_
 use Rattle.sctp_send.specs.inner.Weighing.{item_room, repeats_room}
 use Rattle.sctp_send.proofs.fill.GoneLemmas.{keeps_gone}
 use Rattle.sctp_send.proofs.fill.ChunkLemmas.{chunk_standing}
-use Rattle.sctp_send.proofs.fill.PutLemmas.{marked_next, marked_sent, unsent_next, nothing_stands}
+use Rattle.sctp_send.proofs.fill.PutLemmas.{pending_next}
+use Rattle.sctp_send.proofs.fill.WishLemmas.{wish_new}
 use Rattle.sctp_send.proofs.fill.RoomLemmas.{within_window, unsent_new}
 
 -- ---- item by item
@@ -153,9 +154,9 @@ fill_repeats f (suc n) room s v k le = by_first (first_offset is_item_marked s.i
 
         by_unsent : (o : Option ℕ) → first_offset is_item_unsent s.items ≡ o → w.view.sent w.index ≡ false
         by_unsent (Some at) is =
-            let r = (unsent_next f s v at no_item k none is).1 in
-            ap (λ (x : Wish). x.view.sent x.index) (sym (some_same (standing v (suc (v.cum + at))) w (sym r.next ∙ next))) ∙ r.unsent
-        by_unsent None is = by_assigned (assigned f v) refl (sym (nothing_stands f s v k none is) ∙ next)
+            let r = (pending_next f s v at false no_item k (none, is)).1 in
+            ap (λ (x : Wish). x.view.sent x.index) (sym (some_same (standing v (suc (v.cum + at))) w (sym r.next ∙ next))) ∙ r.sent
+        by_unsent None is = by_assigned (assigned f v) refl (sym (wish_new f s v k none is) ∙ next)
 
     Rest : Type 0
     Rest = (more : ℕ) (t : Kept) (u : SenderView) → Keeps f t u → more ≤ n → room_of_repeats f (fill_at_most n f more u).wishes ≡ repeats_room f more t.items
@@ -166,19 +167,19 @@ fill_repeats f (suc n) room s v k le = by_first (first_offset is_item_marked s.i
     by_fit : (at : ℕ) (b : Bool) → first_offset is_item_marked s.items ≡ Some at → nat_le (item_room f (get_or s.items at no_item)) room ≡ b → Rest → Filled (goes f room v) ≡ repeats_room f room s.items
     by_fit at true is fits rest =
         let w = standing v (suc (v.cum + at)) in
-        let next = marked_next f s v at no_item k is in
+        let next = pending_next f s v at true no_item k is in
         let takes = room_standing f s v at k next.0 in
-        let may : may_go f room w ≡ true = rw (next.1.flows, within_window f v k.reached, takes, fits) refl in
+        let may : may_go f room w ≡ true = rw (next.1.sent, within_window f v k.reached, takes, fits) refl in
         let goes_now = goes_is f room v w next.1.next may in
         let kept = keeps_gone f s v room at no_item k goes_now next.0 in
         let some = room_some f (get_or s.items at no_item) in
         let further = rest (room - room_of f w) _ (gone w) kept (omega (arith, le, some, takes)) in
         let others = room_of_repeats f (fill_at_most n f (room - room_of f w) (gone w)).wishes in
         let first : room_of f w + repeats_room f (room - room_of f w) (set s.items at (gone_item (get_or s.items at no_item))) ≡ repeats_room f room s.items = rw (takes, repeats_first f room at s.items no_item is, fits) refl in
-        ap Filled goes_now ∙ ap (λ (b : Bool). if b then room_of f w + others else 0) (marked_sent f s v at no_item k is) ∙ ap (λ (m : ℕ). room_of f w + m) further ∙ first
+        ap Filled goes_now ∙ ap (λ (b : Bool). if b then room_of f w + others else 0) next.1.sent ∙ ap (λ (m : ℕ). room_of f w + m) further ∙ first
     by_fit at false is full rest =
         let w = standing v (suc (v.cum + at)) in
-        let next = marked_next f s v at no_item k is in
+        let next = pending_next f s v at true no_item k is in
         let takes = room_standing f s v at k next.0 in
         let may : may_go f room w ≡ false = rw (takes, full) refl in
         ap Filled (goes_not f room v w next.1.next may) ∙ rw (repeats_first f room at s.items no_item is, full) refl
