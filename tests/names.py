@@ -24,7 +24,7 @@ import re
 import sys
 
 SHELL = {'[', 'cat', 'diff', 'do', 'done', 'echo', 'export', 'for', 'git', 'printf', 'read', 'sed', 'while'}
-TOOLS = {'cargo', 'cc', 'chromium', 'gdb', 'jq', 'ldconfig', 'python3', 'rt', 'tar', 'text2pcap', 'tshark', 'valgrind', 'wireshark'}
+TOOLS = {'cargo', 'cc', 'chromium', 'gdb', 'jq', 'ldconfig', 'nproc', 'python3', 'rt', 'tar', 'text2pcap', 'tshark', 'valgrind', 'wireshark'}
 RT = {'all', 'check', 'ci', 'doc', 'expand', 'fmt', 'lemma', 'lib', 'must-fail', 'new', 'plant', 'run', 'seed', 'test', 'tidy', 'try', 'verdict', 'version'}
 # Names that stand in no file of the tree: of the C library, of the toolchain's line.
 ALLOWED = {'kit', 'logic', 'malloc_consolidate'}
