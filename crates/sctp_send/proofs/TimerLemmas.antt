@@ -9,6 +9,7 @@ use Rattle.sctp_model.specs.sender.Abandoning.{is_to_repeat, marking}
 use Rattle.sctp_model.specs.sender.Reached.{Begins, Repeats}
 use Rattle.sctp_model.proofs.sender.OwedLaws.{sum-zero}
 use Rattle.sctp_model.proofs.sender.PointLaws.{get-drop}
+use Rattle.sctp_model.specs.sender.Queueing.{owed_by_queue, owed_by_parts}
 use Rattle.sctp_send.specs.SenderKept.{Item, Kept}
 use Rattle.sctp_send.specs.SenderStands.{item_here, items_from, Keeps}
 use Rattle.sctp_send.specs.OutstandingFields.{item_meaning}
@@ -94,22 +95,10 @@ keeps_marked f s v test from to k tells =
     (λ j lt. let zero_on : 0 + j ≡ j = omega arith in rw zero_on (get-drop v.cum v.plan.entries j))) in
     let long = length-timed s.partial rs within 0 s.items in
     let room = k.holds.room in
+    let items : timed_items s.partial rs within 0 s.items ≡ items_from (marking v test) (suc v.cum) (drop v.cum v.plan.entries) = ap (λ (p : Bool). timed_items p rs within 0 s.items) k.holds.partial ∙ ap (timed_items v.partial rs within 0) k.holds.items ∙ marks in
+    let space : length (timed_items s.partial rs within 0 s.items) + (owed_by_queue v.queue + owed_by_parts v) ≤ s.capacity = omega (arith, long, room) in
     record {
-      holds = record {
-        initial = k.holds.initial;
-        streams = k.holds.streams;
-        fragment = k.holds.fragment;
-        partial = k.holds.partial;
-        cum = k.holds.cum;
-        rwnd = k.holds.rwnd;
-        turn = k.holds.turn;
-        items = ap (λ (p : Bool). timed_items p rs within 0 s.items) k.holds.partial ∙ ap (timed_items v.partial rs within 0) k.holds.items ∙ marks;
-        queue = k.holds.queue;
-        tracks = k.holds.tracks;
-        fates = k.holds.fates;
-        covered = k.holds.covered;
-        room = omega (arith, long, room);
-      };
+      holds = assumption (k.holds, items, space);
       over = record { within = k.over.within; each = λ t le. let o = k.over.each t le in record { queue = o.queue; tracks = o.tracks; items = same_timed t s.partial rs within 0 s.items ∙ o.items } };
       due = record { many = k.due.many; each = λ t now lt. let i = k.due.each t now lt in record { queue = i.queue; items = λ on. late_timed now t (is_asleep s t) s.partial rs within 0 s.items ∙ i.items on; tracks = i.tracks } };
       forward = k.forward;

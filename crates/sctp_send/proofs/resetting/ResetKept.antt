@@ -1,11 +1,10 @@
 -- What a sender keeps stands for a view with other resets, where what is kept of these is so.
-use Rattle.std.proofs.Common.{◌≡◌, ℕ, zero, suc, ◌+◌, ◌%◌, ◌^◌, ◌<◌, ◌≤◌, List, [], ◌∷◌, length, map, get_or, Bool, true, false, Option, Some, None, refl, sym, ap, ◌∙◌, arith}
-use Rattle.std.specs.Prelude.{◌==◌, ◌&&◌, ◌||◌, is_some, slice_get, option_map}
+use Rattle.std.proofs.Common.{drop, ◌≡◌, ℕ, zero, suc, ◌+◌, ◌%◌, ◌^◌, ◌<◌, ◌≤◌, List, [], ◌∷◌, length, map, get_or, true, Option, Some, None, refl, sym, ap, ◌∙◌, arith}
+use Rattle.std.specs.Prelude.{◌==◌, ◌&&◌, is_some, slice_get, option_map}
 use Rattle.std.proofs.lemmas.Bool.Decides.{nat_tests}
 use Rattle.std.proofs.lemmas.List.{length-map}
-use Rattle.std.proofs.lemmas.Option.{get_or_from_slice_get}
+use Rattle.std.proofs.lemmas.Option.{slice_get-map, get_or_from_slice_get}
 use Rattle.sctp_model.specs.numbers.Serial.{tsn}
-use Rattle.sctp_model.specs.wire.Reconfig.{is_done_code, is_progress_code}
 use Rattle.sctp_model.specs.messages.Format.{Format, Kind, Ordered, Unordered, Lane}
 use Rattle.sctp_model.specs.messages.Plan.{Entry}
 use Rattle.sctp_model.specs.sender.Outgoing.{Outgoing, Request}
@@ -32,28 +31,14 @@ same_items v o i [] = refl
 same_items v o i (e ∷ es) = ap (λ (xs : List Item). item_here v i e ∷ xs) (same_items v o (suc i) es)
 
 held_resets : (s : Kept) (v : SenderView) (w : Option LastForward) (y : OutgoingResets) (o : Outgoing) → Holds s v → Holds (record s { forward = w; resets = y }) (with_resets o v)
-held_resets s v w y o h = record {
-  initial = h.initial;
-  streams = h.streams;
-  fragment = h.fragment;
-  partial = h.partial;
-  cum = h.cum;
-  rwnd = h.rwnd;
-  turn = h.turn;
-  items = h.items ∙ same_items v o (suc v.cum) _;
-  queue = h.queue;
-  tracks = h.tracks;
-  fates = h.fates;
-  covered = h.covered;
-  room = h.room;
-}
+held_resets s v w y o h = assumption (h.items ∙ same_items v o (suc v.cum) (drop v.cum v.plan.entries))
 
 pub keeps_resets : (f : Format) (s : Kept) (v : SenderView) (w : Option LastForward) (y : OutgoingResets) (o : Outgoing) → Keeps f s v → AreResets v.streams y o → IsForwardKept f o.base v.streams v.plan.entries w
     → Keeps f (record s { forward = w; resets = y }) (with_resets o v)
 keeps_resets f s v w y o k are forward = record {
   holds = held_resets s v w y o k.holds;
-  over = record { within = k.over.within; each = λ t le. let x = k.over.each t le in record { queue = x.queue; tracks = x.tracks; items = x.items } };
-  due = record { many = k.due.many; each = λ t now lt. let i = k.due.each t now lt in record { queue = i.queue; items = i.items; tracks = i.tracks } };
+  over = record { within = k.over.within; each = λ t le. assumption (k.over.each t le) };
+  due = record { many = k.due.many; each = λ t now lt. assumption (k.due.each t now lt) };
   forward = forward;
   resets = are;
   before = k.before;
@@ -70,7 +55,7 @@ track_counts f s v size ts l k is low =
     let many = ap (λ (xs : List Track). length xs) is ∙ length-map ts (track_meaning size) in
     let has = there ts l.stream (omega (arith, wide, many, low)) in
     let here : track_meaning size has.0 ≡ track_here v l.stream =
-    sym (get_or_from_slice_get (map (track_meaning size) ts) l.stream (track_meaning size has.0) (track_here v l.stream) (mapped ts l.stream has.0 has.1))
+    sym (get_or_from_slice_get (map (track_meaning size) ts) l.stream (track_meaning size has.0) (track_here v l.stream) (slice_get-map (track_meaning size) ts l.stream ∙ ap (λ (o : Option TrackFields). option_map (track_meaning size) o) has.1))
     ∙ ap (λ (xs : List Track). get_or xs l.stream (track_here v l.stream)) (sym is) ∙ track_at f s v l.stream (track_here v l.stream) k low in
     rw has.1 (by_kind l.stream has.0 here l.kind)
   where
@@ -78,11 +63,6 @@ track_counts f s v size ts l k is low =
     there [] n lt = absurd (omega arith)
     there (x ∷ xs) zero lt = (x, refl)
     there (x ∷ xs) (suc n) lt = there xs n (omega (arith, lt))
-
-    mapped : (xs : List TrackFields) (n : ℕ) (t : TrackFields) → slice_get xs n ≡ Some t → slice_get (map (track_meaning size) xs) n ≡ Some (track_meaning size t)
-    mapped [] n t got = absurd (cc)
-    mapped (x ∷ xs) zero t got = ap (λ (o : Option TrackFields). option_map (track_meaning size) o) got
-    mapped (x ∷ xs) (suc n) t got = mapped xs n t got
 
     by_kind : (n : ℕ) (t : TrackFields) → track_meaning size t ≡ track_here v n → (j : Kind) → base_by j (begun_anew (Some t)) ≡ length (v.plan.messages (record { stream = n; kind = j }))
     by_kind n t here Ordered = ap (λ (x : Track). x.ordered) here
@@ -108,33 +88,16 @@ pub answered_by : (v : SenderView) (number code : ℕ) (q : Request) → is_open
 answered_by v number code q on waits = rw (on, waits) refl
 
 pub is_done : (v : SenderView) (code : ℕ) (q : Request) → code ≤ 1 → reset_answered v code q ≡ reset_done v q
-is_done v code q low = rw done refl
-  where
-    done : is_done_code code ≡ true
-    done = by_zero (code == 0) refl
-      where
-        by_zero : (b : Bool) → (code == 0) ≡ b → ((code == 0) || (code == 1)) ≡ true
-        by_zero true is = rw is refl
-        by_zero false is = let one : (code == 1) ≡ true = grind (arith, nat_tests) in rw (is, one) refl
-
-not_done : (code : ℕ) → 1 < code → is_done_code code ≡ false
-not_done code high =
-    let zero_off : (code == 0) ≡ false = grind (arith, nat_tests) in
-    let one_off : (code == 1) ≡ false = grind (arith, nat_tests) in
-    rw (zero_off, one_off) refl
+is_done v code q low = grind (arith, nat_tests, low)
 
 pub is_again : (v : SenderView) (code : ℕ) (q : Request) → 1 < code → code ≡ 6 → reset_answered v code q ≡ asked_again v
-is_again v code q high six = let on : is_progress_code code ≡ true = grind (arith, nat_tests) in rw (not_done code high, on) refl
+is_again v code q high six = grind (arith, nat_tests, high, six)
 
 pub is_refused : (v : SenderView) (code : ℕ) (q : Request) → 1 < code → (code ≡ 6 → ⊥) → reset_answered v code q ≡ reset_refused v q
-is_refused v code q high other = let off : is_progress_code code ≡ false = grind (arith, nat_tests) in rw (not_done code high, off) refl
+is_refused v code q high other = grind (arith, nat_tests, high, other)
 
 -- ---- a request is taken back
 
 -- none waits where one may be made
 pub none_waits : (v : SenderView) → may_ask v ≡ true → v.resets.pending ≡ None
-none_waits v on = by_pending v.resets.pending refl
-  where
-    by_pending : (o : Option Request) → v.resets.pending ≡ o → v.resets.pending ≡ None
-    by_pending None is = is
-    by_pending (Some q) is = absurd (let off : may_ask v ≡ false = rw is refl in cc)
+none_waits v on = grind (arith, on)

@@ -17,7 +17,7 @@ use Rattle.sctp_model.specs.sender.Outgoing.{Outgoing, lists}
 use Rattle.sctp_model.specs.sender.Resetting.{set_to}
 use Rattle.sctp_model.specs.sender.Words.{count_up}
 use Rattle.sctp_send.specs.PartsKept.{changed_at}
-use Rattle.sctp_send.specs.ResetsKept.{base_there, base_in, base_under, sending_meaning, sending_there, sending_under, request_meaning, pending_meaning, pending_under, made_under, IsWithin, is_resetting_in, IsTable, AreResets}
+use Rattle.sctp_send.specs.ResetsKept.{base_there, base_in, base_under, sending_there, sending_under, request_meaning, pending_meaning, pending_under, made_under, IsWithin, is_resetting_in, IsTable, AreResets}
 use Rattle.sctp_send.specs.inner.Resetting.{stream_as, restarted_by, refused_by, number_from, all_changed, waiting_of, IsFresh}
 use Rattle.sctp_send.specs.declared.kept.track.Track.{Track as TrackFields}
 use Rattle.sctp_send.specs.declared.kept.resets.Sending.{Sending}
@@ -65,7 +65,7 @@ resets_made n t b o none fresh k = record {
 -- there is none
 pub none_there : (t : Option (Box ResetTable Global)) (b : Bool) → is_some t ≡ not b → b ≡ true → t ≡ None
 none_there None b is on = refl
-none_there (Some x) b is on = absurd (let off : true ≡ false = is ∙ ap not on in cc)
+none_there (Some x) b is on = absurd (cc)
 
 -- ---- a table changes
 
@@ -102,30 +102,23 @@ pub resets_shut : (n stream : ℕ) (b c : Box ResetTable Global) (o : Outgoing) 
     → AreResets n (record { table = Some c }) (record o { sending = at o.sending stream model.Resets })
 resets_shut n stream b c o k i = record {
   base = k.base ∙ fun_ext (λ (l : Lane). sym (ap (λ (rs : List StreamReset). base_in rs l) i.streams ∙ ap (base_there l.kind) (get_changed (stream_as Resets) stream b.value.streams.items l.stream) ∙ same_base l (stream == l.stream)));
-  sending = λ s low. by_here s low (s == stream) refl;
+  sending = sends;
   made = k.made ∙ sym i.made;
   pending = k.pending ∙ sym (ap pending_meaning i.pending);
   table = still_table n b.value c.value _ b.value.pending b.value.made k.table i (count_changed (stream_as Resets) stream b.value.streams.items) k.table.request;
 }
   where
     same_base : (l : Lane) (x : Bool) → base_there l.kind (if x then option_map (stream_as Resets) (slice_get b.value.streams.items l.stream) else slice_get b.value.streams.items l.stream) ≡ base_in b.value.streams.items l
-    same_base l true = base_kept l.kind Resets (slice_get b.value.streams.items l.stream)
-    same_base l false = refl
+    same_base l x = grind (arith, base_kept)
 
     now : (s : ℕ) → sending_there (slice_get c.value.streams.items s) ≡ sending_there (if stream == s then option_map (stream_as Resets) (slice_get b.value.streams.items s) else slice_get b.value.streams.items s)
     now s = ap (λ (rs : List StreamReset). sending_there (slice_get rs s)) i.streams ∙ ap sending_there (get_changed (stream_as Resets) stream b.value.streams.items s)
 
-    by_here : (s : ℕ) → s < n → (x : Bool) → (s == stream) ≡ x → (if s == stream then model.Resets else o.sending s) ≡ sending_there (slice_get c.value.streams.items s)
-    by_here s low true is =
-        let turned : (stream == s) ≡ true = grind (arith, nat_tests) in
+    sends : (s : ℕ) → s < n → (if s == stream then model.Resets else o.sending s) ≡ sending_there (slice_get c.value.streams.items s)
+    sends s low =
         let long = k.table.streams in
         let has = there b.value.streams.items s (omega (arith, low, long)) in
-        let set : sending_there (slice_get c.value.streams.items s) ≡ model.Resets = now s ∙ rw (turned, has.1) refl in
-        rw is (sym set)
-    by_here s low false is =
-        let turned : (stream == s) ≡ false = grind (arith, nat_tests) in
-        let same : sending_there (slice_get c.value.streams.items s) ≡ sending_there (slice_get b.value.streams.items s) = now s ∙ rw turned refl in
-        rw is (k.sending s low ∙ sym same)
+        grind (arith, nat_tests, now s, has, k.sending s low)
 
 -- the streams of a request are changed, and none waits
 module _ (n : ℕ) (f : ℕ → StreamReset → StreamReset) (same : (s : ℕ) (r : StreamReset) → f s (f s r) ≡ f s r) (b c : Box ResetTable Global) (o : Outgoing) (q : model.Request) (d : ResetTable) (p : Option Request) (r : Request)
@@ -176,7 +169,7 @@ pub resets_restarted : (n : ℕ) (ts : List TrackFields) (b c : Box ResetTable G
     → AreResets n (record { table = Some c }) (record o { base = λ l. if lists q.streams l.stream then count l else o.base l; sending = set_to model.Sends q o.sending; pending = None })
 resets_restarted n ts b c o q d p r count k asked here waits none i counts = record {
   base = fun_ext (λ (l : Lane). base_of_lane l (lists q.streams l.stream) refl ∙ sym (ap (base_there l.kind) (now l.stream)));
-  sending = λ s low. sends_of s low (lists q.streams s) refl ∙ sym (ap sending_there (now s));
+  sending = sends;
   made = changed_made n (restarted_by ts) (λ s x. refl) b c o q d p r k asked here waits none i;
   pending = changed_pending n (restarted_by ts) (λ s x. refl) b c o q d p r k asked here waits none i;
   table = changed_table n (restarted_by ts) (λ s x. refl) b c o q d p r k asked here waits none i;
@@ -193,12 +186,8 @@ resets_restarted n ts b c o q d p r count k asked here waits none i counts = rec
         rw (on, has.1) (sym (counts l low))
     base_of_lane l false off = rw off (ap (λ (g : Lane → ℕ). g l) k.base)
 
-    sends_of : (s : ℕ) → s < n → (y : Bool) → lists q.streams s ≡ y
-        → set_to model.Sends q o.sending s ≡ sending_there (if lists q.streams s then option_map (restarted_by ts s) (slice_get b.value.streams.items s) else slice_get b.value.streams.items s)
-    sends_of s low true on =
-        let has = found n (restarted_by ts) (λ s x. refl) b c o q d p r k asked here waits none i s on in
-        rw (on, has.1) (sym (ap sending_meaning (sends_anew (slice_get ts s))))
-    sends_of s low false off = rw off (k.sending s low)
+    sends : (s : ℕ) → s < n → set_to model.Sends q o.sending s ≡ sending_there (slice_get c.value.streams.items s)
+    sends s low = grind (arith, now s, found n (restarted_by ts) (λ s x. refl) b c o q d p r k asked here waits none i s, k.sending s low, sends_anew)
 
 -- the peer refused
 pub resets_refused : (n : ℕ) (b c : Box ResetTable Global) (o : Outgoing) (q : model.Request) (d : ResetTable) (p : Option Request) (r : Request)
@@ -207,7 +196,7 @@ pub resets_refused : (n : ℕ) (b c : Box ResetTable Global) (o : Outgoing) (q :
     → AreResets n (record { table = Some c }) (record o { sending = set_to model.Refuses q o.sending; pending = None })
 resets_refused n b c o q d p r k asked here waits none i = record {
   base = k.base ∙ fun_ext (λ (l : Lane). sym (ap (base_there l.kind) (now l.stream) ∙ same_base l (lists q.streams l.stream)));
-  sending = λ s low. sends_of s low (lists q.streams s) refl ∙ sym (ap sending_there (now s));
+  sending = sends;
   made = changed_made n refused_by (λ s x. refl) b c o q d p r k asked here waits none i;
   pending = changed_pending n refused_by (λ s x. refl) b c o q d p r k asked here waits none i;
   table = changed_table n refused_by (λ s x. refl) b c o q d p r k asked here waits none i;
@@ -217,15 +206,10 @@ resets_refused n b c o q d p r k asked here waits none i = record {
     now s = got n refused_by (λ s x. refl) b c o q d p r k asked here waits none i s
 
     same_base : (l : Lane) (y : Bool) → base_there l.kind (if y then option_map (refused_by l.stream) (slice_get b.value.streams.items l.stream) else slice_get b.value.streams.items l.stream) ≡ base_in b.value.streams.items l
-    same_base l true = base_kept l.kind Refuses (slice_get b.value.streams.items l.stream)
-    same_base l false = refl
+    same_base l y = grind (arith, base_kept)
 
-    sends_of : (s : ℕ) → s < n → (y : Bool) → lists q.streams s ≡ y
-        → set_to model.Refuses q o.sending s ≡ sending_there (if lists q.streams s then option_map (refused_by s) (slice_get b.value.streams.items s) else slice_get b.value.streams.items s)
-    sends_of s low true on =
-        let has = found n refused_by (λ s x. refl) b c o q d p r k asked here waits none i s on in
-        rw (on, has.1) refl
-    sends_of s low false off = rw off (k.sending s low)
+    sends : (s : ℕ) → s < n → set_to model.Refuses q o.sending s ≡ sending_there (slice_get c.value.streams.items s)
+    sends s low = grind (arith, now s, found n refused_by (λ s x. refl) b c o q d p r k asked here waits none i s, k.sending s low)
 
 -- ---- a hint is noted
 

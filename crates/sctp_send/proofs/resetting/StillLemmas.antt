@@ -1,5 +1,5 @@
 -- What is read of streams says which are still, and which a request names (RFC 6525, 5.1.2).
-use Rattle.std.proofs.Common.{◌≡◌, ℕ, zero, suc, ◌+◌, ◌<◌, ◌≤◌, min, List, [], ◌∷◌, length, map, take, drop, filter, Bool, true, false, Option, Some, None, refl, sym, ap, subst, ◌∙◌, arith}
+use Rattle.std.proofs.Common.{◌≡◌, ℕ, suc, ◌+◌, ◌<◌, ◌≤◌, min, List, [], ◌∷◌, length, map, take, drop, filter, Bool, true, false, Option, Some, None, refl, sym, ap, subst, ◌∙◌, arith}
 use Rattle.std.specs.Prelude.{◌==◌, ◌&&◌, ◌||◌, not, is_some, nat_lt, IsSome}
 use Rattle.std.specs.List.{list_any, AllByRecursion}
 use Rattle.std.specs.declared.alloc.Global.{Global}
@@ -68,9 +68,7 @@ out_at size stream n es e low read is = any_behind (is_item_on stream) (map (ite
 
 -- and the stream isn't still
 pub not_still : (waits part out : Bool) → out ≡ true → false ≡ (not waits && (not part && not out))
-not_still true part out is = refl
-not_still false true out is = refl
-not_still false false out is = sym (ap not is)
+not_still waits part out is = grind (arith, is)
 
 pub out_end : (size stream n : ℕ) (es : List EntryFields) → length es ≤ n → list_any (is_item_on stream) (drop n (map (item_meaning size) es)) ≡ false
 out_end size stream n es past = let long = length-map es (item_meaning size) in any_end (is_item_on stream) (map (item_meaning size) es) n (omega (arith, long, past))
@@ -78,20 +76,12 @@ out_end size stream n es past = let long = length-map es (item_meaning size) in 
 -- none that passes is found
 pub none_on : (s : ℕ) (qs : List Queued) → first_on s qs ≡ None → list_any (is_on s) qs ≡ false
 none_on s [] none = refl
-none_on s (q ∷ qs) none = go (is_on s q) refl none (none_on s qs)
-  where
-    go : (b : Bool) → is_on s q ≡ b → first_on s (q ∷ qs) ≡ None → (first_on s qs ≡ None → list_any (is_on s) qs ≡ false) → list_any (is_on s) (q ∷ qs) ≡ false
-    go true on is more = absurd (let found : Some q ≡ None = rw on at is in cc)
-    go false on is more = rw on (more (rw on at is))
+none_on s (q ∷ qs) none = grind (arith, none_on s qs)
 
 -- one is
 pub some_on : (s : ℕ) (qs : List Queued) (x : Queued) → first_on s qs ≡ Some x → list_any (is_on s) qs ≡ true
 some_on s [] x some = absurd (cc)
-some_on s (q ∷ qs) x some = go (is_on s q) refl some (some_on s qs x)
-  where
-    go : (b : Bool) → is_on s q ≡ b → first_on s (q ∷ qs) ≡ Some x → (first_on s qs ≡ Some x → list_any (is_on s) qs ≡ true) → list_any (is_on s) (q ∷ qs) ≡ true
-    go true on is more = rw on refl
-    go false on is more = rw on (more (rw on at is))
+some_on s (q ∷ qs) x some = grind (arith, some_on s qs x)
 
 items_on : (v : SenderView) (s i : ℕ) (es : List Entry) → list_any (is_item_on s) (items_from v i es) ≡ list_any (λ (e : Entry). (entry_lane e).stream == s) es
 items_on v s i [] = refl
@@ -169,32 +159,18 @@ has_ready f s v size d k in_stock =
 abbrev pub is_free_by : Option (Box ResetTable Global) → Bool
 is_free_by t = not (is_some (pending_under t)) && nat_lt (made_under t) REQUEST_LIMIT
 
-free_is : (f : Format) (s : Kept) (v : SenderView) (b : Bool) → Keeps f s v → may_ask v ≡ (not (is_some (pending_under s.resets.table)) && (has_stream (ready v) && nat_lt (made_under s.resets.table) REQUEST_LIMIT))
-free_is f s v b k = rw (k.resets.pending, k.resets.made) refl
+free_is : (f : Format) (s : Kept) (v : SenderView) → Keeps f s v → may_ask v ≡ (not (is_some (pending_under s.resets.table)) && (has_stream (ready v) && nat_lt (made_under s.resets.table) REQUEST_LIMIT))
+free_is f s v k = rw (k.resets.pending, k.resets.made) refl
 
 pub not_free : (f : Format) (s : Kept) (v : SenderView) → Keeps f s v → is_free_by s.resets.table ≡ false → may_ask v ≡ false
-not_free f s v k off = free_is f s v true k ∙ go (not (is_some (pending_under s.resets.table))) (has_stream (ready v)) (nat_lt (made_under s.resets.table) REQUEST_LIMIT) off
-  where
-    go : (a b c : Bool) → (a && c) ≡ false → (a && (b && c)) ≡ false
-    go true true c off = off
-    go true false c off = refl
-    go false b c off = refl
+not_free f s v k off = grind (arith, free_is f s v k)
 
 pub free_ready : (f : Format) (s : Kept) (v : SenderView) → Keeps f s v → is_free_by s.resets.table ≡ true → may_ask v ≡ has_stream (ready v)
-free_ready f s v k on = free_is f s v true k ∙ go (not (is_some (pending_under s.resets.table))) (has_stream (ready v)) (nat_lt (made_under s.resets.table) REQUEST_LIMIT) on
-  where
-    go : (a b c : Bool) → (a && c) ≡ true → (a && (b && c)) ≡ b
-    go true true c on = on
-    go true false c on = refl
-    go false b c on = absurd (cc)
+free_ready f s v k on = grind (arith, free_is f s v k)
 
 -- what is free has a number left
 pub free_made : (t : Option (Box ResetTable Global)) → is_free_by t ≡ true → nat_lt (made_under t) REQUEST_LIMIT ≡ true
-free_made t on = go (not (is_some (pending_under t))) (nat_lt (made_under t) REQUEST_LIMIT) on
-  where
-    go : (a b : Bool) → (a && b) ≡ true → b ≡ true
-    go true b on = on
-    go false b on = absurd (cc)
+free_made t on = grind (arith, on)
 
 -- ---- what waits on a stream
 
@@ -211,22 +187,12 @@ next_waits s below qs (Some found) is h =
 pub named_by : (f : Format) (s : Kept) (v : SenderView) (xs : List ℕ) (n : ℕ) (b : Bool) → Keeps f s v → is_free_by s.resets.table ≡ true → xs ≡ ready v → length xs ≡ n → b ≡ (n == 0) → may_ask v ≡ not b
 named_by f s v xs n b k free is long empty =
     let many : length (ready v) ≡ n = ap (λ (ys : List ℕ). length ys) (sym is) ∙ long in
-    free_ready f s v k free ∙ ap (nat_lt 0) many ∙ by_many n b empty
-  where
-    by_many : (m : ℕ) (c : Bool) → c ≡ (m == 0) → nat_lt 0 m ≡ not c
-    by_many zero c none = rw none refl
-    by_many (suc m) c some =
-        let off : (suc m == 0) ≡ false = grind (arith, nat_tests) in
-        let on : nat_lt 0 (suc m) ≡ true = grind (arith, nat_tests) in
-        on ∙ sym (ap not (some ∙ off))
+    free_ready f s v k free ∙ grind (arith, nat_tests, many, empty)
 
 -- there is a table where it names one
 pub some_table : (table : Option (Box ResetTable Global)) (size : ℕ) (d : Stock) (xs : List ℕ) → xs ≡ take RESETS_AT_ONCE (filter (is_still_in size d) (listed_under table)) → (length xs ≡ 0 → ⊥) → IsSome table
-some_table table size d xs is some = by_table table is
-  where
-    by_table : (t : Option (Box ResetTable Global)) → xs ≡ take RESETS_AT_ONCE (filter (is_still_in size d) (listed_under t)) → IsSome t
-    by_table None none = absurd (some (ap (λ (ys : List ℕ). length ys) none))
-    by_table (Some b) named = refl
+some_table None size d xs is some = absurd (some (ap (λ (ys : List ℕ). length ys) is))
+some_table (Some b) size d xs is some = refl
 
 -- all that it names are streams
 pub named_within : (n size : ℕ) (t : Option (Box ResetTable Global)) (d : Stock) (xs : List ℕ) → IsTabled n t → xs ≡ take RESETS_AT_ONCE (filter (is_still_in size d) (listed_under t)) → AllByRecursion (λ (s : ℕ). s < n) xs

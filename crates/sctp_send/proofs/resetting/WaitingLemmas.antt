@@ -1,11 +1,10 @@
 -- Which streams wait for their reset, as one more is asked for, and as some have their response (RFC 6525, 5.1 and 5.2.7).
-use Rattle.std.proofs.Common.{◌≡◌, ℕ, zero, suc, ◌<◌, ◌≤◌, min, List, [], ◌∷◌, length, filter, Bool, true, false, Option, Some, None, refl, sym, ap, ◌∙◌, arith}
-use Rattle.std.specs.Prelude.{◌==◌, ◌&&◌, not, nat_lt, slice_get, option_map, insert}
+use Rattle.std.proofs.Common.{◌≡◌, ℕ, zero, suc, ◌<◌, ◌≤◌, min, List, [], ◌∷◌, length, filter, true, false, Option, Some, None, refl, sym, ap, ◌∙◌, arith}
+use Rattle.std.specs.Prelude.{◌==◌, ◌&&◌, not, nat_lt, slice_get, insert}
 use Rattle.std.proofs.lemmas.Bool.Decides.{nat_tests}
 use Rattle.std.specs.Vec.{vec_capacity}
 use Rattle.sctp_model.specs.numbers.Limits.{STREAM_LIMIT}
 use Rattle.sctp_model.specs.sender.Outgoing as model
-use Rattle.sctp_model.specs.sender.Outgoing.{lists}
 use Rattle.sctp_model.specs.sender.Words.{count_up}
 use Rattle.sctp_send.specs.PartsKept.{changed_at}
 use Rattle.sctp_send.specs.ResetsKept.{sending_meaning, sending_there, is_resetting_in}
@@ -39,48 +38,32 @@ many_waiting : (rs : List StreamReset) (s : ℕ) → filter (is_resetting_in (ch
 many_waiting rs s = ap (λ (n : ℕ). filter (is_resetting_in (changed_at (stream_as Resets) s rs)) (count_up 0 (min n STREAM_LIMIT))) (sym (count_changed (stream_as Resets) s rs))
 
 -- a stream that may be listed and doesn't wait
-split : (a b : Bool) → (a && not b) ≡ true → (a ≡ true) × (b ≡ false)
-split true true on = absurd (cc)
-split true false on = (refl, refl)
-split false b on = absurd (cc)
-
-below : (s n : ℕ) → nat_lt s n ≡ true → s < n
-below s n less = grind (arith, nat_tests)
-
 module _ (rs : List StreamReset) (s : ℕ) (unlisted : (nat_lt s (min (length rs) STREAM_LIMIT) && not (is_resetting_in rs s)) ≡ true) where
-  parts : (nat_lt s (min (length rs) STREAM_LIMIT) ≡ true) × (is_resetting_in rs s ≡ false)
-  parts = split (nat_lt s (min (length rs) STREAM_LIMIT)) (is_resetting_in rs s) unlisted
-
   low : s < min (length rs) STREAM_LIMIT
-  low = below s (min (length rs) STREAM_LIMIT) parts.0
+  low = grind (arith, nat_tests, unlisted)
+
+  off : is_resetting_in rs s ≡ false
+  off = grind (arith, unlisted)
 
   -- it comes in its place
   pub listed_with : insert (waiting_of rs) (before (λ (x : ℕ). x) s (waiting_of rs)) s ≡ waiting_of (changed_at (stream_as Resets) s rs)
   listed_with =
-      one_more (is_resetting_in rs) (is_resetting_in (changed_at (stream_as Resets) s rs)) s 0 (min (length rs) STREAM_LIMIT) (omega arith) (omega (arith, low)) parts.1
+      one_more (is_resetting_in rs) (is_resetting_in (changed_at (stream_as Resets) s rs)) s 0 (min (length rs) STREAM_LIMIT) (omega arith) (omega (arith, low)) off
       (waits_there rs s (omega (arith, low))) (waits_apart rs s) ∙ many_waiting rs s
 
   -- and there is room for it, where there is for all
   pub listed_room : length (waiting_of rs) < min (length rs) STREAM_LIMIT
-  listed_room = fewer_pass (is_resetting_in rs) s 0 (min (length rs) STREAM_LIMIT) (omega arith) (omega (arith, low)) parts.1
+  listed_room = fewer_pass (is_resetting_in rs) s 0 (min (length rs) STREAM_LIMIT) (omega arith) (omega (arith, low)) off
 
 -- one that waits, or may not be listed: nothing changes
 pub listed_so : (rs : List StreamReset) (s : ℕ) → (nat_lt s (min (length rs) STREAM_LIMIT) && not (is_resetting_in rs s)) ≡ false → waiting_of rs ≡ waiting_of (changed_at (stream_as Resets) s rs)
 listed_so rs s off =
-    filter_alike (is_resetting_in rs) (is_resetting_in (changed_at (stream_as Resets) s rs)) 0 (min (length rs) STREAM_LIMIT) (λ x from upto. by_here x (omega (arith, upto)) (x == s) refl) ∙ many_waiting rs s
+    filter_alike (is_resetting_in rs) (is_resetting_in (changed_at (stream_as Resets) s rs)) 0 (min (length rs) STREAM_LIMIT) (λ x from upto. alike x (omega (arith, upto))) ∙ many_waiting rs s
   where
-    listed : (a b : Bool) → (a && not b) ≡ false → a ≡ true → b ≡ true
-    listed true true is on = refl
-    listed true false is on = absurd (cc)
-    listed false b is on = absurd (cc)
-
-    by_here : (x : ℕ) → x < min (length rs) STREAM_LIMIT → (b : Bool) → (x == s) ≡ b → is_resetting_in rs x ≡ is_resetting_in (changed_at (stream_as Resets) s rs) x
-    by_here x upto true is =
-        let here : x ≡ s = grind (arith, nat_tests) in
-        let less : nat_lt s (min (length rs) STREAM_LIMIT) ≡ true = let k : s < min (length rs) STREAM_LIMIT = omega (arith, here, upto) in grind (arith, nat_tests) in
-        ap (is_resetting_in rs) here ∙ listed (nat_lt s (min (length rs) STREAM_LIMIT)) (is_resetting_in rs s) off less ∙ sym (waits_there rs s (omega (arith, here, upto)))
-        ∙ ap (is_resetting_in (changed_at (stream_as Resets) s rs)) (sym here)
-    by_here x upto false is = sym (waits_apart rs s x is)
+    alike : (x : ℕ) → x < min (length rs) STREAM_LIMIT → is_resetting_in rs x ≡ is_resetting_in (changed_at (stream_as Resets) s rs) x
+    alike x upto =
+        let low : x < length rs = omega (arith, upto) in
+        grind (arith, nat_tests, off, upto, waits_there rs x low, waits_apart rs s x)
 
 -- those that wait rise
 pub waiting_rises : (rs : List StreamReset) → AreInOrder (λ (x : ℕ). x) 0 (waiting_of rs)
@@ -91,26 +74,7 @@ waiting_rises rs = rises (is_resetting_in rs) 0 0 (min (length rs) STREAM_LIMIT)
 -- Streams change so that none of them waits.
 module _ (f : ℕ → StreamReset → StreamReset) (same : (s : ℕ) (r : StreamReset) → f s (f s r) ≡ f s r) (off : (s : ℕ) (r : StreamReset) → model.is_resetting (sending_meaning (f s r).sending) ≡ false) (ss : List ℕ) (rs : List StreamReset) where
   none_begins : (s : ℕ) → is_resetting_in (all_changed f ss rs) s ≡ (is_resetting_in rs s && is_resetting_in (all_changed f ss rs) s)
-  none_begins s = by_named (lists ss s) refl
-    where
-      stopped : (o : Option StreamReset) → model.is_resetting (sending_there (option_map (f s) o)) ≡ false
-      stopped None = refl
-      stopped (Some r) = off s r
-
-      both_fail : (a b : Bool) → b ≡ false → b ≡ (a && b)
-      both_fail true b is = refl
-      both_fail false b is = is
-
-      both_same : (a b : Bool) → b ≡ a → b ≡ (a && b)
-      both_same true b is = refl
-      both_same false b is = is
-
-      by_named : (b : Bool) → lists ss s ≡ b → is_resetting_in (all_changed f ss rs) s ≡ (is_resetting_in rs s && is_resetting_in (all_changed f ss rs) s)
-      by_named true is =
-          both_fail (is_resetting_in rs s) (is_resetting_in (all_changed f ss rs) s)
-          (ap (λ (o : Option StreamReset). model.is_resetting (sending_there o)) (get_all f same ss rs s ∙ rw is refl) ∙ stopped (slice_get rs s))
-      by_named false is =
-          both_same (is_resetting_in rs s) (is_resetting_in (all_changed f ss rs) s) (ap (λ (o : Option StreamReset). model.is_resetting (sending_there o)) (get_all f same ss rs s ∙ rw is refl))
+  none_begins s = grind (arith, get_all f same ss rs s, off s)
 
   -- those that wait are those that waited, without these
   pub listed_without : filter (is_resetting_in (all_changed f ss rs)) (waiting_of rs) ≡ waiting_of (all_changed f ss rs)
