@@ -133,9 +133,8 @@ pub run_where : (c : Bool) (at k : ℕ) (es : List EntryFields) → at + k ≤ l
 run_where c at zero es le = let same : at + 0 ≡ at = omega arith in run_none c at es ∙ run_starts c at es ∙ ap (λ (n : ℕ). told_where c (is_between at n) 1 es) (sym same)
 run_where c at (suc k) es le =
     let before = run_where c at k es (omega (arith, le)) in
-    let long = length-told_run c at k es in
     let next : at + k + 1 ≡ at + suc k = omega arith in
-    run_more c at k es ∙ run_step c at (at + k) es (told_run c at k es) (omega arith) (omega (arith, le, long)) before ∙ ap (λ (n : ℕ). told_where c (is_between at n) 1 es) next
+    run_more c at k es ∙ ap (changed_at (told c) (at + k)) before ∙ run_step c at (at + k) es (omega arith) ∙ ap (λ (n : ℕ). told_where c (is_between at n) 1 es) next
 
 -- it is noted that an entry is covered, or not
 abbrev pub noted : Bool → EntryFields → EntryFields
