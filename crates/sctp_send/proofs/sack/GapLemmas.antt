@@ -1,6 +1,6 @@
 -- Entries between runs in order: set gap by gap, all of them are set, and none in a run.
 use Rattle.std.proofs.Common.{◌≡◌, ℕ, zero, suc, ◌+◌, ◌<◌, ◌≤◌, List, [], ◌∷◌, length, drop, get_or, min, max, Bool, true, false, refl, sym, ap, ◌∙◌, arith}
-use Rattle.std.specs.Prelude.{nat_lt, nat_le, not, ◌&&◌, ◌||◌}
+use Rattle.std.specs.Prelude.{not, ◌&&◌, ◌||◌}
 use Rattle.std.proofs.lemmas.Bool.Decides.{nat_tests}
 use Rattle.sctp_send.specs.CoveredRuns.{in_run, in_runs, AreInOrder, HasPassed}
 use Rattle.sctp_send.specs.inner.Changes.{told_where, is_between, in_gaps}

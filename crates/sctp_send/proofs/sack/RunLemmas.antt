@@ -1,6 +1,6 @@
 -- Runs of acknowledged entries: kept from the gap blocks of a SACK, and moved as entries in front are removed.
 use Rattle.std.proofs.Common.{◌≡◌, ℕ, zero, suc, ◌+◌, ◌-◌, ◌<◌, ◌≤◌, List, [], ◌∷◌, ◌++◌, length, map, set, get_or, take, drop, Bool, true, false, Option, Some, None, refl, ap, ◌∙◌, arith, length-append, length-drop}
-use Rattle.std.specs.Prelude.{nat_lt, nat_le, ◌&&◌, ◌||◌, option_map}
+use Rattle.std.specs.Prelude.{nat_le, ◌&&◌, ◌||◌, option_map}
 use Rattle.std.proofs.lemmas.List.{length-map, length-take}
 use Rattle.std.proofs.lemmas.Bool.Decides.{nat_tests}
 use Rattle.sctp_model.specs.wire.Chunk.{BlockMeaning}

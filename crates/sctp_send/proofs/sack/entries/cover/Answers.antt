@@ -1,9 +1,7 @@
-use Rattle.std.proofs.Common.{◌≡◌, ℕ, ◌-◌, ◌<◌, ◌∷◌, [], List, length, true, false, refl, sym, ap, ◌∙◌, arith}
+use Rattle.std.proofs.Common.{◌≡◌, ◌-◌, ◌∷◌, [], length, true, false, refl, ◌∙◌}
 use Rattle.sctp_model.specs.messages.Acknowledgement.{in_blocks}
 use Rattle.sctp_wire.specs.ChunkTree.{block_meaning}
-use Rattle.sctp_model.specs.sender.SackTaken.{some_is_bad, some_ends_past}
-use Rattle.sctp_send.specs.PartsKept.{OutstandingKept}
-use Rattle.sctp_send.specs.inner.Changes.{told_at, told_where, all_told, is_between}
+use Rattle.sctp_send.specs.inner.Changes.{told_at, is_between}
 use Rattle.sctp_send.proofs.sack.EachLemmas.{length-each}
 use Rattle.sctp_send.proofs.sack.TellLemmas.{where_none, told_anew, block_told}
 use Rattle.sctp_send.proofs.sack.CoverLemmas.{no_fault, good_block, short_block}

@@ -1,6 +1,6 @@
 use Rattle.std.proofs.Common.{◌≡◌, List, length, ap, ◌∙◌, arith}
 use Rattle.sctp_send.specs.PartsKept.{OutstandingKept, changed}
-use Rattle.sctp_send.specs.inner.Changes.{told, told_at, told_where, is_between}
+use Rattle.sctp_send.specs.inner.Changes.{told, told_at, is_between}
 use Rattle.sctp_send.specs.declared.kept.entry.Entry.{Entry as EntryFields}
 use Rattle.sctp_send.proofs.sack.EachLemmas.{length-each}
 use Rattle.sctp_send.proofs.sack.TellLemmas.{run_starts, run_step}
