@@ -7,12 +7,9 @@ use Rattle.sctp_send.proofs.kept.ChangedLemmas.{count_changed}
 use Rattle.sctp_send.proofs.kept.TicketWalks.{changed_tickets}
 use Rattle.sctp_send.specs.inner.Stretching.{AreKnown}
 use Rattle.sctp_send.specs.declared.kept.stretches.Stretch.{Stretch}
+use Rattle.sctp_send.proofs.kept.TurnedLemmas.{same_ticket}
 use Rattle.sctp_send.proofs.kept.KnownLemmas.{SayTheSame, SayNothing, known_changed}
 use Rattle.sctp_send.proofs.kept.outstanding.Outstanding.tell.Goals as goal
-
-same_ticket : (b : Bool) (e : EntryFields) → e.message.value.ticket ≡ (told b e).message.value.ticket
-same_ticket true e = refl
-same_ticket false e = refl
 
 pub tell_one-requires : goal.tell_one-requires
 tell_one-requires c = record {
@@ -29,7 +26,7 @@ invariant_of-self c =
     let long : length c.tell_one.new.entries.items ≡ length es = ap (λ (xs : List EntryFields). length xs) items ∙ count_changed (told c.args.covered) c.args.at es in
     record {
       counted = c.tell_one.ensures.counted;
-      order = subst (λ (ts : List ℕ). IsOrderOf ts s.by_ticket.first s.by_ticket.spots.items) (sym (ap tickets_of items ∙ changed_tickets (told c.args.covered) (λ e. sym (same_ticket c.args.covered e)) c.args.at es)) h.order;
+      order = subst (λ (ts : List ℕ). IsOrderOf ts s.by_ticket.first s.by_ticket.spots.items) (sym (ap tickets_of items ∙ changed_tickets (told c.args.covered) (same_ticket c.args.covered) c.args.at es)) h.order;
       below = h.below;
       few = h.few;
       within = let le = h.within in omega (arith, long, le);
