@@ -27,7 +27,8 @@ use Rattle.sctp_send.specs.inner.Acknowledging.{IsPassing}
 use Rattle.sctp_send.specs.inner.Walks.{any_item}
 use Rattle.sctp_send.specs.inner.Dues.{is_late, some_late, standing_message, standing_messages, is_asleep}
 use Rattle.sctp_send.proofs.sack.RunLemmas.{AreOfBlocks, covered_behind}
-use Rattle.sctp_send.proofs.sack.CoverLemmas.{item_told, items_told, count_items_told}
+use Rattle.sctp_send.proofs.sack.CoverLemmas.{item_told, items_told}
+use Rattle.sctp_send.proofs.sack.EachLemmas.{length-each, each_same}
 use Rattle.sctp_send.proofs.OverLemmas.{neither, no_item_behind, same_told}
 use Rattle.sctp_send.proofs.DueLemmas.{both_off, late_behind, late_told}
 
@@ -84,10 +85,6 @@ told_items v c test (e ∷ es) j =
     let rest : items_told (λ i. test (c + i)) (suc (suc j)) (items_from v (suc (suc (c + j))) es) ≡ items_from (covered_by v c test) (suc (suc (c + j))) es = rw next at (told_items v c test es (suc j)) in
     rw (next, rest) refl
 
-told_alike : (test other : ℕ → Bool) (xs : List Item) (i : ℕ) → ((j : ℕ) → i ≤ j → test j ≡ other j) → items_told test i xs ≡ items_told other i xs
-told_alike test other [] i same = refl
-told_alike test other (x ∷ xs) i same = rw (same i (omega arith), told_alike test other xs (suc i) (λ j le. same j (omega arith))) refl
-
 -- blocks counted from c
 offset_blocks : (c i : ℕ) (bs : List BlockMeaning) → in_blocks c bs (c + i) ≡ in_blocks 0 bs i
 offset_blocks c i [] = refl
@@ -137,8 +134,8 @@ keeps_sacked f s v x n b rs k before stays p none runs =
     let c = v.cum + n in
     let start : suc (c + 0) ≡ suc c = omega arith in
     let told = rw start at (told_items v c (sack_covers c x.blocks) (drop c v.plan.entries) 0) in
-    let alike = told_alike (in_blocks 0 x.blocks) (λ i. sack_covers c x.blocks (c + i)) (items_from v (suc c) (drop c v.plan.entries)) 1 (λ j le. beyond_covers c j x.blocks (omega arith)) in
-    let count = count_items_told (in_blocks 0 x.blocks) (drop n s.items) 1 in
+    let alike = each_same (λ i. item_told (in_blocks 0 x.blocks i)) (λ i. item_told (sack_covers c x.blocks (c + i))) 1 (items_from v (suc c) (drop c v.plan.entries)) (λ j y lo hi. ap (λ (b : Bool). item_told b y) (beyond_covers c j x.blocks (omega arith))) in
+    let count = length-each (λ i. item_told (in_blocks 0 x.blocks i)) 1 (drop n s.items) in
     let fewer = length-drop n s.items in
     let room = k.holds.room in
     rw none (record {

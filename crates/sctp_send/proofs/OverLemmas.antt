@@ -28,13 +28,11 @@ both_off a b x y = rw (x, y) refl
 pub no_item_behind : (t n : ℕ) (xs : List Item) → any_item t xs ≡ false → any_item t (drop n xs) ≡ false
 no_item_behind t zero xs none = none
 no_item_behind t (suc n) [] none = refl
-no_item_behind t (suc n) (x ∷ xs) none = no_item_behind t n xs (neither (has_ticket t x.message) (any_item t xs) none).1
+no_item_behind t (suc n) (x ∷ xs) none = grind (arith, nat_tests, no_item_behind t n xs)
 
 pub no_item_more : (t : ℕ) (xs ys : List Item) → any_item t xs ≡ false → any_item t ys ≡ false → any_item t (xs ++ ys) ≡ false
 no_item_more t [] ys none more = more
-no_item_more t (x ∷ xs) ys none more =
-    let parts = neither (has_ticket t x.message) (any_item t xs) none in
-    both_off (has_ticket t x.message) (any_item t (xs ++ ys)) parts.0 (no_item_more t xs ys parts.1 more)
+no_item_more t (x ∷ xs) ys none more = grind (arith, nat_tests, no_item_more t xs ys)
 
 -- a change that leaves each its message
 pub same_items : (t : ℕ) (g : Item → Item) (xs : List Item) → ((x : Item) → (g x).message ≡ x.message) → any_item t (map g xs) ≡ any_item t xs
@@ -64,10 +62,8 @@ no_item_one t xs x none off = no_item_more t xs (x ∷ []) none (both_off (has_t
 
 pub no_rest_set : (t at : ℕ) (xs : List Track) (y : Track) → any_rest t xs ≡ false → rest_has t y.rest ≡ false → any_rest t (set xs at y) ≡ false
 no_rest_set t at [] y none off = refl
-no_rest_set t zero (x ∷ xs) y none off = both_off (rest_has t y.rest) (any_rest t xs) off (neither (rest_has t x.rest) (any_rest t xs) none).1
-no_rest_set t (suc at) (x ∷ xs) y none off =
-    let parts = neither (rest_has t x.rest) (any_rest t xs) none in
-    both_off (rest_has t x.rest) (any_rest t (set xs at y)) parts.0 (no_rest_set t at xs y parts.1 off)
+no_rest_set t zero (x ∷ xs) y none off = grind (arith, nat_tests)
+no_rest_set t (suc at) (x ∷ xs) y none off = grind (arith, nat_tests, no_rest_set t at xs y)
 
 pub no_rest_at : (t at : ℕ) (xs : List Track) (d : Track) → at < length xs → any_rest t xs ≡ false → rest_has t (get_or xs at d).rest ≡ false
 no_rest_at t at [] d lt none = absurd (omega arith)
@@ -97,32 +93,18 @@ no_rest_after t (End l n) m off = refl
 
 -- ---- the queue
 
-clash : {b : Bool} → b ≡ true → b ≡ false → ⊥
-clash on off = cc
-
 pub not_waiting_more : (t : ℕ) (qs : List Queued) (q : Queued) → waits t qs ≡ false → (q.message.ticket ≡ t → ⊥) → waits t (qs ++ q ∷ []) ≡ false
 not_waiting_more t qs q none other =
     let off : (q.message.ticket == t) ≡ false = grind (arith, nat_tests) in
     waits_push t qs q ∙ both_off (waits t qs) (q.message.ticket == t) none off
 
 -- fewer messages wait
-not_waiting_of : (t : ℕ) (qs rest : List Queued) → waits t qs ≡ false → (waits t rest ≡ true → waits t qs ≡ true) → waits t rest ≡ false
-not_waiting_of t qs rest none fewer = by_test (waits t rest) refl
-  where
-    by_test : (b : Bool) → waits t rest ≡ b → b ≡ false
-    by_test false is = refl
-    by_test true is = absurd (clash (fewer is) none)
-
 pub not_waiting_without : (t u : ℕ) (qs : List Queued) → waits t qs ≡ false → waits t (without u qs) ≡ false
-not_waiting_without t u qs none = not_waiting_of t qs (without u qs) none (λ is. fewer_without u t qs is)
+not_waiting_without t u qs none = grind (arith, nat_tests, fewer_without u t qs)
 
 pub not_waiting_taken : (t : ℕ) (q : Queued) (rest queue : List Queued) → IsTaken q rest queue → waits t queue ≡ false → waits t rest ≡ false
-not_waiting_taken t q rest queue taken none = not_waiting_of t queue rest none (taken.fewer t)
+not_waiting_taken t q rest queue taken none = grind (arith, nat_tests, taken.fewer t)
 
 -- a message that waits has another ticket
 pub another_taken : (t : ℕ) (q : Queued) (rest queue : List Queued) → IsTaken q rest queue → waits t queue ≡ false → has_ticket t (Some q.message) ≡ false
-another_taken t q rest queue taken none = by_test (q.message.ticket == t) refl
-  where
-    by_test : (b : Bool) → (q.message.ticket == t) ≡ b → b ≡ false
-    by_test false is = refl
-    by_test true is = let same : q.message.ticket ≡ t = grind (arith, nat_tests) in absurd (clash taken.was (ap (λ (n : ℕ). waits n queue) same ∙ none))
+another_taken t q rest queue taken none = grind (arith, nat_tests, taken.was)

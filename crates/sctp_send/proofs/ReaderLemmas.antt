@@ -35,11 +35,7 @@ run_items v i (e ∷ es) = rw (run_items v (suc i) es) refl
 
 pub run_within : (xs : List Item) → abandoned_items xs ≤ length xs
 run_within [] = omega arith
-run_within (x ∷ xs) = by_test x.abandoned (run_within xs)
-  where
-    by_test : (b : Bool) → abandoned_items xs ≤ length xs → (if b then suc (abandoned_items xs) else 0) ≤ suc (length xs)
-    by_test true rest = omega arith
-    by_test false rest = omega arith
+run_within (x ∷ xs) = grind (arith, nat_tests, run_within xs)
 
 -- the point
 pub point_is : (f : Format) (s : Kept) (v : SenderView) → Keeps f s v → (s.cum + abandoned_items s.items % 2 ^ 32) % 2 ^ 64 ≡ point v
@@ -56,33 +52,25 @@ any_items : (v : SenderView) (i : ℕ) (es : List Entry) → any_from (is_unsett
 any_items v i [] = refl
 any_items v i (e ∷ es) = rw (any_items v (suc i) es) refl
 
-any_above : (v : SenderView) (i n : ℕ) (es : List Entry) → ((j : ℕ) → i ≤ j → j < i + n → v.covered j ≡ true) → n ≤ length es → any_from (is_unsettled v) i es ≡ any_from (is_unsettled v) (i + n) (drop n es)
-any_above v i zero es on le = let same : i + 0 ≡ i = omega arith in rw same refl
-any_above v i (suc n) [] on le = absurd (omega arith)
-any_above v i (suc n) (e ∷ es) on le =
+-- what no entry below an index passes, only those from there on may
+pub any_above : (test : ℕ → Entry → Bool) (i n : ℕ) (es : List Entry) → ((j : ℕ) (e : Entry) → i ≤ j → j < i + n → test j e ≡ false) → n ≤ length es → any_from test i es ≡ any_from test (i + n) (drop n es)
+any_above test i zero es off le = let same : i + 0 ≡ i = omega arith in rw same refl
+any_above test i (suc n) [] off le = absurd (omega arith)
+any_above test i (suc n) (e ∷ es) off le =
     let next : suc i + n ≡ i + suc n = omega arith in
-    let rest = any_above v (suc i) n es (λ j lo hi. on j (omega arith) (omega arith)) (omega arith) in
-    rw (on i (omega arith) (omega arith)) (by_sent (v.sent i) ∙ (rw next at rest))
-  where
-    by_sent : (b : Bool) → ((b && false) || any_from (is_unsettled v) (suc i) es) ≡ any_from (is_unsettled v) (suc i) es
-    by_sent true = refl
-    by_sent false = refl
+    rw (off i e (omega arith) (omega arith)) (rw next at (any_above test (suc i) n es (λ j d lo hi. off j d (omega arith) (omega arith)) (omega arith)))
 
 pub unsettled_is : (f : Format) (s : Kept) (v : SenderView) → Keeps f s v → (any_unsettled s.items || nat_lt 0 (abandoned_items s.items)) ≡ unsettled v
 unsettled_is f s v k =
     let b = is_bounded f v k.reached in
     let one : 1 + v.cum ≡ suc v.cum = omega arith in
-    let above = any_above v 1 v.cum v.plan.entries (λ j lo hi. b.covered j (omega arith) (omega arith)) b.within in
+    let above = any_above (is_unsettled v) 1 v.cum v.plan.entries (λ j e lo hi. let on = b.covered j (omega arith) (omega arith) in rw on (grind (arith, nat_tests))) b.within in
     let any : any_unsettled s.items ≡ some_entry v (is_unsettled v) = ap any_unsettled k.holds.items ∙ sym (any_items v (suc v.cum) (drop v.cum v.plan.entries)) ∙ sym (rw one at above) in
     let run : abandoned_items s.items ≡ abandoned_run v (drop v.cum v.plan.entries) = ap abandoned_items k.holds.items ∙ run_items v (suc v.cum) (drop v.cum v.plan.entries) in
     rw (any, run) (ap (λ (c : Bool). some_entry v (is_unsettled v) || c) (past v.cum (abandoned_run v (drop v.cum v.plan.entries))))
   where
     past : (c n : ℕ) → nat_lt 0 n ≡ not ((c + n) == c)
-    past c n = by_test (nat_lt 0 n) refl
-      where
-        by_test : (x : Bool) → nat_lt 0 n ≡ x → x ≡ not ((c + n) == c)
-        by_test true is = let ne : ((c + n) == c) ≡ false = grind (arith, nat_tests) in rw ne refl
-        by_test false is = let eq : ((c + n) == c) ≡ true = grind (arith, nat_tests) in rw eq refl
+    past c n = grind (arith, nat_tests)
 
 -- ---- counts
 
@@ -107,15 +95,8 @@ drained_is f s v k =
     let window = is_windowed f v k.reached in
     let fits : total (λ t. one_if_rest t.rest) s.tracks % 2 ^ 32 ≡ in_part v = omega (arith, long, parts, window) in
     let queue = ap (λ (qs : List Queued). length qs == 0) k.holds.queue in
-    let end : (length s.items == 0) ≡ (v.cum == length v.plan.entries) = both (length s.items) v.cum (length v.plan.entries) long in
+    let end : (length s.items == 0) ≡ (v.cum == length v.plan.entries) = grind (arith, nat_tests) in
     rw (queue, fits, end) refl
-  where
-    both : (n c e : ℕ) → n + c ≡ e → (n == 0) ≡ (c == e)
-    both n c e is = by_test (n == 0) refl
-      where
-        by_test : (x : Bool) → (n == 0) ≡ x → x ≡ (c == e)
-        by_test true zeroed = let eq : (c == e) ≡ true = grind (arith, nat_tests) in rw eq refl
-        by_test false some = let ne : (c == e) ≡ false = grind (arith, nat_tests) in rw ne refl
 
 -- ---- fates
 
@@ -140,48 +121,40 @@ abandoned_fate f v t h = by_wait (waits t v.queue) refl
     by_wait true is = ap (some_passes (is_abandoned v)) (h.waiting t is).2
     by_wait false is = by_name (name_of v t)
 
-pub not_abandoned : (f : Format) (s : Kept) (v : SenderView) (t : ℕ) → Keeps f s v → v.tickets < t → abandoned v t ≡ false
-not_abandoned f s v t k lt = ap (some_passes (is_abandoned v)) (name_of_none v t (is_ticketed f v k.reached) lt)
-
 pub is_abandoned_at : (f : Format) (s : Kept) (v : SenderView) (t : ℕ) (d : Fate) → Keeps f s v → 0 < t → t ≤ length s.fates → is_abandoned_fate (get_or s.fates (t - 1) d) ≡ abandoned v t
 is_abandoned_at f s v t d k some le =
     let here : suc (t - 1) ≡ t = omega arith in
     ap is_abandoned_fate (fate_at f s v (t - 1) d k (omega arith) ∙ ap (fate_here v) here) ∙ sym (abandoned_fate f v t (is_ticketed f v k.reached))
 
-pub no_ticket : (f : Format) (s : Kept) (v : SenderView) (t : ℕ) → Keeps f s v → (t ≡ 0) ⊎ (length s.fates < t) → abandoned v t ≡ false
-no_ticket f s v t k out =
+-- a ticket that wasn't given names no message
+pub not_named : (f : Format) (s : Kept) (v : SenderView) (t : ℕ) → Keeps f s v → (t ≡ 0) ⊎ (length s.fates < t) → name_of v t ≡ None
+not_named f s v t k out =
     let given = fates_given f s v k in
     elim out [
-      | inr over ↦ not_abandoned f s v t k (omega arith)
+      | inr over ↦ name_of_none v t (is_ticketed f v k.reached) (omega arith)
       | inl zeroed ↦ by_name (name_of v t) refl zeroed
     ]
   where
-    by_name : (o : Option Name) → name_of v t ≡ o → t ≡ 0 → some_passes (is_abandoned v) o ≡ false
+    by_name : (o : Option Name) → name_of v t ≡ o → t ≡ 0 → o ≡ None
     by_name None is none = refl
     by_name (Some n) is none =
-        let h = is_ticketed f v k.reached in
-        let own = found_owns v.plan v.tickets t v.plan.entries v.plan.entries n h.owned is in
+        let own = found_owns v.plan v.tickets t v.plan.entries v.plan.entries n (is_ticketed f v k.reached).owned is in
         let low = (own.0 t own.1).0 in
         absurd (omega arith)
+
+pub no_ticket : (f : Format) (s : Kept) (v : SenderView) (t : ℕ) → Keeps f s v → (t ≡ 0) ⊎ (length s.fates < t) → abandoned v t ≡ false
+no_ticket f s v t k out = ap (some_passes (is_abandoned v)) (not_named f s v t k out)
 
 -- ---- the readers, branch by branch
 
 pub some_waits : (f : Format) (s : Kept) (v : SenderView) → Keeps f s v → 0 < length s.queue → false ≡ drained v
-some_waits f s v k some =
-    let off : (length s.queue == 0) ≡ false = grind (arith, nat_tests) in
-    rw off at (drained_is f s v k)
+some_waits f s v k some = grind (arith, nat_tests, drained_is f s v k)
 
 pub some_in_part : (f : Format) (s : Kept) (v : SenderView) → Keeps f s v → length s.queue ≤ 0 → 0 < total (λ t. one_if_rest t.rest) s.tracks % 2 ^ 32 → false ≡ drained v
-some_in_part f s v k none some =
-    let on : (length s.queue == 0) ≡ true = grind (arith, nat_tests) in
-    let off : (total (λ t. one_if_rest t.rest) s.tracks % 2 ^ 32 == 0) ≡ false = grind (arith, nat_tests) in
-    rw (on, off) at (drained_is f s v k)
+some_in_part f s v k none some = grind (arith, nat_tests, drained_is f s v k)
 
 pub nothing_waits : (f : Format) (s : Kept) (v : SenderView) → Keeps f s v → length s.queue ≤ 0 → total (λ t. one_if_rest t.rest) s.tracks % 2 ^ 32 ≤ 0 → (length s.items == 0) ≡ drained v
-nothing_waits f s v k none parts =
-    let on : (length s.queue == 0) ≡ true = grind (arith, nat_tests) in
-    let off : (total (λ t. one_if_rest t.rest) s.tracks % 2 ^ 32 == 0) ≡ true = grind (arith, nat_tests) in
-    rw (on, off) at (drained_is f s v k)
+nothing_waits f s v k none parts = grind (arith, nat_tests, drained_is f s v k)
 
 pub some_is_unsettled : (f : Format) (s : Kept) (v : SenderView) → Keeps f s v → any_unsettled s.items ≡ true → true ≡ unsettled v
 some_is_unsettled f s v k any = rw any at (unsettled_is f s v k)

@@ -13,35 +13,12 @@ use Rattle.sctp_model.proofs.sender.WishCases.{IsAssigned, Whole, Begun, Continu
 use Rattle.sctp_send.specs.SenderKept.{Kept}
 use Rattle.sctp_send.specs.SenderStands.{Keeps}
 use Rattle.sctp_send.specs.inner.Newcomers.{without_place, IsBegun, IsContinued}
+use Rattle.sctp_send.proofs.HeldLemmas.{keeps_with}
 use Rattle.sctp_send.proofs.KeepLemmas.{kept_length}
 
--- ---- memory is given back, but for what is owed, or more is taken
-
+-- memory is given back, but for what is owed, or more is taken
 pub keeps_roomy : (f : Format) (s : Kept) (v : SenderView) (c : ℕ) → Keeps f s v → length s.items + (owed_by_queue v.queue + owed_by_parts v) ≤ c → Keeps f (record s { capacity = c }) v
-keeps_roomy f s v c k room = record {
-  holds = let h = k.holds in record {
-    initial = h.initial;
-    streams = h.streams;
-    fragment = h.fragment;
-    partial = h.partial;
-    cum = h.cum;
-    rwnd = h.rwnd;
-    turn = h.turn;
-    items = h.items;
-    queue = h.queue;
-    tracks = h.tracks;
-    fates = h.fates;
-    covered = h.covered;
-    room = room;
-  };
-  over = record { within = k.over.within; each = λ t le. let o = k.over.each t le in record { queue = o.queue; tracks = o.tracks; items = o.items } };
-  due = record { many = k.due.many; each = λ t now lt. let i = k.due.each t now lt in record { queue = i.queue; items = i.items; tracks = i.tracks } };
-  forward = k.forward;
-  resets = k.resets;
-  before = k.before;
-  counted = k.counted;
-  reached = k.reached;
-}
+keeps_roomy f s v c k room = keeps_with f s v s.forward c k k.forward room
 
 -- ---- what takes an index is owed
 

@@ -1,7 +1,8 @@
 -- A message by its ticket, from what a sender keeps.
-use Rattle.std.proofs.Common.{◌≡◌, ℕ, zero, suc, ◌+◌, ◌-◌, ◌<◌, ◌≤◌, List, [], ◌∷◌, ◌++◌, length, map, drop, Bool, true, false, Option, Some, None, refl, sym, ap, ◌∙◌, arith, get_or}
+use Rattle.std.proofs.Common.{◌≡◌, ℕ, zero, suc, ◌+◌, ◌-◌, ◌<◌, ◌≤◌, List, [], ◌∷◌, ◌++◌, length, map, drop, Bool, true, false, Option, Some, None, refl, sym, ap, ◌∙◌, ◌⊎◌, arith, get_or}
 use Rattle.std.specs.Prelude.{not, ◌&&◌, ◌||◌, if◌then◌else◌}
 use Rattle.std.proofs.lemmas.List.{length-map}
+use Rattle.std.proofs.lemmas.Bool.Decides.{nat_tests}
 use Rattle.sctp_model.specs.messages.Format.{Format}
 use Rattle.sctp_model.specs.messages.Plan.{Entry}
 use Rattle.sctp_model.specs.sender.Words.{some_passes}
@@ -10,7 +11,7 @@ use Rattle.sctp_model.specs.sender.Entries.{any_from, continued, entry_message, 
 use Rattle.sctp_model.specs.sender.Abandoning.{Name, waits, name_of, is_abandoned, has_ticket, has_uncovered}
 use Rattle.sctp_model.specs.sender.Readers.{acknowledged, is_acknowledged}
 use Rattle.sctp_model.proofs.sender.Bounds.{is_bounded}
-use Rattle.sctp_model.proofs.sender.TicketLaws.{is_ticketed, name_of_none, found_owns}
+use Rattle.sctp_model.proofs.sender.TicketLaws.{is_ticketed}
 use Rattle.sctp_model.proofs.sender.NameLaws.{goes_on_with, some_stream, in_part_by_ticket, uncovered_by_ticket}
 use Rattle.sctp_send.specs.SenderKept.{Track, Kept}
 use Rattle.sctp_send.specs.SenderFields.{track_meaning}
@@ -20,9 +21,8 @@ use Rattle.sctp_send.specs.declared.kept.message.Fate.{Fate}
 use Rattle.sctp_send.specs.declared.kept.message.Fate.TheVariants.{Queued as StillQueued, Numbered, Abandoned as WasAbandoned}
 use Rattle.sctp_send.specs.declared.kept.track.Track.{Track as TrackFields}
 use Rattle.sctp_send.proofs.TableLemmas.{table-push}
-use Rattle.sctp_send.proofs.ReaderLemmas.{fate_at}
+use Rattle.sctp_send.proofs.ReaderLemmas.{any_above, not_named, fate_at}
 use Rattle.sctp_send.proofs.WalkLemmas.{none_behind, track_read}
-use Rattle.sctp_send.proofs.QueueLemmas.{fates_given}
 
 -- ---- what is kept, and the view
 
@@ -30,34 +30,16 @@ uncovered_items : (v : SenderView) (t i : ℕ) (es : List Entry) → any_from (�
 uncovered_items v t i [] = refl
 uncovered_items v t i (e ∷ es) = rw (uncovered_items v t (suc i) es) refl
 
-uncovered_above : (v : SenderView) (t i n : ℕ) (es : List Entry) → ((j : ℕ) → i ≤ j → j < i + n → v.covered j ≡ true) → n ≤ length es
-    → any_from (λ j e. has_ticket t (entry_message v.plan e) && not (v.covered j)) i es ≡ any_from (λ j e. has_ticket t (entry_message v.plan e) && not (v.covered j)) (i + n) (drop n es)
-uncovered_above v t i zero es on le = let same : i + 0 ≡ i = omega arith in rw same refl
-uncovered_above v t i (suc n) [] on le = absurd (omega arith)
-uncovered_above v t i (suc n) (e ∷ es) on le =
-    let next : suc i + n ≡ i + suc n = omega arith in
-    let rest = uncovered_above v t (suc i) n es (λ j lo hi. on j (omega arith) (omega arith)) (omega arith) in
-    rw (on i (omega arith) (omega arith)) (by_ticket (has_ticket t (entry_message v.plan e)) ∙ (rw next at rest))
-  where
-    by_ticket : (b : Bool) → ((b && false) || any_from (λ j d. has_ticket t (entry_message v.plan d) && not (v.covered j)) (suc i) es) ≡ any_from (λ j d. has_ticket t (entry_message v.plan d) && not (v.covered j)) (suc i) es
-    by_ticket true = refl
-    by_ticket false = refl
-
 pub kept_uncovered : (f : Format) (s : Kept) (v : SenderView) (t : ℕ) (n : Name) → Keeps f s v → name_of v t ≡ Some n → any_uncovered t s.items ≡ has_uncovered v n
 kept_uncovered f s v t n k is =
     let b = is_bounded f v k.reached in
     let one : 1 + v.cum ≡ suc v.cum = omega arith in
-    let above = uncovered_above v t 1 v.cum v.plan.entries (λ j lo hi. b.covered j (omega arith) (omega arith)) b.within in
+    let above = any_above (λ j e. has_ticket t (entry_message v.plan e) && not (v.covered j)) 1 v.cum v.plan.entries (λ j e lo hi. let on = b.covered j (omega arith) (omega arith) in rw on (grind (arith, nat_tests))) b.within in
     ap (any_uncovered t) k.holds.items ∙ sym (uncovered_items v t (suc v.cum) (drop v.cum v.plan.entries)) ∙ sym (rw one at above) ∙ sym (uncovered_by_ticket f v t n k.reached is)
 
 any_push : (t : ℕ) (xs : List Track) (x : Track) → any_rest t (xs ++ x ∷ []) ≡ (rest_has t x.rest || any_rest t xs)
 any_push t [] x = refl
-any_push t (y ∷ xs) x = rw (any_push t xs x) (swap (rest_has t y.rest) (rest_has t x.rest))
-  where
-    swap : (a b : Bool) → (a || (b || any_rest t xs)) ≡ (b || (a || any_rest t xs))
-    swap true true = refl
-    swap true false = refl
-    swap false b = refl
+any_push t (y ∷ xs) x = rw (any_push t xs x) (grind (arith, nat_tests))
 
 rest_table : (v : SenderView) (t n : ℕ) → any_rest t (table (track_here v) 0 n) ≡ some_stream (λ s. goes_on_with v.plan t (continued v.plan s)) n
 rest_table v t zero = refl
@@ -74,20 +56,12 @@ kept_goes_on f s v t n k is = ap (any_rest t) k.holds.tracks ∙ rest_table v t 
 
 -- ---- acknowledged
 
-with_true : (b : Bool) → (b && true) ≡ b
-with_true true = refl
-with_true false = refl
-
-with_false : (b : Bool) → (b && false) ≡ false
-with_false true = refl
-with_false false = refl
-
 pub numbered_acknowledged : (f : Format) (s : Kept) (v : SenderView) (t : ℕ) → Keeps f s v → is_numbered_fate (fate_here v t) ≡ true → (not (any_rest t s.tracks) && not (any_uncovered t s.items)) ≡ acknowledged v t
 numbered_acknowledged f s v t k numbered = by_wait (waits t v.queue) refl numbered
   where
     by_kept : (n : Name) (b : Bool) → name_of v t ≡ Some n → is_abandoned v n ≡ b → is_numbered_fate (if b then WasAbandoned else Numbered) ≡ true → (not (any_rest t s.tracks) && not (any_uncovered t s.items)) ≡ some_passes (is_acknowledged v) (Some n)
     by_kept n true is on here = absurd (cc)
-    by_kept n false is off here = rw (kept_goes_on f s v t n k is, kept_uncovered f s v t n k is, off) (sym (with_true (not (is_in_part v n.lane n.number) && not (has_uncovered v n))))
+    by_kept n false is off here = rw (kept_goes_on f s v t n k is, kept_uncovered f s v t n k is, off) (grind (arith, nat_tests))
 
     by_name : (o : Option Name) → name_of v t ≡ o → is_numbered_fate (fate_named v o) ≡ true → (not (any_rest t s.tracks) && not (any_uncovered t s.items)) ≡ some_passes (is_acknowledged v) o
     by_name None is here = absurd (cc)
@@ -101,7 +75,7 @@ pub other_acknowledged : (f : Format) (s : Kept) (v : SenderView) (t : ℕ) → 
 other_acknowledged f s v t k other = by_wait (waits t v.queue) refl other
   where
     by_kept : (n : Name) (b : Bool) → is_abandoned v n ≡ b → is_numbered_fate (if b then WasAbandoned else Numbered) ≡ false → some_passes (is_acknowledged v) (Some n) ≡ false
-    by_kept n true on here = rw on (with_false (not (is_in_part v n.lane n.number) && not (has_uncovered v n)))
+    by_kept n true on here = rw on (grind (arith, nat_tests))
     by_kept n false off here = absurd (cc)
 
     by_name : (o : Option Name) → is_numbered_fate (fate_named v o) ≡ false → some_passes (is_acknowledged v) o ≡ false
@@ -118,19 +92,8 @@ numbered_read f s v t d k some le =
     let here : suc (t - 1) ≡ t = omega arith in
     ap is_numbered_fate (fate_at f s v (t - 1) d k (omega arith) ∙ ap (fate_here v) here)
 
-pub not_acknowledged : (f : Format) (s : Kept) (v : SenderView) (t : ℕ) → Keeps f s v → t ≡ 0 → acknowledged v t ≡ false
-not_acknowledged f s v t k none = by_name (name_of v t) refl
-  where
-    by_name : (o : Option Name) → name_of v t ≡ o → some_passes (is_acknowledged v) o ≡ false
-    by_name None is = refl
-    by_name (Some n) is =
-        let h = is_ticketed f v k.reached in
-        let own = found_owns v.plan v.tickets t v.plan.entries v.plan.entries n h.owned is in
-        let low = (own.0 t own.1).0 in
-        absurd (omega arith)
-
-pub never_acknowledged : (f : Format) (s : Kept) (v : SenderView) (t : ℕ) → Keeps f s v → length s.fates < t → acknowledged v t ≡ false
-never_acknowledged f s v t k over = let given = fates_given f s v k in ap (some_passes (is_acknowledged v)) (name_of_none v t (is_ticketed f v k.reached) (omega arith))
+pub not_acknowledged : (f : Format) (s : Kept) (v : SenderView) (t : ℕ) → Keeps f s v → (t ≡ 0) ⊎ (length s.fates < t) → acknowledged v t ≡ false
+not_acknowledged f s v t k out = ap (some_passes (is_acknowledged v)) (not_named f s v t k out)
 
 -- ---- walks, entry by entry and stream by stream
 

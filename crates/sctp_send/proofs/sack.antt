@@ -1,3 +1,4 @@
+pub mod EachLemmas
 pub mod CoverLemmas
 pub mod RunLemmas
 pub mod TellLemmas

@@ -25,23 +25,14 @@ use Rattle.sctp_send.specs.declared.kept.last_forward.LastForward.{LastForward}
 use Rattle.sctp_send.specs.declared.forward.lanes.Passed.{Passed}
 use Rattle.sctp_send.specs.declared.kept.entry.Entry.{Entry as EntryFields}
 use Rattle.sctp_send.proofs.KeepLemmas.{kept_length}
-use Rattle.sctp_send.proofs.HeldLemmas.{held_forward}
+use Rattle.sctp_send.proofs.HeldLemmas.{keeps_with}
 use Rattle.sctp_send.proofs.forward.ForwardLemmas.{is_passed, first_entries, first_kept}
 use Rattle.sctp_send.proofs.forward.ReachLemmas.{IsFurthest, furthest_is_end}
 
 -- ---- one is kept
 
 pub keeps_forward : (f : Format) (s : Kept) (v : SenderView) (o : Option LastForward) → Keeps f s v → IsForwardKept f v.resets.base v.streams v.plan.entries o → Keeps f (record s { forward = o }) v
-keeps_forward f s v o k built = record {
-  holds = held_forward s v o k.holds;
-  over = record { within = k.over.within; each = λ t le. let x = k.over.each t le in record { queue = x.queue; tracks = x.tracks; items = x.items } };
-  due = record { many = k.due.many; each = λ t now lt. let i = k.due.each t now lt in record { queue = i.queue; items = i.items; tracks = i.tracks } };
-  forward = built;
-  resets = k.resets;
-  before = k.before;
-  counted = k.counted;
-  reached = k.reached;
-}
+keeps_forward f s v o k built = keeps_with f s v o s.capacity k built k.holds.room
 
 -- one that was built from the entries that are kept
 pub forward_built : (f : Format) (s : Kept) (v : SenderView) (size streams run : ℕ) (es : List EntryFields) (l : LastForward) → Keeps f s v → s.items ≡ map (item_meaning size) es → s.streams ≡ streams → run ≤ length s.items

@@ -17,15 +17,12 @@ AreOff test (x ∷ xs) = (test x ≡ false) × AreOff test xs
 
 off_of : (test : Item → Bool) (xs : List Item) → first_offset test xs ≡ None → AreOff test xs
 off_of test [] none = tt
-off_of test (x ∷ xs) none = by_test (test x) refl none (off_of test xs)
+off_of test (x ∷ xs) none = by_offset (test x) (first_offset test xs) refl none (off_of test xs)
   where
-    absent : (o : Option ℕ) → option_map suc o ≡ None → o ≡ None
-    absent None is = refl
-    absent (Some k) is = absurd (cc)
-
-    by_test : (b : Bool) → test x ≡ b → (if b then Some 0 else option_map suc (first_offset test xs)) ≡ None → (first_offset test xs ≡ None → AreOff test xs) → (test x ≡ false) × AreOff test xs
-    by_test true on is rest = absurd (cc)
-    by_test false off is rest = (off, rest (absent (first_offset test xs) is))
+    by_offset : (b : Bool) (o : Option ℕ) → test x ≡ b → (if b then Some 0 else option_map suc o) ≡ None → (o ≡ None → AreOff test xs) → (test x ≡ false) × AreOff test xs
+    by_offset true o on is rest = absurd (cc)
+    by_offset false None off is rest = (off, rest refl)
+    by_offset false (Some k) off is rest = absurd (cc)
 
 of_off : (test : Item → Bool) (xs : List Item) → AreOff test xs → first_offset test xs ≡ None
 of_off test [] off = refl
@@ -66,8 +63,7 @@ none_less test xs m n le none = of_off test (take m xs) (off_less test xs m n le
 
 -- a cursor that is lowered to an offset where one passes
 pub lower_within : (b : Bool) (k n m : ℕ) → k ≤ m → (if b then min k n else k) ≤ m
-lower_within true k n m le = omega arith
-lower_within false k n m le = le
+lower_within b k n m le = grind (arith, nat_tests)
 
 -- one item more, behind the others: a cursor there passes it, where it doesn't count
 pub none_reached : (test : Item → Bool) (xs : List Item) (x : Item) (k n : ℕ) → n ≡ length xs → k ≤ n → first_offset test (take k xs) ≡ None
@@ -97,11 +93,7 @@ none_reached test xs x k n long le none = by_cases (k == n) refl (test x) refl
 
 -- a cursor that passes an offset or stays
 pub reach_within : (b : Bool) (k n m : ℕ) → k ≤ m → suc n ≤ m → furthest n b k ≤ m
-reach_within b k n m le less = by_cases ((k == n) && not b)
-  where
-    by_cases : (c : Bool) → (if c then suc n else k) ≤ m
-    by_cases true = less
-    by_cases false = le
+reach_within b k n m le less = grind (arith, nat_tests)
 
 -- the first item goes
 pub none_behind_first : (test : Item → Bool) (x : Item) (xs : List Item) (k : ℕ) → first_offset test (take k (x ∷ xs)) ≡ None → first_offset test (take (k - 1) xs) ≡ None

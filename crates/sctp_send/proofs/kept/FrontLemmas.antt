@@ -12,91 +12,44 @@ use Rattle.sctp_send.proofs.kept.ItemLemmas.{item_read}
 use Rattle.sctp_send.proofs.ReaderLemmas.{run_step, run_within}
 use Rattle.sctp_send.proofs.WalkLemmas.{none_behind}
 
--- an item that is abandoned counts, and one that isn't ends the count
-counts : (x : Item) (xs : List Item) → x.abandoned ≡ true → abandoned_items (x ∷ xs) ≡ suc (abandoned_items xs)
-counts x xs on = rw on refl
-
-ends : (x : Item) (xs : List Item) → x.abandoned ≡ false → abandoned_items (x ∷ xs) ≡ 0
-ends x xs off = rw off refl
-
 -- ---- one more, behind the others
 
 joined_whole : (xs : List Item) (x : Item) → x.abandoned ≡ true → abandoned_items xs ≡ length xs → abandoned_items (xs ++ x ∷ []) ≡ suc (length xs)
-joined_whole [] x on whole = counts x [] on
-joined_whole (y ∷ ys) x on whole = by_test y.abandoned refl (joined_whole ys x on)
-  where
-    by_test : (b : Bool) → y.abandoned ≡ b → (abandoned_items ys ≡ length ys → abandoned_items (ys ++ x ∷ []) ≡ suc (length ys)) → abandoned_items (y ∷ ys ++ x ∷ []) ≡ suc (suc (length ys))
-    by_test true is rest = counts y (ys ++ x ∷ []) is ∙ ap suc (rest (omega (arith, whole, counts y ys is)))
-    by_test false is rest = absurd (omega (arith, whole, ends y ys is))
+joined_whole [] x on whole = rw on refl
+joined_whole (y ∷ ys) x on whole = grind (arith, nat_tests, joined_whole ys x on)
 
 joined_less : (xs ys : List Item) → abandoned_items xs < length xs → abandoned_items (xs ++ ys) ≡ abandoned_items xs
 joined_less [] ys less = absurd (omega arith)
-joined_less (x ∷ xs) ys less = by_test x.abandoned refl (joined_less xs ys)
-  where
-    by_test : (b : Bool) → x.abandoned ≡ b → (abandoned_items xs < length xs → abandoned_items (xs ++ ys) ≡ abandoned_items xs) → abandoned_items (x ∷ xs ++ ys) ≡ abandoned_items (x ∷ xs)
-    by_test true is rest = counts x (xs ++ ys) is ∙ ap suc (rest (omega (arith, less, counts x xs is))) ∙ sym (counts x xs is)
-    by_test false is rest = ends x (xs ++ ys) is ∙ sym (ends x xs is)
+joined_less (x ∷ xs) ys less = grind (arith, nat_tests, joined_less xs ys)
 
 joined_other : (xs : List Item) (x : Item) → x.abandoned ≡ false → abandoned_items (xs ++ x ∷ []) ≡ abandoned_items xs
-joined_other [] x off = ends x [] off
-joined_other (y ∷ ys) x off = by_test y.abandoned refl (joined_other ys x off)
-  where
-    by_test : (b : Bool) → y.abandoned ≡ b → abandoned_items (ys ++ x ∷ []) ≡ abandoned_items ys → abandoned_items (y ∷ ys ++ x ∷ []) ≡ abandoned_items (y ∷ ys)
-    by_test true is rest = counts y (ys ++ x ∷ []) is ∙ ap suc rest ∙ sym (counts y ys is)
-    by_test false is rest = ends y (ys ++ x ∷ []) is ∙ sym (ends y ys is)
+joined_other [] x off = rw off refl
+joined_other (y ∷ ys) x off = rw (joined_other ys x off) refl
 
 pub front_pushed : (xs : List Item) (x : Item) (front n : ℕ) → n ≡ length xs → front ≡ abandoned_items xs → furthest n (not x.abandoned) front ≡ abandoned_items (xs ++ x ∷ [])
-front_pushed xs x front n long is = by_cases (front == n) refl x.abandoned refl
-  where
-    by_cases : (b : Bool) → (front == n) ≡ b → (c : Bool) → x.abandoned ≡ c → (if b && not (not c) then suc n else front) ≡ abandoned_items (xs ++ x ∷ [])
-    by_cases true near true on = let same : front ≡ n = grind (arith, nat_tests) in ap suc long ∙ sym (joined_whole xs x on (sym is ∙ same ∙ long))
-    by_cases true near false off = is ∙ sym (joined_other xs x off)
-    by_cases false far true on =
-        let other : front ≢ n = grind (arith, nat_tests) in
-        is ∙ sym (joined_less xs (x ∷ []) (let le = run_within xs in omega arith))
-    by_cases false far false off = is ∙ sym (joined_other xs x off)
+front_pushed xs x front n long is = grind (arith, nat_tests, joined_whole xs x, joined_less xs (x ∷ []), joined_other xs x, run_within xs)
 
 -- ---- one less
 
 pub first_some : (x : Item) (xs : List Item) (front : ℕ) → front ≡ abandoned_items (x ∷ xs) → 0 < front → front - 1 ≡ abandoned_items xs
-first_some x xs front is some = by_test x.abandoned refl
-  where
-    by_test : (b : Bool) → x.abandoned ≡ b → front - 1 ≡ abandoned_items xs
-    by_test true on = omega (arith, is, counts x xs on)
-    by_test false off = absurd (omega (arith, some, is, ends x xs off))
+first_some x xs front is some = grind (arith, nat_tests)
 
 -- ---- one becomes another
 
 set_off : (xs : List Item) (at : ℕ) (y : Item) → at < length xs → y.abandoned ≡ false → min (abandoned_items xs) at ≡ abandoned_items (set xs at y)
 set_off [] at y lt off = absurd (omega arith)
-set_off (x ∷ xs) zero y lt off = omega (arith, ends y xs off)
-set_off (x ∷ xs) (suc at) y lt off = by_test x.abandoned refl (set_off xs at y (omega arith) off)
-  where
-    by_test : (b : Bool) → x.abandoned ≡ b → min (abandoned_items xs) at ≡ abandoned_items (set xs at y) → min (abandoned_items (x ∷ xs)) (suc at) ≡ abandoned_items (x ∷ set xs at y)
-    by_test true is before = omega (arith, before, counts x xs is, counts x (set xs at y) is)
-    by_test false is before = omega (arith, ends x xs is, ends x (set xs at y) is)
+set_off (x ∷ xs) zero y lt off = grind (arith, nat_tests)
+set_off (x ∷ xs) (suc at) y lt off = let rest = set_off xs at y (omega arith) off in grind (arith, nat_tests, rest)
 
 set_far : (xs : List Item) (at : ℕ) (y : Item) → y.abandoned ≡ true → abandoned_items xs ≢ at → abandoned_items xs ≡ abandoned_items (set xs at y)
 set_far [] at y on far = refl
-set_far (x ∷ xs) zero y on far = by_test x.abandoned refl
-  where
-    by_test : (b : Bool) → x.abandoned ≡ b → abandoned_items (x ∷ xs) ≡ abandoned_items (y ∷ xs)
-    by_test true is = counts x xs is ∙ sym (counts y xs on)
-    by_test false is = absurd (far (ends x xs is))
-set_far (x ∷ xs) (suc at) y on far = by_test x.abandoned refl (set_far xs at y on)
-  where
-    by_test : (b : Bool) → x.abandoned ≡ b → (abandoned_items xs ≢ at → abandoned_items xs ≡ abandoned_items (set xs at y)) → abandoned_items (x ∷ xs) ≡ abandoned_items (x ∷ set xs at y)
-    by_test true is rest = counts x xs is ∙ ap suc (rest (λ same. far (counts x xs is ∙ ap suc same))) ∙ sym (counts x (set xs at y) is)
-    by_test false is rest = ends x xs is ∙ sym (ends x (set xs at y) is)
+set_far (x ∷ xs) zero y on far = grind (arith, nat_tests)
+set_far (x ∷ xs) (suc at) y on far = grind (arith, nat_tests, set_far xs at y on)
 
 set_there : (xs : List Item) (at : ℕ) (y : Item) → abandoned_items xs ≡ at → at + abandoned_items (drop at (set xs at y)) ≡ abandoned_items (set xs at y)
 set_there xs zero y is = omega arith
 set_there [] (suc at) y is = absurd (omega arith)
-set_there (x ∷ xs) (suc at) y is = by_test x.abandoned refl (set_there xs at y)
-  where
-    by_test : (b : Bool) → x.abandoned ≡ b → (abandoned_items xs ≡ at → at + abandoned_items (drop at (set xs at y)) ≡ abandoned_items (set xs at y)) → suc at + abandoned_items (drop at (set xs at y)) ≡ abandoned_items (x ∷ set xs at y)
-    by_test true on rest = let before = rest (omega (arith, is, counts x xs on)) in omega (arith, before, counts x (set xs at y) on)
-    by_test false off rest = absurd (omega (arith, is, ends x xs off))
+set_there (x ∷ xs) (suc at) y is = grind (arith, nat_tests, set_there xs at y)
 
 -- one that is abandoned as it was
 pub front_stays : (xs : List Item) (at : ℕ) (x y : Item) → at < length xs → x ≡ get_or xs at x → y.abandoned ≡ x.abandoned → abandoned_items (set xs at y) ≡ abandoned_items xs

@@ -1,6 +1,7 @@
 -- How many fates are of abandoned messages, as one changes and as one comes.
 use Rattle.std.proofs.Common.{◌≡◌, ℕ, zero, suc, ◌<◌, ◌≤◌, List, [], ◌∷◌, ◌++◌, length, get_or, set, Bool, true, false, refl, ap, arith}
 use Rattle.std.specs.Prelude.{if◌then◌else◌}
+use Rattle.std.proofs.lemmas.Bool.Decides.{nat_tests}
 use Rattle.sctp_send.specs.inner.Walks.{is_abandoned_fate, how_many_abandoned}
 use Rattle.sctp_send.specs.declared.kept.message.Fate.{Fate}
 use Rattle.sctp_send.specs.declared.kept.message.Fate.TheVariants.{Abandoned as WasAbandoned}
@@ -15,12 +16,7 @@ set_open (y ∷ ys) (suc at) x d lt was is = rw (set_open ys at x d (omega (arit
 pub set_gone : (xs : List Fate) (at : ℕ) (d : Fate) → at < length xs → is_abandoned_fate (get_or xs at d) ≡ false → how_many_abandoned (set xs at WasAbandoned) ≡ suc (how_many_abandoned xs)
 set_gone [] at d lt was = absurd (omega (arith, lt))
 set_gone (y ∷ ys) zero d lt was = rw was refl
-set_gone (y ∷ ys) (suc at) d lt was = by_first (is_abandoned_fate y) (set_gone ys at d (omega (arith, lt)) was)
-  where
-    by_first : (b : Bool) → how_many_abandoned (set ys at WasAbandoned) ≡ suc (how_many_abandoned ys)
-        → (if b then suc (how_many_abandoned (set ys at WasAbandoned)) else how_many_abandoned (set ys at WasAbandoned)) ≡ suc (if b then suc (how_many_abandoned ys) else how_many_abandoned ys)
-    by_first true rest = ap suc rest
-    by_first false rest = rest
+set_gone (y ∷ ys) (suc at) d lt was = rw (set_gone ys at d (omega (arith, lt)) was) (grind (arith, nat_tests))
 
 -- one more, of another message
 pub push_open : (xs : List Fate) (x : Fate) → is_abandoned_fate x ≡ false → how_many_abandoned (xs ++ x ∷ []) ≡ how_many_abandoned xs
@@ -30,8 +26,4 @@ push_open (y ∷ ys) x is = rw (push_open ys x is) refl
 -- no more than there are
 pub few_abandoned : (xs : List Fate) → how_many_abandoned xs ≤ length xs
 few_abandoned [] = omega arith
-few_abandoned (x ∷ xs) = by_first (is_abandoned_fate x) (few_abandoned xs)
-  where
-    by_first : (b : Bool) → how_many_abandoned xs ≤ length xs → (if b then suc (how_many_abandoned xs) else how_many_abandoned xs) ≤ suc (length xs)
-    by_first true le = omega (arith, le)
-    by_first false le = omega (arith, le)
+few_abandoned (x ∷ xs) = grind (arith, nat_tests, few_abandoned xs)

@@ -3,11 +3,12 @@ use Rattle.std.proofs.Common.{◌≡◌, ℕ, suc, ◌+◌, ◌%◌, ◌^◌, �
 use Rattle.std.specs.Prelude.{slice_get}
 use Rattle.std.proofs.lemmas.Bool.{cases_lt, cases_eq}
 use Rattle.sctp_send.specs.PartsKept.{changed_at}
+use Rattle.sctp_send.specs.inner.Changes.{told}
 use Rattle.sctp_send.specs.inner.Stretching.{AreAlike, told_run, index_at, slot_at, AreKnown}
 use Rattle.sctp_send.specs.declared.kept.stretches.Stretch.{Stretch}
 use Rattle.sctp_send.specs.declared.kept.entry.Entry.{Entry as EntryFields}
 use Rattle.sctp_send.proofs.kept.ChangedLemmas.{count_changed}
-use Rattle.sctp_send.proofs.kept.StretchLemmas.{length-told_run, alike_pushed, alike_before, alike_behind, alike_turned, alike_front, alike_back}
+use Rattle.sctp_send.proofs.kept.StretchLemmas.{length-run_changed, alike_pushed, alike_before, alike_behind, alike_turned, alike_front, alike_back}
 
 -- no more is said of any stretch
 abbrev pub SayNoMore : (now before : List Stretch) → Type 0
@@ -74,7 +75,7 @@ pub known_turned : (size first at : ℕ) (b c : Bool) (bytes plain : ℕ) (ss no
     → SayTheSame (index_at first at) now ss → ((s : Stretch) → slice_get now (slot_at (index_at first at)) ≡ Some s → s ≡ new)
     → new.covered ≡ c → new.bytes ≡ bytes → new.plain ≡ plain → AreAlike size b bytes plain at 64 es → AreKnown size first ss es → AreKnown size first now (told_run c at 64 es)
 known_turned size first at b c bytes plain ss now new es few there starts same here covered many kept alike h n s within begins read known =
-    let long = length-told_run c at 64 es in
+    let long = length-run_changed (told c) at 64 es in
     elim (cases_eq (slot_at (index_at first n)) (slot_at (index_at first at))) [
       | inl is ↦
           let one = one_there first n at (length es) few (omega (arith, within, long)) there begins starts is in

@@ -16,7 +16,7 @@ use Rattle.sctp_send.specs.declared.kept.entry.Standing.TheVariants.{Unsent, Sen
 use Rattle.sctp_send.specs.declared.kept.entry.Entry.{Entry as EntryFields}
 use Rattle.sctp_send.proofs.kept.ItemLemmas.{item_read}
 use Rattle.sctp_send.proofs.kept.WeightLemmas.{unsettled_one}
-use Rattle.sctp_send.proofs.kept.CursorLemmas.{none_more}
+use Rattle.sctp_send.proofs.kept.CursorLemmas.{reach_within, none_more}
 use Rattle.sctp_send.proofs.kept.FrontLemmas.{front_stays}
 use Rattle.sctp_send.proofs.kept.CountLemmas.{counts_set}
 
@@ -77,7 +77,7 @@ counts_sent size es at e c lt read is h =
       marked = all.marked;
       marked_within = all.marked_within;
       unsent = further now new low here refl c.unsent all.unsent;
-      unsent_within = let le = h.unsent_within in further_within c.unsent (length now) (omega (arith, le, long)) low;
+      unsent_within = let le = h.unsent_within in reach_within false c.unsent at (length now) (omega (arith, le, long)) (omega (arith, low));
       flight = let sum = all.flight in omega (arith, sum, weightless size e is);
       unsettled = let sum = all.unsettled in omega (arith, sum, uncounted size e is);
       front = front;
@@ -93,10 +93,3 @@ counts_sent size es at e c lt read is h =
             let same : k ≡ at = grind (arith, nat_tests) in
             let next : suc at ≡ at + 1 = omega arith in
             rw next (none_more is_item_unsent size fs at f low here off (subst (λ (n : ℕ). first_offset is_item_unsent (take n (map (item_meaning size) fs)) ≡ None) same none))
-
-    further_within : (k m : ℕ) → k ≤ m → at < m → furthest at false k ≤ m
-    further_within k m le low = by_near (k == at)
-      where
-        by_near : (b : Bool) → (if b && true then suc at else k) ≤ m
-        by_near true = omega (arith, low)
-        by_near false = le

@@ -6,13 +6,9 @@ use Rattle.sctp_send.specs.PartsKept.{OutstandingKept, changed_at, changed}
 use Rattle.sctp_send.specs.inner.Changes.{unmarked, stood, as_abandoned}
 use Rattle.sctp_send.specs.declared.kept.entry.Standing.{Standing}
 use Rattle.sctp_send.specs.declared.kept.entry.Entry.{Entry as EntryFields}
+use Rattle.sctp_send.proofs.kept.ChangedLemmas.{changed_at_like}
 
 -- ---- what is outstanding, with one entry changed
-
-pub same_there : {A : Type 0} (f g : A → A) (n : ℕ) (xs : List A) (x : A) → x ≡ get_or xs n x → f x ≡ g x → changed_at f n xs ≡ changed_at g n xs
-same_there f g n [] x read same = refl
-same_there {A = A} f g zero (y ∷ ys) x read same = ap (λ (z : A). z ∷ ys) (ap f (sym read) ∙ same ∙ ap g read)
-same_there {A = A} f g (suc n) (y ∷ ys) x read same = ap (λ (zs : List A). y ∷ zs) (same_there f g n ys x read same)
 
 pub stays_there : {A : Type 0} (f : A → A) (n : ℕ) (xs : List A) (x : A) → x ≡ get_or xs n x → f x ≡ x → xs ≡ changed_at f n xs
 stays_there f n [] x read same = refl
@@ -21,7 +17,7 @@ stays_there {A = A} f (suc n) (y ∷ ys) x read same = ap (λ (zs : List A). y �
 
 -- changes that agree on the entry
 pub changed_same : (f g : EntryFields → EntryFields) (n : ℕ) (w : OutstandingKept) (x : EntryFields) → x ≡ get_or w.items n x → f x ≡ g x → changed f n w ≡ changed g n w
-changed_same f g n w x read same = ap (λ (es : List EntryFields). record w { items = es }) (same_there f g n w.items x read same)
+changed_same f g n w x read same = ap (λ (es : List EntryFields). record w { items = es }) (changed_at_like f g n w.items x read same)
 
 -- a change that leaves the entry as it is
 pub changed_none : (f : EntryFields → EntryFields) (n : ℕ) (w : OutstandingKept) (x : EntryFields) → x ≡ get_or w.items n x → f x ≡ x → w ≡ changed f n w

@@ -4,7 +4,7 @@ use Rattle.std.specs.Prelude.{not, slice_get}
 use mathlib.Core.Bool.{beq}
 use Rattle.sctp_send.specs.PartsKept.{changed_at}
 use Rattle.sctp_send.specs.inner.Changes.{unmarked, told, told_where, is_between}
-use Rattle.sctp_send.specs.inner.Stretching.{IsQuiet, plain_bytes, plain_one, AreAlike, told_run, covered_run}
+use Rattle.sctp_send.specs.inner.Stretching.{IsQuiet, plain_bytes, plain_one, AreAlike, run_changed, told_run, covered_run}
 use Rattle.sctp_send.specs.declared.kept.entry.Standing.{Standing}
 use Rattle.sctp_send.specs.declared.kept.entry.Entry.{Entry as EntryFields}
 use Rattle.sctp_send.proofs.sack.TellLemmas.{run_starts, run_step}
@@ -108,58 +108,33 @@ alike_more size c n p zero (suc k) (d ∷ es) e h read plain =
 
 -- ---- entries in a row that are told
 
-pub length-told_run : (c : Bool) (at k : ℕ) (es : List EntryFields) → length (told_run c at k es) ≡ length es
-length-told_run c (suc at) k [] = refl
-length-told_run c (suc at) k (e ∷ es) = ap suc (length-told_run c at k es)
-length-told_run c zero zero es = refl
-length-told_run c zero (suc k) [] = refl
-length-told_run c zero (suc k) (e ∷ es) = ap suc (length-told_run c zero k es)
+pub length-run_changed : (g : EntryFields → EntryFields) (at k : ℕ) (es : List EntryFields) → length (run_changed g at k es) ≡ length es
+length-run_changed g (suc at) k [] = refl
+length-run_changed g (suc at) k (e ∷ es) = ap suc (length-run_changed g at k es)
+length-run_changed g zero zero es = refl
+length-run_changed g zero (suc k) [] = refl
+length-run_changed g zero (suc k) (e ∷ es) = ap suc (length-run_changed g zero k es)
 
-run_none : (c : Bool) (at : ℕ) (es : List EntryFields) → told_run c at zero es ≡ es
-run_none c zero es = refl
-run_none c (suc at) [] = refl
-run_none c (suc at) (e ∷ es) = ap (λ (xs : List EntryFields). e ∷ xs) (run_none c at es)
+pub run_none : (g : EntryFields → EntryFields) (at : ℕ) (es : List EntryFields) → run_changed g at zero es ≡ es
+run_none g zero es = refl
+run_none g (suc at) [] = refl
+run_none g (suc at) (e ∷ es) = ap (λ (xs : List EntryFields). e ∷ xs) (run_none g at es)
 
-run_more : (c : Bool) (at k : ℕ) (es : List EntryFields) → told_run c at (suc k) es ≡ changed_at (told c) (at + k) (told_run c at k es)
-run_more c (suc at) k [] = refl
-run_more c (suc at) k (e ∷ es) = let next : suc at + k ≡ suc (at + k) = omega arith in rw next (ap (λ (xs : List EntryFields). e ∷ xs) (run_more c at k es))
-run_more c zero zero [] = refl
-run_more c zero zero (e ∷ es) = refl
-run_more c zero (suc k) [] = refl
-run_more c zero (suc k) (e ∷ es) = let next : zero + suc k ≡ suc (zero + k) = omega arith in rw next (ap (λ (xs : List EntryFields). told c e ∷ xs) (run_more c zero k es))
+pub run_more : (g : EntryFields → EntryFields) (at k : ℕ) (es : List EntryFields) → run_changed g at (suc k) es ≡ changed_at g (at + k) (run_changed g at k es)
+run_more g (suc at) k [] = refl
+run_more g (suc at) k (e ∷ es) = let next : suc at + k ≡ suc (at + k) = omega arith in rw next (ap (λ (xs : List EntryFields). e ∷ xs) (run_more g at k es))
+run_more g zero zero [] = refl
+run_more g zero zero (e ∷ es) = refl
+run_more g zero (suc k) [] = refl
+run_more g zero (suc k) (e ∷ es) = let next : zero + suc k ≡ suc (zero + k) = omega arith in rw next (ap (λ (xs : List EntryFields). g e ∷ xs) (run_more g zero k es))
 
 -- they are told by their indexes
 pub run_where : (c : Bool) (at k : ℕ) (es : List EntryFields) → at + k ≤ length es → told_run c at k es ≡ told_where c (is_between at (at + k)) 1 es
-run_where c at zero es le = let same : at + 0 ≡ at = omega arith in run_none c at es ∙ run_starts c at es ∙ ap (λ (n : ℕ). told_where c (is_between at n) 1 es) (sym same)
+run_where c at zero es le = let same : at + 0 ≡ at = omega arith in run_none (told c) at es ∙ run_starts c at es ∙ ap (λ (n : ℕ). told_where c (is_between at n) 1 es) (sym same)
 run_where c at (suc k) es le =
     let before = run_where c at k es (omega (arith, le)) in
-    let long = length-told_run c at k es in
     let next : at + k + 1 ≡ at + suc k = omega arith in
-    run_more c at k es ∙ run_step c at (at + k) es (told_run c at k es) (omega arith) (omega (arith, le, long)) before ∙ ap (λ (n : ℕ). told_where c (is_between at n) 1 es) next
-
--- it is noted that an entry is covered, or not
-abbrev pub noted : Bool → EntryFields → EntryFields
-noted c e = record e { covered = c }
-
-pub length-covered_run : (c : Bool) (at k : ℕ) (es : List EntryFields) → length (covered_run c at k es) ≡ length es
-length-covered_run c (suc at) k [] = refl
-length-covered_run c (suc at) k (e ∷ es) = ap suc (length-covered_run c at k es)
-length-covered_run c zero zero es = refl
-length-covered_run c zero (suc k) [] = refl
-length-covered_run c zero (suc k) (e ∷ es) = ap suc (length-covered_run c zero k es)
-
-pub noted_none : (c : Bool) (at : ℕ) (es : List EntryFields) → covered_run c at zero es ≡ es
-noted_none c zero es = refl
-noted_none c (suc at) [] = refl
-noted_none c (suc at) (e ∷ es) = ap (λ (xs : List EntryFields). e ∷ xs) (noted_none c at es)
-
-pub noted_more : (c : Bool) (at k : ℕ) (es : List EntryFields) → covered_run c at (suc k) es ≡ changed_at (noted c) (at + k) (covered_run c at k es)
-noted_more c (suc at) k [] = refl
-noted_more c (suc at) k (e ∷ es) = let next : suc at + k ≡ suc (at + k) = omega arith in rw next (ap (λ (xs : List EntryFields). e ∷ xs) (noted_more c at k es))
-noted_more c zero zero [] = refl
-noted_more c zero zero (e ∷ es) = refl
-noted_more c zero (suc k) [] = refl
-noted_more c zero (suc k) (e ∷ es) = let next : zero + suc k ≡ suc (zero + k) = omega arith in rw next (ap (λ (xs : List EntryFields). noted c e ∷ xs) (noted_more c zero k es))
+    run_more (told c) at k es ∙ ap (changed_at (told c) (at + k)) before ∙ run_step c at (at + k) es (omega arith) ∙ ap (λ (n : ℕ). told_where c (is_between at n) 1 es) next
 
 -- where they stand alike, it is noted that they are covered, or not, and no more
 pub run_noted : (size : ℕ) (b c : Bool) (n p at k : ℕ) (es : List EntryFields) → AreAlike size b n p at k es → covered_run c at k es ≡ told_run c at k es

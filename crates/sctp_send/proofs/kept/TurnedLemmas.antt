@@ -1,12 +1,13 @@
 -- The counts of all entries once a stretch is set acknowledged, or not, as a whole.
 use Rattle.std.proofs.Common.{◌≡◌, ℕ, zero, suc, ◌+◌, ◌-◌, ◌%◌, ◌^◌, ◌<◌, List, [], ◌∷◌, map, take, Bool, true, false, Option, Some, refl, sym, ap, ◌∙◌, arith}
 use Rattle.std.specs.Prelude.{not, ◌&&◌, if◌then◌else◌, option_map}
+use Rattle.std.proofs.lemmas.Bool.Decides.{nat_tests}
 use Rattle.sctp_send.specs.SenderKept.{Item}
 use Rattle.sctp_send.specs.OutstandingFields.{was_sent, is_marked, item_meaning}
 use Rattle.sctp_send.specs.inner.Changes.{told}
 use Rattle.sctp_send.specs.inner.Counting.{count_unsettled, lowered, IsCounted}
 use Rattle.sctp_send.specs.inner.Newcomers.{one_if}
-use Rattle.sctp_send.specs.inner.Stretching.{IsPlain, IsQuiet, entry_bytes, plain_bytes, plain_one, AreAlike, told_run, turned_counts}
+use Rattle.sctp_send.specs.inner.Stretching.{IsPlain, IsQuiet, entry_bytes, plain_bytes, plain_one, AreAlike, run_changed, told_run, turned_counts}
 use Rattle.sctp_send.specs.inner.TicketOrder.{tickets_of}
 use Rattle.sctp_send.specs.inner.Walks.{abandoned_items, is_item_unsettled}
 use Rattle.sctp_send.specs.inner.Wishing.{first_offset, is_item_marked, is_item_unsent, item_weight, item_flight}
@@ -14,7 +15,7 @@ use Rattle.sctp_send.specs.declared.kept.counts.Counts.{Counts}
 use Rattle.sctp_send.specs.declared.kept.entry.Entry.{Entry as EntryFields}
 use Rattle.sctp_send.specs.declared.kept.entry.Standing.{Standing}
 use Rattle.sctp_send.specs.declared.kept.entry.Standing.TheVariants.{Unsent, Sent, Marked}
-use Rattle.sctp_send.proofs.kept.StretchLemmas.{length-told_run, quiet_told}
+use Rattle.sctp_send.proofs.kept.StretchLemmas.{length-run_changed, quiet_told}
 
 -- ---- a plain entry
 
@@ -28,32 +29,16 @@ plain_lowered size at e c h = rw h.out refl
 
 -- ---- a quiet entry
 
-no_weight : (s : Standing) (n : ℕ) → (if not (is_marked s) && (was_sent s && false) then n else 0) ≡ 0
-no_weight Unsent n = refl
-no_weight Sent n = refl
-no_weight Marked n = refl
-
-no_count : (s : Standing) → one_if (was_sent s && false) ≡ 0
-no_count Unsent = refl
-no_count Sent = refl
-no_count Marked = refl
-
-never_first : (s : Standing) (c : Bool) → (not (was_sent s) && (not c && false)) ≡ false
-never_first Unsent true = refl
-never_first Unsent false = refl
-never_first Sent c = refl
-never_first Marked c = refl
-
 -- one that is acknowledged has no weight, and is not unsettled
 quiet_covered : (size : ℕ) (e : EntryFields) → IsQuiet true e → (item_weight (item_meaning size e) ≡ 0) × (one_if (is_item_unsettled (item_meaning size e)) ≡ 0)
-quiet_covered size e h = (rw h.covers (no_weight e.standing (entry_bytes size e)), rw h.covers (no_count e.standing))
+quiet_covered size e h = (rw h.covers (grind (arith, nat_tests)), rw h.covers (grind (arith, nat_tests)))
 
 -- one that isn't has the weight of its bytes, and counts, unless it is abandoned
 quiet_uncovered : (size : ℕ) (e : EntryFields) → IsQuiet false e → (item_weight (item_meaning size e) ≡ plain_bytes size e) × (one_if (is_item_unsettled (item_meaning size e)) ≡ plain_one e)
 quiet_uncovered size e h = by_flag e.abandoned refl
   where
     by_flag : (g : Bool) → e.abandoned ≡ g → (item_weight (item_meaning size e) ≡ plain_bytes size e) × (one_if (is_item_unsettled (item_meaning size e)) ≡ plain_one e)
-    by_flag true is = (rw (is, h.covers) (no_weight e.standing (entry_bytes size e)), rw (is, h.covers) (no_count e.standing))
+    by_flag true is = (rw (is, h.covers) (grind (arith, nat_tests)), rw (is, h.covers) (grind (arith, nat_tests)))
     by_flag false is = (rw (h.out is, h.covers, is) refl, rw (h.out is, h.covers, is) refl)
 
 -- it is not to go out for the first time
@@ -61,7 +46,7 @@ not_first : (size : ℕ) (e : EntryFields) → (e.abandoned ≡ false → e.stan
 not_first size e out = by_flag e.abandoned refl
   where
     by_flag : (g : Bool) → e.abandoned ≡ g → is_item_unsent (item_meaning size e) ≡ false
-    by_flag true is = rw is (never_first e.standing e.covered)
+    by_flag true is = rw is (grind (arith, nat_tests))
     by_flag false is = rw (out is) refl
 
 -- ---- sums
@@ -113,36 +98,35 @@ quiet_marked size b false e h = refl
 quiet_unsent : (size : ℕ) (b c : Bool) (e : EntryFields) → IsQuiet b e → is_item_unsent (item_meaning size (told c e)) ≡ is_item_unsent (item_meaning size e)
 quiet_unsent size b c e h = not_first size (told c e) (quiet_told b c e h).out ∙ sym (not_first size e h.out)
 
-same_front : (size : ℕ) (c : Bool) (at k : ℕ) (es : List EntryFields) → abandoned_items (map (item_meaning size) (told_run c at k es)) ≡ abandoned_items (map (item_meaning size) es)
-same_front size c (suc at) k [] = refl
-same_front size c (suc at) k (e ∷ es) = ap (λ (n : ℕ). if e.abandoned then suc n else 0) (same_front size c at k es)
-same_front size c zero zero es = refl
-same_front size c zero (suc k) [] = refl
-same_front size c zero (suc k) (e ∷ es) = by_told c (same_front size c zero k es)
-  where
-    by_told : (d : Bool) → abandoned_items (map (item_meaning size) (told_run c zero k es)) ≡ abandoned_items (map (item_meaning size) es)
-        → (if (told d e).abandoned then suc (abandoned_items (map (item_meaning size) (told_run c zero k es))) else 0) ≡ (if e.abandoned then suc (abandoned_items (map (item_meaning size) es)) else 0)
-    by_told true rest = ap (λ (n : ℕ). if e.abandoned then suc n else 0) rest
-    by_told false rest = ap (λ (n : ℕ). if e.abandoned then suc n else 0) rest
+same_front : (size : ℕ) (g : EntryFields → EntryFields) (at k : ℕ) (es : List EntryFields) → ((e : EntryFields) → (g e).abandoned ≡ e.abandoned) → abandoned_items (map (item_meaning size) (run_changed g at k es)) ≡ abandoned_items (map (item_meaning size) es)
+same_front size g (suc at) k [] same = refl
+same_front size g (suc at) k (e ∷ es) same = rw (same_front size g at k es same) refl
+same_front size g zero zero es same = refl
+same_front size g zero (suc k) [] same = refl
+same_front size g zero (suc k) (e ∷ es) same = rw (same e, same_front size g zero k es same) refl
 
-pub same_tickets : (c : Bool) (at k : ℕ) (es : List EntryFields) → tickets_of (told_run c at k es) ≡ tickets_of es
-same_tickets c (suc at) k [] = refl
-same_tickets c (suc at) k (e ∷ es) = ap (λ (ts : List ℕ). e.message.value.ticket ∷ ts) (same_tickets c at k es)
-same_tickets c zero zero es = refl
-same_tickets c zero (suc k) [] = refl
-same_tickets c zero (suc k) (e ∷ es) = by_told c (same_tickets c zero k es)
-  where
-    by_told : (d : Bool) → tickets_of (told_run c zero k es) ≡ tickets_of es → (told d e).message.value.ticket ∷ tickets_of (told_run c zero k es) ≡ e.message.value.ticket ∷ tickets_of es
-    by_told true rest = ap (λ (ts : List ℕ). e.message.value.ticket ∷ ts) rest
-    by_told false rest = ap (λ (ts : List ℕ). e.message.value.ticket ∷ ts) rest
+pub same_ticket : (b : Bool) (e : EntryFields) → (told b e).message.value.ticket ≡ e.message.value.ticket
+same_ticket true e = refl
+same_ticket false e = refl
+
+pub same_tickets : (g : EntryFields → EntryFields) (at k : ℕ) (es : List EntryFields) → ((e : EntryFields) → (g e).message.value.ticket ≡ e.message.value.ticket) → tickets_of (run_changed g at k es) ≡ tickets_of es
+same_tickets g (suc at) k [] same = refl
+same_tickets g (suc at) k (e ∷ es) same = rw (same_tickets g at k es same) refl
+same_tickets g zero zero es same = refl
+same_tickets g zero (suc k) [] same = refl
+same_tickets g zero (suc k) (e ∷ es) same = rw (same e, same_tickets g zero k es same) refl
 
 -- ---- all that is counted
+
+same_flag : (b : Bool) (e : EntryFields) → (told b e).abandoned ≡ e.abandoned
+same_flag true e = refl
+same_flag false e = refl
 
 counts_turned_by : (size : ℕ) (b c : Bool) (n p at : ℕ) (es : List EntryFields) (d : Counts) (flight unsettled : ℕ) → AreAlike size b n p at 64 es → IsCounted size es d
     → flight ≡ item_flight (map (item_meaning size) (told_run c at 64 es)) % 2 ^ 64 → unsettled ≡ count_unsettled (map (item_meaning size) (told_run c at 64 es)) % 2 ^ 64
     → IsCounted size (told_run c at 64 es) (record d { flight = flight; unsettled = unsettled })
 counts_turned_by size b c n p at es d flight unsettled h counted one two =
-    let long = length-told_run c at 64 es in
+    let long = length-run_changed (told c) at 64 es in
     record {
       some = counted.some;
       small = counted.small;
@@ -152,7 +136,7 @@ counts_turned_by size b c n p at es d flight unsettled h counted one two =
       unsent_within = let le = counted.unsent_within in omega (arith, le, long);
       flight = one;
       unsettled = two;
-      front = counted.front ∙ sym (same_front size c at 64 es);
+      front = counted.front ∙ sym (same_front size (told c) at 64 es (same_flag c));
     }
 
 pub counts_turned : (size : ℕ) (c : Bool) (n p at : ℕ) (es : List EntryFields) (d : Counts) → n < 2 ^ 32 → p < 2 ^ 8 → AreAlike size (not c) n p at 64 es → IsCounted size es d

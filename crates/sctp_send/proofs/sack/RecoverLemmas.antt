@@ -1,6 +1,7 @@
 -- What a SACK changes: once the entries in which the old runs and its own differ are set, just its own are acknowledged.
-use Rattle.std.proofs.Common.{◌≡◌, ℕ, zero, suc, ◌+◌, ◌<◌, ◌≤◌, List, [], ◌∷◌, ◌++◌, length, map, take, drop, get_or, min, Bool, true, false, Option, Some, refl, sym, ap, ◌∙◌, subst, arith}
-use Rattle.std.specs.Prelude.{nat_lt, nat_le, not, ◌&&◌, ◌||◌, if◌then◌else◌}
+use Rattle.std.proofs.Common.{◌≡◌, ℕ, zero, suc, ◌+◌, ◌<◌, ◌≤◌, List, [], ◌∷◌, ◌++◌, length, map, take, drop, get_or, min, Bool, true, false, Option, Some, refl, sym, ap, ◌∙◌, subst, add-one, arith}
+use Rattle.std.specs.Prelude.{not, ◌&&◌, ◌||◌, if◌then◌else◌}
+use Rattle.std.proofs.lemmas.List.{take_all}
 use Rattle.std.proofs.lemmas.Bool.Decides.{nat_tests}
 use Rattle.sctp_model.specs.messages.Format.{Format}
 use Rattle.sctp_model.specs.messages.Plan.{Entry}
@@ -11,14 +12,15 @@ use Rattle.sctp_send.specs.SenderKept.{Item, Kept}
 use Rattle.sctp_send.specs.SenderStands.{item_here, items_from, Keeps}
 use Rattle.sctp_send.specs.CoveredRuns.{in_run, in_runs, AreCovered, runs_behind}
 use Rattle.sctp_send.specs.OutstandingFields.{is_marked, item_meaning}
-use Rattle.sctp_send.specs.inner.Changes.{unmarked, told, all_told, told_where, in_gaps, in_alone, IsExact}
+use Rattle.sctp_send.specs.inner.Changes.{unmarked, told, told_at, all_told, told_where, in_gaps, in_alone, IsExact}
 use Rattle.sctp_send.specs.declared.kept.entry.CoveredRun.{CoveredRun}
 use Rattle.sctp_send.specs.declared.kept.entry.Standing.{Standing}
 use Rattle.sctp_send.specs.declared.kept.entry.Standing.TheVariants.{Unsent, Sent, Marked}
 use Rattle.sctp_send.specs.declared.kept.entry.Entry.{Entry as EntryFields}
 use Rattle.sctp_send.proofs.sack.RunLemmas.{runs_more, order_behind, all_behind}
 use Rattle.sctp_send.proofs.KeepLemmas.{left_items}
-use Rattle.sctp_send.proofs.sack.TellLemmas.{where_same, where_none, where_joined}
+use Rattle.sctp_send.proofs.sack.EachLemmas.{each_same, each_joined}
+use Rattle.sctp_send.proofs.sack.TellLemmas.{told_twice, where_same, where_none, where_joined}
 
 -- ---- runs over others
 
@@ -28,7 +30,7 @@ take_step (x ∷ rs) zero r d lt is = ap (λ (y : CoveredRun). y ∷ []) (sym is
 take_step (x ∷ rs) (suc k) r d lt is = ap (λ (ys : List CoveredRun). x ∷ ys) (take_step rs k r d (omega arith) is)
 
 pub alone_start : (b : Bool) (os : List CoveredRun) (es : List EntryFields) → es ≡ told_where b (in_alone [] os) 1 es
-alone_start b os es = sym (where_none b (in_alone [] os) 1 es (λ j lo. refl))
+alone_start b os es = where_none b (in_alone [] os) 1 es (λ j lo. refl)
 
 -- one run more
 pub alone_more : (b : Bool) (rs os : List CoveredRun) (k last : ℕ) (r d : CoveredRun) (es now later : List EntryFields) → k < length rs → r ≡ get_or rs k d → last ≡ length es → now ≡ told_where b (in_alone (take k rs) os) 1 es
@@ -37,50 +39,37 @@ alone_more b rs os k last r d es now later lt read long is last_is =
     last_is ∙ ap (told_where b (in_gaps os r.from (min r.to last)) 1) is ∙ where_joined b (in_alone (take k rs) os) (in_gaps os r.from (min r.to last)) 1 es
     ∙ where_same b (λ j. in_alone (take k rs) os j || in_gaps os r.from (min r.to last) j) (in_alone (take (k + 1) rs) os) 1 es (λ j lo hi. same j (omega (arith, long, hi)))
   where
-    common : (x y z : Bool) → ((x && z) || (y && z)) ≡ ((x || y) && z)
-    common true true true = refl
-    common true true false = refl
-    common true false true = refl
-    common true false false = refl
-    common false y z = refl
-
     same : (j : ℕ) → j ≤ last → (in_alone (take k rs) os j || in_gaps os r.from (min r.to last) j) ≡ in_alone (take (k + 1) rs) os j
     same j le =
-        let one : k + 1 ≡ suc k = omega arith in
-        let near : nat_le j (min r.to last) ≡ nat_le j r.to = by_to (nat_le j r.to) refl in
-        let runs : in_runs (take (k + 1) rs) j ≡ (in_runs (take k rs) j || in_run r j) = ap (λ (n : ℕ). in_runs (take n rs) j) one ∙ ap (λ (ys : List CoveredRun). in_runs ys j) (take_step rs k r d lt read) ∙ runs_more (take k rs) r j in
-        ap (λ (c : Bool). in_alone (take k rs) os j || ((nat_lt r.from j && c) && not (in_runs os j))) near ∙ common (in_runs (take k rs) j) (in_run r j) (not (in_runs os j)) ∙ ap (λ (c : Bool). c && not (in_runs os j)) (sym runs)
-      where
-        by_to : (c : Bool) → nat_le j r.to ≡ c → nat_le j (min r.to last) ≡ c
-        by_to true up = grind (arith, nat_tests)
-        by_to false out = grind (arith, nat_tests)
+        let runs : in_runs (take (k + 1) rs) j ≡ (in_runs (take k rs) j || in_run r j) = rw (add-one, take_step rs k r d lt read) (runs_more (take k rs) r j) in
+        rw runs (grind (arith, nat_tests))
 
 pub alone_all : (b : Bool) (rs os : List CoveredRun) (k : ℕ) (es now : List EntryFields) → length rs ≤ k → now ≡ told_where b (in_alone (take k rs) os) 1 es → now ≡ told_where b (in_alone rs os) 1 es
-alone_all b rs os k es now le is = is ∙ ap (λ (ys : List CoveredRun). told_where b (in_alone ys os) 1 es) (all rs k le)
-  where
-    all : (xs : List CoveredRun) (n : ℕ) → length xs ≤ n → take n xs ≡ xs
-    all [] zero lt = refl
-    all [] (suc n) lt = refl
-    all (x ∷ xs) zero lt = absurd (omega arith)
-    all (x ∷ xs) (suc n) lt = ap (λ (ys : List CoveredRun). x ∷ ys) (all xs n (omega arith))
+alone_all b rs os k es now le is = rw take_all at is
 
 -- ---- all of it
 
 -- what lay in the old runs is told covered where it lies in new ones alone, and then uncovered where it lay in old ones alone
 all_recovered : (old new : List CoveredRun) (i : ℕ) (es : List EntryFields) → all_told (in_runs old) i es ≡ es → told_where false (in_alone old new) i (told_where true (in_alone new old) i es) ≡ all_told (in_runs new) i es
-all_recovered old new i [] exact = refl
-all_recovered old new i (e ∷ es) exact =
-    let head : told (in_runs old i) e ≡ e = ap (λ (xs : List EntryFields). get_or xs 0 e) exact in
-    let rest : all_told (in_runs old) (suc i) es ≡ es = ap (drop 1) exact in
-    by_tests (in_runs old i) (in_runs new i) head (all_recovered old new (suc i) es rest)
+all_recovered old new i es exact = subst (λ (xs : List EntryFields). told_where false off i (told_where true on i xs) ≡ all_told (in_runs new) i xs) exact
+    (ap (told_where false off i) (each_joined was (told_at true on) i es) ∙ each_joined (λ j e. told_at true on j (was j e)) (told_at false off) i es
+    ∙ each_same (λ j e. told_at false off j (told_at true on j (was j e))) (λ j e. told (in_runs new j) (was j e)) i es (λ j e lo hi. by_tests e (in_runs old j) (in_runs new j))
+    ∙ sym (each_joined was (λ j. told (in_runs new j)) i es))
   where
-    by_tests : (o n : Bool) → told o e ≡ e → told_where false (in_alone old new) (suc i) (told_where true (in_alone new old) (suc i) es) ≡ all_told (in_runs new) (suc i) es
-        → (if o && not n then told false (if n && not o then told true e else e) else (if n && not o then told true e else e)) ∷ told_where false (in_alone old new) (suc i) (told_where true (in_alone new old) (suc i) es)
-        ≡ told n e ∷ all_told (in_runs new) (suc i) es
-    by_tests true true stays more = ap (λ (xs : List EntryFields). e ∷ xs) more ∙ ap (λ (y : EntryFields). y ∷ all_told (in_runs new) (suc i) es) (sym stays)
-    by_tests true false stays more = ap (λ (xs : List EntryFields). told false e ∷ xs) more
-    by_tests false true stays more = ap (λ (xs : List EntryFields). told true e ∷ xs) more
-    by_tests false false stays more = ap (λ (xs : List EntryFields). e ∷ xs) more ∙ ap (λ (y : EntryFields). y ∷ all_told (in_runs new) (suc i) es) (sym stays)
+    on : ℕ → Bool
+    on = in_alone new old
+
+    off : ℕ → Bool
+    off = in_alone old new
+
+    was : ℕ → EntryFields → EntryFields
+    was j e = told (in_runs old j) e
+
+    by_tests : (e : EntryFields) (o n : Bool) → (if o && not n then told false (if n && not o then told true (told o e) else told o e) else (if n && not o then told true (told o e) else told o e)) ≡ told n (told o e)
+    by_tests e true true = sym (told_twice true e)
+    by_tests e true false = refl
+    by_tests e false true = refl
+    by_tests e false false = refl
 
 pub recovered : (old new : List CoveredRun) (es now later : List EntryFields) → all_told (in_runs old) 1 es ≡ es → now ≡ told_where true (in_alone new old) 1 es → later ≡ told_where false (in_alone old new) 1 now → later ≡ all_told (in_runs new) 1 es
 recovered old new es now later exact first last_is = last_is ∙ ap (told_where false (in_alone old new) 1) first ∙ all_recovered old new 1 es exact

@@ -1,28 +1,20 @@
 -- Runs of acknowledged entries: kept from the gap blocks of a SACK, and moved as entries in front are removed.
-use Rattle.std.proofs.Common.{◌≡◌, ℕ, zero, suc, ◌+◌, ◌-◌, ◌<◌, ◌≤◌, List, [], ◌∷◌, ◌++◌, length, map, set, get_or, take, drop, Bool, true, false, Option, Some, None, refl, ap, ◌∙◌, arith}
-use Rattle.std.specs.Prelude.{nat_lt, nat_le, ◌&&◌, ◌||◌, option_map}
+use Rattle.std.proofs.Common.{◌≡◌, ℕ, zero, suc, ◌+◌, ◌-◌, ◌<◌, ◌≤◌, List, [], ◌∷◌, ◌++◌, length, map, set, get_or, take, drop, Bool, true, false, Option, Some, None, refl, ap, ◌∙◌, arith, length-append, length-drop}
+use Rattle.std.specs.Prelude.{nat_le, ◌&&◌, ◌||◌, option_map}
+use Rattle.std.proofs.lemmas.List.{length-map, length-take}
 use Rattle.std.proofs.lemmas.Bool.Decides.{nat_tests}
 use Rattle.sctp_model.specs.wire.Chunk.{BlockMeaning}
 use Rattle.sctp_model.specs.messages.Acknowledgement.{in_blocks}
-use Rattle.sctp_model.specs.sender.SackTaken.{some_is_bad}
 use Rattle.sctp_model.specs.sender.Words.{when}
 use Rattle.sctp_send.specs.CoveredRuns.{in_run, in_runs, AreInOrder, AreCovered, HoldsBlocks, run_behind, runs_behind}
 use Rattle.sctp_send.specs.declared.kept.entry.CoveredRun.{CoveredRun}
+use Rattle.sctp_send.proofs.sack.CoverLemmas.{block_run}
 
 -- ---- seen from further on
 
 -- an offset lies in a run just where the same entry's new offset lies in the run as it is seen then
 one_behind : (n i : ℕ) (r : CoveredRun) → 0 < i → in_run r (n + i) ≡ in_run (run_behind n r) i
-one_behind n i r some = both (nat_lt r.from (n + i)) (nat_le (n + i) r.to) (nat_lt (r.from - n) i) (nat_le i (r.to - n)) from to
-  where
-    from : nat_lt r.from (n + i) ≡ nat_lt (r.from - n) i
-    from = grind (arith, nat_tests)
-
-    to : nat_le (n + i) r.to ≡ nat_le i (r.to - n)
-    to = grind (arith, nat_tests)
-
-    both : (a b c d : Bool) → a ≡ c → b ≡ d → (a && b) ≡ (c && d)
-    both a b c d x y = ap (λ (z : Bool). z && b) x ∙ ap (λ (z : Bool). c && z) y
+one_behind n i r some = grind (arith, nat_tests)
 
 pub order_behind : (n low here : ℕ) (rs : List CoveredRun) → low ≤ here - n → AreInOrder here rs → AreInOrder low (runs_behind n rs)
 order_behind n low here [] le order = tt
@@ -53,13 +45,7 @@ behind_step n zero (r ∷ rs) d low = refl
 behind_step n (suc at) (r ∷ rs) d low = ap (λ (xs : List CoveredRun). run_behind n r ∷ xs) (behind_step n at rs d (omega arith))
 
 pub length-first_behind : (n at : ℕ) (rs : List CoveredRun) → length (first_behind n at rs) ≡ length rs
-length-first_behind n at [] = by_at at
-  where
-    by_at : (k : ℕ) → length (first_behind n k []) ≡ 0
-    by_at zero = refl
-    by_at (suc k) = refl
-length-first_behind n zero (r ∷ rs) = refl
-length-first_behind n (suc at) (r ∷ rs) = ap suc (length-first_behind n at rs)
+length-first_behind n at rs = simp (length-append, length-map, length-take, length-drop) (omega arith)
 
 pub behind_more : (n at : ℕ) (rs now : List CoveredRun) (x : CoveredRun) → at < length rs → now ≡ first_behind n at rs → x ≡ get_or now at x → set now at (run_behind n x) ≡ first_behind n (at + 1) rs
 behind_more n at rs now x low is read =
@@ -84,16 +70,8 @@ when_remembered true xs bs h = h refl
 when_remembered false xs bs h = tt
 
 pub runs_more : (rs : List CoveredRun) (r : CoveredRun) (i : ℕ) → in_runs (rs ++ r ∷ []) i ≡ (in_runs rs i || in_run r i)
-runs_more [] r i = or_none (in_run r i)
-  where
-    or_none : (b : Bool) → (b || false) ≡ b
-    or_none true = refl
-    or_none false = refl
-runs_more (x ∷ rs) r i = ap (λ (b : Bool). in_run x i || b) (runs_more rs r i) ∙ regroup (in_run x i) (in_runs rs i) (in_run r i)
-  where
-    regroup : (a b c : Bool) → (a || (b || c)) ≡ ((a || b) || c)
-    regroup true b c = refl
-    regroup false b c = refl
+runs_more [] r i = grind (arith, nat_tests)
+runs_more (x ∷ rs) r i = rw (runs_more rs r i) (grind (arith, nat_tests))
 
 -- where the last of the runs ends
 abbrev pub end_of : (here : ℕ) → List CoveredRun → ℕ
@@ -109,18 +87,6 @@ pub order_more : (n : ℕ) (rs : List CoveredRun) (r : CoveredRun) → AreInOrde
 order_more n [] r order begins ends = (begins, ends, tt)
 order_more n (x ∷ rs) r order begins ends = (order.0, order.1, order_more x.to rs r order.2 begins ends)
 
--- a block that isn't bad begins behind the one before it
-pub good_block : (last : ℕ) (b : BlockMeaning) (bs : List BlockMeaning) → some_is_bad last (b ∷ bs) ≡ false → (last < b.start) × (b.start ≤ b.end) × (some_is_bad b.end bs ≡ false)
-good_block last b bs good = (grind (arith, nat_tests), grind (arith, nat_tests), grind (arith, nat_tests))
-
 -- one block more is kept
 pub remembered_more : (rs : List CoveredRun) (r : CoveredRun) (b : BlockMeaning) (bs : List BlockMeaning) (i : ℕ) → 0 < i → r.from ≡ b.start - 1 → r.to ≡ b.end → (in_runs (rs ++ r ∷ []) i || in_blocks 0 bs i) ≡ (in_runs rs i || in_blocks 0 (b ∷ bs) i)
-remembered_more rs r b bs i some from to =
-    let starts : nat_lt r.from i ≡ nat_le (0 + b.start) i = grind (arith, nat_tests) in
-    let ends : nat_le i r.to ≡ nat_le i (0 + b.end) = grind (arith, nat_tests) in
-    let same : in_run r i ≡ (nat_le (0 + b.start) i && nat_le i (0 + b.end)) = ap (λ (z : Bool). z && nat_le i r.to) starts ∙ ap (λ (z : Bool). nat_le (0 + b.start) i && z) ends in
-    ap (λ (z : Bool). z || in_blocks 0 bs i) (runs_more rs r i ∙ ap (λ (z : Bool). in_runs rs i || z) same) ∙ regroup (in_runs rs i) (nat_le (0 + b.start) i && nat_le i (0 + b.end)) (in_blocks 0 bs i)
-  where
-    regroup : (a b c : Bool) → ((a || b) || c) ≡ (a || (b || c))
-    regroup true b c = refl
-    regroup false b c = refl
+remembered_more rs r b bs i some from to = rw (runs_more rs r i) (let same : in_run r i ≡ (nat_le (0 + b.start) i && nat_le i (0 + b.end)) = rw (from, to) (block_run b i some) in rw same (grind (arith, nat_tests)))

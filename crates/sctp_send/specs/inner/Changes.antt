@@ -1,5 +1,5 @@
 -- What the calls make of entries, one by one.
-use Rattle.std.specs.Prelude.{◌≡◌, ℕ, suc, nat_lt, nat_le, Bool, true, false, not, ◌&&◌, ◌||◌, ◌==◌, if◌then◌else◌, List, [], ◌∷◌, map}
+use Rattle.std.specs.Prelude.{◌≡◌, ℕ, suc, nat_lt, nat_le, Bool, true, false, not, ◌&&◌, ◌==◌, if◌then◌else◌, List, [], ◌∷◌, map}
 use Rattle.sctp_send.specs.declared.kept.entry.Standing.{Standing}
 use Rattle.sctp_send.specs.declared.kept.entry.Standing.TheVariants.{Unsent, Sent, Marked}
 use Rattle.sctp_send.specs.CoveredRuns.{in_runs, AreInOrder}
@@ -35,15 +35,22 @@ as_uncovered e = record e { covered = false }
 abbrev pub told : Bool → EntryFields → EntryFields
 told b e = if b then as_covered e else as_uncovered e
 
--- entries told by their indexes, the first of which is i
+-- told so if the index passes
+abbrev pub told_at : Bool → (ℕ → Bool) → ℕ → EntryFields → EntryFields
+told_at b test i e = if test i then told b e else e
+
+-- each changed by its index, the first of which is i
+abbrev pub each_changed : {A : Type 0} → (ℕ → A → A) → ℕ → List A → List A
+each_changed g i [] = []
+each_changed g i (x ∷ xs) = g i x ∷ each_changed g (suc i) xs
+
+-- entries told by their indexes
 abbrev pub all_told : (ℕ → Bool) → ℕ → List EntryFields → List EntryFields
-all_told test i [] = []
-all_told test i (e ∷ es) = told (test i) e ∷ all_told test (suc i) es
+all_told test i es = each_changed (λ k. told (test k)) i es
 
 -- entries that pass are told so, and the others stay
 abbrev pub told_where : Bool → (ℕ → Bool) → ℕ → List EntryFields → List EntryFields
-told_where b test i [] = []
-told_where b test i (e ∷ es) = (if test i then told b e else e) ∷ told_where b test (suc i) es
+told_where b test i es = each_changed (told_at b test) i es
 
 -- the runs are in order, and each entry is as they say
 abbrev pub IsExact : (known : Bool) → List CoveredRun → List EntryFields → Type 0
@@ -61,10 +68,6 @@ in_gaps rs from to i = is_between from to i && not (in_runs rs i)
 -- in one of the runs, and in none of the others
 abbrev pub in_alone : (runs others : List CoveredRun) → ℕ → Bool
 in_alone rs os i = in_runs rs i && not (in_runs os i)
-
--- those that pass, and a run: after `from`, up to `to`
-abbrev pub or_run : (ℕ → Bool) → ℕ → ℕ → ℕ → Bool
-or_run test from to i = test i || (nat_lt from i && nat_le i to)
 
 -- ---- abandoned (RFC 3758, 3.5)
 

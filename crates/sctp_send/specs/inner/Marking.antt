@@ -1,6 +1,7 @@
 -- Entries marked for retransmission (RFC 9260, 6.3.3 and 7.2.4), unless they were retransmitted as often as their messages' limits allow (RFC 7496, 3.1).
 use Rattle.std.specs.Prelude.{◌≡◌, ℕ, suc, min, nat_le, nat_lt, Bool, true, false, not, ◌&&◌, if◌then◌else◌, List, [], ◌∷◌, slice_index_or}
 use Rattle.sctp_model.specs.sender.Words.{some_passes}
+use Rattle.sctp_send.specs.inner.Changes.{each_changed}
 use Rattle.sctp_send.specs.declared.kept.entry.Standing.{Standing}
 use Rattle.sctp_send.specs.declared.kept.entry.Standing.TheVariants.{Unsent, Sent, Marked}
 use Rattle.sctp_send.specs.declared.kept.entry.Entry.{Entry as EntryFields}
@@ -39,11 +40,6 @@ is_to_mark p r e = is_just_sent e.standing && (not e.covered && (not e.abandoned
 -- then it is marked
 abbrev pub timed : (partial : Bool) → (repeats : ℕ) → EntryFields → EntryFields
 timed p r e = record e { standing = if is_to_mark p r e then Marked else e.standing }
-
--- each entry changed by its offset, the first of which is i
-abbrev pub each_changed : (ℕ → EntryFields → EntryFields) → ℕ → List EntryFields → List EntryFields
-each_changed g i [] = []
-each_changed g i (e ∷ es) = g i e ∷ each_changed g (suc i) es
 
 -- an entry at one of the offsets from `from` on, below `to`, is marked
 abbrev pub timed_at : (partial : Bool) → (ℕ → ℕ) → (from to : ℕ) → ℕ → EntryFields → EntryFields

@@ -40,21 +40,25 @@ AreAlike size c n p zero zero es = (n ≡ 0) × (p ≡ 0)
 AreAlike size c n p zero (suc k) [] = ⊥
 AreAlike size c n p zero (suc k) (e ∷ es) = IsQuiet c e × (plain_bytes size e ≤ n) × (plain_one e ≤ p) × AreAlike size c (n - plain_bytes size e) (p - plain_one e) zero k es
 
--- so many entries from an offset on are told covered, or not
-abbrev pub told_run : Bool → (at many : ℕ) → List EntryFields → List EntryFields
-told_run c (suc at) k [] = []
-told_run c (suc at) k (e ∷ es) = e ∷ told_run c at k es
-told_run c zero zero es = es
-told_run c zero (suc k) [] = []
-told_run c zero (suc k) (e ∷ es) = told c e ∷ told_run c zero k es
+-- so many entries from an offset on are changed
+abbrev pub run_changed : (EntryFields → EntryFields) → (at many : ℕ) → List EntryFields → List EntryFields
+run_changed g (suc at) k [] = []
+run_changed g (suc at) k (e ∷ es) = e ∷ run_changed g at k es
+run_changed g zero zero es = es
+run_changed g zero (suc k) [] = []
+run_changed g zero (suc k) (e ∷ es) = g e ∷ run_changed g zero k es
 
--- so many entries from an offset on are noted as covered, or not
+-- told covered, or not
+abbrev pub told_run : Bool → (at many : ℕ) → List EntryFields → List EntryFields
+told_run c at k es = run_changed (told c) at k es
+
+-- it is noted that an entry is covered, or not
+abbrev pub noted : Bool → EntryFields → EntryFields
+noted c e = record e { covered = c }
+
+-- noted as covered, or not
 abbrev pub covered_run : Bool → (at many : ℕ) → List EntryFields → List EntryFields
-covered_run c (suc at) k [] = []
-covered_run c (suc at) k (e ∷ es) = e ∷ covered_run c at k es
-covered_run c zero zero es = es
-covered_run c zero (suc k) [] = []
-covered_run c zero (suc k) (e ∷ es) = record e { covered = c } ∷ covered_run c zero k es
+covered_run c at k es = run_changed (noted c) at k es
 
 -- the counts once a stretch, of whose entries so many aren't abandoned and have so many bytes, is acknowledged, or not
 abbrev pub turned_counts : (bytes plain : ℕ) → Bool → Counts → Counts

@@ -1,15 +1,14 @@
 //! The entries above the cumulative TSN acknowledged (CUM), the one of CUM + 1 in front: which of them a SACK acknowledges by gap blocks or
 //! cumulatively (RFC 9260, 6.2.1).
 
-ghost use Rattle.std.specs.Prelude.{◌≡◌, ℕ, Bool, true, false, ◌<◌, ◌≤◌, ◌-◌, List, [], length, drop, None};
+ghost use Rattle.std.specs.Prelude.{◌≡◌, true, false, ◌≤◌, ◌-◌, [], length, drop, None};
 ghost use Rattle.std.specs.VecDeque.{deque_capacity};
 ghost use Rattle.sctp_send.specs.PartsKept.{IsSameRoom};
 ghost use Rattle.sctp_model.specs.messages.Acknowledgement.{in_blocks};
-ghost use Rattle.sctp_send.specs.inner.Changes.{all_told, or_run};
+ghost use Rattle.sctp_send.specs.inner.Changes.{all_told};
 ghost use Rattle.sctp_model.specs.sender.SackTaken.{some_is_bad};
 ghost use Rattle.sctp_send.specs.CoveredRuns.{run_behind, runs_behind, HoldsBlocks};
 ghost use Rattle.sctp_send.specs.inner.Acknowledging.{block_fault};
-ghost use Rattle.sctp_send.specs.declared.kept.entry.Entry.{Entry as EntryFields};
 
 use crate::kept::counts::Counts;
 use crate::kept::entry::{CoveredRun, Entry, RUNS};
@@ -20,43 +19,16 @@ use std::alloc::Global;
 use std::collections::VecDeque;
 use std::sync::Arc;
 
-/// Acknowledges the entries from the offset `from` up to, but without, the offset `to`.
-fn cover_run(outstanding: &mut Outstanding, from: usize, to: usize)
-    requires order { from ≤ to }
-    requires within { to ≤ length outstanding.old.items }
-    ensures long { length outstanding.new.items ≡ length outstanding.old.items }
-    ensures kept { IsSameRoom outstanding.old outstanding.new }
-    ensures run { (test : ℕ → Bool) (es : List EntryFields)
-        → outstanding.old.items ≡ all_told test 1 es → outstanding.new.items ≡ all_told (or_run test from to) 1 es }
-{
-    for at in from..to {
-        outstanding.tell(at, true);
-    }
-}
-
-/// No entry is acknowledged by a gap block.
-fn uncover(outstanding: &mut Outstanding)
-    ensures items { outstanding.new.items ≡ all_told (λ i. false) 1 outstanding.old.items }
-    ensures kept { IsSameRoom outstanding.old outstanding.new }
-{
-    for at in 0..outstanding.len() {
-        outstanding.tell(at, false);
-    }
-}
-
 /// The entries in the blocks are acknowledged, and no others, whatever an earlier SACK said.
 pub(crate) fn cover(outstanding: &mut Outstanding, blocks: &Blocks<'_>)
     requires { block_fault (length outstanding.old.items) blocks.now ≡ None }
     ensures covered { outstanding.new.items ≡ all_told (in_blocks 0 blocks.now) 1 outstanding.old.items }
     ensures kept { IsSameRoom outstanding.old outstanding.new }
 {
-    uncover(outstanding);
+    let last = outstanding.len();
+    outstanding.tell_run(false, 0, last);
     for block in blocks.iter() {
-        cover_run(
-            outstanding,
-            usize::from(block.start) - 1,
-            usize::from(block.end),
-        );
+        outstanding.tell_run(true, usize::from(block.start) - 1, usize::from(block.end));
     }
 }
 

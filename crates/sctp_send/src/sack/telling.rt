@@ -153,11 +153,7 @@ impl Outstanding {
         ensures { self.new ≡ changed (told covered) at self.old }
     {
         put_stretch(&mut self.stretches, self.by_ticket.index(at), UNKNOWN);
-        if covered {
-            cover_one(&mut self.entries, &mut self.counts, self.size, at);
-            return;
-        }
-        uncover_one(&mut self.entries, &mut self.counts, self.size, at);
+        tell_one(&mut self.entries, &mut self.counts, self.size, at, covered);
     }
 }
 
@@ -170,6 +166,21 @@ impl Counts {
     {
         self.flight = self.flight.wrapping_sub(u64::from(bytes_in(entry, size)));
         self.unsettled = self.unsettled.wrapping_sub(1);
+    }
+}
+
+/// Sets the entry at an offset acknowledged, so that it isn't retransmitted, or not acknowledged, and keeps the counts.
+fn tell_one(entries: &mut VecDeque<Entry>, counts: &mut Counts, size: u16, at: usize, covered: bool)
+    requires within { at < length entries.old.items }
+    requires counted { IsCounted size entries.old.items counts.old }
+    ensures items { entries.new.items ≡ changed_at (told covered) at entries.old.items }
+    ensures counted { IsCounted size entries.new.items counts.new }
+    ensures capacity { deque_capacity entries.new ≡ deque_capacity entries.old }
+{
+    if covered {
+        cover_one(entries, counts, size, at);
+    } else {
+        uncover_one(entries, counts, size, at);
     }
 }
 

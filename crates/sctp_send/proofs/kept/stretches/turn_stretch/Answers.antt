@@ -1,8 +1,9 @@
 use Rattle.std.proofs.Common.{◌≡◌, List, length, sym, ap, ◌∙◌, arith}
 use Rattle.std.specs.Prelude.{not}
+use Rattle.sctp_send.specs.inner.Changes.{told}
 use Rattle.sctp_send.specs.inner.Stretching.{covered_run, told_run}
 use Rattle.sctp_send.specs.declared.kept.entry.Entry.{Entry as EntryFields}
-use Rattle.sctp_send.proofs.kept.StretchLemmas.{alike_long, run_noted, length-told_run}
+use Rattle.sctp_send.proofs.kept.StretchLemmas.{alike_long, run_noted, length-run_changed}
 use Rattle.sctp_send.proofs.kept.TurnedLemmas.{counts_turned}
 use Rattle.sctp_send.proofs.kept.stretches.turn_stretch.Goals as goal
 
@@ -18,7 +19,7 @@ returns-clause-items c =
     let es = c.args.entries.now.items in
     let is : c.set_covered.new.entries ≡ told_run c.args.covered c.args.at 64 es = c.set_covered.ensures ∙ ap (covered_run c.args.covered c.args.at 64) c.make_contiguous.ensures.value
     ∙ run_noted c.args.size (not c.args.covered) c.args.covered c.args.bytes c.args.plain c.args.at 64 es c.requires.alike in
-    let long : length c.set_covered.new.entries ≡ length es = ap (λ (xs : List EntryFields). length xs) is ∙ length-told_run c.args.covered c.args.at 64 es in
+    let long : length c.set_covered.new.entries ≡ length es = ap (λ (xs : List EntryFields). length xs) is ∙ length-run_changed (told c.args.covered) c.args.at 64 es in
     c.make_contiguous.ensures.writes_back c.set_covered.new.entries (long ∙ sym c.args.entries.now.ok.0) ∙ is
 
 pub returns-clause-counted : goal.returns-clause-counted
@@ -26,6 +27,6 @@ returns-clause-counted c =
     let es = c.args.entries.now.items in
     let is : c.set_covered.new.entries ≡ told_run c.args.covered c.args.at 64 es = c.set_covered.ensures ∙ ap (covered_run c.args.covered c.args.at 64) c.make_contiguous.ensures.value
     ∙ run_noted c.args.size (not c.args.covered) c.args.covered c.args.bytes c.args.plain c.args.at 64 es c.requires.alike in
-    let long : length c.set_covered.new.entries ≡ length es = ap (λ (xs : List EntryFields). length xs) is ∙ length-told_run c.args.covered c.args.at 64 es in
+    let long : length c.set_covered.new.entries ≡ length es = ap (λ (xs : List EntryFields). length xs) is ∙ length-run_changed (told c.args.covered) c.args.at 64 es in
     let items = c.make_contiguous.ensures.writes_back c.set_covered.new.entries (long ∙ sym c.args.entries.now.ok.0) ∙ is in
     rw (items, c.turn.ensures) (counts_turned c.args.size c.args.covered c.args.bytes c.args.plain c.args.at es c.args.counts.now c.ranges.bytes.fits c.ranges.plain.fits c.requires.alike c.requires.counted)

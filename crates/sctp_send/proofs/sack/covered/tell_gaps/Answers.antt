@@ -1,8 +1,8 @@
 use Rattle.std.proofs.Common.{◌≡◌, ◌≤◌, ◌<◌, ℕ, min, max, ap, length, get_or, refl, ◌∙◌, arith}
 use Rattle.sctp_send.specs.PartsKept.{OutstandingKept}
-use Rattle.sctp_send.specs.inner.Changes.{told_where, is_between}
+use Rattle.sctp_send.specs.inner.Changes.{told_at, told_where, is_between}
 use Rattle.sctp_send.specs.declared.kept.entry.CoveredRun.{CoveredRun}
-use Rattle.sctp_send.proofs.sack.TellLemmas.{length-told_where}
+use Rattle.sctp_send.proofs.sack.EachLemmas.{length-each}
 use Rattle.sctp_send.proofs.sack.GapLemmas.{passed_on, passed_more, passed_all, gaps_start, gaps_more, gaps_rest, gaps_end}
 use Rattle.sctp_send.proofs.sack.covered.tell_gaps.Goals as goal
 
@@ -32,7 +32,7 @@ loop-next-preserved c =
       items = λ order passed.
           gaps_more c.args.covered c.args.runs.now c.loop-next.next run none c.args.from c.loop-next.at c.args.to c.min-gap.result c.max-at.result c.args.outstanding.now.items now c.tell_run.new.self.items order (omega arith) refl before.low
           (c.min-gap.ensures ∙ ap (λ (n : ℕ). min n c.args.to) from) (c.max-at.ensures ∙ ap (max c.loop-next.at) end) (before.passed passed) (before.items order passed) ((ap (λ (w : OutstandingKept). w.items) c.tell_run.ensures) ∙ ap (λ (n : ℕ). told_where c.args.covered (is_between n c.min-gap.result) 1 now) c.min.ensures);
-      count = ap length (ap (λ (w : OutstandingKept). w.items) c.tell_run.ensures) ∙ length-told_where c.args.covered (is_between c.min.result c.min-gap.result) 1 now ∙ before.count;
+      count = ap length (ap (λ (w : OutstandingKept). w.items) c.tell_run.ensures) ∙ length-each (told_at c.args.covered (is_between c.min.result c.min-gap.result)) 1 now ∙ before.count;
       room = record { size = ap (λ (w : OutstandingKept). w.size) c.tell_run.ensures ∙ before.room.size; capacity = ap (λ (w : OutstandingKept). w.capacity) c.tell_run.ensures ∙ before.room.capacity };
     }
 
@@ -54,7 +54,7 @@ pub returns-then-to-end-clause-passed : goal.returns-then-to-end-clause-passed
 returns-then-to-end-clause-passed c = λ passed. passed_on c.args.runs.now c.loop-next.next c.loop-next.at _ c.loop-next.invariant.near (c.loop-next.invariant.passed passed)
 
 pub returns-then-to-end-clause-long : goal.returns-then-to-end-clause-long
-returns-then-to-end-clause-long c = ap length (ap (λ (w : OutstandingKept). w.items) c.tell_run.ensures) ∙ length-told_where c.args.covered (is_between c.min.result c.min-gap.result) 1 c.loop-next.outstanding.items ∙ c.loop-next.invariant.count
+returns-then-to-end-clause-long c = ap length (ap (λ (w : OutstandingKept). w.items) c.tell_run.ensures) ∙ length-each (told_at c.args.covered (is_between c.min.result c.min-gap.result)) 1 c.loop-next.outstanding.items ∙ c.loop-next.invariant.count
 
 pub returns-clause-items : goal.returns-clause-items
 returns-clause-items c = λ order passed.
@@ -66,4 +66,4 @@ pub returns-clause-passed : goal.returns-clause-passed
 returns-clause-passed c = λ passed. passed_all c.args.runs.now c.loop-next.next c.loop-next.at _ (omega arith) c.loop-next.invariant.near (c.loop-next.invariant.passed passed)
 
 pub returns-clause-long : goal.returns-clause-long
-returns-clause-long c = ap length (ap (λ (w : OutstandingKept). w.items) c.tell_run-2.ensures) ∙ length-told_where c.args.covered (is_between c.min-2.result c.args.to) 1 c.loop-next.outstanding.items ∙ c.loop-next.invariant.count
+returns-clause-long c = ap length (ap (λ (w : OutstandingKept). w.items) c.tell_run-2.ensures) ∙ length-each (told_at c.args.covered (is_between c.min-2.result c.args.to)) 1 c.loop-next.outstanding.items ∙ c.loop-next.invariant.count

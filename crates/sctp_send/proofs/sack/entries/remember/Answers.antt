@@ -6,7 +6,8 @@ use Rattle.sctp_model.specs.sender.SackTaken.{some_is_bad}
 use Rattle.sctp_wire.specs.ChunkTree.{block_meaning}
 use Rattle.sctp_send.specs.CoveredRuns.{in_runs, AreInOrder}
 use Rattle.sctp_send.specs.declared.kept.entry.CoveredRun.{CoveredRun}
-use Rattle.sctp_send.proofs.sack.RunLemmas.{end_of, end_more, order_more, good_block, remembered_more}
+use Rattle.sctp_send.proofs.sack.CoverLemmas.{good_block}
+use Rattle.sctp_send.proofs.sack.RunLemmas.{end_of, end_more, order_more, remembered_more}
 use Rattle.sctp_send.proofs.sack.entries.remember.Goals as goal
 
 went_in : {A E : Type 0} (r : Result A E) → is_err r ≡ false → is_ok r ≡ true

@@ -1,12 +1,13 @@
 use Rattle.std.proofs.Common.{◌≡◌, ◌+◌, ◌≤◌, ◌%◌, ℕ, Bool, List, length, Some, refl, sym, ap, ◌∙◌, subst, arith}
 use Rattle.std.specs.Prelude.{slice_get}
 use Rattle.sctp_send.specs.PartsKept.{OutstandingKept}
+use Rattle.sctp_send.specs.inner.Changes.{told}
 use Rattle.sctp_send.specs.inner.Stretching.{AreAlike, told_run, index_at, slot_at, AreKnown}
 use Rattle.sctp_send.specs.inner.TicketOrder.{IsOrderOf, tickets_of}
 use Rattle.sctp_send.specs.declared.kept.entry.Entry.{Entry as EntryFields}
 use Rattle.sctp_send.specs.declared.kept.stretches.Stretch.{Stretch}
-use Rattle.sctp_send.proofs.kept.StretchLemmas.{flag_on, flags_same, flags_differ, run_same, length-told_run}
-use Rattle.sctp_send.proofs.kept.TurnedLemmas.{same_tickets}
+use Rattle.sctp_send.proofs.kept.StretchLemmas.{flag_on, flags_same, flags_differ, run_same, length-run_changed}
+use Rattle.sctp_send.proofs.kept.TurnedLemmas.{same_ticket, same_tickets}
 use Rattle.sctp_send.proofs.kept.KnownLemmas.{SayTheSame, known_turned}
 use Rattle.sctp_send.proofs.kept.outstanding.Outstanding.tell_known.Goals as goal
 
@@ -64,10 +65,10 @@ invariant_of-self c =
     let read : slice_get s.stretches.items (slot_at (index_at first at)) ≡ Some known =
     ap (λ (ss : List Stretch). slice_get ss (slot_at (index_at first at))) (sym c.deref.ensures.value) ∙ ap (λ (i : ℕ). slice_get c.deref.result.now (slot_at i)) (sym c.index-index.ensures) ∙ c.stretch_of-known.ensures (flag_on c.stretch_of-known.result.is_known c.if-not-known.false) in
     let alike = h.known at known within begins read (flag_on c.stretch_of-known.result.is_known c.if-not-known.false) in
-    let long : length c.turn_stretch.new.entries.items ≡ length es = ap (λ (xs : List EntryFields). length xs) items ∙ length-told_run b at 64 es in
+    let long : length c.turn_stretch.new.entries.items ≡ length es = ap (λ (xs : List EntryFields). length xs) items ∙ length-run_changed (told b) at 64 es in
     record {
       counted = c.turn_stretch.ensures.counted;
-      order = subst (λ (ts : List ℕ). IsOrderOf ts first s.by_ticket.spots.items) (sym (ap tickets_of items ∙ same_tickets b at 64 es)) h.order;
+      order = subst (λ (ts : List ℕ). IsOrderOf ts first s.by_ticket.spots.items) (sym (ap tickets_of items ∙ same_tickets (told b) at 64 es (same_ticket b))) h.order;
       below = h.below;
       few = h.few;
       within = let le = h.within in omega (arith, long, le);

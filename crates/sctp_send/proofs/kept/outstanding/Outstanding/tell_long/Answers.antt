@@ -1,8 +1,9 @@
 use Rattle.std.proofs.Common.{◌≡◌, ◌≤◌, List, length, ap, ◌∙◌, arith}
 use Rattle.sctp_send.specs.PartsKept.{OutstandingKept}
-use Rattle.sctp_send.specs.inner.Changes.{told_where, is_between}
+use Rattle.sctp_send.specs.inner.Changes.{told_at, told_where, is_between}
 use Rattle.sctp_send.specs.declared.kept.entry.Entry.{Entry as EntryFields}
-use Rattle.sctp_send.proofs.sack.TellLemmas.{length-told_where, run_starts, run_joined}
+use Rattle.sctp_send.proofs.sack.EachLemmas.{length-each}
+use Rattle.sctp_send.proofs.sack.TellLemmas.{run_starts, run_joined}
 use Rattle.sctp_send.proofs.kept.outstanding.Outstanding.tell_long.Goals as goal
 
 pub loop-at-init : goal.loop-at-init
@@ -17,7 +18,7 @@ loop-at-init c =
 pub tell_on-at-requires : goal.tell_on-at-requires
 tell_on-at-requires c =
     let w = c.args.self.now in
-    let long : length c.loop-at.self.items ≡ length w.items = ap (λ (k : OutstandingKept). length k.items) c.loop-at.invariant.told ∙ length-told_where c.args.covered (is_between c.args.from c.loop-at.at) 1 w.items in
+    let long : length c.loop-at.self.items ≡ length w.items = ap (λ (k : OutstandingKept). length k.items) c.loop-at.invariant.told ∙ length-each (told_at c.args.covered (is_between c.args.from c.loop-at.at)) 1 w.items in
     record { order = omega (arith, c.loop-at-test.true); within = omega (arith, long, c.requires.within) }
 
 pub loop-at-preserved : goal.loop-at-preserved
