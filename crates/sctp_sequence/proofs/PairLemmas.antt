@@ -56,6 +56,18 @@ among p xs ys same there =
     let found = some_counts (is_pair p) xs p (let all = same (is_pair p) in omega (arith, all, some, one)) in
     (found.0, found.1, same_pair p (get_or xs found.0 p) found.2)
 
+-- both lists are equally long
+pub as_many : (xs ys : List Pair) → AreSame xs ys → length xs ≡ length ys
+as_many xs ys same = sym (each_one xs) ∙ same (λ p. 1) ∙ each_one ys
+  where
+    each_one : (ps : List Pair) → sum_by (λ p. 1) ps ≡ length ps
+    each_one [] = refl
+    each_one (p ∷ ps) = let more = sum_by-cons (λ q. 1) p ps in let rest = each_one ps in omega (arith, more, rest)
+
+-- one that is first in both lists goes
+pub without_first : (p : Pair) (xs ys : List Pair) → AreSame (p ∷ xs) (p ∷ ys) → AreSame xs ys
+without_first p xs ys same f = let one = sum_by-cons f p xs in let two = sum_by-cons f p ys in let both = same f in omega (arith, one, two, both)
+
 -- ---- what is found
 
 -- a pair that is there is no lower than the one at its rank
@@ -75,7 +87,7 @@ rank_there i p ps qs h rank same there =
 
 pub found_first : (n i : ℕ) (ps qs : List Pair) (p : Pair) → AreOrdered ps → IsRank (n * 2 ^ 64 + 0) ps i → i < length ps → p ≡ get_or ps i p → AreSame ps qs → IsFirstFrom n qs p
 found_first n i ps qs p h rank lt read same =
-    let small : p.second < 2 ^ 64 = subst (λ (q : Pair). q.second < 2 ^ 64) (sym read) (h.small i p lt) in
+    let small : p.second < 2 ^ 64 = subst (λ (q : Pair). q.second < 2 ^ 64) (sym read) (h.small i p lt).1 in
     let here : key p ≡ key (get_or ps i p) = ap key read in
     let over = rank.higher i p (omega arith) lt in
     let above : n ≤ p.first = omega (arith, over, here, small) in
@@ -83,7 +95,7 @@ found_first n i ps qs p h rank lt read same =
     let mine = among q ps qs same there in
     let found = no_lower (n * 2 ^ 64 + 0) i ps q h rank mine (omega (arith, le)) in
     let own : key p ≡ key (get_or ps i q) = ap key (read ∙ get_or_default ps i p q lt) in
-    (omega (arith, own, found.1), subst (λ (x : Pair). x.second < 2 ^ 64) mine.2 (h.small mine.0 q mine.1)) in
+    (omega (arith, own, found.1), subst (λ (x : Pair). x.second < 2 ^ 64) mine.2 (h.small mine.0 q mine.1).1) in
     record {
       there = among p qs ps (λ f. sym (same f)) (i, lt, sym read);
       above = above;

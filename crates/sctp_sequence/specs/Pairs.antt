@@ -25,16 +25,30 @@ abbrev pub FirstFromAnswer : (from : ℕ) → List Pair → Option Pair → Type
 FirstFromAnswer n ps None = (q : Pair) → Contains ps q → q.first < n
 FirstFromAnswer n ps (Some p) = IsFirstFrom n ps p
 
+-- the number by which a pair is found
+abbrev pub first_of : Pair → ℕ
+first_of p = p.first
+
+-- So many pairs have a lower first number, and the others don't.
+pub record IsRankFrom (from : ℕ) (ps : List Pair) (rank : ℕ) : Type 0 where
+  pub within : rank ≤ length ps
+  pub lower : (k : ℕ) (d : Pair) → k < rank → (slice_index_or ps k d).first < from
+  pub higher : (k : ℕ) (d : Pair) → rank ≤ k → k < length ps → from ≤ (slice_index_or ps k d).first
+
 -- ---- in rising order
 
 -- where a pair is in the order
 abbrev pub key : Pair → ℕ
 key p = p.first * 2 ^ 64 + p.second
 
--- What always holds of the pairs: they rise, and their second numbers have 64 bits.
+-- its numbers have 64 bits
+abbrev pub AreSmall : Pair → Type 0
+AreSmall p = (p.first < 2 ^ 64) × (p.second < 2 ^ 64)
+
+-- What always holds of the pairs: they rise, and their numbers have 64 bits.
 pub record AreOrdered (ps : List Pair) : Type 0 where
   pub order : IsNonDecreasingBy key ps
-  pub small : All (λ p. p.second < 2 ^ 64) ps
+  pub small : All AreSmall ps
 
 -- So many pairs are lower, and the others aren't.
 pub record IsRank (sought : ℕ) (ps : List Pair) (rank : ℕ) : Type 0 where

@@ -43,7 +43,9 @@
 //!
 //! | public function | what is promised |
 //! |---|---|
-//! | [`Pairs::new`], [`Pairs::reserve`], [`Pairs::insert`], [`Pairs::remove`] | `items`, `gone`: the pairs and one more, or one less, in any order (`AreSame`); `unchanged`, if allocation fails or the pair isn't there; `memory`: `insert` doesn't fail if there was memory for one more |
+//! | [`Pairs::new`], [`Pairs::reserve`], [`Pairs::insert`], [`Pairs::remove`] | `items`, `gone`: the pairs and one more, or one less, in any order (`AreSame`); `unchanged`, if allocation fails or the pair isn't there; `memory`: `insert` doesn't fail if there was memory for one more; memory stays (`capacity`) |
+//! | [`Pairs::insert_reserved`], [`Pairs::reserve_exact`], [`Pairs::capacity`], [`Pairs::shrink_to`], [`Pairs::clear`] | inserts as `insert` does, for a caller that has reserved; memory for so many pairs more, and for how many there is; all goes but what so many pairs take; no pair stays, and the memory does |
+//! | [`Pairs::rank_from`], [`Pairs::rank_above`], [`Pairs::get`], [`Pairs::len`] | how many pairs in front have a first number below, or up to, a given one (`IsRankFrom`), with first numbers rising from rank to rank; the pair at a rank, and their number |
 //! | [`Pairs::first_from`] | the lowest pair whose first number is a given one or a higher one; None if and only if there is none (`FirstFromAnswer`) |
 //! | [`TwoWayMap::new`], [`TwoWayMap::change`] | the map of no value, complete if and only if memory was asked for; that of the values with another one, or none, at a key (`IsMapOf`) |
 //! | [`TwoWayMap::first_from`], [`TwoWayMap::key_with`], [`TwoWayMap::are_above`] | of each list of values by key that a complete map is of: the first key from one on with a value (`FirstKeyAnswer`), a key with a given value (`KeyWithAnswer`), whether all values are above one |
@@ -51,7 +53,7 @@
 //! | [`Pairs::give_back`], [`PagedNumbers::give_back`], [`give_back`] of a `VecDeque`, [`PagedNumbers::is_roomy`] | change no item; if there is memory for more than 128 and less than an eighth of it is used ([`is_roomy`]), all is given back but what twice as many items take, or 64 ([`kept_for`]) |
 //! | [`PagedNumbers::first_upto`] | the first position from one on of a number up to a bound; None if and only if there is none. [`PagedNumbers::look_again`] changes nothing but what a search costs |
 //!
-//! Costs: a pair is found by binary search, the first and the last one by a comparison; a search among numbers is a comparison if the bound is
+//! Costs: a pair or a rank is found by binary search, the first and the last one by a comparison; a search among numbers is a comparison if the bound is
 //! below all, else one for each page of 64 and one for each number of the pages that may have one; `look_again` makes the pages exact up to a bound.
 //!
 //! Pairs are in a deque, by rising first number and then second number (`AreOrdered`). A map is two of them, with the key first and with the value
@@ -73,6 +75,7 @@ mod lending;
 mod paged_numbers;
 mod pages;
 mod pairs;
+mod ranks;
 mod removing;
 mod searching;
 mod sequence;

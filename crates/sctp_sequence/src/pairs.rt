@@ -1,8 +1,8 @@
 //! Pairs of numbers in rising order, so that one is found by binary search.
 
-ghost use Rattle.std.specs.Prelude.{◌≡◌, ◌+◌, ◌^◌, ◌<◌, ◌≤◌, ◌∷◌, [], true, false, List, nat_lt, length, slice_index_or, OnOk, OnErr, IsOk};
+ghost use Rattle.std.specs.Prelude.{◌≡◌, ◌+◌, ◌^◌, ◌<◌, ◌≤◌, ◌∷◌, [], true, false, List, nat_lt, min, length, slice_index_or, OnOk, OnErr, IsOk};
 ghost use Rattle.std.specs.List.{Contains};
-ghost use Rattle.sctp_sequence.specs.Pairs.{AreSame, FirstFromAnswer, IsRank, key};
+ghost use Rattle.sctp_sequence.specs.Pairs.{AreSame, AreSmall, FirstFromAnswer, IsRank, key};
 ghost use Rattle.sctp_sequence.specs.declared.pairs.Pair.{Pair};
 
 use crate::giving_back::give_back;
@@ -23,7 +23,7 @@ pub struct Pair {
 /// Pairs, found by their first numbers. One may be there several times.
 #[derive(Drop)]
 pub struct Pairs {
-    pairs: VecDeque<Pair>,
+    pub(crate) pairs: VecDeque<Pair>,
 }
 
 impl Model for Pairs {
@@ -60,6 +60,41 @@ impl Pairs {
         self.pairs.reserve(more).map_err(|_| NoMemory)
     }
 
+    /// Allocates memory for this many further pairs, and for no more than them.
+    ///
+    /// # Errors
+    /// Allocation failed; the pairs are as they were.
+    pub fn reserve_exact(&mut self, more: usize) -> Result<(), NoMemory>
+        ensures items { self.new.items ≡ self.old.items }
+        ensures capacity { self.old.capacity ≤ self.new.capacity }
+        ensures room { OnOk result (length self.new.items + more ≤ self.new.capacity) }
+    {
+        self.pairs.reserve_exact(more).map_err(|_| NoMemory)
+    }
+
+    /// For how many pairs there is memory.
+    pub fn capacity(&self) -> usize
+        ensures { result ≡ self.now.capacity }
+    {
+        self.pairs.capacity()
+    }
+
+    /// Gives memory back, but for so many pairs; all of it stays if a smaller block can't be allocated.
+    pub fn shrink_to(&mut self, kept: usize)
+        ensures items { self.new.items ≡ self.old.items }
+        ensures capacity { min kept self.old.capacity ≤ self.new.capacity }
+    {
+        self.pairs.shrink_to(kept);
+    }
+
+    /// Removes all pairs. Their memory stays.
+    pub fn clear(&mut self)
+        ensures items { self.new.items ≡ [] }
+        ensures capacity { self.new.capacity ≡ self.old.capacity }
+    {
+        self.pairs.clear();
+    }
+
     /// Gives memory back if there is much of it and little is used.
     pub fn give_back(&mut self)
         ensures { self.new.items ≡ self.old.items }
@@ -76,6 +111,7 @@ impl Pairs {
         ensures items { OnOk result (AreSame self.new.items (pair ∷ self.old.items)) }
         ensures unchanged { OnErr result (self.new.items ≡ self.old.items) }
         ensures memory { length self.old.items < self.old.capacity → IsOk result }
+        ensures capacity { self.old.capacity ≤ self.new.capacity }
     {
         let rank = self.rank_of(key_of(pair));
         if rank == self.pairs.len() {
@@ -84,12 +120,28 @@ impl Pairs {
         self.pairs.insert(rank, pair).map_err(|_| NoMemory)
     }
 
+    /// Inserts a pair for which there is memory. The last one is looked at before others, since most are inserted behind it.
+    #[inline(always)]
+    pub fn insert_reserved(&mut self, pair: Pair)
+        requires { length self.old.items < self.old.capacity }
+        ensures items { AreSame self.new.items (pair ∷ self.old.items) }
+        ensures capacity { self.old.capacity ≤ self.new.capacity }
+    {
+        let rank = self.rank_of(key_of(pair));
+        if rank == self.pairs.len() {
+            self.pairs.push_back_reserved(pair);
+            return;
+        }
+        let _inserted = self.insert(pair);
+    }
+
     /// Removes a pair, and returns whether it was there. The first one is looked at before others, since it is the one mostly.
     #[inline(always)]
     pub fn remove(&mut self, pair: Pair) -> bool
         ensures gone { result ≡ true → AreSame self.old.items (pair ∷ self.new.items) }
         ensures unchanged { result ≡ false → self.new ≡ self.old }
         ensures there { (ps : List Pair) → AreSame self.old.items ps → Contains ps pair → result ≡ true }
+        ensures capacity { self.new.capacity ≡ self.old.capacity }
     {
         if self.is_first(pair) {
             let _ = self.pairs.pop_front();
@@ -116,6 +168,7 @@ impl Pairs {
         ensures gone { result ≡ true → AreSame self.old.items (pair ∷ self.new.items) }
         ensures unchanged { result ≡ false → self.new ≡ self.old }
         ensures there { (ps : List Pair) → AreSame self.old.items ps → Contains ps pair → result ≡ true }
+        ensures capacity { self.new.capacity ≡ self.old.capacity }
     {
         let rank = self.rank_of(key_of(pair));
         if rank >= self.pairs.len() || key_of(self.pairs[rank]) != key_of(pair) {
@@ -144,7 +197,7 @@ impl Pairs {
 
     /// How many pairs are lower than what has this key.
     #[inline(always)]
-    fn rank_of(&self, sought: u128) -> usize
+    pub(crate) fn rank_of(&self, sought: u128) -> usize
         ensures { IsRank sought self.now.items result }
     {
         let len = self.pairs.len();
@@ -171,9 +224,9 @@ impl Pairs {
 }
 
 /// Where a pair is in the order.
-fn key_of(pair: Pair) -> u128
+pub(crate) fn key_of(pair: Pair) -> u128
     ensures exact { result ≡ key pair }
-    ensures small { pair.second < 2 ^ 64 }
+    ensures small { AreSmall pair }
 {
     (u128::from(pair.first) << 64) + u128::from(pair.second)
 }

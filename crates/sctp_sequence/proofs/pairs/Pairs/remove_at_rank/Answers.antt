@@ -2,7 +2,7 @@ use Rattle.std.proofs.Common.{◌∙◌, ◌<◌, ◌^◌, ℕ, List, ap, sym, s
 use Rattle.std.proofs.lemmas.List.{get_or_default}
 use Rattle.std.proofs.lemmas.List.Elements.{All-drop}
 use Rattle.std.proofs.lemmas.List.Sorted.{IsNonDecreasingBy-drop}
-use Rattle.sctp_sequence.specs.Pairs.{PairsKept, AreSame, AreOrdered, IsRank, key}
+use Rattle.sctp_sequence.specs.Pairs.{PairsKept, AreSame, AreOrdered, AreSmall, IsRank, key}
 use Rattle.sctp_sequence.specs.declared.pairs.Pair.{Pair}
 use Rattle.sctp_sequence.proofs.PairLemmas.{rank_there}
 use Rattle.sctp_sequence.proofs.pairs.Pairs.remove_at_rank.Goals as goal
@@ -25,4 +25,4 @@ pub invariant_of-self : goal.invariant_of-self
 invariant_of-self c =
     let ps = c.self.inside.pairs.items in
     let h = c.self.invariant in
-    subst (λ (qs : List Pair). AreOrdered qs) (sym c.pop_front.ensures.rest) (record { order = IsNonDecreasingBy-drop key 1 ps h.order; small = All-drop (λ p. p.second < 2 ^ 64) 1 ps h.small })
+    subst (λ (qs : List Pair). AreOrdered qs) (sym c.pop_front.ensures.rest) (record { order = IsNonDecreasingBy-drop key 1 ps h.order; small = All-drop AreSmall 1 ps h.small })
