@@ -16,11 +16,8 @@ pub mod TakenLemmas
 pub mod SeatLemmas
 pub mod SeatedLemmas
 pub mod TrackCounts
-pub mod ListParts
 pub mod OrderLemmas
-pub mod OrderShortened
 pub mod TicketWalks
-pub mod SpentWalks
 pub mod PartStreams
 pub mod FateLemmas
 pub mod GivenUpLemmas

@@ -7,6 +7,6 @@ mod WriteLemmas
 mod RoomLemmas
 mod PointLemmas
 mod SearchLemmas
-mod PairLemmas
+pub mod PairLemmas
 mod TwoWayLemmas
 mod PageLemmas

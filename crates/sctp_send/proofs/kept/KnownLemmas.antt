@@ -43,7 +43,7 @@ known_pushed size first ss now es e same none h n s within begins read known =
     ]
 
 -- the first entry goes
-pub known_behind : (size first next : ℕ) (ss : List Stretch) (e : EntryFields) (es : List EntryFields) → next ≡ (first + 1) % 2 ^ 32 → AreKnown size first ss (e ∷ es) → AreKnown size next ss es
+pub known_behind : (size first next : ℕ) (ss : List Stretch) (e : EntryFields) (es : List EntryFields) → next ≡ (first + 1) % 2 ^ 64 → AreKnown size first ss (e ∷ es) → AreKnown size next ss es
 known_behind size first next ss e es is h n s within begins read known =
     let same : index_at next n ≡ index_at first (suc n) = omega (arith, is) in
     h (suc n) s (omega (arith, within)) (ap (λ (i : ℕ). i % 64) (sym same) ∙ begins) (ap (λ (i : ℕ). slice_get ss (slot_at i)) (sym same) ∙ read) known

@@ -1,156 +1,118 @@
--- Walks over entries in the order of their tickets: what holds of the entries of the spots passed, and of all.
-use Rattle.std.proofs.Common.{◌≡◌, ℕ, zero, suc, ◌+◌, ◌^◌, ◌<◌, ◌≤◌, ◌⊎◌, Bool, true, false, List, [], ◌∷◌, length, get_or, take, drop, map, Some, inl, inr, refl, sym, ◌∙◌, ap, subst, arith}
+-- Walks over entries in the order of their tickets: what holds of the entries of the pairs passed, and of all.
+use Rattle.std.proofs.Common.{◌≡◌, ℕ, zero, suc, ◌+◌, ◌^◌, ◌<◌, ◌≤◌, ◌⊎◌, Bool, true, false, List, [], ◌∷◌, length, get_or, map, option_map, Some, inl, inr, refl, sym, ◌∙◌, ap, subst, arith}
 use Rattle.std.specs.Prelude.{◌==◌, ◌||◌, slice_get}
 use Rattle.std.proofs.lemmas.Bool.Decides.{nat_tests}
 use Rattle.std.proofs.lemmas.Bool.{cases_lt}
-use Rattle.std.proofs.lemmas.List.{get_or_default}
-use Rattle.sctp_model.specs.numbers.Lists.{Has, AreInOrder}
+use Rattle.std.proofs.lemmas.List.{get_or_default, length-map}
+use Rattle.std.proofs.lemmas.Option.{slice_get-map, slice_get_read}
+use Rattle.sctp_sequence.specs.Pairs.{IsRankFrom}
+use Rattle.sctp_sequence.specs.declared.pairs.Pair.{Pair}
+use Rattle.sctp_sequence.proofs.PairLemmas.{pair_with}
 use Rattle.sctp_send.specs.PartsKept.{changed_at}
 use Rattle.sctp_send.specs.OutstandingFields.{item_meaning}
 use Rattle.sctp_send.specs.inner.Changes.{unmarked, as_abandoned, all_abandoned}
 use Rattle.sctp_send.specs.inner.Walks.{any_uncovered, is_item_uncovered}
-use Rattle.sctp_send.specs.inner.TicketOrder.{offset_of, AreRising, IsOrderOf, IsRankOf, IsInOrder, ticket_of, tickets_of}
+use Rattle.sctp_send.specs.inner.TicketOrder.{offset_of, IsOrderOf, IsInOrder, ticket_of, tickets_of}
 use Rattle.sctp_send.specs.inner.Counting.{IsCounted}
-use Rattle.sctp_send.specs.declared.kept.by_ticket.Spot.{Spot}
 use Rattle.sctp_send.specs.declared.kept.by_ticket.ByTicket.{ByTicket}
 use Rattle.sctp_send.specs.declared.kept.counts.Counts.{Counts}
 use Rattle.sctp_send.specs.declared.kept.entry.Standing.{Standing}
 use Rattle.sctp_send.specs.declared.kept.stretches.Stretch.{Stretch}
 use Rattle.sctp_send.specs.declared.kept.entry.Standing.TheVariants.{Unsent, Sent, Marked}
 use Rattle.sctp_send.specs.declared.kept.entry.Entry.{Entry as EntryFields}
-use Rattle.sctp_send.proofs.kept.ListParts.{has_at, dropped_more, here_first, taken_has, dropped_has, front_or_back, taken_one, order_back, halves}
-use Rattle.sctp_send.proofs.kept.OrderLemmas.{before_is, is_before, get_within}
+use Rattle.sctp_send.specs.inner.Stretching.{index_at, AreKnown}
+use Rattle.sctp_send.proofs.kept.ChangedLemmas.{count_changed}
+use Rattle.sctp_send.proofs.kept.KnownLemmas.{SayTheSame, SayNothing, known_changed}
+use Rattle.sctp_send.proofs.kept.OrderLemmas.{own_pair, own_ticket}
 
 -- ---- entries by offset
-
-pub get_read : {A : Type 0} (xs : List A) (n : ℕ) (x : A) → n < length xs → x ≡ get_or xs n x → slice_get xs n ≡ Some x
-get_read [] n x lt read = absurd (omega arith)
-get_read {A = A} (y ∷ xs) zero x lt read = ap (λ (z : A). Some z) (sym read)
-get_read (y ∷ xs) (suc n) x lt read = get_read xs n x (omega arith) read
-
--- the ticket of an entry is the one at its offset
-ticket_there : (es : List EntryFields) (n t : ℕ) (e : EntryFields) → slice_get (tickets_of es) n ≡ Some t → slice_get es n ≡ Some e → ticket_of e ≡ t
-ticket_there [] n t e told read = absurd (cc)
-ticket_there (d ∷ es) zero t e told read = let same : d ≡ e = cc in let ticket : ticket_of d ≡ t = cc in ap ticket_of (sym same) ∙ ticket
-ticket_there (d ∷ es) (suc n) t e told read = ticket_there es n t e told read
 
 get_long : {A : Type 0} (xs : List A) (n : ℕ) (x : A) → slice_get xs n ≡ Some x → n < length xs
 get_long [] n x is = absurd (cc)
 get_long (y ∷ xs) zero x is = omega arith
 get_long (y ∷ xs) (suc n) x is = let lt = get_long xs n x is in omega (arith, lt)
 
-pub long_tickets : (es : List EntryFields) → length (tickets_of es) ≡ length es
-long_tickets [] = refl
-long_tickets (e ∷ es) = ap suc (long_tickets es)
+-- the ticket at an offset is that of the entry there
+read_ticket : (es : List EntryFields) (n t : ℕ) → slice_get (tickets_of es) n ≡ Some t → (e : EntryFields) × (slice_get es n ≡ Some e) × (ticket_of e ≡ t)
+read_ticket [] n t read = absurd (cc)
+read_ticket (e ∷ es) zero t read = (e, refl, cc)
+read_ticket (e ∷ es) (suc n) t read = read_ticket es n t read
 
-offset_small : (first : ℕ) (s : Spot) → offset_of first s < 2 ^ 32
-offset_small first s = omega arith
+-- a pair of no entry
+pub no_pair : Pair
+no_pair = pair_with 0 0
 
--- a spot that stands nowhere
-pub no_spot : Spot
-no_spot = record { ticket = 0; index = 0 }
+-- the pair at a rank
+abbrev pub pair_at : (ps : List Pair) → ℕ → Pair
+pair_at ps k = get_or ps k no_pair
 
--- So many spots in front are passed: of each entry that one of them leads to, a property holds.
-abbrev pub WerePassed : List EntryFields → (first : ℕ) → List Spot → (EntryFields → Type 0) → ℕ → Type 0
-WerePassed es first ss P k = (s : Spot) (e : EntryFields) → Has (take k ss) s → slice_get es (offset_of first s) ≡ Some e → P e
+-- From one rank on up to another they are passed: of each entry that one of these pairs leads to, a property holds.
+abbrev pub WerePassed : List EntryFields → (first : ℕ) → List Pair → (EntryFields → Type 0) → (from upto : ℕ) → Type 0
+WerePassed es first ps P i j = (k : ℕ) (e : EntryFields) → i ≤ k → k < j → slice_get es (offset_of first (pair_at ps k)) ≡ Some e → P e
 
-module _ (es : List EntryFields) (first : ℕ) (ss : List Spot) (order : IsOrderOf (tickets_of es) first ss) where
-  -- the entry of a spot lies in the window, and has its ticket
-  pub spot_within : (k n : ℕ) (s : Spot) → k < length ss → n ≡ offset_of first (get_or ss k s) → n < length es
-  spot_within k n s lt is =
-      let there = order.each (get_or ss k s) (has_at ss k s lt) in
-      let within = get_within (tickets_of es) (offset_of first (get_or ss k s)) (get_or ss k s).ticket there in
-      let long = long_tickets es in
-      omega (arith, within, is, long)
+module _ (es : List EntryFields) (first : ℕ) (ps : List Pair) (few : length es < 2 ^ 64) (order : IsOrderOf (tickets_of es) first ps) where
+  -- the entry of a pair, which has its ticket
+  pub entry_at : (k : ℕ) → k < length ps → (e : EntryFields) × (slice_get es (offset_of first (pair_at ps k)) ≡ Some e) × (ticket_of e ≡ (pair_at ps k).first)
+  entry_at k lt =
+      let long = length-map es ticket_of in
+      read_ticket es (offset_of first (pair_at ps k)) (pair_at ps k).first (own_ticket (tickets_of es) first ps (pair_at ps k) (omega (arith, long, few)) order (k, lt, get_or_default ps k (pair_at ps k) no_pair lt))
 
-  pub spot_ticket : (s : Spot) (e : EntryFields) → Has ss s → slice_get es (offset_of first s) ≡ Some e → ticket_of e ≡ s.ticket
-  spot_ticket s e there read = ticket_there es (offset_of first s) s.ticket e (order.each s there) read
+  -- its offset lies in the window
+  pub pair_within : (k n : ℕ) → k < length ps → n ≡ offset_of first (pair_at ps k) → n < length es
+  pair_within k n lt at = let mine = entry_at k lt in let within = get_long es (offset_of first (pair_at ps k)) mine.0 mine.1 in omega (arith, at, within)
 
-  -- those of lower tickets
-  pub lower_passed : (P : EntryFields → Type 0) (t k : ℕ) → IsRankOf first t 0 ss k → ((e : EntryFields) → ticket_of e < t → P e) → WerePassed es first ss P k
-  lower_passed P t k rank holds s e there read =
-      let before = before_is first t 0 s (rank.front s there) in
-      let ticket = spot_ticket s e (taken_has ss k s there) read in
-      let le = before.0 in
-      holds e (elim (cases_lt s.ticket t) [
-        | inl lt ↦ omega (arith, lt, ticket)
-        | inr ge ↦ absurd (let none = before.1 (omega (arith, le, ge)) in omega (arith, none))
-      ])
+  -- and what is read there is the entry
+  pub pair_read : (k n : ℕ) (x : EntryFields) → k < length ps → n ≡ offset_of first (pair_at ps k) → x ≡ get_or es n x → slice_get es (offset_of first (pair_at ps k)) ≡ Some x
+  pair_read k n x lt at read = subst (λ (m : ℕ). slice_get es m ≡ Some x) at (slice_get_read es (length es) n x refl (pair_within k n lt at) read)
 
-  -- those up to a ticket
-  pub upto_passed : (P : EntryFields → Type 0) (t n k : ℕ) → IsRankOf first t n ss k → ((e : EntryFields) → ticket_of e ≤ t → P e) → WerePassed es first ss P k
-  upto_passed P t n k rank holds s e there read =
-      let le = (before_is first t n s (rank.front s there)).0 in
-      let ticket = spot_ticket s e (taken_has ss k s there) read in
-      holds e (omega (arith, le, ticket))
+  pub pair_ticket : (k n : ℕ) (x : EntryFields) → k < length ps → n ≡ offset_of first (pair_at ps k) → x ≡ get_or es n x → ticket_of x ≡ (pair_at ps k).first
+  pair_ticket k n x lt at read =
+      let mine = entry_at k lt in
+      let same : x ≡ mine.0 = let both = sym (pair_read k n x lt at read) ∙ mine.1 in cc in
+      ap ticket_of same ∙ mine.2
+
+  -- it is that of the message whose ranks these are
+  pub ranked_ticket : (t i j k n : ℕ) (x : EntryFields) → IsRankFrom t ps i → IsRankFrom (t + 1) ps j → i ≤ k → k < j → n ≡ offset_of first (pair_at ps k) → x ≡ get_or es n x → ticket_of x ≡ t
+  ranked_ticket t i j k n x from above low upto at read =
+      let within = above.within in
+      let lt : k < length ps = omega (arith, within, upto) in
+      let mine = pair_ticket k n x lt at read in
+      let least = from.higher k no_pair low lt in
+      let most = above.lower k no_pair upto in
+      omega (arith, mine, least, most)
 
   -- one more
-  pub one_passed : (P : EntryFields → Type 0) (k n : ℕ) (s : Spot) (e : EntryFields) → k < length ss → n ≡ offset_of first (get_or ss k s) → e ≡ get_or es n e → P e → WerePassed es first ss P k → WerePassed es first ss P (k + 1)
-  one_passed P k n s e lt at read holds passed u d there here =
-      let x = get_or ss k s in
-      let one : k + 1 ≡ suc k = omega arith in
-      elim (taken_one ss k x u lt (get_or_default ss k s x lt) (subst (λ (m : ℕ). Has (take m ss) u) one there)) [
-        | inl early ↦ passed u d early here
-        | inr last ↦
-            let mine : slice_get es (offset_of first u) ≡ Some e = subst (λ (m : ℕ). slice_get es m ≡ Some e) (at ∙ ap (offset_of first) last) (get_read es n e (spot_within k n s lt at) read) in
-            let same : e ≡ d = let both = sym mine ∙ here in cc in
-            subst P same holds
-      ]
+  pub one_passed : (P : EntryFields → Type 0) (i j n : ℕ) (x : EntryFields) → j < length ps → n ≡ offset_of first (pair_at ps j) → x ≡ get_or es n x → P x → WerePassed es first ps P i j → WerePassed es first ps P i (j + 1)
+  one_passed P i j n x lt at read holds passed k e low upto here = elim (cases_lt k j) [
+    | inl early ↦ passed k e low early here
+    | inr late ↦
+        let last : k ≡ j = omega (arith, late, upto) in
+        let same : x ≡ e = let both = sym (pair_read j n x lt at read) ∙ ap (λ (m : ℕ). slice_get es (offset_of first (pair_at ps m))) (sym last) ∙ here in cc in
+        subst P same holds
+  ]
 
-  -- with all of them, all entries are
-  pub all_passed : (P : EntryFields → Type 0) (k : ℕ) → WerePassed es first ss P k → ((s : Spot) (e : EntryFields) → Has (drop k ss) s → slice_get es (offset_of first s) ≡ Some e → P e)
+  -- with those whose pairs lie before and behind, all entries are
+  pub all_passed : (P : EntryFields → Type 0) (i j : ℕ) → WerePassed es first ps P i j → ((k : ℕ) (e : EntryFields) → k < length ps → (k < i) ⊎ (j ≤ k) → ticket_of e ≡ (pair_at ps k).first → P e)
       → (n : ℕ) (e : EntryFields) → slice_get es n ≡ Some e → P e
-  all_passed P k front back n e read =
+  all_passed P i j passed others n e read =
       let lt = get_long es n e read in
-      let long = long_tickets es in
-      let m = order.all n (omega (arith, lt, long)) in
-      let here = subst (λ (i : ℕ). slice_get es i ≡ Some e) (sym m.2) read in
-      elim (front_or_back ss k m.0 m.1) [ inl before ↦ front m.0 e before here | inr behind ↦ back m.0 e behind here ]
-
-  -- those behind a ticket
-  pub higher_left : (P : EntryFields → Type 0) (t n k : ℕ) → 2 ^ 32 ≤ n → IsRankOf first t n ss k → ((e : EntryFields) → t < ticket_of e → P e)
-      → (s : Spot) (e : EntryFields) → Has (drop k ss) s → slice_get es (offset_of first s) ≡ Some e → P e
-  higher_left P t n k most rank holds s e there read =
-      let ticket = spot_ticket s e (dropped_has ss k s there) read in
-      let small = offset_small first s in
-      holds e (elim (cases_lt t s.ticket) [
-        | inl lt ↦ omega (arith, lt, ticket)
-        | inr ge ↦ absurd (rank.back s there (is_before first t n s ge (λ same. omega (arith, small, most))))
-      ])
-
-  -- those from the spot at a rank on
-  pub from_left : (k n : ℕ) (d : Spot) (x : EntryFields) → k < length ss → n ≡ offset_of first (get_or ss k d) → x ≡ get_or es n x
-      → (s : Spot) (e : EntryFields) → Has (drop k ss) s → slice_get es (offset_of first s) ≡ Some e → ticket_of x ≤ ticket_of e
-  from_left k n d x lt at read s e there here =
-      let y = get_or ss k d in
-      let rest : drop k ss ≡ y ∷ drop (suc k) ss = here_first ss k y lt (get_or_default ss k d y lt) in
-      let mine : slice_get es (offset_of first y) ≡ Some x = subst (λ (m : ℕ). slice_get es m ≡ Some x) at (get_read es n x (spot_within k n d lt at) read) in
-      let one = spot_ticket y x (has_at ss k d lt) mine in
-      let two = spot_ticket s e (dropped_has ss k s there) here in
-      let was = subst (λ (us : List Spot). AreInOrder (AreRising first) us) (sym (halves ss k)) order.rising in
-      let rising : AreInOrder (AreRising first) (y ∷ drop (suc k) ss) = subst (λ (us : List Spot). AreInOrder (AreRising first) us) rest (order_back (AreRising first) (take k ss) (drop k ss) was) in
-      elim (subst (λ (us : List Spot). Has us s) rest there) [
-        | inl is ↦ let ticket = ap (λ (z : Spot). z.ticket) is in omega (arith, one, two, ticket)
-        | inr later ↦ let le = (rising.0 s later).tickets in omega (arith, one, two, le)
+      let mine = own_pair (tickets_of es) first ps n (ticket_of e) (omega (arith, lt, few)) order (slice_get-map ticket_of es n ∙ ap (option_map ticket_of) read) in
+      let k = mine.1.0 in
+      let k_lt = mine.1.1 in
+      let is : pair_at ps k ≡ mine.0 = get_or_default ps k no_pair mine.0 k_lt ∙ mine.1.2 in
+      let here = subst (λ (m : ℕ). slice_get es m ≡ Some e) (sym (ap (offset_of first) is ∙ mine.2)) read in
+      let ticket : ticket_of e ≡ (pair_at ps k).first = sym (ap (λ (p : Pair). p.first) is ∙ mine.3) in
+      elim (cases_lt k i) [
+        | inl before ↦ others k e k_lt (inl before) ticket
+        | inr from ↦ elim (cases_lt k j) [ inl upto ↦ passed k e from upto here | inr behind ↦ others k e k_lt (inr behind) ticket ]
       ]
 
-  -- those from an entry of another ticket on, behind the rank of one: they are behind it
-  pub behind_left : (P : EntryFields → Type 0) (t i k n : ℕ) (d : Spot) (x : EntryFields) → IsRankOf first t 0 ss i → i ≤ k → k < length ss → n ≡ offset_of first (get_or ss k d) → x ≡ get_or es n x → (ticket_of x ≡ t → ⊥)
-      → ((e : EntryFields) → t < ticket_of e → P e) → (s : Spot) (e : EntryFields) → Has (drop k ss) s → slice_get es (offset_of first s) ≡ Some e → P e
-  behind_left P t i k n d x rank le lt at read other holds s e there here =
-      let y = get_or ss k d in
-      let rest : drop k ss ≡ y ∷ drop (suc k) ss = here_first ss k y lt (get_or_default ss k d y lt) in
-      let first_there : Has (drop k ss) y = subst (λ (us : List Spot). Has us y) (sym rest) (inl refl) in
-      let mine : slice_get es (offset_of first y) ≡ Some x = subst (λ (m : ℕ). slice_get es m ≡ Some x) at (get_read es n x (spot_within k n d lt at) read) in
-      let ticket = spot_ticket y x (has_at ss k d lt) mine in
-      let low = from_left k n d x lt at read s e there here in
-      elim (cases_lt t (ticket_of x)) [
-        | inl above ↦ holds e (omega (arith, above, low))
-        | inr upto ↦ elim (cases_lt (ticket_of x) t) [
-          | inr same ↦ absurd (other (omega (arith, upto, same)))
-          | inl below ↦ absurd (rank.back y (dropped_more ss i k y le first_there) (is_before first t 0 y (omega (arith, ticket, below)) (λ same. absurd (omega (arith, ticket, below, same)))))
-        ]
-      ]
+  -- with those of a ticket, all are of which nothing is asked if they are of another one
+  pub own_passed : (P : EntryFields → Type 0) (t i j : ℕ) → IsRankFrom t ps i → IsRankFrom (t + 1) ps j → ((e : EntryFields) → (ticket_of e ≡ t → ⊥) → P e) → WerePassed es first ps P i j → (n : ℕ) (e : EntryFields) → slice_get es n ≡ Some e → P e
+  own_passed P t i j from above holds passed = all_passed P i j passed (λ k e lt outside ticket. elim outside [
+    | inl before ↦ let low = from.lower k no_pair before in holds e (λ same. omega (arith, ticket, low, same))
+    | inr behind ↦ let high = above.higher k no_pair behind lt in holds e (λ same. omega (arith, ticket, high, same))
+  ])
 
 -- ---- covered or not
 
@@ -203,46 +165,28 @@ changed_abandoned t n [] = refl
 changed_abandoned t zero (e ∷ es) = rw (abandoned_twice t e) refl
 changed_abandoned t (suc n) (e ∷ es) = rw (changed_abandoned t n es) refl
 
--- what is read then was there, or became so
+-- what is read then was there, elsewhere, or became so
 changed_read : (f : EntryFields → EntryFields) (n m : ℕ) (es : List EntryFields) (e : EntryFields) → slice_get (changed_at f n es) m ≡ Some e
-    → (slice_get es m ≡ Some e) ⊎ ((d : EntryFields) × (m ≡ n) × (slice_get es m ≡ Some d) × (e ≡ f d))
-changed_read f n m [] e read = inl read
-changed_read f zero zero (d ∷ es) e read = inr (d, refl, refl, cc)
-changed_read f zero (suc m) (d ∷ es) e read = inl read
-changed_read f (suc n) zero (d ∷ es) e read = inl read
-changed_read f (suc n) (suc m) (d ∷ es) e read = elim (changed_read f n m es e read) [
-  | inl same ↦ inl same
-  | inr new ↦ inr (new.0, ap suc new.1, new.2, new.3)
-]
+    → ((m ≡ n → ⊥) × (slice_get es m ≡ Some e)) ⊎ ((d : EntryFields) × (e ≡ f d))
+changed_read f n m [] e read = absurd (cc)
+changed_read f zero zero (d ∷ es) e read = inr (d, cc)
+changed_read f zero (suc m) (d ∷ es) e read = inl (λ is. omega (arith, is), read)
+changed_read f (suc n) zero (d ∷ es) e read = inl (λ is. omega (arith, is), read)
+changed_read f (suc n) (suc m) (d ∷ es) e read = elim (changed_read f n m es e read) [ inl same ↦ inl (λ is. same.0 (omega (arith, is)), same.1) | inr new ↦ inr new ]
 
 abbrev pub IsAbandonedAlready : ℕ → EntryFields → Type 0
 IsAbandonedAlready t e = as_abandoned t e ≡ e
 
 -- what was abandoned stays so, and one entry more is
-pub abandoned_more : (t first : ℕ) (ss : List Spot) (es : List EntryFields) (k n : ℕ) (s : Spot) → k < length ss → n ≡ offset_of first (get_or ss k s)
-    → ((u : Spot) (e : EntryFields) → Has (take k ss) u → slice_get es (offset_of first u) ≡ Some e → IsAbandonedAlready t e)
-    → (u : Spot) (e : EntryFields) → Has (take (k + 1) ss) u → slice_get (changed_at (as_abandoned t) n es) (offset_of first u) ≡ Some e → IsAbandonedAlready t e
-abandoned_more t first ss es k n s lt at passed u e there read =
-    let x = get_or ss k s in
-    let one : k + 1 ≡ suc k = omega arith in
-    elim (changed_read (as_abandoned t) n (offset_of first u) es e read) [
-      | inr new ↦ subst (λ (d : EntryFields). as_abandoned t d ≡ d) (sym new.3) (abandoned_twice t new.0)
-      | inl same ↦ elim (taken_one ss k x u lt (get_or_default ss k s x lt) (subst (λ (m : ℕ). Has (take m ss) u) one there)) [
-        | inl early ↦ passed u e early same
-        | inr last ↦
-            let here : offset_of first u ≡ n = ap (offset_of first) (sym last) ∙ sym at in
-            fixed_there t n es e (subst (λ (m : ℕ). slice_get (changed_at (as_abandoned t) m es) (offset_of first u) ≡ Some e) refl read) here
-      ]
-    ]
-  where
-    -- the entry at the rank became so
-    became : (m : ℕ) (ds : List EntryFields) (d : EntryFields) → slice_get (changed_at (as_abandoned t) m ds) m ≡ Some d → IsAbandonedAlready t d
-    became m [] d is = absurd (cc)
-    became zero (c ∷ ds) d is = let same : as_abandoned t c ≡ d = cc in subst (λ (z : EntryFields). as_abandoned t z ≡ z) same (abandoned_twice t c)
-    became (suc m) (c ∷ ds) d is = became m ds d is
-
-    fixed_there : (v m : ℕ) (ds : List EntryFields) (d : EntryFields) → slice_get (changed_at (as_abandoned t) m ds) (offset_of first u) ≡ Some d → offset_of first u ≡ m → IsAbandonedAlready t d
-    fixed_there v m ds d is here = became m ds d (subst (λ (i : ℕ). slice_get (changed_at (as_abandoned t) m ds) i ≡ Some d) here is)
+pub abandoned_more : (t first : ℕ) (ps : List Pair) (es : List EntryFields) (i j n : ℕ) → n ≡ offset_of first (pair_at ps j) → WerePassed es first ps (IsAbandonedAlready t) i j
+    → WerePassed (changed_at (as_abandoned t) n es) first ps (IsAbandonedAlready t) i (j + 1)
+abandoned_more t first ps es i j n at passed k e low upto read = elim (changed_read (as_abandoned t) n (offset_of first (pair_at ps k)) es e read) [
+  | inr new ↦ subst (IsAbandonedAlready t) (sym new.1) (abandoned_twice t new.0)
+  | inl same ↦ elim (cases_lt k j) [
+    | inl early ↦ passed k e low early same.1
+    | inr late ↦ absurd (let last : k ≡ j = omega (arith, late, upto) in same.0 (ap (λ (m : ℕ). offset_of first (pair_at ps m)) last ∙ sym at))
+  ]
+]
 
 -- where nothing is left to abandon, all is as it becomes
 pub all_are_abandoned : (t : ℕ) (es : List EntryFields) → ((n : ℕ) (e : EntryFields) → slice_get es n ≡ Some e → IsAbandonedAlready t e) → all_abandoned t es ≡ es
@@ -253,4 +197,19 @@ all_are_abandoned t (e ∷ es) each = rw (each 0 e refl, all_are_abandoned t es 
 
 -- other counts of the same entries
 pub recounted : (size : ℕ) (es : List EntryFields) (capacity : ℕ) (c d : Counts) (o : ByTicket) (room : ℕ) (ss : List Stretch) → IsCounted size es d → IsInOrder size es capacity c o room ss → IsInOrder size es capacity d o room ss
-recounted size es capacity c d o room ss counted h = record { counted = counted; order = h.order; below = h.below; few = h.few; within = h.within; here = h.here; there = h.there; known = h.known }
+recounted size es capacity c d o room ss counted h = record { counted = counted; order = h.order; within = h.within; here = h.here; there = h.there; known = h.known }
+
+-- an entry changes, of whose stretch nothing is said
+pub entry_changed : {size capacity kept room i : ℕ} {es now : List EntryFields} {c d : Counts} {o : ByTicket} {ss rest : List Stretch} (at : ℕ) (f : EntryFields → EntryFields) → ((e : EntryFields) → ticket_of (f e) ≡ ticket_of e)
+    → now ≡ changed_at f at es → IsCounted size now d → kept ≡ capacity → i ≡ index_at o.first at → SayTheSame i rest ss → SayNothing i rest → IsInOrder size es capacity c o room ss → IsInOrder size now kept d o room rest
+entry_changed {size} {capacity} {kept} {room} {i} {es} {now} {c} {d} {o} {ss} {rest} at f stays items counted same is others here h =
+    let long : length now ≡ length es = ap (λ (xs : List EntryFields). length xs) items ∙ count_changed f at es in
+    record {
+      counted = counted;
+      order = subst (λ (ts : List ℕ). IsOrderOf ts o.first o.pairs.items) (sym (ap tickets_of items ∙ changed_tickets f stays at es)) h.order;
+      within = let le = h.within in omega (arith, long, le);
+      here = let le = h.here in omega (arith, same, le);
+      there = h.there;
+      known = subst (λ (xs : List EntryFields). AreKnown size o.first rest xs) (sym items)
+          (known_changed size o.first at f ss rest es (subst (λ (n : ℕ). SayTheSame n rest ss) is others) (subst (λ (n : ℕ). SayNothing n rest) is here) h.known);
+    }

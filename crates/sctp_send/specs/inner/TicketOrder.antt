@@ -1,8 +1,7 @@
 -- The entries above CUM in the order of their tickets.
-use Rattle.std.specs.Prelude.{◌≡◌, ℕ, ◌+◌, ◌-◌, ◌%◌, ◌^◌, ◌<◌, ◌≤◌, nat_lt, ◌==◌, ◌&&◌, ◌||◌, Bool, true, List, ◌∷◌, ◌++◌, length, take, drop, slice_get, Some, map}
-use Rattle.std.specs.VecDeque.{deque_capacity}
-use Rattle.sctp_model.specs.numbers.Lists.{Has, AreInOrder}
-use Rattle.sctp_send.specs.declared.kept.by_ticket.Spot.{Spot}
+use Rattle.std.specs.Prelude.{◌≡◌, ℕ, ◌+◌, ◌-◌, ◌%◌, ◌^◌, ◌<◌, ◌≤◌, List, [], ◌∷◌, length, map}
+use Rattle.sctp_sequence.specs.Pairs.{AreSame}
+use Rattle.sctp_sequence.specs.declared.pairs.Pair.{Pair}
 use Rattle.sctp_send.specs.declared.kept.by_ticket.ByTicket.{ByTicket}
 use Rattle.sctp_send.specs.declared.kept.counts.Counts.{Counts}
 use Rattle.sctp_send.specs.declared.kept.entry.Entry.{Entry as EntryFields}
@@ -10,44 +9,19 @@ use Rattle.sctp_send.specs.inner.Counting.{IsCounted}
 use Rattle.sctp_send.specs.inner.Stretching.{AreKnown}
 use Rattle.sctp_send.specs.declared.kept.stretches.Stretch.{Stretch}
 
--- the offset of a spot's entry, where the first entry has this index
-abbrev pub offset_of : (first : ℕ) → Spot → ℕ
-offset_of first s = (s.index + (2 ^ 32 - first)) % 2 ^ 32
+-- the offset of a pair's entry, where the first entry has this index
+abbrev pub offset_of : (first : ℕ) → Pair → ℕ
+offset_of first p = (p.second + (2 ^ 64 - first)) % 2 ^ 64
 
--- it lies before an entry of this ticket at this offset
-abbrev pub comes_before : (first ticket offset : ℕ) → Spot → Bool
-comes_before first t n s = nat_lt s.ticket t || ((s.ticket == t) && nat_lt (offset_of first s) n)
+-- the pairs of entries with these tickets, where the first entry has this index: ticket and index
+abbrev pub pairs_from : (index : ℕ) → (tickets : List ℕ) → List Pair
+pairs_from i [] = []
+pairs_from i (t ∷ ts) = record { first = t; second = i } ∷ pairs_from ((i + 1) % 2 ^ 64) ts
 
--- Tickets don't fall from one spot to the other; where the ticket is the same, the offset rises.
-pub record AreRising (first : ℕ) (s u : Spot) : Type 0 where
-  pub tickets : s.ticket ≤ u.ticket
-  pub offsets : s.ticket ≡ u.ticket → offset_of first s < offset_of first u
-
--- The spots of entries with these tickets: as many as they are, in rising order, each where its ticket is, and one for each offset.
-pub record IsOrderOf (tickets : List ℕ) (first : ℕ) (spots : List Spot) : Type 0 where
-  pub small : first < 2 ^ 32
-  pub many : length spots ≡ length tickets
-  pub rising : AreInOrder (AreRising first) spots
-  pub each : (s : Spot) → Has spots s → slice_get tickets (offset_of first s) ≡ Some s.ticket
-  pub all : (n : ℕ) → n < length tickets → (s : Spot) × Has spots s × (offset_of first s ≡ n)
-
--- no spot has a ticket above this one
-abbrev pub AreUpTo : (highest : ℕ) → List Spot → Type 0
-AreUpTo t spots = (s : Spot) → Has spots s → s.ticket ≤ t
-
--- So many spots in front lie before an entry of this ticket at this offset, and the others don't.
-pub record IsRankOf (first ticket offset : ℕ) (spots : List Spot) (rank : ℕ) : Type 0 where
-  pub front : (s : Spot) → Has (take rank spots) s → comes_before first ticket offset s ≡ true
-  pub back : (s : Spot) → Has (drop rank spots) s → comes_before first ticket offset s ≡ true → ⊥
-
--- The spot of the entry at this offset went, and no other.
-pub record IsGone (first offset : ℕ) (before after : List Spot) : Type 0 where
-  pub front : List Spot
-  pub gone : Spot
-  pub back : List Spot
-  pub was : before ≡ front ++ gone ∷ back
-  pub is : after ≡ front ++ back
-  pub there : offset_of first gone ≡ offset
+-- The pairs are those of entries with these tickets, in any order.
+pub record IsOrderOf (tickets : List ℕ) (first : ℕ) (ps : List Pair) : Type 0 where
+  pub small : first < 2 ^ 64
+  pub same : AreSame ps (pairs_from first tickets)
 
 -- the ticket of an entry's message
 abbrev pub ticket_of : EntryFields → ℕ
@@ -57,14 +31,12 @@ ticket_of e = e.message.value.ticket
 abbrev pub tickets_of : List EntryFields → List ℕ
 tickets_of es = map ticket_of es
 
--- What is kept of the outstanding: the entries counted, and in the order of their tickets, with room for so many in both lists; and what is
--- known of stretches.
+-- What is kept of the outstanding: the entries counted, and in the order of their tickets, with room for so many in both; and what is known
+-- of stretches.
 pub record IsInOrder (size : ℕ) (es : List EntryFields) (capacity : ℕ) (c : Counts) (o : ByTicket) (room : ℕ) (ss : List Stretch) : Type 0 where
   pub counted : IsCounted size es c
-  pub order : IsOrderOf (tickets_of es) o.first o.spots.items
-  pub below : AreUpTo o.highest o.spots.items
-  pub few : room < 2 ^ 32
+  pub order : IsOrderOf (tickets_of es) o.first o.pairs.items
   pub within : length es ≤ room
   pub here : room ≤ capacity
-  pub there : room ≤ deque_capacity o.spots
+  pub there : room ≤ o.pairs.capacity
   pub known : AreKnown size o.first ss es

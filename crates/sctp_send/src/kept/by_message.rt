@@ -34,12 +34,10 @@ impl Outstanding {
         ensures uncovered { (size : ℕ) → IfSome result (λ until. any_uncovered ticket (map (item_meaning size) self.now.items) ≡ true) }
         ensures none { (size : ℕ) → IfNone result (any_uncovered ticket (map (item_meaning size) self.now.items) ≡ false) }
     {
-        let start = self.by_ticket.rank(ticket, 0);
-        for rank in start..self.by_ticket.len() {
+        let start = self.by_ticket.pairs.rank_from(ticket);
+        let end = self.by_ticket.pairs.rank_above(ticket);
+        for rank in start..end {
             let entry = &self.entries[self.by_ticket.offset(rank)];
-            if entry.message.ticket != ticket {
-                return None;
-            }
             if !entry.covered {
                 return Some(entry.message.until);
             }
@@ -51,8 +49,8 @@ impl Outstanding {
     pub(crate) fn next_spent(&self, last: u64, partial: bool) -> Option<u64>
         ensures { NextSpentAnswer partial last self.now.items result }
     {
-        let start = self.by_ticket.rank(last, usize::MAX);
-        for rank in start..self.by_ticket.len() {
+        let start = self.by_ticket.pairs.rank_above(last);
+        for rank in start..self.by_ticket.pairs.len() {
             let entry = &self.entries[self.by_ticket.offset(rank)];
             if is_at_limit(entry, partial) {
                 return Some(entry.message.ticket);
@@ -65,7 +63,7 @@ impl Outstanding {
     pub(crate) fn is_past(&self, last: u64) -> bool
         ensures { (size t : ℕ) → result ≡ true → t ≤ last → any_item t (map (item_meaning size) self.now.items) ≡ false }
     {
-        self.by_ticket.rank(last, usize::MAX) == 0
+        self.by_ticket.pairs.rank_above(last) == 0
     }
 
     /// Each entry of the message with this ticket is abandoned.
@@ -73,12 +71,10 @@ impl Outstanding {
         ensures items { self.new.items ≡ all_abandoned ticket self.old.items }
         ensures kept { IsSameRoom self.old self.new }
     {
-        let start = self.by_ticket.rank(ticket, 0);
-        for rank in start..self.by_ticket.len() {
+        let start = self.by_ticket.pairs.rank_from(ticket);
+        let end = self.by_ticket.pairs.rank_above(ticket);
+        for rank in start..end {
             let at = self.by_ticket.offset(rank);
-            if self.entries[at].message.ticket != ticket {
-                return;
-            }
             forget_stretch(&mut self.stretches, self.by_ticket.index(at));
             abandon_one(&mut self.entries, &mut self.counts, self.size, at, ticket);
         }

@@ -39,11 +39,11 @@ impl Outstanding {
         ensures room { min kept self.old.capacity ≤ self.new.capacity }
     {
         self.entries.shrink_to(kept);
-        self.by_ticket.shrink_to(kept);
+        self.by_ticket.pairs.shrink_to(kept);
         self.room = self
             .entries
             .capacity()
-            .min(self.by_ticket.capacity())
+            .min(self.by_ticket.pairs.capacity())
             .min(self.room);
     }
 

@@ -7,7 +7,7 @@ ghost use Rattle.sctp_send.specs.inner.Changes.{stood};
 ghost use Rattle.sctp_send.specs.inner.Walks.{abandoned_items, any_unsettled};
 ghost use Rattle.sctp_send.specs.inner.Wishing.{item_flight};
 
-use crate::kept::by_ticket::{ByTicket, MOST};
+use crate::kept::by_ticket::ByTicket;
 use crate::kept::counts::{Counts, front_behind, stand_one};
 use crate::kept::entry::{CoveredRun, Entry, State};
 use crate::kept::growing::grown;
@@ -144,14 +144,13 @@ impl Outstanding {
     {
         let wide = grown(self.room, self.entries.len(), more);
         self.entries.reserve_exact(wide).map_err(|_| NoMemory)?;
-        self.by_ticket.reserve(wide)?;
+        self.by_ticket
+            .pairs
+            .reserve_exact(wide)
+            .map_err(|_| NoMemory)?;
         self.reserve_runs()?;
         self.keep_stretches();
-        self.room = self
-            .entries
-            .capacity()
-            .min(self.by_ticket.capacity())
-            .min(MOST);
+        self.room = self.entries.capacity().min(self.by_ticket.pairs.capacity());
         if self.has_room(more) {
             Ok(())
         } else {
@@ -193,7 +192,7 @@ impl Outstanding {
         self.counts.enter(&entry, self.size);
         self.counts.reach(others, &entry);
         forget_stretch(&mut self.stretches, self.by_ticket.index(others));
-        self.by_ticket.push(entry.message.ticket);
+        self.by_ticket.push(entry.message.ticket, others);
         self.entries.push_back_reserved(entry);
     }
 

@@ -1,7 +1,7 @@
-use Rattle.std.proofs.Common.{◌≡◌, ◌+◌, ◌-◌, ◌<◌, ℕ, suc, length, Bool, Some, sym, ap, subst, arith}
+use Rattle.std.proofs.Common.{◌≡◌, ◌+◌, ◌-◌, ◌<◌, ℕ, suc, length, Bool, Some, refl, sym, ap, subst, arith}
 use Rattle.std.specs.Prelude.{slice_get}
 use Rattle.sctp_send.specs.inner.Stretching.{IsQuiet, plain_bytes, plain_one, AreAlike}
-use Rattle.sctp_send.proofs.kept.TicketWalks.{get_read}
+use Rattle.std.proofs.lemmas.Option.{slice_get_read}
 use Rattle.sctp_send.proofs.kept.StretchLemmas.{flags_not_differ, alike_none, alike_more}
 use Rattle.sctp_send.proofs.kept.stretches.look_at_stretch.Goals as goal
 
@@ -30,7 +30,7 @@ loop-offset-preserved c =
     let here : p ≡ at + k = omega (arith, h.low) in
     let next : suc k ≡ p + 1 - at = omega (arith, h.low) in
     let lt : p < length es = omega (arith, c.requires.within, c.loop-offset-test.true) in
-    let read = subst (λ (m : ℕ). slice_get es m ≡ Some e) here (get_read es p e lt c.index-entry.ensures) in
+    let read = subst (λ (m : ℕ). slice_get es m ≡ Some e) here (slice_get_read es (length es) p e refl lt c.index-entry.ensures) in
     let quiet = subst (λ (d : Bool). IsQuiet d e) (flags_not_differ e.covered b c.if-entry-covered.false) (c.is_quiet.ensures c.if-not-is_quiet.false) in
     let more = alike_more c.args.size b n q at k es e h.alike read quiet in
     record {

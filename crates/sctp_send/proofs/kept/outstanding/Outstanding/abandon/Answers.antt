@@ -1,44 +1,35 @@
-use Rattle.std.proofs.Common.{◌≡◌, ◌+◌, ◌<◌, ◌≤◌, ℕ, List, length, refl, sym, ◌∙◌, ap, subst, arith}
+use Rattle.std.proofs.Common.{◌≡◌, ◌+◌, ◌<◌, ◌^◌, ℕ, List, length, refl, sym, ◌∙◌, ap, subst, arith}
+use Rattle.sctp_sequence.specs.Pairs.{IsRankFrom}
 use Rattle.sctp_send.specs.declared.kept.by_ticket.ByTicket.{ByTicket}
 use Rattle.sctp_send.specs.declared.kept.entry.Entry.{Entry as EntryFields}
-use Rattle.sctp_send.specs.declared.kept.message.Message.{Message as MessageFields}
 use Rattle.sctp_send.specs.inner.Changes.{as_abandoned, all_abandoned}
-use Rattle.sctp_send.specs.inner.TicketOrder.{IsOrderOf, IsRankOf, tickets_of}
-use Rattle.sctp_send.proofs.kept.ListParts.{none_dropped}
-use Rattle.sctp_send.proofs.kept.ChangedLemmas.{count_changed}
 use Rattle.sctp_send.proofs.kept.StoodLemmas.{abandoned_other}
-use Rattle.sctp_send.proofs.kept.TicketWalks.{no_spot, WerePassed, IsAbandonedAlready, lower_passed, all_passed, behind_left, spot_within, abandoned_ticket, changed_tickets, changed_abandoned, abandoned_more, all_are_abandoned}
-use Rattle.sctp_send.specs.inner.Stretching.{AreKnown}
-use Rattle.sctp_send.proofs.kept.KnownLemmas.{SayTheSame, SayNothing, known_changed}
+use Rattle.sctp_send.proofs.kept.TicketWalks.{no_pair, WerePassed, IsAbandonedAlready, own_passed, pair_within, entry_changed, abandoned_ticket, changed_abandoned, abandoned_more, all_are_abandoned}
 use Rattle.sctp_send.proofs.kept.outstanding.Outstanding.abandon.Goals as goal
 
 pub loop-rank-init : goal.loop-rank-init
-loop-rank-init c =
-    let s = c.self.inside in
-    let order = c.self.invariant.order in
-    record {
-      kept = c.self.invariant;
-      size = refl;
-      room = refl;
-      order = refl;
-      abandoned = refl;
-      fixed = lower_passed s.entries.items s.by_ticket.first s.by_ticket.spots.items order (IsAbandonedAlready c.args.ticket) c.args.ticket c.rank-start.result (c.rank-start.ensures.rank (tickets_of s.entries.items) order)
-          (λ e lt. abandoned_other c.args.ticket e (λ same. omega (arith, lt, same)));
-    }
+loop-rank-init c = record {
+  kept = c.self.invariant;
+  size = refl;
+  room = refl;
+  order = refl;
+  abandoned = refl;
+  fixed = λ k e low upto read. absurd (omega (arith, low, upto));
+}
 
 pub offset-at-requires : goal.offset-at-requires
 offset-at-requires c =
-    let lt : c.loop-rank.rank < length c.self.inside.by_ticket.spots.items = omega (arith, c.loop-rank-test.true, c.len-rank-end.ensures) in
-    subst (λ (o : ByTicket). c.loop-rank.rank < length o.spots.items) (sym c.loop-rank.invariant.order) lt
+    let lt : c.loop-rank.rank < length c.self.inside.by_ticket.pairs.items = omega (arith, c.loop-rank-test.true, c.rank_above-end.ensures.rank.within) in
+    subst (λ (o : ByTicket). c.loop-rank.rank < length o.pairs.items) (sym c.loop-rank.invariant.order) lt
 
 pub abandon_one-requires : goal.abandon_one-requires
 abandon_one-requires c =
     let s = c.loop-rank.self-inside in
     let h = c.loop-rank.invariant in
-    let bound : c.loop-rank.rank < length c.self.inside.by_ticket.spots.items = omega (arith, c.loop-rank-test.true, c.len-rank-end.ensures) in
-    let lt = subst (λ (o : ByTicket). c.loop-rank.rank < length o.spots.items) (sym h.order) bound in
+    let bound : c.loop-rank.rank < length c.self.inside.by_ticket.pairs.items = omega (arith, c.loop-rank-test.true, c.rank_above-end.ensures.rank.within) in
+    let lt = subst (λ (o : ByTicket). c.loop-rank.rank < length o.pairs.items) (sym h.order) bound in
     record {
-      within = spot_within s.entries.items s.by_ticket.first s.by_ticket.spots.items h.kept.order c.loop-rank.rank c.offset-at.result no_spot lt (c.offset-at.ensures no_spot);
+      within = pair_within s.entries.items s.by_ticket.first s.by_ticket.pairs.items (omega (arith, s.entries.ok)) h.kept.order c.loop-rank.rank c.offset-at.result lt (c.offset-at.ensures no_pair);
       counted = h.kept.counted;
     }
 
@@ -50,60 +41,18 @@ loop-rank-preserved c =
     let es = s.entries.items in
     let at = c.offset-at.result in
     let items = c.abandon_one.ensures.items in
-    let bound : c.loop-rank.rank < length c.self.inside.by_ticket.spots.items = omega (arith, c.loop-rank-test.true, c.len-rank-end.ensures) in
-    let lt = subst (λ (o : ByTicket). c.loop-rank.rank < length o.spots.items) (sym h.order) bound in
-    let long : length c.abandon_one.new.entries.items ≡ length es = ap (λ (xs : List EntryFields). length xs) items ∙ count_changed (as_abandoned t) at es in
     record {
-      kept = record {
-        counted = c.abandon_one.ensures.counted;
-        order = subst (λ (ts : List ℕ). IsOrderOf ts s.by_ticket.first s.by_ticket.spots.items) (sym (ap tickets_of items ∙ changed_tickets (as_abandoned t) (abandoned_ticket t) at es)) h.kept.order;
-        below = h.kept.below;
-        few = h.kept.few;
-        within = let le = h.kept.within in omega (arith, long, le);
-        here = let le = h.kept.here in omega (arith, c.abandon_one.ensures.capacity, le);
-        there = h.kept.there;
-        known =
-            subst (λ (xs : List EntryFields). AreKnown s.size s.by_ticket.first c.forget_stretch.new.stretches.items xs) (sym items)
-            (known_changed s.size s.by_ticket.first at (as_abandoned t) s.stretches.items c.forget_stretch.new.stretches.items es
-            (subst (λ (i : ℕ). SayTheSame i c.forget_stretch.new.stretches.items s.stretches.items) c.index-in-loop-rank.ensures c.forget_stretch.ensures.others)
-            (subst (λ (i : ℕ). SayNothing i c.forget_stretch.new.stretches.items) c.index-in-loop-rank.ensures c.forget_stretch.ensures.here) h.kept.known);
-      };
+      kept = entry_changed at (as_abandoned t) (abandoned_ticket t) items c.abandon_one.ensures.counted c.abandon_one.ensures.capacity c.index.ensures c.forget_stretch.ensures.others c.forget_stretch.ensures.here h.kept;
       size = h.size;
       room = h.room;
       order = h.order;
       abandoned = ap (all_abandoned t) items ∙ changed_abandoned t at es ∙ h.abandoned;
-      fixed = subst (λ (xs : List EntryFields). WerePassed xs s.by_ticket.first s.by_ticket.spots.items (IsAbandonedAlready t) (c.loop-rank.rank + 1)) (sym items)
-          (abandoned_more t s.by_ticket.first s.by_ticket.spots.items es c.loop-rank.rank at no_spot lt (c.offset-at.ensures no_spot) h.fixed);
+      fixed = subst (λ (xs : List EntryFields). WerePassed xs s.by_ticket.first s.by_ticket.pairs.items (IsAbandonedAlready t) c.rank_from-start.result (c.loop-rank.rank + 1)) (sym items)
+          (abandoned_more t s.by_ticket.first s.by_ticket.pairs.items es c.rank_from-start.result c.loop-rank.rank at (c.offset-at.ensures no_pair) h.fixed);
     }
 
 pub invariant_of-self : goal.invariant_of-self
 invariant_of-self c = c.loop-rank.invariant.kept
-
-pub index-requires : goal.index-requires
-index-requires c =
-    let s = c.loop-rank.self-inside in
-    let h = c.loop-rank.invariant in
-    let bound : c.loop-rank.rank < length c.self.inside.by_ticket.spots.items = omega (arith, c.loop-rank-test.true, c.len-rank-end.ensures) in
-    let lt = subst (λ (o : ByTicket). c.loop-rank.rank < length o.spots.items) (sym h.order) bound in
-    let within = spot_within s.entries.items s.by_ticket.first s.by_ticket.spots.items h.kept.order c.loop-rank.rank c.offset-at.result no_spot lt (c.offset-at.ensures no_spot) in
-    omega (arith, within, s.entries.ok)
-
-pub returns-then-deref-ticket : goal.returns-then-deref-ticket
-returns-then-deref-ticket c =
-    let s = c.loop-rank.self-inside in
-    let h = c.loop-rank.invariant in
-    let t = c.args.ticket in
-    let es = s.entries.items in
-    let first = s.by_ticket.first in
-    let ss = s.by_ticket.spots.items in
-    let bound : c.loop-rank.rank < length c.self.inside.by_ticket.spots.items = omega (arith, c.loop-rank-test.true, c.len-rank-end.ensures) in
-    let lt = subst (λ (o : ByTicket). c.loop-rank.rank < length o.spots.items) (sym h.order) bound in
-    let ticket = ap (λ (m : MessageFields). m.ticket) c.deref.ensures in
-    let rank = subst (λ (o : ByTicket). IsRankOf o.first t 0 o.spots.items c.rank-start.result) (sym h.order) (c.rank-start.ensures.rank (tickets_of c.self.inside.entries.items) c.self.invariant.order) in
-    let left = behind_left es first ss h.kept.order (IsAbandonedAlready t) t c.rank-start.result c.loop-rank.rank c.offset-at.result no_spot c.index.result.now rank c.loop-rank.auto.rank lt (c.offset-at.ensures no_spot) c.index.ensures (λ same. c.if-deref-ticket.true (ticket ∙ same))
-    (λ e above. abandoned_other t e (λ same. omega (arith, above, same))) in
-    let all = all_are_abandoned t es (all_passed es first ss h.kept.order (IsAbandonedAlready t) c.loop-rank.rank h.fixed left) in
-    rw (← c.self.view_is) (record { items = sym all ∙ h.abandoned; kept = record { size = h.size; capacity = h.room } })
 
 pub returns : goal.returns
 returns c =
@@ -111,8 +60,8 @@ returns c =
     let h = c.loop-rank.invariant in
     let t = c.args.ticket in
     let es = s.entries.items in
-    let ss = s.by_ticket.spots.items in
-    let end : length c.self.inside.by_ticket.spots.items ≤ c.loop-rank.rank = omega (arith, c.loop-rank-test.false, c.len-rank-end.ensures) in
-    let past = subst (λ (o : ByTicket). length o.spots.items ≤ c.loop-rank.rank) (sym h.order) end in
-    let all = all_are_abandoned t es (all_passed es s.by_ticket.first ss h.kept.order (IsAbandonedAlready t) c.loop-rank.rank h.fixed (λ u e there read. absurd (none_dropped ss c.loop-rank.rank u past there))) in
+    let from = subst (λ (o : ByTicket). IsRankFrom t o.pairs.items c.rank_from-start.result) (sym h.order) c.rank_from-start.ensures in
+    let above = subst (λ (o : ByTicket). IsRankFrom (t + 1) o.pairs.items c.rank_above-end.result) (sym h.order) c.rank_above-end.ensures.rank in
+    let all = all_are_abandoned t es (own_passed es s.by_ticket.first s.by_ticket.pairs.items (omega (arith, s.entries.ok)) h.kept.order (IsAbandonedAlready t) t c.rank_from-start.result c.rank_above-end.result from above (abandoned_other t)
+    (λ k e low upto read. h.fixed k e low (omega (arith, upto, c.loop-rank-test.false)) read)) in
     rw (← c.self.view_is) (record { items = sym all ∙ h.abandoned; kept = record { size = h.size; capacity = h.room } })

@@ -15,5 +15,5 @@ invariant-loop-rank l =
       room : s.room ≡ t.room;
       order : s.by_ticket ≡ t.by_ticket;
       abandoned : all_abandoned l.ticket s.entries.items ≡ all_abandoned l.ticket t.entries.items;
-      fixed : WerePassed s.entries.items s.by_ticket.first s.by_ticket.spots.items (IsAbandonedAlready l.ticket) l.rank;
+      fixed : WerePassed s.entries.items s.by_ticket.first s.by_ticket.pairs.items (IsAbandonedAlready l.ticket) l.start l.rank;
     }

@@ -3,14 +3,12 @@ use Rattle.std.proofs.lemmas.Bool.Decides.{nat_tests}
 use Rattle.sctp_send.specs.OutstandingFields.{item_meaning}
 use Rattle.sctp_send.specs.PartsKept.{OutstandingKept}
 use Rattle.sctp_send.specs.inner.Walks.{any_item}
-use Rattle.sctp_send.specs.inner.TicketOrder.{tickets_of}
 use Rattle.sctp_send.proofs.kept.PastLemmas.{past_item}
 use Rattle.sctp_send.proofs.kept.outstanding.Outstanding.is_past.Goals as goal
 
 pub returns : goal.returns
 returns c = λ size t on le.
     let s = c.self.inside in
-    let order = c.self.invariant.order in
-    let none : c.rank.result ≡ 0 = grind (arith, nat_tests) in
+    let none : c.rank_above.result ≡ 0 = grind (arith, nat_tests) in
     subst (λ (k : OutstandingKept). any_item t (map (item_meaning size) k.items) ≡ false) c.self.view_is
-    (past_item s.entries.items s.by_ticket.first s.by_ticket.spots.items order c.args.last t size c.rank.result none (c.rank.ensures.rank (tickets_of s.entries.items) order) le)
+    (past_item s.entries.items s.by_ticket.first s.by_ticket.pairs.items (omega (arith, s.entries.ok)) c.self.invariant.order c.args.last t size c.rank_above.result none c.rank_above.ensures.rank le)

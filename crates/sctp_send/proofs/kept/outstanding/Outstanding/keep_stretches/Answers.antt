@@ -8,8 +8,6 @@ invariant_of-self c =
     record {
       counted = h.counted;
       order = h.order;
-      below = h.below;
-      few = h.few;
       within = h.within;
       here = h.here;
       there = h.there;

@@ -7,4 +7,4 @@ use Rattle.sctp_send.proofs.kept.outstanding.Outstanding.next_spent.Given as goa
 abbrev pub invariant-loop-rank : goal.invariant-loop-rank
 invariant-loop-rank l =
     let s = l.self-inside in
-    WerePassed s.entries.items s.by_ticket.first s.by_ticket.spots.items (λ e. l.last < ticket_of e → SaysSpent l.partial e false) l.rank
+    WerePassed s.entries.items s.by_ticket.first s.by_ticket.pairs.items (λ e. l.last < ticket_of e → SaysSpent l.partial e false) l.start l.rank

@@ -21,13 +21,11 @@ invariant_of-self c =
     let before : c.leave.new.self.front ≡ s.counts.front = ap (λ (n : Counts). n.front) c.leave.ensures in
     let front = c.front_behind-self-inside.ensures s.size (item_meaning s.size c.in-Some.entry) (before ∙ counted.front) in
     let ticket = ap (λ (m : MessageFields). m.ticket) c.deref.ensures in
-    let order = subst (λ (es : List EntryFields). IsOrderOf (tickets_of es) o.first o.spots.items) items h.order in
+    let order = subst (λ (es : List EntryFields). IsOrderOf (tickets_of es) o.first o.pairs.items) items h.order in
     record {
       counted = rw (c.saturating_sub-self-inside.ensures, c.saturating_sub-self-inside-in-Some.ensures, c.leave.ensures)
           (counts_behind s.size c.in-Some.entry rest s.counts c.front_behind-self-inside.result counted front);
-      order = c.pop_front-in-Some.ensures.order (tickets_of rest) (subst (λ (t : ℕ). IsOrderOf (t ∷ tickets_of rest) o.first o.spots.items) (sym ticket) order);
-      below = c.pop_front-in-Some.ensures.below h.below;
-      few = h.few;
+      order = c.pop_front-in-Some.ensures.order (tickets_of rest) (subst (λ (t : ℕ). IsOrderOf (t ∷ tickets_of rest) o.first o.pairs.items) (sym ticket) order);
       within =
           let long : length s.entries.items ≡ suc (length rest) = ap (λ (es : List EntryFields). length es) items in
           let le = h.within in

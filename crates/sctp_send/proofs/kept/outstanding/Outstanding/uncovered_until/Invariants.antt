@@ -7,4 +7,4 @@ use Rattle.sctp_send.proofs.kept.outstanding.Outstanding.uncovered_until.Given a
 abbrev pub invariant-loop-rank : goal.invariant-loop-rank
 invariant-loop-rank l =
     let s = l.self-inside in
-    (size : ℕ) → WerePassed s.entries.items s.by_ticket.first s.by_ticket.spots.items (λ e. is_item_uncovered l.ticket (item_meaning size e) ≡ false) l.rank
+    (size : ℕ) → WerePassed s.entries.items s.by_ticket.first s.by_ticket.pairs.items (λ e. is_item_uncovered l.ticket (item_meaning size e) ≡ false) l.start l.rank
