@@ -4,10 +4,15 @@ use Rattle.std.specs.Prelude.{slice_get}
 use Rattle.std.proofs.lemmas.Bool.{cases_lt, cases_eq}
 use Rattle.sctp_send.specs.PartsKept.{changed_at}
 use Rattle.sctp_send.specs.inner.Changes.{told}
+use Rattle.sctp_send.specs.inner.Counting.{IsCounted}
 use Rattle.sctp_send.specs.inner.Stretching.{AreAlike, told_run, index_at, slot_at, AreKnown}
+use Rattle.sctp_send.specs.inner.TicketOrder.{IsInOrder, ticket_of}
+use Rattle.sctp_send.specs.declared.kept.by_ticket.ByTicket.{ByTicket}
+use Rattle.sctp_send.specs.declared.kept.counts.Counts.{Counts}
 use Rattle.sctp_send.specs.declared.kept.stretches.Stretch.{Stretch}
 use Rattle.sctp_send.specs.declared.kept.entry.Entry.{Entry as EntryFields}
 use Rattle.sctp_send.proofs.kept.ChangedLemmas.{count_changed}
+use Rattle.sctp_send.proofs.kept.TicketWalks.{changed_tickets}
 use Rattle.sctp_send.proofs.kept.StretchLemmas.{length-run_changed, alike_pushed, alike_before, alike_behind, alike_turned, alike_front, alike_back}
 
 -- no more is said of any stretch
@@ -61,6 +66,20 @@ known_changed size first at g ss now es same none h n s within begins read known
         | inr past ↦ alike_behind size s.covered s.bytes s.plain n 64 at g es past before
       ]
     ]
+
+-- an entry changes, of whose stretch nothing is said, and keeps its ticket
+pub order_changed : (size at : ℕ) (g : EntryFields → EntryFields) (es new : List EntryFields) (capacity space i room : ℕ) (c d : Counts) (o : ByTicket) (ss now : List Stretch) → ((e : EntryFields) → ticket_of (g e) ≡ ticket_of e)
+    → new ≡ changed_at g at es → space ≡ capacity → i ≡ index_at o.first at → IsCounted size new d → SayTheSame i now ss → SayNothing i now → IsInOrder size es capacity c o room ss → IsInOrder size new space d o room now
+order_changed size at g es new capacity space i room c d o ss now ticket is same index counted others none h = record {
+  counted = counted;
+  order = rw (is, changed_tickets g ticket at es) h.order;
+  below = h.below;
+  few = h.few;
+  within = rw (is, count_changed g at es) h.within;
+  here = rw same h.here;
+  there = h.there;
+  known = rw is (known_changed size o.first at g ss now es (rw index at others) (rw index at none) h.known);
+}
 
 -- no two whole stretches of a window share a slot
 one_there : (first n m long : ℕ) → long ≤ 32768 → n + 64 ≤ long → m + 64 ≤ long → index_at first n % 64 ≡ 0 → index_at first m % 64 ≡ 0 → slot_at (index_at first n) ≡ slot_at (index_at first m) → n ≡ m

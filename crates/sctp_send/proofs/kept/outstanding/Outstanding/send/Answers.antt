@@ -1,12 +1,7 @@
-use Rattle.std.proofs.Common.{◌≡◌, ◌<◌, ℕ, List, length, refl, sym, ◌∙◌, ap, subst, arith}
+use Rattle.std.proofs.Common.{◌<◌, length, refl, sym, subst}
 use Rattle.sctp_send.specs.PartsKept.{OutstandingKept}
 use Rattle.sctp_send.specs.inner.Stocking.{went_out}
-use Rattle.sctp_send.specs.inner.TicketOrder.{IsOrderOf, tickets_of}
-use Rattle.sctp_send.specs.declared.kept.entry.Entry.{Entry as EntryFields}
-use Rattle.sctp_send.proofs.kept.ChangedLemmas.{count_changed}
-use Rattle.sctp_send.proofs.kept.TicketWalks.{changed_tickets}
-use Rattle.sctp_send.specs.inner.Stretching.{AreKnown}
-use Rattle.sctp_send.proofs.kept.KnownLemmas.{SayTheSame, SayNothing, known_changed}
+use Rattle.sctp_send.proofs.kept.KnownLemmas.{order_changed}
 use Rattle.sctp_send.proofs.kept.outstanding.Outstanding.send.Goals as goal
 
 pub send_one-requires : goal.send_one-requires
@@ -18,24 +13,9 @@ send_one-requires c = record {
 pub invariant_of-self : goal.invariant_of-self
 invariant_of-self c =
     let s = c.self.inside in
-    let h = c.self.invariant in
-    let es = s.entries.items in
-    let items = c.send_one.ensures.items in
-    let long : length c.send_one.new.entries.items ≡ length es = ap (λ (xs : List EntryFields). length xs) items ∙ count_changed went_out c.args.at es in
-    record {
-      counted = c.send_one.ensures.counted;
-      order = subst (λ (ts : List ℕ). IsOrderOf ts s.by_ticket.first s.by_ticket.spots.items) (sym (ap tickets_of items ∙ changed_tickets went_out (λ e. refl) c.args.at es)) h.order;
-      below = h.below;
-      few = h.few;
-      within = let le = h.within in omega (arith, long, le);
-      here = let le = h.here in omega (arith, c.send_one.ensures.capacity, le);
-      there = h.there;
-      known =
-          subst (λ (xs : List EntryFields). AreKnown s.size s.by_ticket.first c.forget_stretch.new.stretches.items xs) (sym items)
-          (known_changed s.size s.by_ticket.first c.args.at went_out s.stretches.items c.forget_stretch.new.stretches.items es
-          (subst (λ (i : ℕ). SayTheSame i c.forget_stretch.new.stretches.items s.stretches.items) c.index.ensures c.forget_stretch.ensures.others)
-          (subst (λ (i : ℕ). SayNothing i c.forget_stretch.new.stretches.items) c.index.ensures c.forget_stretch.ensures.here) h.known);
-    }
+    let e = c.send_one.ensures in
+    order_changed s.size c.args.at went_out s.entries.items _ _ _ _ s.room s.counts _ s.by_ticket s.stretches.items _ (λ e. refl) e.items e.capacity c.index.ensures e.counted
+    c.forget_stretch.ensures.others c.forget_stretch.ensures.here c.self.invariant
 
 pub returns : goal.returns
 returns c = rw (← c.self.view_is, c.send_one.ensures.items) refl
