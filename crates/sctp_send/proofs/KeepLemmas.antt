@@ -47,11 +47,9 @@ kept_length f s v k =
 -- no entry has a ticket that was not given
 none_given : (v : SenderView) (t i : ℕ) (es : List Entry) → AllOwn v.plan v.tickets v.plan.entries es → v.tickets < t → any_item t (items_from v i es) ≡ false
 none_given v t i [] own lt = refl
-none_given v t i (e ∷ es) own lt = both_off (has_ticket t (entry_message v.plan e)) (any_item t (items_from v (suc i) es)) (by_ticket (has_ticket t (entry_message v.plan e)) refl) (none_given v t (suc i) es own.1 lt)
-  where
-    by_ticket : (b : Bool) → has_ticket t (entry_message v.plan e) ≡ b → b ≡ false
-    by_ticket false is = refl
-    by_ticket true is = let given = (own.0 t is).1 in absurd (omega (arith, given, lt))
+none_given v t i (e ∷ es) own lt =
+    let given : has_ticket t (entry_message v.plan e) ≡ true → t ≤ v.tickets = λ on. (own.0 t on).1 in
+    grind (arith, nat_tests, given, none_given v t (suc i) es own.1 lt)
 
 pub items_given : (f : Format) (s : Kept) (v : SenderView) (t : ℕ) → Keeps f s v → v.tickets < t → any_item t s.items ≡ false
 items_given f s v t k lt =
@@ -182,15 +180,8 @@ beyond_stays : (v : SenderView) (c : ℕ) (es : List Entry) (i : ℕ) → c < i 
 beyond_stays v c [] i lt apart = refl
 beyond_stays v c (e ∷ es) i lt apart =
     let past : nat_le i c ≡ false = grind (arith, nat_tests) in
-    rw (past, beyond_stays v c es (suc i) (omega arith) apart, by_cover (v.covered i) refl) refl
-  where
-    and_true : (m : Bool) → (m && true) ≡ m
-    and_true true = refl
-    and_true false = refl
-
-    by_cover : (b : Bool) → v.covered i ≡ b → (v.marked i && not b) ≡ v.marked i
-    by_cover true on = rw (apart i on) refl
-    by_cover false off = and_true (v.marked i)
+    let same : (v.marked i && not (v.covered i)) ≡ v.marked i = grind (arith, nat_tests, apart i) in
+    rw (past, beyond_stays v c es (suc i) (omega arith) apart, same) refl
 
 pub keeps_shut : (f : Format) (s : Kept) (v : SenderView) (wire n b : ℕ) → Keeps f s v → b ≡ last_that v.sent (v.cum + n) → IsPassing v wire n → shutdown_fault v wire ≡ None
     → Keeps f (record s { cum = (s.cum + n) % 2 ^ 64; items = drop n s.items; runs = option_map (runs_behind n) s.runs; before = b }) (shutdown_after v wire)

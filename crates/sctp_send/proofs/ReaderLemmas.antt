@@ -1,5 +1,5 @@
 -- What a sender tells of itself, from what it keeps.
-use Rattle.std.proofs.Common.{◌≡◌, ℕ, zero, suc, ◌+◌, ◌-◌, ◌%◌, ◌^◌, ◌<◌, ◌≤◌, List, [], ◌∷◌, length, drop, Bool, true, false, Option, Some, None, refl, sym, ap, ◌∙◌, ◌⊎◌, inl, inr, arith, get_or}
+use Rattle.std.proofs.Common.{◌≡◌, ℕ, zero, suc, ◌+◌, ◌-◌, ◌%◌, ◌^◌, ◌<◌, ◌≤◌, List, [], ◌∷◌, length, drop, Bool, true, false, Option, Some, None, refl, sym, ap, ◌∙◌, ◌⊎◌, inl, inr, arith, get_or, drop-cons}
 use Rattle.std.specs.Prelude.{nat_lt, not, ◌&&◌, ◌||◌, ◌==◌, if◌then◌else◌}
 use Rattle.std.proofs.lemmas.Bool.Decides.{nat_tests}
 use Rattle.sctp_model.specs.numbers.Limits.{WINDOW}
@@ -25,9 +25,7 @@ use Rattle.sctp_send.proofs.TableLemmas.{get_or-table, length-table}
 -- ---- walks
 
 pub run_step : (xs : List Item) (at : ℕ) (d : Item) → at < length xs → abandoned_items (drop at xs) ≡ (if (get_or xs at d).abandoned then suc (abandoned_items (drop (suc at) xs)) else 0)
-run_step [] at d lt = absurd (omega arith)
-run_step (x ∷ xs) zero d lt = refl
-run_step (x ∷ xs) (suc at) d lt = run_step xs at d (omega arith)
+run_step xs at d lt = rw (drop-cons xs at d lt) refl
 
 pub run_items : (v : SenderView) (i : ℕ) (es : List Entry) → abandoned_items (items_from v i es) ≡ abandoned_run v es
 run_items v i [] = refl
@@ -41,12 +39,7 @@ run_within (x ∷ xs) = grind (arith, nat_tests, run_within xs)
 pub point_is : (f : Format) (s : Kept) (v : SenderView) → Keeps f s v → (s.cum + abandoned_items s.items % 2 ^ 32) % 2 ^ 64 ≡ point v
 point_is f s v k =
     let run = ap abandoned_items k.holds.items ∙ run_items v (suc v.cum) (drop v.cum v.plan.entries) in
-    let within = run_within s.items in
-    let long = kept_length f s v k in
-    let most = is_promised f v k.reached in
-    let window = is_windowed f v k.reached in
-    let cum = k.holds.cum in
-    omega (arith, run, within, long, most, window, cum)
+    omega (arith, run, run_within s.items, kept_length f s v k, is_promised f v k.reached, is_windowed f v k.reached, k.holds.cum)
 
 any_items : (v : SenderView) (i : ℕ) (es : List Entry) → any_from (is_unsettled v) i es ≡ any_unsettled (items_from v i es)
 any_items v i [] = refl
@@ -75,18 +68,11 @@ unsettled_is f s v k =
 -- ---- counts
 
 pub outstanding_is : (f : Format) (s : Kept) (v : SenderView) → Keeps f s v → (length s.items % 2 ^ 32 + total (λ t. one_if_rest t.rest) s.tracks % 2 ^ 32) % 2 ^ 32 ≡ outstanding v
-outstanding_is f s v k =
-    let long = kept_length f s v k in
-    let parts = kept_in_part f s v k in
-    let window = is_windowed f v k.reached in
-    omega (arith, long, parts, window)
+outstanding_is f s v k = omega (arith, kept_length f s v k, kept_in_part f s v k, is_windowed f v k.reached)
 
 -- never more than the window holds
 pub outstanding_fits : (f : Format) (s : Kept) (v : SenderView) → Keeps f s v → outstanding v ≤ WINDOW
-outstanding_fits f s v k =
-    let within = (is_bounded f v k.reached).within in
-    let window = is_windowed f v k.reached in
-    omega (arith, within, window)
+outstanding_fits f s v k = omega (arith, (is_bounded f v k.reached).within, is_windowed f v k.reached)
 
 pub drained_is : (f : Format) (s : Kept) (v : SenderView) → Keeps f s v → ((length s.queue == 0) && ((total (λ t. one_if_rest t.rest) s.tracks % 2 ^ 32 == 0) && (length s.items == 0))) ≡ drained v
 drained_is f s v k =

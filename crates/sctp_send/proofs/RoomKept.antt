@@ -37,13 +37,7 @@ pub room_assigned : (f : Format) (s : Kept) (v u : SenderView) → Keeps f s v �
 room_assigned f s v u k is =
     let less = fewer_promised f v u s k is in
     let more = grown f v u (assigned_cases f v u is) in
-    let cum = more.0 in
-    let longer = more.1 in
-    let above = length-drop u.cum u.plan.entries in
-    let kept = kept_length f s v k in
-    let within = (is_bounded f v k.reached).within in
-    let room = k.holds.room in
-    omega (arith, less, cum, longer, above, kept, within, room)
+    omega (arith, less, more.0, more.1, length-drop u.cum u.plan.entries, kept_length f s v k, (is_bounded f v k.reached).within, k.holds.room)
 
 -- and for the entries of a message that begins
 pub room_begins : (f : Format) (s : Kept) (v : SenderView) (place count turn : ℕ) → Keeps f s v → IsBegun f v place count turn → length s.items + count ≤ s.capacity
@@ -51,15 +45,9 @@ room_begins f s v place count turn k b =
     let q = b.message in
     let less = fewer_promised f v (record v { plan = with_message v.plan q count; queue = without_place place v.queue; turn = turn }) s k b.assigned in
     let n = length (v.plan.messages q.lane) in
-    let long = length-append v.plan.entries (parts_from q.lane n 0 count) in
-    let many = length-parts q.lane n 0 count in
-    let room = k.holds.room in
-    omega (arith, less, long, many, room)
+    omega (arith, less, length-append v.plan.entries (parts_from q.lane n 0 count), length-parts q.lane n 0 count, k.holds.room)
 
 -- and of one that goes on
 pub room_goes_on : (f : Format) (s : Kept) (v : SenderView) (stream : ℕ) → Keeps f s v → IsContinued f v stream → length s.items < s.capacity
 room_goes_on f s v stream k c =
-    let less = fewer_promised f v (going_on v stream c.entry) s k c.assigned in
-    let long = length-append v.plan.entries (c.entry ∷ []) in
-    let room = k.holds.room in
-    omega (arith, less, long, room)
+    omega (arith, fewer_promised f v (going_on v stream c.entry) s k c.assigned, length-append v.plan.entries (c.entry ∷ []), k.holds.room)

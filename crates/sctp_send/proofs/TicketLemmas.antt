@@ -1,5 +1,5 @@
 -- A message by its ticket, from what a sender keeps.
-use Rattle.std.proofs.Common.{◌≡◌, ℕ, zero, suc, ◌+◌, ◌-◌, ◌<◌, ◌≤◌, List, [], ◌∷◌, ◌++◌, length, map, drop, Bool, true, false, Option, Some, None, refl, sym, ap, ◌∙◌, ◌⊎◌, arith, get_or}
+use Rattle.std.proofs.Common.{◌≡◌, ℕ, zero, suc, ◌+◌, ◌-◌, ◌<◌, ◌≤◌, List, [], ◌∷◌, ◌++◌, length, map, drop, Bool, true, false, Option, Some, None, refl, sym, ap, ◌∙◌, ◌⊎◌, arith, get_or, drop-cons}
 use Rattle.std.specs.Prelude.{not, ◌&&◌, ◌||◌, if◌then◌else◌}
 use Rattle.std.proofs.lemmas.List.{length-map}
 use Rattle.std.proofs.lemmas.Bool.Decides.{nat_tests}
@@ -98,9 +98,7 @@ not_acknowledged f s v t k out = ap (some_passes (is_acknowledged v)) (not_named
 -- ---- walks, entry by entry and stream by stream
 
 step_rest : (t : ℕ) (xs : List Track) (at : ℕ) (d : Track) → at < length xs → any_rest t (drop at xs) ≡ (rest_has t (get_or xs at d).rest || any_rest t (drop (suc at) xs))
-step_rest t [] at d lt = absurd (omega arith)
-step_rest t (x ∷ xs) zero d lt = refl
-step_rest t (x ∷ xs) (suc at) d lt = step_rest t xs at d (omega arith)
+step_rest t xs at d lt = rw (drop-cons xs at d lt) refl
 
 pub walked_rest : (t size : ℕ) (ts : List TrackFields) (at : ℕ) (x : TrackFields) (b : Bool) → at < length ts → x ≡ get_or ts at x → b ≡ rest_has t (track_meaning size x).rest
     → any_rest t (map (track_meaning size) ts) ≡ any_rest t (drop at (map (track_meaning size) ts)) → any_rest t (map (track_meaning size) ts) ≡ (b || any_rest t (drop (at + 1) (map (track_meaning size) ts)))

@@ -54,9 +54,7 @@ pages_begun ms ls e m h begins =
         least = λ k d lt. elim (cases_lt k (length ms)) [
           | inl within ↦
               let page = get_or_append_left ls (m ∷ []) d (k / 64) (omega (arith, many, within)) in
-              let moment = get_or_append_left ms (m ∷ []) d k within in
-              let was = h.pages.least k d within in
-              omega (arith, page, moment, was)
+              omega (arith, page, get_or_append_left ms (m ∷ []) d k within, h.pages.least k d within)
           | inr out ↦
               let here : k ≡ length ms = omega (arith, lt, long, out) in
               let last : k / 64 ≡ length ls = omega (arith, here, count) in
@@ -85,10 +83,7 @@ pages_entered ms ls ks e m h goes_on page =
         many = omega (arith, many, long, pages, goes_on);
         least = λ k d lt. elim (cases_lt k (length ms)) [
           | inl within ↦
-              let moment = get_or_append_left ms (m ∷ []) d k within in
-              let was = h.pages.least k d within in
-              let low = page.each (k / 64) d in
-              omega (arith, moment, was, low)
+              omega (arith, get_or_append_left ms (m ∷ []) d k within, h.pages.least k d within, page.each (k / 64) d)
           | inr out ↦
               let here : k ≡ length ms = omega (arith, lt, long, out) in
               let low : get_or ks (k / 64) d ≤ m = subst (λ (n : ℕ). get_or ks (n / 64) d ≤ m) (sym here) (page.here d (omega (arith, many, pages, goes_on))) in
@@ -131,8 +126,7 @@ pages_dropped ms ls e h most =
             let next : (64 + k) / 64 ≡ 1 + k / 64 = omega arith in
             let was = h.pages.least (64 + k) d (omega (arith, long, lt, most)) in
             let page = get_or-drop 1 ls (k / 64) d ∙ ap (λ (n : ℕ). get_or ls n d) (sym next) in
-            let moment = get_or-drop 64 ms k d in
-            omega (arith, was, page, moment);
+            omega (arith, was, page, get_or-drop 64 ms k d);
       };
       first = λ k d lt. let was = h.first (1 + k) d (omega (arith, pages, lt)) in let page = get_or-drop 1 ls k d in omega (arith, was, page);
     }

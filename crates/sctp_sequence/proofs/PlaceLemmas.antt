@@ -14,12 +14,13 @@ module _ {X Z : Type 0} (bs : List (VecDeque X Z)) (k at offset : ℕ) (b : VecD
   pub item_there : (d : X) → offset < length b.items → get_or b.items offset d ≡ get_or (joined bs) at d
   item_there d within = sym (get_amid (joined (take k bs)) b.items (joined (drop (suc k) bs)) _ at offset refl place d within) ∙ ap (λ (l : List X). get_or l at d) (sym around)
 
+  -- a change in the block is one of them all
+  changed_there : (g h : List X → List X) (c : VecDeque X Z) → c.items ≡ h b.items → g (joined (take k bs) ++ (b.items ++ joined (drop (suc k) bs))) ≡ joined (take k bs) ++ (h b.items ++ joined (drop (suc k) bs))
+      → joined (set bs k c) ≡ g (joined bs)
+  changed_there g h c new amid = joined_set bs k c less ∙ ap (λ (l : List X). joined (take k bs) ++ (l ++ joined (drop (suc k) bs))) new ∙ sym amid ∙ ap g (sym around)
+
   pub put_there : (x : X) (c : VecDeque X Z) → offset ≤ length b.items → c.items ≡ insert b.items offset x → joined (set bs k c) ≡ insert (joined bs) at x
-  put_there x c within new =
-      joined_set bs k c less
-      ∙ ap (λ (l : List X). joined (take k bs) ++ (l ++ joined (drop (suc k) bs))) new
-      ∙ sym (insert_amid (joined (take k bs)) b.items (joined (drop (suc k) bs)) _ at offset refl place x within)
-      ∙ ap (λ (l : List X). insert l at x) (sym around)
+  put_there x c within new = changed_there (λ l. insert l at x) (λ l. insert l offset x) c new (insert_amid (joined (take k bs)) b.items (joined (drop (suc k) bs)) _ at offset refl place x within)
 
   pub halved_there : (x : X) (low high : VecDeque X Z) → offset ≤ length b.items → low.items ++ high.items ≡ insert b.items offset x → joined (insert (set bs k low) (k + 1) high) ≡ insert (joined bs) at x
   halved_there x low high within new =
@@ -37,11 +38,7 @@ module _ {X Z : Type 0} (bs : List (VecDeque X Z)) (k at offset : ℕ) (b : VecD
       ∙ ap (λ (l : List X). insert l at x) (sym around)
 
   pub gone_there : (c : VecDeque X Z) → offset < length b.items → c.items ≡ remove b.items offset → joined (set bs k c) ≡ remove (joined bs) at
-  gone_there c within new =
-      joined_set bs k c less
-      ∙ ap (λ (l : List X). joined (take k bs) ++ (l ++ joined (drop (suc k) bs))) new
-      ∙ sym (remove_amid (joined (take k bs)) b.items (joined (drop (suc k) bs)) _ at offset refl place within)
-      ∙ ap (λ (l : List X). remove l at) (sym around)
+  gone_there c within new = changed_there (λ l. remove l at) (λ l. remove l offset) c new (remove_amid (joined (take k bs)) b.items (joined (drop (suc k) bs)) _ at offset refl place within)
 
   pub emptied_there : (c : VecDeque X Z) → offset < length b.items → c.items ≡ remove b.items offset → c.items ≡ [] → joined (remove (set bs k c) k) ≡ remove (joined bs) at
   emptied_there c within new none =
@@ -55,11 +52,7 @@ module _ {X Z : Type 0} (bs : List (VecDeque X Z)) (k at offset : ℕ) (b : VecD
       ∙ gone_there c within new
 
   pub set_there : (x : X) (c : VecDeque X Z) → offset < length b.items → c.items ≡ set b.items offset x → joined (set bs k c) ≡ set (joined bs) at x
-  set_there x c within new =
-      joined_set bs k c less
-      ∙ ap (λ (l : List X). joined (take k bs) ++ (l ++ joined (drop (suc k) bs))) new
-      ∙ sym (set_amid (joined (take k bs)) b.items (joined (drop (suc k) bs)) _ at offset refl place x within)
-      ∙ ap (λ (l : List X). set l at x) (sym around)
+  set_there x c within new = changed_there (λ l. set l at x) (λ l. set l offset x) c new (set_amid (joined (take k bs)) b.items (joined (drop (suc k) bs)) _ at offset refl place x within)
 
 -- what is so of a block at a place is so of the one that was read there
 pub as_read : {X : Type 0} (P : X → Type 0) (xs : List X) (k : ℕ) (x : X) → x ≡ get_or xs k x → ((d : X) → P (get_or xs k d)) → P x

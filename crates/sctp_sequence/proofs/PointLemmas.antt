@@ -1,14 +1,11 @@
 -- Where a test changes its answer in a list that is three lists: in the middle one, if that begins with an item that passes and the last with one that fails.
-use Rattle.std.proofs.Common.{◌≡◌, ℕ, ◌+◌, ◌-◌, ◌<◌, ◌≤◌, Bool, true, false, List, [], ◌++◌, ◌∷◌, length, get_or, refl, sym, ap, true≢false, inl, inr, ◌∙◌, subst, arith, length-append}
+use Rattle.std.proofs.Common.{◌≡◌, ℕ, ◌+◌, ◌-◌, ◌<◌, ◌≤◌, Bool, true, false, List, [], ◌++◌, ◌∷◌, length, get_or, refl, sym, ap, inl, inr, ◌∙◌, subst, arith, length-append}
 use Rattle.std.specs.Fn.{Mut, Called, AlwaysReturns}
 use Rattle.std.specs.List.Sorted.{IsPartitionedBy, IsPartitionPoint}
 use Rattle.std.specs.declared.collections.VecDeque.{VecDeque}
 use Rattle.std.proofs.lemmas.List.{get_or_append_left, get_or-append_right, get_or-append-add, get_or_default}
 use Rattle.std.proofs.lemmas.Bool.{cases_lt}
-
-so_false : (b : Bool) → (b ≡ true → ⊥) → b ≡ false
-so_false true h = absurd (h refl)
-so_false false h = refl
+use Rattle.std.proofs.lemmas.Bool.Decides.{nat_tests}
 
 -- a call's answer, and what is left of the calls
 pub next_answer : {F X R : Type 0} (g : Mut F X R) (P : X → R → Type 0) (f : F) (a : X) (r : R) (f' : F) → Called g f a r f' → AlwaysReturns g P f → P a r × AlwaysReturns g P f'
@@ -63,7 +60,8 @@ module _ {X : Type 0} (p : X → Bool) where
           (let far : n + length middle - n ≡ length middle = omega arith in let none : length middle - length middle ≡ 0 = omega arith in
           get_or-append_right front (middle ++ back) n (n + length middle) d long (omega arith) ∙ ap (λ (m : ℕ). get_or (middle ++ back) m d) far
           ∙ get_or-append_right middle back (length middle) (length middle) d refl (omega arith) ∙ ap (λ (m : ℕ). get_or back m d) none) in
-          so_false _ (λ passes. true≢false (sym (parted (n + length middle) k d from less passes) ∙ ap p first ∙ ends some d))
+          let off : p (get_or all (n + length middle) d) ≡ false = ap p first ∙ ends some d in
+          grind (arith, nat_tests, parted (n + length middle) k d from less)
 
       high : (k : ℕ) (d : X) → n + i ≤ k → k < length all → p (get_or all k d) ≡ false
       high k d from less = elim (cases_lt k (n + length middle)) [

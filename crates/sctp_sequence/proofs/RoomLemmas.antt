@@ -15,23 +15,13 @@ became_ok (Err a) z x y Q h e never = absurd (never e)
 
 -- of three tests behind another the last and one of the others, and back
 without_second : (single alone s p q r : Bool) → cond single alone (s && (p && (q && r))) ≡ true → cond single alone (s && (p && r)) ≡ true
-without_second true alone s p q r h = h
-without_second false alone false p q r h = h
-without_second false alone true false q r h = h
-without_second false alone true true true r h = h
-without_second false alone true true false r h = absurd (true≢false (sym h))
+without_second single alone s p q r h = grind (arith, nat_tests)
 
 without_first : (single alone s p q r : Bool) → cond single alone (s && (p && (q && r))) ≡ true → cond single alone (s && (q && r)) ≡ true
-without_first true alone s p q r h = h
-without_first false alone false p q r h = h
-without_first false alone true true q r h = h
-without_first false alone true false q r h = absurd (true≢false (sym h))
+without_first single alone s p q r h = grind (arith, nat_tests)
 
 with_both : (single alone s p q r : Bool) → cond single alone (s && (p && r)) ≡ true → cond single alone (s && (q && r)) ≡ true → cond single alone (s && (p && (q && r))) ≡ true
-with_both true alone s p q r h l = h
-with_both false alone false p q r h l = h
-with_both false alone true false q r h l = h
-with_both false alone true true q r h l = l
+with_both single alone s p q r h l = grind (arith, nat_tests)
 
 -- the first block's length and capacity, the others' number and a bound of it, how many items there are, and whether a block is in reserve
 one_kept : (len cap blocks most n len' cap' blocks' most' n' : ℕ) (spare : Bool) → len ≤ cap → most' ≡ most → blocks' ≤ blocks → n' ≤ n → (0 < blocks → 512 ≤ cap') → (blocks ≡ 0 → len' ≤ len) → (blocks ≡ 0 → cap' ≡ cap)

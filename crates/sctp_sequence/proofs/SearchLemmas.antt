@@ -19,11 +19,7 @@ has_item bs k b blocks less is =
 -- the items up to a block's last are no more than all
 pub within_all : {X Z : Type 0} (f : VecDeque X Z) (bs : List (VecDeque X Z)) (k : ℕ) (b : VecDeque X Z) → k < length bs → b ≡ get_or bs k b
     → length f.items + length (joined (take k bs)) + length b.items ≤ length (f.items ++ joined bs)
-within_all f bs k b less is =
-    let more = count_more bs k b less is in
-    let within = count_within bs (k + 1) in
-    let all = length-append f.items (joined bs) in
-    omega (arith, more, within, all)
+within_all f bs k b less is = omega (arith, count_more bs k b less is, count_within bs (k + 1), length-append f.items (joined bs))
 
 module _ {X Z : Type 0} (p : X → Bool) where
   -- what stands behind blocks begins as the next block does

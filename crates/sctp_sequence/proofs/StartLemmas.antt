@@ -33,10 +33,8 @@ module _ {X Z : Type 0} where
       let same : length b.items ≡ length x.items = ap (λ (y : VecDeque X Z). length y.items) is in
       omega (arith, new, old, same)
   later_set (x ∷ bs) (suc j) (suc k) b c above less is =
-      let new = length-append x.items (joined (take k (set bs j c))) in
-      let old = length-append x.items (joined (take k bs)) in
       let others = later_set bs j k b c (omega arith) (omega arith) is in
-      omega (arith, new, old, others)
+      omega (arith, length-append x.items (joined (take k (set bs j c))), length-append x.items (joined (take k bs)), others)
 
   -- behind a block with an item there is one
   pub start_some : (bs : List (VecDeque X Z)) (j k : ℕ) (b : VecDeque X Z) → j < k → j < length bs → b ≡ get_or bs j b → 0 < length b.items → 0 < length (joined (take k bs))
@@ -47,9 +45,8 @@ module _ {X Z : Type 0} where
       let same : length b.items ≡ length x.items = ap (λ (y : VecDeque X Z). length y.items) is in
       omega (arith, all, same, some)
   start_some (x ∷ bs) (suc j) (suc k) b above less is some =
-      let all = length-append x.items (joined (take k bs)) in
       let others = start_some bs j k b (omega arith) (omega arith) is some in
-      omega (arith, all, others)
+      omega (arith, length-append x.items (joined (take k bs)), others)
 
   -- a place behind the number of a block and not behind that of the next one lies in it
   pub lies_within : (bs : List (VecDeque X Z)) (m k high at s : ℕ) (ss : List ℕ) → m ≡ length bs → k < m → high ≡ k + 1 → AreStarts m ss bs → s ≡ get_or ss k s → length (joined (take k bs)) ≤ at → (high < length bs → at < length (joined (take high bs))) → at ≤ length (joined bs)
@@ -84,9 +81,8 @@ module _ {X Z : Type 0} where
     starts_raised more later k d within = elim (cases_lt k (j + 1)) [
       | inl below ↦ start_before k d below within
       | inr above ↦ (let one = later k d above (omega arith) in
-          let was = old k d within in
           let now = later_set bs j k b c (omega arith) less is in
-          omega (arith, one, was, now, more))
+          omega (arith, one, old k d within, now, more))
     ]
 
     -- and one went
@@ -94,7 +90,6 @@ module _ {X Z : Type 0} where
     starts_lowered fewer later k d within = elim (cases_lt k (j + 1)) [
       | inl below ↦ start_before k d below within
       | inr above ↦ (let one = later k d above (omega arith) in
-          let was = old k d within in
           let now = later_set bs j k b c (omega arith) less is in
-          omega (arith, one, was, now, fewer))
+          omega (arith, one, old k d within, now, fewer))
     ]

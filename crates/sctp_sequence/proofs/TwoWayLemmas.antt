@@ -95,17 +95,14 @@ pairs_set f from zero n (x ∷ os) o is lt =
     omega (arith, one, other, old, new)
 pairs_set f from (suc at) n (x ∷ os) o is lt =
     let one = sum_by-append f (pair_on from x) (pairs_from (suc from) os) in
-    let other = sum_by-append f (pair_on from x) (pairs_from (suc from) (set os at o)) in
     let rest = pairs_set f (suc from) at n os o (omega (arith, is)) (omega (arith, lt)) in
-    omega (arith, one, other, rest)
+    omega (arith, one, sum_by-append f (pair_on from x) (pairs_from (suc from) (set os at o)), rest)
 
 sum_turned : (f : Pair → ℕ) (ps : List Pair) → sum_by f (map turned ps) ≡ sum_by (λ p. f (turned p)) ps
 sum_turned f [] = refl
 sum_turned f (p ∷ ps) =
-    let one = sum_by-cons f (turned p) (map turned ps) in
     let other = sum_by-cons (λ (q : Pair). f (turned q)) p ps in
-    let rest = sum_turned f ps in
-    omega (arith, one, other, rest)
+    omega (arith, sum_by-cons f (turned p) (map turned ps), other, sum_turned f ps)
 
 -- what a key with a value counts for
 counts_one : (f : Pair → ℕ) (at t : ℕ) (o : Option ℕ) → o ≡ Some t → counts_for f at o ≡ f (pair_with at t)
@@ -115,9 +112,7 @@ counts_one f at t o is = let one = sum_by-cons f (pair_with at t) [] in let own 
 left : (at t : ℕ) (os : List (Option ℕ)) → at < length os → value_of at os ≡ Some t → AreSame (pairs_from 0 os) (pair_with at t ∷ pairs_from 0 (set os at None))
 left at t os lt is f =
     let step = pairs_set f 0 at at os None (omega arith) lt in
-    let own = counts_one f at t (value_of at os) is in
-    let one = sum_by-cons f (pair_with at t) (pairs_from 0 (set os at None)) in
-    omega (arith, step, own, one)
+    omega (arith, step, counts_one f at t (value_of at os) is, sum_by-cons f (pair_with at t) (pairs_from 0 (set os at None)))
 
 -- one that has none has a value: its pair comes
 entered : (at t : ℕ) (os : List (Option ℕ)) → at < length os → value_of at os ≡ None → AreSame (pairs_from 0 (set os at (Some t))) (pair_with at t ∷ pairs_from 0 os)
@@ -125,35 +120,20 @@ entered at t os lt is f =
     let step = pairs_set f 0 at at os (Some t) (omega arith) lt in
     let own = counts_one f at t (Some t) refl in
     let none : counts_for f at (value_of at os) ≡ 0 = ap (counts_for f at) is in
-    let one = sum_by-cons f (pair_with at t) (pairs_from 0 os) in
-    omega (arith, step, own, none, one)
+    omega (arith, step, own, none, sum_by-cons f (pair_with at t) (pairs_from 0 os))
 
 -- the same of pairs with the other number first
 turned_same : (ps qs : List Pair) → AreSame ps qs → AreSame (map turned ps) (map turned qs)
 turned_same ps qs same f =
-    let one = sum_turned f ps in
-    let other = sum_turned f qs in
     let all = same (λ p. f (turned p)) in
-    omega (arith, one, other, all)
+    omega (arith, sum_turned f ps, sum_turned f qs, all)
 
 -- what goes on both sides leaves the same
 same_rest : (p : Pair) (ps qs us vs : List Pair) → AreSame ps us → AreSame ps (p ∷ qs) → AreSame us (p ∷ vs) → AreSame qs vs
-same_rest p ps qs us vs same gone less f =
-    let one = sum_by-cons f p qs in
-    let other = sum_by-cons f p vs in
-    let all = same f in
-    let here = gone f in
-    let there = less f in
-    omega (arith, one, other, all, here, there)
+same_rest p ps qs us vs same gone less f = omega (arith, sum_by-cons f p qs, sum_by-cons f p vs, same f, gone f, less f)
 
 same_more : (p : Pair) (ps qs us vs : List Pair) → AreSame ps us → AreSame qs (p ∷ ps) → AreSame vs (p ∷ us) → AreSame qs vs
-same_more p ps qs us vs same come more f =
-    let one = sum_by-cons f p ps in
-    let other = sum_by-cons f p us in
-    let all = same f in
-    let here = come f in
-    let there = more f in
-    omega (arith, one, other, all, here, there)
+same_more p ps qs us vs same come more f = omega (arith, sum_by-cons f p ps, sum_by-cons f p us, same f, come f, more f)
 
 pub map_left : (at t : ℕ) (os : List (Option ℕ)) (old : TwoWayMap) (one other : PairsKept) (a b : Bool) → at < length os → value_of at os ≡ Some t → IsMapOf os old
     → (a ≡ true → AreSame old.by_key.items (pair_with at t ∷ one.items)) → ((ps : List Pair) → AreSame old.by_key.items ps → Contains ps (pair_with at t) → a ≡ true)

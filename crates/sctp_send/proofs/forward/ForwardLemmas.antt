@@ -2,7 +2,7 @@
 use Rattle.std.proofs.Common.{◌≡◌, ℕ, zero, suc, ◌+◌, ◌-◌, ◌*◌, ◌%◌, ◌^◌, ◌<◌, ◌≤◌, List, [], ◌∷◌, ◌++◌, length, map, take, drop, Bool, true, false, Option, Some, None, refl, sym, ap, ◌∙◌, arith}
 use Rattle.std.specs.Prelude.{nat_le, if◌then◌else◌}
 use Rattle.std.specs.List.{AllByRecursion}
-use Rattle.std.proofs.lemmas.List.{length-map, map-append}
+use Rattle.std.proofs.lemmas.List.{length-map, map-append, take-map}
 use Rattle.std.proofs.lemmas.Bool.Decides.{nat_tests}
 use Rattle.sctp_model.specs.messages.Format.{Format, Plain, Interleaved, Lane, is_numbered}
 use Rattle.sctp_model.specs.messages.Framing.{lane_kind, wire_number, forward_chunk}
@@ -12,7 +12,6 @@ use Rattle.sctp_values.specs.declared.kind.Kind.TheVariants.{Ordered, Unordered}
 use Rattle.sctp_model.specs.messages.Plan.{Entry}
 use Rattle.sctp_model.specs.wire.Chunk.{ChunkMeaning, ForwardMeaning, chunk_length, padded, size_of_chunk}
 use Rattle.sctp_model.specs.messages.Forward.{Skip}
-use Rattle.sctp_model.specs.wire.Packet.{size_of_packet}
 use Rattle.sctp_model.specs.sender.SenderView.{SenderView}
 use Rattle.sctp_model.specs.sender.Readers.{point}
 use Rattle.sctp_model.specs.sender.Forwarding.{largest_in, entries_to, skip_in, skip_of, skips_on, skips_below}
@@ -108,7 +107,7 @@ forward_size f x = ap padded (forward_length f x) ∙ whole f (length x.skips)
 -- it fits where its entries do
 pub room_counted : (f : Format) (base : Lane → ℕ) (d : Draft) (n cumulative : ℕ) (xs : List Skip) → n ≡ length xs
     → nat_le (8 + skip_size (skip_form f) * n) (room_in d) ≡ has_room d (forward_chunk f (record { cumulative = cumulative; skips = map (skip_said f base) xs }))
-room_counted f base d n cumulative xs is = by_test (nat_le (8 + skip_size (skip_form f) * n) (room_in d)) refl
+room_counted f base d n cumulative xs is = grind (arith, nat_tests, size, size_of_more d.chunks chunk)
   where
     chunk : ChunkMeaning
     chunk = forward_chunk f (record { cumulative = cumulative; skips = map (skip_said f base) xs })
@@ -118,16 +117,6 @@ room_counted f base d n cumulative xs is = by_test (nat_le (8 + skip_size (skip_
         let all : length (map (skip_said f base) xs) ≡ n = length-map xs (skip_said f base) ∙ sym is in
         forward_size f (record { cumulative = cumulative; skips = map (skip_said f base) xs }) ∙ rw all refl
 
-    by_test : (x : Bool) → nat_le (8 + skip_size (skip_form f) * n) (room_in d) ≡ x → x ≡ has_room d chunk
-    by_test true on =
-        let fits : 8 + skip_size (skip_form f) * n ≤ room_in d = grind (arith, nat_tests) in
-        let within : size_of_packet (d.chunks ++ chunk ∷ []) ≤ d.limit = omega (arith, fits, size, size_of_more d.chunks chunk) in
-        sym (grind (arith, nat_tests))
-    by_test false off =
-        let over : room_in d < 8 + skip_size (skip_form f) * n = grind (arith, nat_tests) in
-        let past : d.limit < size_of_packet (d.chunks ++ chunk ∷ []) = omega (arith, over, size, size_of_more d.chunks chunk) in
-        sym (grind (arith, nat_tests))
-
 -- ---- what is kept, and the view
 
 entries_back : (v : SenderView) (i : ℕ) (es : List Entry) → entries_of (items_from v i es) ≡ es
@@ -135,9 +124,7 @@ entries_back v i [] = refl
 entries_back v i (e ∷ es) = ap (λ (xs : List Entry). e ∷ xs) (entries_back v (suc i) es)
 
 pub first_entries : (size run : ℕ) (es : List EntryFields) → entries_of (map (item_meaning size) (take run es)) ≡ take run (entries_of (map (item_meaning size) es))
-first_entries size zero es = refl
-first_entries size (suc run) [] = refl
-first_entries size (suc run) (e ∷ es) = ap (λ (xs : List Entry). (item_meaning size e).entry ∷ xs) (first_entries size run es)
+first_entries size run es = simp take-map
 
 -- how far the point is past CUM
 pub record IsPassed (v : SenderView) (run : ℕ) : Type 0 where

@@ -1,7 +1,7 @@
 -- The lanes of a FORWARD as bytes, and the ranks at which they stand.
-use Rattle.std.proofs.Common.{◌≡◌, ℕ, zero, suc, ◌+◌, ◌-◌, ◌*◌, ◌%◌, ◌<◌, ◌≤◌, max, List, [], ◌∷◌, ◌++◌, length, map, take, drop, set, get_or, Bool, true, false, refl, sym, ap, ◌∙◌, arith}
+use Rattle.std.proofs.Common.{◌≡◌, ℕ, zero, suc, ◌+◌, ◌-◌, ◌*◌, ◌%◌, ◌<◌, ◌≤◌, max, List, [], ◌∷◌, ◌++◌, length, map, take, drop, set, get_or, Bool, true, false, refl, sym, ap, ◌∙◌, arith, length-append, length-drop}
 use Rattle.std.specs.List.{AllByRecursion, refill}
-use Rattle.std.proofs.lemmas.List.{length-map, map-append, map-set, take_more, get_or-map}
+use Rattle.std.proofs.lemmas.List.{length-map, length-take, map-append, map-set, take-map, drop-map, take_all, take_at, take_more, get_or-map}
 use Rattle.sctp_model.specs.messages.Format.{Format, Plain, Interleaved, Lane}
 use Rattle.sctp_model.specs.messages.Forward.{Skip}
 use Rattle.sctp_model.specs.sender.Forwarding.{larger}
@@ -15,7 +15,7 @@ use Rattle.sctp_framing.specs.SkipForms.{skip_form}
 use Rattle.sctp_send.specs.OutstandingFields.{lane_of}
 use Rattle.sctp_send.specs.inner.Lanes.{lane_key, passed_meaning, AreRising, before, told_at, noted}
 use Rattle.sctp_send.specs.declared.forward.lanes.Passed.{Passed}
-use Rattle.sctp_send.proofs.forward.LaneWalks.{before_above, before_below, noted_here, noted_new, passed_read}
+use Rattle.sctp_send.proofs.forward.LaneWalks.{before_within, before_above, before_below, noted_here, noted_new, passed_read}
 
 -- ---- as bytes
 
@@ -43,13 +43,7 @@ said_more f base lanes at d was now lt is so_far =
     ∙ sym (ap (λ (xs : List Passed). map (skip_said f base) (map passed_meaning xs)) (take_more lanes at d lt) ∙ ap (map (skip_said f base)) (map-append passed_meaning (take at lanes) (x ∷ [])) ∙ map-append (skip_said f base) (map passed_meaning (take at lanes)) (passed_meaning x ∷ []))
 
 pub said_all : (f : Format) (base : Lane → ℕ) (lanes : List Passed) (at : ℕ) → length lanes ≤ at → map (skip_said f base) (map passed_meaning (take at lanes)) ≡ map (skip_said f base) (map passed_meaning lanes)
-said_all f base lanes at le = ap (λ (xs : List Passed). map (skip_said f base) (map passed_meaning xs)) (whole lanes at le)
-  where
-    whole : (xs : List Passed) (n : ℕ) → length xs ≤ n → take n xs ≡ xs
-    whole [] zero lt = refl
-    whole [] (suc n) lt = refl
-    whole (x ∷ xs) zero lt = absurd (omega arith)
-    whole (x ∷ xs) (suc n) lt = ap (λ (ys : List Passed). x ∷ ys) (whole xs n (omega arith))
+said_all f base lanes at le = rw take_all refl
 
 -- ---- ranks of lanes
 
@@ -77,18 +71,12 @@ raised lanes at x next m is lt read same larger =
     ∙ ap (λ (k : ℕ). set (map passed_meaning lanes) at (told_at (passed_meaning x).lane k)) larger
     ∙ noted_here (passed_meaning next).lane next.number at (map passed_meaning lanes) (passed_meaning x) (passed_meaning x) is (omega (arith, long)) (sym (passed_read lanes at x lt read)) same
 
-map_insert : (at : ℕ) (lanes : List Passed) (x : Passed) → map passed_meaning (take at lanes ++ x ∷ drop at lanes) ≡ take at (map passed_meaning lanes) ++ passed_meaning x ∷ drop at (map passed_meaning lanes)
-map_insert zero lanes x = refl
-map_insert (suc at) [] x = refl
-map_insert (suc at) (y ∷ lanes) x = ap (λ (xs : List Skip). passed_meaning y ∷ xs) (map_insert at lanes x)
-
 pub put_in : (lanes : List Passed) (at : ℕ) (next d : Passed) → at ≡ before (lane_key (passed_meaning next).lane) (map passed_meaning lanes)
     → (at < length lanes → lane_key (passed_meaning (get_or lanes at d)).lane ≡ lane_key (passed_meaning next).lane → ⊥)
     → map passed_meaning (take at lanes ++ next ∷ drop at lanes) ≡ noted (passed_meaning next).lane next.number (map passed_meaning lanes)
 put_in lanes at next d is other =
     let long = length-map lanes passed_meaning in
-    map_insert at lanes next
-    ∙ noted_new (passed_meaning next).lane next.number at (map passed_meaning lanes) (passed_meaning d) is
+    simp (map-append, take-map, drop-map) refl ∙ noted_new (passed_meaning next).lane next.number at (map passed_meaning lanes) (passed_meaning d) is
     (λ lt same. let low : at < length lanes = omega (arith, lt, long) in other low (sym (lane_read lanes at d low) ∙ same))
 
 -- and makes them one more
@@ -96,19 +84,13 @@ pub one_more : (lanes : List Passed) (at : ℕ) (next d : Passed) → at ≡ bef
     → (at < length lanes → lane_key (passed_meaning (get_or lanes at d)).lane ≡ lane_key (passed_meaning next).lane → ⊥)
     → length (noted (passed_meaning next).lane next.number (map passed_meaning lanes)) ≡ suc (length lanes)
 one_more lanes at next d is other =
-    ap (λ (xs : List Skip). length xs) (sym (put_in lanes at next d is other)) ∙ length-map (take at lanes ++ next ∷ drop at lanes) passed_meaning ∙ between at lanes
-  where
-    between : (n : ℕ) (xs : List Passed) → length (take n xs ++ next ∷ drop n xs) ≡ suc (length xs)
-    between zero xs = refl
-    between (suc n) [] = refl
-    between (suc n) (x ∷ xs) = ap suc (between n xs)
+    let long = length-map lanes passed_meaning in
+    let within = before_within (lane_key (passed_meaning next).lane) (map passed_meaning lanes) in
+    rw (← put_in lanes at next d is other) (simp (length-map, length-append, length-take, length-drop) (omega arith))
 
 -- a slice as long as the whole, put back
 pub put_back : (xs ys : List Passed) → length ys ≡ length xs → refill (length xs) xs ys ≡ ys
-put_back [] [] same = refl
-put_back [] (y ∷ ys) same = absurd (omega (arith, same))
-put_back (x ∷ xs) [] same = absurd (omega (arith, same))
-put_back (x ∷ xs) (y ∷ ys) same = ap (λ (zs : List Passed). y ∷ zs) (put_back xs ys (omega (arith, same)))
+put_back xs ys same = rw (← same) (rw (take_at ys (drop (length ys) xs) (length ys) refl) refl)
 
 -- an entry put behind whole ones
 pub whole_before : (f : Format) (form : SkipForm) (n m : ℕ) → form ≡ skip_form f → n ≡ skip_size (skip_form f) * m → n % skip_size form ≡ 0

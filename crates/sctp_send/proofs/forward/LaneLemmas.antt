@@ -7,7 +7,7 @@ use Rattle.sctp_model.specs.messages.Plan.{Entry}
 use Rattle.sctp_model.specs.messages.Forward.{Skip}
 use Rattle.sctp_model.specs.sender.Entries.{entry_lane, entry_number}
 use Rattle.sctp_model.specs.sender.Forwarding.{larger, largest_in, skip_in, skip_of, skips_on, skips_below}
-use Rattle.sctp_send.specs.inner.Lanes.{lane_key, AreRising, told_at, at_least, noted, noted_entry}
+use Rattle.sctp_send.specs.inner.Lanes.{lane_key, AreRising, noted, noted_entry}
 
 -- ---- in order
 
@@ -32,27 +32,24 @@ within_rising : (a b : ℕ) (xs : List Skip) → AreWithin a b xs → AreRising 
 within_rising a b [] h = tt
 within_rising a b (x ∷ xs) h = (h.0, within_rising (suc (lane_key x.lane)) b xs h.1)
 
-within_at : (a b c d : ℕ) (xs : List Skip) → a ≡ c → b ≡ d → AreWithin a b xs → AreWithin c d xs
-within_at a b c d xs p q h = subst (λ (n : ℕ). AreWithin c n xs) q (subst (λ (n : ℕ). AreWithin n b xs) p h)
-
 -- one lane
-within_one : (f : Format) (es : List Entry) (l : Lane) → AreWithin (lane_key l) (suc (lane_key l)) (skip_of f es l)
-within_one f es l = by_kind (is_numbered f l.kind)
+within_one : (f : Format) (es : List Entry) (l : Lane) (a b : ℕ) → a ≡ lane_key l → b ≡ suc a → AreWithin a b (skip_of f es l)
+within_one f es l a b from to = by_kind (is_numbered f l.kind)
   where
-    by_largest : (o : Option ℕ) → AreWithin (lane_key l) (suc (lane_key l)) (skip_in l o)
+    by_largest : (o : Option ℕ) → AreWithin a b (skip_in l o)
     by_largest None = omega arith
     by_largest (Some n) = (omega arith, omega arith)
 
-    by_kind : (b : Bool) → AreWithin (lane_key l) (suc (lane_key l)) (if b then skip_in l (largest_in l None es) else [])
+    by_kind : (c : Bool) → AreWithin a b (if c then skip_in l (largest_in l None es) else [])
     by_kind false = omega arith
     by_kind true = by_largest (largest_in l None es)
 
 -- of a stream the ordered one, and the other
 ordered_within : (f : Format) (es : List Entry) (s : ℕ) → AreWithin (2 * s) (2 * s + 1) (skip_of f es (record { stream = s; kind = Ordered }))
-ordered_within f es s = within_at (2 * s + 0) (suc (2 * s + 0)) (2 * s) (2 * s + 1) (skip_of f es (record { stream = s; kind = Ordered })) (omega arith) (omega arith) (within_one f es (record { stream = s; kind = Ordered }))
+ordered_within f es s = within_one f es (record { stream = s; kind = Ordered }) (2 * s) (2 * s + 1) (omega arith) (omega arith)
 
 unordered_within : (f : Format) (es : List Entry) (s : ℕ) → AreWithin (2 * s + 1) (2 * s + 2) (skip_of f es (record { stream = s; kind = Unordered }))
-unordered_within f es s = within_at (2 * s + 1) (suc (2 * s + 1)) (2 * s + 1) (2 * s + 2) (skip_of f es (record { stream = s; kind = Unordered })) (omega arith) (omega arith) (within_one f es (record { stream = s; kind = Unordered }))
+unordered_within f es s = within_one f es (record { stream = s; kind = Unordered }) (2 * s + 1) (2 * s + 2) (omega arith) (omega arith)
 
 on_within : (f : Format) (es : List Entry) (s : ℕ) → AreWithin (2 * s) (2 * s + 2) (skips_on f es s)
 on_within f es s = within_joined (2 * s) (2 * s + 1) (2 * s + 2) (skip_of f es (record { stream = s; kind = Ordered })) (skip_of f es (record { stream = s; kind = Unordered })) (ordered_within f es s) (unordered_within f es s)
@@ -60,8 +57,8 @@ on_within f es s = within_joined (2 * s) (2 * s + 1) (2 * s + 2) (skip_of f es (
 below_within : (f : Format) (es : List Entry) (s : ℕ) → AreWithin 0 (2 * s) (skips_below f es s)
 below_within f es zero = omega arith
 below_within f es (suc s) =
-    within_at 0 (2 * s + 2) 0 (2 * suc s) (skips_below f es s ++ skips_on f es s) refl (omega arith)
-    (within_joined 0 (2 * s) (2 * s + 2) (skips_below f es s) (skips_on f es s) (below_within f es s) (on_within f es s))
+    let next : 2 * suc s ≡ 2 * s + 2 = omega arith in
+    rw next (within_joined 0 (2 * s) (2 * s + 2) (skips_below f es s) (skips_on f es s) (below_within f es s) (on_within f es s))
 
 pub below_rising : (f : Format) (es : List Entry) (s : ℕ) → AreRising 0 (skips_below f es s)
 below_rising f es s = within_rising 0 (2 * s) (skips_below f es s) (below_within f es s)
@@ -77,28 +74,15 @@ noted_behind l n a b (x ∷ xs) ys h le =
 
 noted_before : (l : Lane) (n a b : ℕ) (xs ys : List Skip) → AreWithin a b ys → lane_key l < a → noted l n (xs ++ ys) ≡ noted l n xs ++ ys
 noted_before l n a b [] [] h lt = refl
-noted_before l n a b [] (y ∷ ys) h lt =
-    let past : lane_key l < lane_key y.lane = omega (arith, h.0, lt) in
-    let less : nat_lt (lane_key y.lane) (lane_key l) ≡ false = grind (arith, nat_tests) in
-    let other : (lane_key y.lane == lane_key l) ≡ false = grind (arith, nat_tests) in
-    rw (less, other) refl
-noted_before l n a b (x ∷ xs) ys h lt = by_tests (nat_lt (lane_key x.lane) (lane_key l)) (lane_key x.lane == lane_key l) (noted_before l n a b xs ys h lt)
-  where
-    by_tests : (c d : Bool) → noted l n (xs ++ ys) ≡ noted l n xs ++ ys → (if c then x ∷ noted l n (xs ++ ys) else if d then at_least n x ∷ (xs ++ ys) else told_at l n ∷ x ∷ (xs ++ ys))
-        ≡ (if c then x ∷ noted l n xs else if d then at_least n x ∷ xs else told_at l n ∷ x ∷ xs) ++ ys
-    by_tests true d further = ap (λ (zs : List Skip). x ∷ zs) further
-    by_tests false true further = refl
-    by_tests false false further = refl
+noted_before l n a b [] (y ∷ ys) h lt = grind (arith, nat_tests, h.0)
+noted_before l n a b (x ∷ xs) ys h lt = grind (arith, nat_tests, noted_before l n a b xs ys h lt)
 
 noted_one : (l : Lane) (n : ℕ) (o : Option ℕ) → noted l n (skip_in l o) ≡ skip_in l (larger o n)
 noted_one l n None = refl
-noted_one l n (Some m) =
-    let less : nat_lt (lane_key l) (lane_key l) ≡ false = grind (arith, nat_tests) in
-    let same : (lane_key l == lane_key l) ≡ true = grind (arith, nat_tests) in
-    rw (less, same) refl
+noted_one l n (Some m) = grind (arith, nat_tests)
 
 both : (a b c d : List Skip) → a ≡ c → b ≡ d → a ++ b ≡ c ++ d
-both a b c d p q = ap (λ (z : List Skip). z ++ b) p ∙ ap (λ (z : List Skip). c ++ z) q
+both a b c d p q = rw (p, q) refl
 
 -- ---- an entry more
 
@@ -123,12 +107,8 @@ same_self s k = let same : (s == s) ≡ true = grind (arith, nat_tests) in rw (s
 other_stream : (s r : ℕ) (k j : Kind) → (s ≡ r → ⊥) → same_lane (record { stream = s; kind = k }) (record { stream = r; kind = j }) ≡ false
 other_stream s r k j ne = let other : (s == r) ≡ false = grind (arith, nat_tests) in rw other refl
 
-pub off : (b : Bool) → (b && false) ≡ false
-off true = refl
-off false = refl
-
 other_kind : (s r : ℕ) (k j : Kind) → same_kind k j ≡ false → same_lane (record { stream = s; kind = k }) (record { stream = r; kind = j }) ≡ false
-other_kind s r k j other = rw other (off (s == r))
+other_kind s r k j other = rw other (grind (arith, nat_tests))
 
 -- a lane that the entry isn't of
 lane_same : (f : Format) (l k : Lane) (n : ℕ) (es more : List Entry) → IsMore l n es more → same_lane k l ≡ false → skip_of f more k ≡ skip_of f es k
@@ -142,24 +122,19 @@ lane_more : (f : Format) (s : ℕ) (k : Kind) (n : ℕ) (es more : List Entry) �
 lane_more f s k n es more h on =
     let l : Lane = record { stream = s; kind = k } in
     let found : largest_in l None more ≡ larger (largest_in l None es) n = h.largest l ∙ ap (λ (b : Bool). if b then larger (largest_in l None es) n else largest_in l None es) (same_self s k) in
-    by_kind (is_numbered f k) on (ap (skip_in l) found ∙ sym (noted_one l n (largest_in l None es)))
-  where
-    by_kind : (b : Bool) → b ≡ true → skip_in (record { stream = s; kind = k }) (largest_in (record { stream = s; kind = k }) None more) ≡ noted (record { stream = s; kind = k }) n (skip_in (record { stream = s; kind = k }) (largest_in (record { stream = s; kind = k }) None es))
-        → (if b then skip_in (record { stream = s; kind = k }) (largest_in (record { stream = s; kind = k }) None more) else []) ≡ noted (record { stream = s; kind = k }) n (if b then skip_in (record { stream = s; kind = k }) (largest_in (record { stream = s; kind = k }) None es) else [])
-    by_kind true numbered is = is
-    by_kind false unlike is = absurd (cc)
+    rw on (ap (skip_in l) found ∙ sym (noted_one l n (largest_in l None es)))
 
 -- a stream that the entry isn't on
 stream_same : (f : Format) (r s : ℕ) (k : Kind) (n : ℕ) (es more : List Entry) → IsMore (record { stream = r; kind = k }) n es more → (s ≡ r → ⊥) → skips_on f more s ≡ skips_on f es s
 stream_same f r s k n es more h ne =
-    both (skip_of f more (record { stream = s; kind = Ordered })) (skip_of f more (record { stream = s; kind = Unordered })) (skip_of f es (record { stream = s; kind = Ordered })) (skip_of f es (record { stream = s; kind = Unordered }))
-    (lane_same f (record { stream = r; kind = k }) (record { stream = s; kind = Ordered }) n es more h (other_stream s r Ordered k ne))
-    (lane_same f (record { stream = r; kind = k }) (record { stream = s; kind = Unordered }) n es more h (other_stream s r Unordered k ne))
+    let l : Lane = record { stream = r; kind = k } in
+    let one = lane_same f l (record { stream = s; kind = Ordered }) n es more h (other_stream s r Ordered k ne) in
+    let two = lane_same f l (record { stream = s; kind = Unordered }) n es more h (other_stream s r Unordered k ne) in
+    cc
 
 streams_same : (f : Format) (r s : ℕ) (k : Kind) (n : ℕ) (es more : List Entry) → IsMore (record { stream = r; kind = k }) n es more → s ≤ r → skips_below f more s ≡ skips_below f es s
 streams_same f r zero k n es more h le = refl
-streams_same f r (suc s) k n es more h le =
-    both (skips_below f more s) (skips_on f more s) (skips_below f es s) (skips_on f es s) (streams_same f r s k n es more h (omega arith)) (stream_same f r s k n es more h (λ is. absurd (omega arith)))
+streams_same f r (suc s) k n es more h le = cc (streams_same f r s k n es more h (omega arith), stream_same f r s k n es more h (λ is. absurd (omega arith)))
 
 -- the stream that it is on
 stream_more : (f : Format) (s : ℕ) (k : Kind) (n : ℕ) (es more : List Entry) → IsMore (record { stream = s; kind = k }) n es more → is_numbered f k ≡ true
@@ -213,9 +188,7 @@ streams_more f r (suc s) k n es more h on lt = by_at (s == r) refl (λ less. str
 unnumbered : (f : Format) (r s : ℕ) (k : Kind) (n : ℕ) (es more : List Entry) → IsMore (record { stream = r; kind = k }) n es more → is_numbered f k ≡ false → skips_below f more s ≡ skips_below f es s
 unnumbered f r zero k n es more h none = refl
 unnumbered f r (suc s) k n es more h none =
-    both (skips_below f more s) (skips_on f more s) (skips_below f es s) (skips_on f es s) (unnumbered f r s k n es more h none)
-    (both (skip_of f more (record { stream = s; kind = Ordered })) (skip_of f more (record { stream = s; kind = Unordered })) (skip_of f es (record { stream = s; kind = Ordered })) (skip_of f es (record { stream = s; kind = Unordered }))
-    (each Ordered (same_kind Ordered k) refl) (each Unordered (same_kind Unordered k) refl))
+    cc (unnumbered f r s k n es more h none, each Ordered (same_kind Ordered k) refl, each Unordered (same_kind Unordered k) refl)
   where
     same : (a b : Kind) → same_kind a b ≡ true → a ≡ b
     same Ordered Ordered on = refl
@@ -223,12 +196,8 @@ unnumbered f r (suc s) k n es more h none =
     same Unordered Ordered on = absurd (cc)
     same Unordered Unordered on = refl
 
-    silent : (b : Bool) (j : Kind) → b ≡ false → (if b then skip_in (record { stream = s; kind = j }) (largest_in (record { stream = s; kind = j }) None more) else []) ≡ (if b then skip_in (record { stream = s; kind = j }) (largest_in (record { stream = s; kind = j }) None es) else [])
-    silent true j unlike = absurd (cc)
-    silent false j unlike = refl
-
     each : (j : Kind) (b : Bool) → same_kind j k ≡ b → skip_of f more (record { stream = s; kind = j }) ≡ skip_of f es (record { stream = s; kind = j })
-    each j true is = silent (is_numbered f j) j (ap (is_numbered f) (same j k is) ∙ none)
+    each j true is = let off : is_numbered f j ≡ false = ap (is_numbered f) (same j k is) ∙ none in rw off refl
     each j false is = lane_same f (record { stream = r; kind = k }) (record { stream = s; kind = j }) n es more h (other_kind s r j k is)
 
 -- an entry more: what is found then

@@ -1,10 +1,10 @@
 -- How far the FORWARD of a sender goes: over as many entries as name no more lanes than a packet holds behind its headers.
-use Rattle.std.proofs.Common.{◌≡◌, ℕ, zero, suc, ◌+◌, ◌-◌, ◌*◌, ◌/◌, ◌%◌, ◌^◌, ◌<◌, ◌≤◌, List, [], ◌∷◌, ◌++◌, length, map, take, drop, Bool, true, false, inl, inr, refl, sym, ap, subst, ◌∙◌, arith}
-use Rattle.std.specs.Prelude.{◌&&◌, nat_lt, nat_le, if◌then◌else◌}
+use Rattle.std.proofs.Common.{◌≡◌, ℕ, suc, ◌+◌, ◌-◌, ◌*◌, ◌/◌, ◌%◌, ◌^◌, ◌<◌, ◌≤◌, List, [], ◌∷◌, ◌++◌, length, map, take, drop, Bool, true, false, inl, inr, refl, sym, ap, subst, ◌∙◌, arith}
+use Rattle.std.specs.Prelude.{nat_lt, nat_le}
 use Rattle.std.proofs.lemmas.Bool.{cases_lt}
 use Rattle.std.proofs.lemmas.Bool.Decides.{nat_tests}
-use Rattle.std.proofs.lemmas.List.{length-map}
-use Rattle.sctp_model.specs.messages.Format.{Format, Plain, Interleaved, is_numbered}
+use Rattle.std.proofs.lemmas.List.{length-map, take-take, take-append-drop}
+use Rattle.sctp_model.specs.messages.Format.{Format, Plain, Interleaved}
 use Rattle.sctp_model.specs.messages.Framing.{forward_chunk}
 use Rattle.sctp_model.specs.messages.Forward.{Skip}
 use Rattle.sctp_model.specs.messages.Plan.{Entry}
@@ -12,7 +12,6 @@ use Rattle.sctp_model.specs.numbers.Serial.{tsn}
 use Rattle.sctp_model.specs.wire.Chunk.{SkipMeaning, ForwardMeaning, size_of_chunk}
 use Rattle.sctp_model.specs.sender.SenderView.{SenderView}
 use Rattle.sctp_model.specs.sender.Readers.{point}
-use Rattle.sctp_model.specs.sender.Entries.{entry_lane, entry_number}
 use Rattle.sctp_model.specs.sender.Forwarding.{entries_to, forward_to, skips_below}
 use Rattle.sctp_model.specs.sender.SentChunks.{skip_said, forward_said, forward_chunk_to, fits_forward, forward_end, forward_chunk_of}
 use Rattle.sctp_model.proofs.sender.ForwardEnd.{is_end, end_from, end_upto, end_fits, end_behind}
@@ -22,7 +21,7 @@ use Rattle.sctp_send.specs.SenderKept.{Kept}
 use Rattle.sctp_send.specs.SenderStands.{Keeps}
 use Rattle.sctp_send.specs.OutstandingFields.{item_meaning, entries_of}
 use Rattle.sctp_send.specs.ResetsKept.{base_of}
-use Rattle.sctp_send.specs.inner.Lanes.{passed_meaning, noted, noted_entry, forward_of_lanes}
+use Rattle.sctp_send.specs.inner.Lanes.{passed_meaning, noted_entry, forward_of_lanes}
 use Rattle.sctp_send.specs.declared.forward.lanes.Passed.{Passed}
 use Rattle.sctp_send.specs.declared.kept.entry.Entry.{Entry as EntryFields}
 use Rattle.sctp_send.proofs.ResetLemmas.{based_skips}
@@ -51,25 +50,18 @@ large_if_many Interleaved limit n most is many = let lt : limit < 20 + 8 * n = o
 -- a FORWARD that goes further names no fewer lanes
 lanes_grow : (f : Format) (v : SenderView) (p q : ℕ) → p ≤ q → length (forward_to f v p).skips ≤ length (forward_to f v q).skips
 lanes_grow f v p q le =
-    let more = front (p - v.cum) (q - v.cum) (drop v.cum v.plan.entries) (omega (arith, le)) in
-    subst (λ (es : List Entry). length (forward_to f v p).skips ≤ length (skips_below f es v.streams)) (sym more.1) (skips_longer f v.streams (entries_to v p) more.0)
-  where
-    front : (m n : ℕ) (es : List Entry) → m ≤ n → (ds : List Entry) × (take n es ≡ take m es ++ ds)
-    front zero n es low = (take n es, refl)
-    front (suc m) zero es low = absurd (omega (arith, low))
-    front (suc m) (suc n) [] low = ([], refl)
-    front (suc m) (suc n) (e ∷ es) low = let rest = front m n es (omega (arith, low)) in (rest.0, ap (λ (xs : List Entry). e ∷ xs) rest.1)
+    let es = drop v.cum v.plan.entries in
+    let m = p - v.cum in
+    let more = drop m (take (q - v.cum) es) in
+    let all : take (q - v.cum) es ≡ take m es ++ more = sym (take-append-drop m (take (q - v.cum) es)) ∙ ap (λ (xs : List Entry). xs ++ more) (take-take m (q - v.cum) es (omega (arith, le))) in
+    subst (λ (xs : List Entry). length (forward_to f v p).skips ≤ length (skips_below f xs v.streams)) (sym all) (skips_longer f v.streams (entries_to v p) more)
 
 -- over one entry it names one lane at most
 one_lane : (f : Format) (streams : ℕ) (es : List Entry) → length (skips_below f (take 1 es) streams) ≤ 1
 one_lane f streams [] = subst (λ (xs : List Skip). length xs ≤ 1) (sym (none_below f streams)) (omega arith)
 one_lane f streams (e ∷ es) =
     let is : skips_below f (e ∷ []) streams ≡ noted_entry f streams e [] = skips_more f streams [] e ∙ ap (noted_entry f streams e) (none_below f streams) in
-    subst (λ (xs : List Skip). length xs ≤ 1) (sym is) (by_test (nat_lt (entry_lane e).stream streams && is_numbered f (entry_lane e).kind))
-  where
-    by_test : (b : Bool) → length (if b then noted (entry_lane e) (entry_number e) [] else []) ≤ 1
-    by_test true = omega arith
-    by_test false = omega arith
+    rw is (grind (arith, nat_tests))
 
 -- ---- the end
 
@@ -116,11 +108,7 @@ reaches f v limit least = by_test (nat_lt v.cum (point v)) refl
         go Interleaved n few = let le : 20 + 8 * n ≤ limit = omega (arith, least, few) in grind (arith, nat_tests)
 
     by_test : (b : Bool) → nat_lt v.cum (point v) ≡ b → nat_lt v.cum (forward_end f limit v) ≡ b
-    by_test false none =
-        let upto = end_upto f limit v in
-        let le : point v ≤ v.cum = grind (arith, nat_tests) in
-        let low : forward_end f limit v ≤ v.cum = omega (arith, upto, le) in
-        grind (arith, nat_tests)
+    by_test false none = grind (arith, nat_tests, end_upto f limit v)
     by_test true some =
         let lt : v.cum < point v = grind (arith, nat_tests) in
         elim (cases_lt v.cum (forward_end f limit v)) [

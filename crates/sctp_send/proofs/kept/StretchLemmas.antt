@@ -1,6 +1,7 @@
 -- Stretches whose entries are alike: they stay so as other entries are added, removed or changed, and once they are set as a whole.
 use Rattle.std.proofs.Common.{◌≡◌, ℕ, zero, suc, ◌+◌, ◌-◌, ◌<◌, ◌≤◌, List, [], ◌∷◌, ◌++◌, length, Bool, true, false, Some, refl, sym, ap, ◌∙◌, subst, arith}
 use Rattle.std.specs.Prelude.{not, slice_get}
+use Rattle.std.proofs.lemmas.Bool.Decides.{nat_tests}
 use mathlib.Core.Bool.{beq}
 use Rattle.sctp_send.specs.PartsKept.{changed_at}
 use Rattle.sctp_send.specs.inner.Changes.{unmarked, told, told_where, is_between}
@@ -12,26 +13,16 @@ use Rattle.sctp_send.proofs.sack.TellLemmas.{run_starts, run_step}
 -- ---- two flags
 
 pub flags_same : (a b : Bool) → beq a b ≡ true → a ≡ b
-flags_same true true is = refl
-flags_same true false is = absurd (cc)
-flags_same false true is = absurd (cc)
-flags_same false false is = refl
+flags_same a b is = grind (arith, nat_tests)
 
 pub flags_differ : (a b : Bool) → beq a b ≡ false → a ≡ not b
-flags_differ true true is = absurd (cc)
-flags_differ true false is = refl
-flags_differ false true is = refl
-flags_differ false false is = absurd (cc)
+flags_differ a b is = grind (arith, nat_tests)
 
 pub flags_not_differ : (a b : Bool) → not (beq a b) ≡ false → a ≡ b
-flags_not_differ true true is = refl
-flags_not_differ true false is = absurd (cc)
-flags_not_differ false true is = absurd (cc)
-flags_not_differ false false is = refl
+flags_not_differ a b is = grind (arith, nat_tests)
 
 pub flag_on : (b : Bool) → not b ≡ false → b ≡ true
-flag_on true is = refl
-flag_on false is = absurd (cc)
+flag_on b is = grind (arith, nat_tests)
 
 -- ---- a quiet entry
 

@@ -1,6 +1,7 @@
 -- Entries between runs in order: set gap by gap, all of them are set, and none in a run.
 use Rattle.std.proofs.Common.{◌≡◌, ℕ, zero, suc, ◌+◌, ◌<◌, ◌≤◌, List, [], ◌∷◌, length, drop, get_or, min, max, Bool, true, false, refl, sym, ap, ◌∙◌, arith}
 use Rattle.std.specs.Prelude.{not, ◌&&◌, ◌||◌}
+use Rattle.std.proofs.lemmas.List.{drop_all, drop_more}
 use Rattle.std.proofs.lemmas.Bool.Decides.{nat_tests}
 use Rattle.sctp_send.specs.CoveredRuns.{in_run, in_runs, AreInOrder, HasPassed}
 use Rattle.sctp_send.specs.inner.Changes.{told_where, is_between, in_gaps}
@@ -18,18 +19,10 @@ run_holds (x ∷ rs) (suc k) r d i low read on = let rest = run_holds rs k r d i
 
 -- none of the first ones holds it, and this one doesn't
 pub none_more : (rs : List CoveredRun) (k : ℕ) (r d : CoveredRun) (i : ℕ) → k < length rs → r ≡ get_or rs k d → in_run r i ≡ false → in_runs rs i ≡ in_runs (drop k rs) i → in_runs rs i ≡ in_runs (drop (k + 1) rs) i
-none_more rs k r d i low read off before = let one : k + 1 ≡ suc k = omega arith in before ∙ step rs k low read ∙ ap (λ (n : ℕ). in_runs (drop n rs) i) (sym one)
-  where
-    step : (xs : List CoveredRun) (n : ℕ) → n < length xs → r ≡ get_or xs n d → in_runs (drop n xs) i ≡ in_runs (drop (suc n) xs) i
-    step [] n lt is = absurd (omega arith)
-    step (x ∷ xs) zero lt is = ap (λ (y : CoveredRun). in_run y i || in_runs xs i) (sym is) ∙ ap (λ (b : Bool). b || in_runs xs i) off
-    step (x ∷ xs) (suc n) lt is = step xs n (omega arith) is
+none_more rs k r d i low read off before = before ∙ rw (drop_more rs k d low, ← read, off) refl
 
 pub none_left : (rs : List CoveredRun) (k i : ℕ) → length rs ≤ k → in_runs (drop k rs) i ≡ false
-none_left [] zero i le = refl
-none_left [] (suc k) i le = refl
-none_left (r ∷ rs) zero i le = absurd (omega arith)
-none_left (r ∷ rs) (suc k) i le = none_left rs k i (omega arith)
+none_left rs k i le = rw (drop_all k rs le) refl
 
 -- ---- runs in order
 

@@ -1,7 +1,7 @@
 -- What a SACK changes: once the entries in which the old runs and its own differ are set, just its own are acknowledged.
-use Rattle.std.proofs.Common.{◌≡◌, ℕ, zero, suc, ◌+◌, ◌<◌, ◌≤◌, List, [], ◌∷◌, ◌++◌, length, map, take, drop, get_or, min, Bool, true, false, Option, Some, refl, sym, ap, ◌∙◌, subst, add-one, arith}
+use Rattle.std.proofs.Common.{◌≡◌, ℕ, suc, ◌+◌, ◌<◌, ◌≤◌, List, [], ◌∷◌, length, map, take, drop, get_or, min, Bool, true, false, Option, Some, refl, sym, ap, ◌∙◌, subst, arith}
 use Rattle.std.specs.Prelude.{not, ◌&&◌, ◌||◌, if◌then◌else◌}
-use Rattle.std.proofs.lemmas.List.{take_all}
+use Rattle.std.proofs.lemmas.List.{take_all, take_more, drop-map}
 use Rattle.std.proofs.lemmas.Bool.Decides.{nat_tests}
 use Rattle.sctp_model.specs.messages.Format.{Format}
 use Rattle.sctp_model.specs.messages.Plan.{Entry}
@@ -24,11 +24,6 @@ use Rattle.sctp_send.proofs.sack.TellLemmas.{told_twice, where_same, where_none,
 
 -- ---- runs over others
 
-take_step : (rs : List CoveredRun) (k : ℕ) (r d : CoveredRun) → k < length rs → r ≡ get_or rs k d → take (suc k) rs ≡ take k rs ++ r ∷ []
-take_step [] k r d lt is = absurd (omega arith)
-take_step (x ∷ rs) zero r d lt is = ap (λ (y : CoveredRun). y ∷ []) (sym is)
-take_step (x ∷ rs) (suc k) r d lt is = ap (λ (ys : List CoveredRun). x ∷ ys) (take_step rs k r d (omega arith) is)
-
 pub alone_start : (b : Bool) (os : List CoveredRun) (es : List EntryFields) → es ≡ told_where b (in_alone [] os) 1 es
 alone_start b os es = where_none b (in_alone [] os) 1 es (λ j lo. refl)
 
@@ -41,7 +36,7 @@ alone_more b rs os k last r d es now later lt read long is last_is =
   where
     same : (j : ℕ) → j ≤ last → (in_alone (take k rs) os j || in_gaps os r.from (min r.to last) j) ≡ in_alone (take (k + 1) rs) os j
     same j le =
-        let runs : in_runs (take (k + 1) rs) j ≡ (in_runs (take k rs) j || in_run r j) = rw (add-one, take_step rs k r d lt read) (runs_more (take k rs) r j) in
+        let runs : in_runs (take (k + 1) rs) j ≡ (in_runs (take k rs) j || in_run r j) = rw (take_more rs k d lt, ← read) (runs_more (take k rs) r j) in
         rw runs (grind (arith, nat_tests))
 
 pub alone_all : (b : Bool) (rs os : List CoveredRun) (k : ℕ) (es now : List EntryFields) → length rs ≤ k → now ≡ told_where b (in_alone (take k rs) os) 1 es → now ≡ told_where b (in_alone rs os) 1 es
@@ -100,11 +95,6 @@ exact_told size v c test j (e ∷ es) (x ∷ xs) is known apart =
     let rest = exact_told size v c test (suc j) es xs (rw at_is tail) known apart in
     ap (λ (y : EntryFields). y ∷ all_told test (suc (suc j)) es) here ∙ ap (λ (ys : List EntryFields). e ∷ ys) rest
 
-map_drop : {A B : Type 0} (g : A → B) (n : ℕ) (xs : List A) → map g (drop n xs) ≡ drop n (map g xs)
-map_drop g zero xs = refl
-map_drop g (suc n) [] = refl
-map_drop g (suc n) (x ∷ xs) = map_drop g n xs
-
 -- the entries that are left are as the runs say that are left
 pub exact_kept : (f : Format) (s : Kept) (v : SenderView) (size n : ℕ) (outs es : List EntryFields) (b : Bool) (rs xs : List CoveredRun) → Keeps f s v → s.items ≡ map (item_meaning size) outs → s.runs ≡ when b rs
     → es ≡ drop n outs → xs ≡ runs_behind n rs → IsExact b xs es
@@ -113,7 +103,7 @@ exact_kept f s v size n outs es true rs xs k items runs left behind =
     let c = v.cum + n in
     let known : AreCovered (Some rs) v.covered v.cum = subst (λ (o : Option (List CoveredRun)). AreCovered o v.covered v.cum) runs k.holds.covered in
     let start : suc (c + 0) ≡ suc c = omega arith in
-    let same : map (item_meaning size) (drop n outs) ≡ items_from v (suc c) (drop c v.plan.entries) = map_drop (item_meaning size) n outs ∙ ap (drop n) (sym items) ∙ left_items f s v n k in
+    let same : map (item_meaning size) (drop n outs) ≡ items_from v (suc c) (drop c v.plan.entries) = sym (drop-map (item_meaning size) n outs) ∙ ap (drop n) (sym items) ∙ left_items f s v n k in
     let exact = exact_told size v c (in_runs (runs_behind n rs)) 0 (drop n outs) (drop c v.plan.entries) (rw start same)
     (λ i some. let at_is : c + i ≡ v.cum + (n + i) = omega arith in ap v.covered at_is ∙ known.1 (n + i) (omega arith) ∙ all_behind n i rs some) (is_bounded f v k.reached).apart in
     rw (left, behind) (order_behind n 0 0 rs (omega arith) known.0, exact)

@@ -1,5 +1,5 @@
 -- Why a SACK or a SHUTDOWN is refused, from what a sender keeps.
-use Rattle.std.proofs.Common.{◌≡◌, ℕ, ◌+◌, ◌<◌, ◌≤◌, List, [], ◌∷◌, length, true, false, Option, Some, None, refl, sym, ap, arith}
+use Rattle.std.proofs.Common.{◌≡◌, ℕ, ◌+◌, ◌<◌, ◌≤◌, List, [], ◌∷◌, length, false, Option, Some, None, refl, sym, ap, arith}
 use Rattle.std.specs.Prelude.{nat_lt, if◌then◌else◌, is_some}
 use Rattle.std.proofs.lemmas.Bool.Decides.{nat_tests}
 use Rattle.sctp_model.specs.messages.Format.{Format}
@@ -57,12 +57,6 @@ sack_by_blocks f s v x n left k p is =
     let ends : some_ends_past (length v.plan.entries) (index_of v x.cumulative) x.blocks ≡ some_ends_past left 0 x.blocks =
     rw (p.index, all) (sym (counted_from (v.cum + n) left x.blocks)) in
     rw (p.fresh, inside_plan v x.cumulative n p, ends) refl
-
-pub blocks_past : (left : ℕ) (bs : List BlockMeaning) → some_ends_past left 0 bs ≡ true → block_fault left bs ≡ Some taken.Beyond
-blocks_past left bs past = rw past refl
-
-pub blocks_bad : (left : ℕ) (bs : List BlockMeaning) → some_ends_past left 0 bs ≡ false → some_is_bad 0 bs ≡ true → block_fault left bs ≡ Some taken.BadBlock
-blocks_bad left bs inside bad = rw (inside, bad) refl
 
 pub blocks_good : (left : ℕ) (bs : List BlockMeaning) → some_ends_past left 0 bs ≡ false → some_is_bad 0 bs ≡ false → block_fault left bs ≡ None
 blocks_good left bs inside good = rw (inside, good) refl

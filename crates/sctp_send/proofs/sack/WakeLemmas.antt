@@ -1,6 +1,7 @@
 -- If each run lies in a gap block, a SACK takes back no acknowledgement.
-use Rattle.std.proofs.Common.{◌≡◌, ℕ, zero, suc, ◌+◌, ◌<◌, ◌≤◌, inl, inr, List, [], ◌∷◌, length, get_or, Bool, true, false, refl, sym, ap, ◌∙◌, arith}
+use Rattle.std.proofs.Common.{◌≡◌, ℕ, suc, ◌+◌, ◌<◌, ◌≤◌, inl, inr, List, [], ◌∷◌, length, get_or, Bool, true, false, refl, sym, ap, ◌∙◌, arith}
 use Rattle.std.specs.Prelude.{◌||◌}
+use Rattle.std.proofs.lemmas.List.{get_or_default}
 use Rattle.std.proofs.lemmas.Bool.{cases_lt, cases_eq, or_left, or_right}
 use Rattle.sctp_model.specs.sender.Words.{when}
 use Rattle.sctp_model.specs.wire.Chunk.{BlockMeaning}
@@ -36,21 +37,15 @@ covered_lies true rs covered cum n i bs is h lies some on =
 
 -- ---- one entry more is woken
 
-get_any : (es : List EntryFields) (k : ℕ) (d e : EntryFields) → k < length es → get_or es k d ≡ get_or es k e
-get_any [] k d e lt = absurd (omega arith)
-get_any (x ∷ es) zero d e lt = refl
-get_any (x ∷ es) (suc k) d e lt = get_any es k d e (omega arith)
-
 pub woken_more : (p : ℕ) (ms ns : List ℕ) (es : List EntryFields) (at : ℕ) (x : EntryFields) (t m : ℕ) → AreWoken p ms es at → length ns ≡ length ms → ((u now : ℕ) → now < due_at p ns u → now < due_at p ms u)
     → (t ≤ p + length ms → p < t → due_at p ns t ≤ m) → x ≡ get_or es at x → t ≡ x.message.value.ticket → m ≡ until_of x.message → AreWoken p ns es (at + 1)
 woken_more p ms ns es at x t m woken long each here read ticket until = λ k d lt within past given. elim (cases_eq k at) [
   | inl same ↦
-      let is : get_or es k d ≡ x = get_any es k d x within ∙ ap (λ (n : ℕ). get_or es n x) same ∙ sym read in
+      let is : get_or es k d ≡ x = get_or_default es k d x within ∙ ap (λ (n : ℕ). get_or es n x) same ∙ sym read in
       let own = ap (λ (e : EntryFields). e.message.value.ticket) is in
       let moment = ap (λ (e : EntryFields). until_of e.message) is in
       let low = here (omega (arith, own, ticket, given, long)) (omega (arith, own, ticket, past)) in
-      let due = ap (due_at p ns) (own ∙ sym ticket) in
-      omega (arith, due, low, until, moment)
+      omega (arith, ap (due_at p ns) (own ∙ sym ticket), low, until, moment)
   | inr other ↦
       let before = woken k d (omega (arith, lt, other)) within past (omega (arith, given, long)) in
       at_most (due_at p ns (get_or es k d).message.value.ticket) (due_at p ms (get_or es k d).message.value.ticket) (until_of (get_or es k d).message) (λ now. each (get_or es k d).message.value.ticket now) before

@@ -18,6 +18,10 @@ is_item_marked x = x.marked
 abbrev pub is_item_unsent : Item → Bool
 is_item_unsent x = not x.sent && (not x.covered && not x.abandoned)
 
+-- one of the two
+abbrev pub is_item_wanted : (again : Bool) → Item → Bool
+is_item_wanted again x = if again then is_item_marked x else is_item_unsent x
+
 -- ---- bytes in flight
 
 -- an item's data

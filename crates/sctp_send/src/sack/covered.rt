@@ -4,7 +4,7 @@
 ghost use Rattle.std.specs.Prelude.{◌≡◌, ℕ, ◌≤◌, true, max, length, None};
 ghost use Rattle.sctp_send.specs.PartsKept.{IsSameRoom};
 ghost use Rattle.sctp_model.specs.messages.Acknowledgement.{in_blocks};
-ghost use Rattle.sctp_send.specs.CoveredRuns.{in_runs, AreInOrder, HasPassed, HoldsBlocks};
+ghost use Rattle.sctp_send.specs.CoveredRuns.{AreInOrder, HasPassed, HoldsBlocks};
 ghost use Rattle.sctp_send.specs.inner.Acknowledging.{block_fault};
 ghost use Rattle.sctp_send.specs.inner.Changes.{all_told, told_where, in_gaps, in_alone, IsExact};
 
@@ -33,30 +33,15 @@ pub(crate) fn cover_blocks(
     if is_known && covered.is_empty() && blocks.len() == 0 {
         return true;
     }
-    cover_some(outstanding, covered, spare, is_known, blocks)
-}
-
-/// `cover_blocks` if there are runs or blocks. It is not inlined, so that a SACK without either costs little.
-#[inline(never)]
-fn cover_some(
-    outstanding: &mut Outstanding,
-    covered: &mut Vec<CoveredRun>,
-    spare: &mut Vec<CoveredRun>,
-    is_known: bool,
-    blocks: &Blocks<'_>,
-) -> bool
-    requires { block_fault (length outstanding.old.items) blocks.now ≡ None }
-    ensures told { IsExact is_known covered.old.items outstanding.old.items → outstanding.new.items ≡ all_told (in_blocks 0 blocks.now) 1 outstanding.old.items }
-    ensures runs { result ≡ true → HoldsBlocks covered.new.items blocks.now }
-    ensures kept { IsSameRoom outstanding.old outstanding.new }
-{
     let fits = remember(spare, blocks);
     retell(outstanding, covered, spare, is_known && fits, blocks);
     mem::swap(covered, spare);
     fits
 }
 
-/// The entries in the blocks are acknowledged, and no others: by what changes, if the old runs and the new ones are known.
+/// The entries in the blocks are acknowledged, and no others: by what changes, if the old runs and the new ones are known. It is not inlined, so that a
+/// SACK without runs or blocks costs little.
+#[inline(never)]
 fn retell(
     outstanding: &mut Outstanding,
     old: &[CoveredRun],
@@ -70,19 +55,11 @@ fn retell(
     ensures kept { IsSameRoom outstanding.old outstanding.new }
 {
     if are_known {
-        cover_anew(outstanding, old, new);
+        tell_alone(outstanding, new, old, true);
+        tell_alone(outstanding, old, new, false);
         return;
     }
     cover(outstanding, blocks);
-}
-
-/// Acknowledges the entries in the new runs that are not in the old ones, and takes back those in the old ones alone.
-fn cover_anew(outstanding: &mut Outstanding, old: &[CoveredRun], new: &[CoveredRun])
-    ensures covered { IsExact true old.now outstanding.old.items → AreInOrder 0 new.now → outstanding.new.items ≡ all_told (in_runs new.now) 1 outstanding.old.items }
-    ensures kept { IsSameRoom outstanding.old outstanding.new }
-{
-    tell_alone(outstanding, new, old, true);
-    tell_alone(outstanding, old, new, false);
 }
 
 /// Sets the entries that are in some run, and in none of the others, acknowledged or not: one pass over both lists, side by side.

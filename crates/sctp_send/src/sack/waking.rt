@@ -35,26 +35,6 @@ pub(crate) fn wake_for(
     if !dues.is_asleep() {
         return;
     }
-    wake_where(dues, outstanding, covered, is_known, passed, blocks);
-}
-
-/// `wake_for` if a deadline was passed over for an acknowledged message. It is not inlined, so that other SACKs cost little.
-#[inline(never)]
-fn wake_where(
-    dues: &mut Dues,
-    outstanding: &Outstanding,
-    covered: &[CoveredRun],
-    is_known: bool,
-    passed: usize,
-    blocks: &Blocks<'_>,
-)
-    ensures passed { dues.new.passed ≡ dues.old.passed }
-    ensures long { length dues.new.moments ≡ length dues.old.moments }
-    ensures each { (t now : ℕ) → now < due_at dues.old.passed dues.new.moments t → now < due_at dues.old.passed dues.old.moments t }
-    ensures here { dues.old.asleep ≡ true → dues.new.asleep ≡ false → AreWoken dues.old.passed dues.new.moments outstanding.now.items (length outstanding.now.items) }
-    ensures known { dues.new.asleep ≡ true → is_known ≡ true }
-    ensures asleep { dues.new.asleep ≡ true → LieIn passed covered.now blocks.now }
-{
     if is_known && lie_in(covered, passed, blocks) {
         return;
     }
@@ -62,6 +42,7 @@ fn wake_where(
 }
 
 /// Each outstanding message is looked at from its own deadline on, whether it is acknowledged or not.
+#[inline(never)]
 fn wake(dues: &mut Dues, outstanding: &Outstanding)
     ensures passed { dues.new.passed ≡ dues.old.passed }
     ensures long { length dues.new.moments ≡ length dues.old.moments }
@@ -76,7 +57,9 @@ fn wake(dues: &mut Dues, outstanding: &Outstanding)
     dues.awake();
 }
 
-/// Each of the runs lies in a block, once `passed` entries in front were removed. The runs and the blocks are in order.
+/// Each of the runs lies in a block, once `passed` entries in front were removed. The runs and the blocks are in order. It is not inlined, so that other
+/// SACKs cost little.
+#[inline(never)]
 fn lie_in(runs: &[CoveredRun], passed: usize, blocks: &Blocks<'_>) -> bool
     ensures { result ≡ true → LieIn passed runs.now blocks.now }
 {

@@ -19,8 +19,7 @@ returns-then-limit-lt-PACKET_ALONE-clause-lanes g c = λ size. ap (map passed_me
 pub note_first-requires-clause-run : goal.note_first-requires-clause-run
 note_first-requires-clause-run g c =
     let within = run_within (map (item_meaning 1) c.args.outstanding.now.items) in
-    let long = length-map c.args.outstanding.now.items (item_meaning 1) in
-    omega (arith, within, long, c.abandoned_run-run.ensures 1)
+    omega (arith, within, length-map c.args.outstanding.now.items (item_meaning 1), c.abandoned_run-run.ensures 1)
 
 pub returns-clause-end : goal.returns-clause-end
 returns-clause-end g c = λ s v size keeps items streams.

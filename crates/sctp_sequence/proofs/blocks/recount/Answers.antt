@@ -8,5 +8,4 @@ overflow_add-count g c =
     let b = c.index.result.now in
     let less : c.loop-block.block < length bs = omega (arith, c.args.blocks.now.ok, c.loop-block-test.true, c.len-block-end.ensures) in
     let more = count_more bs c.loop-block.block b less c.index.ensures in
-    let within = count_within bs (c.loop-block.block + 1) in
-    omega (arith, more, within, c.loop-block.invariant.count, c.len-count.ensures, b.ok, c.requires.small)
+    omega (arith, more, count_within bs (c.loop-block.block + 1), c.loop-block.invariant.count, c.len-count.ensures, b.ok, c.requires.small)

@@ -44,8 +44,7 @@ raise-requires g c = λ k d less.
     let ss = c.args.starts.now in
     let within : k < vec_len c.args.rest.now = omega (arith, less, c.deref_mut.ensures.len, c.requires.each) in
     let read : get_or c.deref_mut.result.now k d ≡ length (joined (take k bs)) = ap (λ (l : List ℕ). get_or l k d) c.deref_mut.ensures.value ∙ c.requires.starts k d within in
-    let most = count_within bs k in
-    omega (arith, read, most, c.requires.small)
+    omega (arith, read, count_within bs k, c.requires.small)
 
 pub returns-then-len-lt-BLOCK-clause-starts : goal.returns-then-len-lt-BLOCK-clause-starts
 returns-then-len-lt-BLOCK-clause-starts g c = λ n d within.
@@ -78,8 +77,7 @@ recount-requires-clause-small g c =
     let room = c.requires.room in
     let put = became_ok c.insert-in-Some.result _ _ _ _ c.insert-in-Some.ensures.items c.insert-in-Some.ensures.full (λ full. omega (arith, full, room)) in
     let all = ap joined put ∙ halved_there bs k c.args.at offset b less c.index_mut-block.ensures.value c.find_for-place.ensures.place c.args.item c.insert_halving.new.block c.insert_halving.new.later within c.insert_halving.ensures.items in
-    let long = ap length all ∙ length-insert (joined bs) c.args.at c.args.item c.requires.at in
-    omega (arith, long, c.requires.small)
+    omega (arith, ap length all ∙ length-insert (joined bs) c.args.at c.args.item c.requires.at, c.requires.small)
 
 pub recount-requires-clause-starts : goal.recount-requires-clause-starts
 recount-requires-clause-starts g c =

@@ -59,9 +59,7 @@ recount-requires-clause-small g c =
     let gone : c.remove-item.new.self.items ≡ remove b.items c.find-place.result.offset = when_some c.remove-item.result _ (c.remove-item.ensures.variant.1 inside) c.remove-item.ensures.items in
     let none : c.remove-item.new.self.items ≡ [] = no_items c.remove-item.new.self.items (is_there c.remove-item.new.self.ok.0 c.is_empty.ensures c.if-is_empty.true) in
     let all = ap joined c.remove.ensures.items ∙ emptied_there bs c.find-place.result.block c.args.at c.find-place.result.offset b less c.index_mut-block.ensures.value c.find-place.ensures.place c.remove-item.new.self within gone none in
-    let long = ap length all in
-    let fewer = length-remove (joined bs) c.args.at c.requires.at in
-    omega (arith, long, fewer, c.requires.small)
+    omega (arith, ap length all, length-remove (joined bs) c.args.at c.requires.at, c.requires.small)
 
 pub recount-requires-clause-starts : goal.recount-requires-clause-starts
 recount-requires-clause-starts g c =

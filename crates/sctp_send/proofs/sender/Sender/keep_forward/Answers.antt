@@ -10,9 +10,7 @@ use Rattle.sctp_send.proofs.sender.Sender.keep_forward.Goals as goal
 pub built-requires-clause-run : goal.built-requires-clause-run
 built-requires-clause-run g c =
     let es = c.self.inside.parts.outstanding.items in
-    let within = run_within (map (item_meaning 1) es) in
-    let long = length-map es (item_meaning 1) in
-    omega (arith, within, long, c.abandoned_run-run.ensures 1)
+    omega (arith, run_within (map (item_meaning 1) es), length-map es (item_meaning 1), c.abandoned_run-run.ensures 1)
 
 pub returns : goal.returns
 unfolding StandsFor

@@ -11,6 +11,5 @@ unfolding StandsFor
 returns-clause-bound g c = λ v stands.
     let s = c.self.inside in
     let keeps = subst (λ (k : Kept). Keeps g.F.Framing.format k v) (sym c.self.view_is) stands in
-    let long = length-map s.parts.queue.items (queued_by s.told.fragment) in
     let few = queued_fits g.F.Framing.format _ v keeps in
-    omega (arith, c.len.ensures, long, few)
+    omega (arith, c.len.ensures, length-map s.parts.queue.items (queued_by s.told.fragment), few)

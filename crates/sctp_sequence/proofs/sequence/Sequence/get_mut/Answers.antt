@@ -3,7 +3,7 @@ use Rattle.std.proofs.lemmas.Grind.{common_steps}
 use Rattle.std.specs.VecDeque.{deque_len, deque_with_item}
 use Rattle.std.proofs.lemmas.List.{get_or_append_left, get_or-append_right}
 use Rattle.sctp_sequence.specs.Blocks.{joined, has_room}
-use Rattle.sctp_sequence.proofs.PartLemmas.{set_left, set_behind}
+use Rattle.std.proofs.lemmas.List.{set-append_left, set-append_right}
 use Rattle.sctp_sequence.proofs.PlaceLemmas.{item_there, set_there, as_read}
 use Rattle.sctp_sequence.proofs.WriteLemmas.{written}
 use Rattle.sctp_sequence.proofs.sequence.Sequence.get_mut.Goals as goal
@@ -14,7 +14,7 @@ returns-then-at-before g c =
     let item = c.index_mut.result.now in
     let within : c.args.at < length s.first.items = omega (arith, s.first.ok, c.len-before.ensures, c.if-at-before.true) in
     rw (← c.self.view_is) (
-      (refl, λ w i. record { items = sym (set_left s.first.items (joined s.rest.items) c.args.at w within) i; room = has_room s.count s.first s.rest s.starts s.spare }),
+      (refl, λ w i. record { items = sym (set-append_left s.first.items (joined s.rest.items) c.args.at w within) i; room = has_room s.count s.first s.rest s.starts s.spare }),
       record { writes_back = tt; value = c.index_mut.ensures.value ∙ sym (get_or_append_left s.first.items (joined s.rest.items) item c.args.at within) },
     )
 
@@ -44,7 +44,7 @@ returns g c =
     let there = item_there bs k (c.args.at - n) offset b less c.index_mut-2.ensures.value c.find-place.ensures.place item within in
     let set = λ (w : g.row.T.Denot). set_there bs k (c.args.at - n) offset b less c.index_mut-2.ensures.value c.find-place.ensures.place w (deque_with_item b offset w) within refl in
     rw (← c.self.view_is) (
-      (refl, λ w i. record { items = (ap (λ (l : List g.row.T.Denot). s.first.items ++ l) (set w) ∙ sym (set_behind s.first.items (joined bs) n c.args.at w long c.if-at-before.false)) i; room = has_room s.count s.first s.rest s.starts s.spare }),
+      (refl, λ w i. record { items = (ap (λ (l : List g.row.T.Denot). s.first.items ++ l) (set w) ∙ sym (set-append_right s.first.items (joined bs) n c.args.at w long c.if-at-before.false)) i; room = has_room s.count s.first s.rest s.starts s.spare }),
       record { writes_back = tt; value = c.index_mut-3.ensures.value ∙ there ∙ sym (get_or-append_right s.first.items (joined bs) n c.args.at item long c.if-at-before.false) },
     )
 

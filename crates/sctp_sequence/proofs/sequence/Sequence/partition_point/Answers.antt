@@ -62,9 +62,8 @@ overflow_add-before g c =
     let top = c.loop-low.invariant.1 in
     let start : c.index-2.result.now ≡ length (joined (take k s.rest.items)) = c.index-2.ensures ∙ c.self.invariant.starts k _ (omega (arith, s.rest.ok, top, c.loop-low.invariant.0, c.if-low-eq0.false)) in
     let all = length-append s.first.items (joined s.rest.items) in
-    let within = count_within s.rest.items k in
     let count = rw (← c.self.view_is) at c.len-count.ensures in
-    omega (arith, all, within, count, c.len-count.type_inv, s.first.ok, c.len.ensures, start)
+    omega (arith, all, count_within s.rest.items k, count, c.len-count.type_inv, s.first.ok, c.len.ensures, start)
 
 pub overflow_add-result : goal.overflow_add-result
 overflow_add-result g c =

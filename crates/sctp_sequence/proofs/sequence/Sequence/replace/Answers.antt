@@ -3,7 +3,7 @@ use Rattle.std.proofs.lemmas.Grind.{common_steps}
 use Rattle.std.specs.VecDeque.{deque_len, deque_with_item}
 use Rattle.std.proofs.lemmas.List.{get_or-append_right}
 use Rattle.sctp_sequence.specs.Blocks.{joined}
-use Rattle.sctp_sequence.proofs.PartLemmas.{set_left, set_behind}
+use Rattle.std.proofs.lemmas.List.{set-append_left, set-append_right}
 use Rattle.sctp_sequence.proofs.PlaceLemmas.{item_there, set_there, as_read}
 use Rattle.sctp_sequence.proofs.WriteLemmas.{written}
 use Rattle.sctp_sequence.proofs.sequence.Sequence.replace.Goals as goal
@@ -12,7 +12,7 @@ pub returns-then-at-before-clause-items : goal.returns-then-at-before-clause-ite
 returns-then-at-before-clause-items g c =
     let s = c.self.inside in
     let within : c.args.at < length s.first.items = omega (arith, s.first.ok, c.len-before.ensures, c.if-at-before.true) in
-    rw (← c.self.view_is) (ap (λ (x : g.row.T.Denot). set s.first.items c.args.at x ++ joined s.rest.items) c.replace.ensures.after ∙ sym (set_left s.first.items (joined s.rest.items) c.args.at c.args.item within))
+    rw (← c.self.view_is) (ap (λ (x : g.row.T.Denot). set s.first.items c.args.at x ++ joined s.rest.items) c.replace.ensures.after ∙ sym (set-append_left s.first.items (joined s.rest.items) c.args.at c.args.item within))
 
 pub invariant_of-self-2 : goal.invariant_of-self-2
 invariant_of-self-2 g c =
@@ -54,7 +54,7 @@ returns-clause-items g c =
     let long : length s.first.items ≡ n = omega (arith, s.first.ok, c.len-before.ensures) in
     let x = c.replace-2.new.dest in
     let there = set_there bs k (c.args.at - n) offset b less c.index_mut-block.ensures.value c.find-place.ensures.place x (deque_with_item b offset x) within refl in
-    rw (← c.self.view_is) (ap (λ (l : List g.row.T.Denot). s.first.items ++ l) there ∙ sym (set_behind s.first.items (joined bs) n c.args.at x long c.if-at-before.false) ∙ ap (λ (y : g.row.T.Denot). set (s.first.items ++ joined bs) c.args.at y) c.replace-2.ensures.after)
+    rw (← c.self.view_is) (ap (λ (l : List g.row.T.Denot). s.first.items ++ l) there ∙ sym (set-append_right s.first.items (joined bs) n c.args.at x long c.if-at-before.false) ∙ ap (λ (y : g.row.T.Denot). set (s.first.items ++ joined bs) c.args.at y) c.replace-2.ensures.after)
 
 pub invariant_of-self : goal.invariant_of-self
 invariant_of-self g c = grind (arith, common_steps)

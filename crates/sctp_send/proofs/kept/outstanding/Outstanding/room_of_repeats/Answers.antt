@@ -27,8 +27,7 @@ returns-then-taken-from-clause-count g c =
     let read = item_read c.args.self.now.size es c.loop-at.at c.get-entry.result.now lt c.get-entry.ensures in
     let taken : c.room_of-taken.result ≡ item_room g.F.Framing.format x = rw (← h.size) c.room_of-taken.ensures in
     let full = repeats_full g.F.Framing.format c.loop-at.left c.loop-at.at (map (item_meaning c.args.self.now.size) es) x read (sym (c.is_repeat.ensures c.args.self.now.size) ∙ c.if-is_repeat.true) (omega (arith, taken, c.from.ensures, c.if-taken-from.true)) in
-    let rest = h.rest in
-    omega (arith, rest, full)
+    omega (arith, h.rest, full)
 
 pub loop-at-preserved : goal.loop-at-preserved
 loop-at-preserved g c =

@@ -1,12 +1,7 @@
-use Rattle.std.proofs.Common.{◌≡◌, ◌<◌, ℕ, List, length, refl, sym, ◌∙◌, ap, subst, arith}
+use Rattle.std.proofs.Common.{◌≡◌, ◌<◌, length, refl, sym, subst}
 use Rattle.sctp_send.specs.PartsKept.{OutstandingKept}
 use Rattle.sctp_send.specs.inner.Stocking.{went_out}
-use Rattle.sctp_send.specs.inner.TicketOrder.{IsOrderOf, tickets_of}
-use Rattle.sctp_send.specs.declared.kept.entry.Entry.{Entry as EntryFields}
-use Rattle.sctp_send.proofs.kept.ChangedLemmas.{count_changed}
 use Rattle.sctp_send.proofs.kept.TicketWalks.{entry_changed}
-use Rattle.sctp_send.specs.inner.Stretching.{AreKnown}
-use Rattle.sctp_send.proofs.kept.KnownLemmas.{SayTheSame, SayNothing, known_changed}
 use Rattle.sctp_send.proofs.kept.outstanding.Outstanding.send.Goals as goal
 
 pub send_one-requires : goal.send_one-requires
