@@ -1,6 +1,8 @@
 -- What is kept when moments of tickets are told anew, are woken, or are passed.
 use Rattle.std.proofs.Common.{◌≡◌, ℕ, suc, ◌+◌, ◌<◌, ◌≤◌, ◌⊎◌, inl, inr, List, [], ◌∷◌, length, get_or, map, drop, Bool, true, false, Option, Some, None, refl, sym, ap, ◌∙◌, subst, arith, length-drop}
 use Rattle.std.specs.Prelude.{◌==◌, ◌&&◌, nat_lt, if◌then◌else◌, unwrap_or}
+use Rattle.std.specs.List.{All}
+use Rattle.std.proofs.lemmas.List.Elements.{All-tail}
 use Rattle.std.proofs.lemmas.Bool.{cases_lt, cases_eq}
 use Rattle.std.proofs.lemmas.Bool.Decides.{nat_tests}
 use Rattle.std.specs.declared.sync.Arc.{Arc}
@@ -21,6 +23,7 @@ use Rattle.sctp_send.specs.declared.kept.entry.Entry.{Entry as EntryFields}
 use Rattle.sctp_send.proofs.HeldLemmas.{still_held}
 use Rattle.sctp_send.proofs.DueLemmas.{both_off, late_before, late_other_items, over_idle}
 use Rattle.sctp_send.proofs.kept.MomentLemmas.{not_come, due_behind}
+use Rattle.sctp_send.proofs.kept.RiseLemmas.{first_place}
 use Rattle.sctp_send.proofs.KeepLemmas.{items_given}
 use Rattle.sctp_send.proofs.abandon.ExpireKept.{fewer_late, stays_idle}
 
@@ -143,16 +146,15 @@ pub none_waits : (size t : ℕ) (ms : List (Arc MessageFields Global)) → lengt
 none_waits size t [] none = refl
 none_waits size t (m ∷ ms) none = absurd (omega (arith, none))
 
-all_above : (size n t : ℕ) (ms : List (Arc MessageFields Global)) → DoTicketsRise n ms → t < n → waits t (map (queued_by size) ms) ≡ false
-all_above size n t [] rise lt = refl
-all_above size n t (m ∷ ms) rise lt =
-    let low = rise.0 in
+all_above : (size t : ℕ) (ms : List (Arc MessageFields Global)) → All (λ m. t < ticket_in m) ms → waits t (map (queued_by size) ms) ≡ false
+all_above size t [] above = refl
+all_above size t (m ∷ ms) above =
+    let low = above 0 m (omega arith) in
     let off : (ticket_in m == t) ≡ false = grind (arith, nat_tests) in
-    both_off (ticket_in m == t) (waits t (map (queued_by size) ms)) off (all_above size (suc (ticket_in m)) t ms rise.1 (omega (arith, low, lt)))
+    both_off (ticket_in m == t) (waits t (map (queued_by size) ms)) off (all_above size t ms (All-tail (λ x. t < ticket_in x) m ms above))
 
 -- where the first ticket lies behind one, all do
-pub rising_past : (size last t : ℕ) (ms : List (Arc MessageFields Global)) (x : Arc MessageFields Global) → DoTicketsRise 0 ms → x ≡ get_or ms 0 x → last < x.value.ticket → t ≤ last → waits t (map (queued_by size) ms) ≡ false
-rising_past size last t [] x rise read past le = refl
-rising_past size last t (m ∷ ms) x rise read past le =
-    let low : last < ticket_in m = subst (λ (y : Arc MessageFields Global). last < y.value.ticket) read past in
-    all_above size (ticket_in m) t (m ∷ ms) (omega arith, rise.1) (omega (arith, low, le))
+pub rising_past : (size last t : ℕ) (ms : List (Arc MessageFields Global)) (x : Arc MessageFields Global) → DoTicketsRise ms → 0 < length ms → x ≡ get_or ms 0 x → last < x.value.ticket → t ≤ last → waits t (map (queued_by size) ms) ≡ false
+rising_past size last t ms x rise some read past le =
+    let first = first_place (suc t) ms x rise some read (omega (arith, past, le)) in
+    all_above size t ms (λ k d lt. let low = first.others k d (omega arith) lt in omega (arith, low))

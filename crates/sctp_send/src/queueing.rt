@@ -218,11 +218,7 @@ fn enqueue(
         Ok(message) => message,
         Err(_) => return Err(SendFault::NoMemory),
     };
-    let waiting = match queue.owners(alloc, message) {
-        Ok(waiting) => waiting,
-        Err(_) => return Err(SendFault::NoMemory),
-    };
-    match queue.push(waiting) {
+    match queue.push(alloc, message) {
         Ok(()) => Ok(()),
         Err(_) => Err(SendFault::NoMemory),
     }

@@ -1,7 +1,8 @@
 -- The owners of a message go to its entries, one after the other; those that are left go on with what is left of it.
-use Rattle.std.proofs.Common.{◌≡◌, ℕ, ◌+◌, ◌-◌, ◌<◌, List, [], ◌∷◌, ◌++◌, length, map, Bool, true, Some, sym, ap, ◌∙◌, subst, arith, length-append}
+use Rattle.std.proofs.Common.{◌≡◌, ℕ, ◌+◌, ◌-◌, ◌<◌, List, [], ◌∷◌, ◌++◌, length, map, Bool, true, Some, refl, sym, ap, ◌∙◌, subst, arith, length-append}
 use Rattle.std.specs.Prelude.{nat_lt}
 use Rattle.std.proofs.lemmas.Bool.Decides.{nat_tests}
+use Rattle.std.proofs.lemmas.List.Elements.{All-pop}
 use Rattle.std.specs.declared.alloc.Global.{Global}
 use Rattle.std.specs.declared.sync.Arc.{Arc}
 use Rattle.sctp_model.specs.messages.Plan.{Part}
@@ -29,8 +30,7 @@ pub record IsPushed (old new : OutstandingKept) (had left : List (Arc MessageFie
 
 -- the last one of some owners, and the others
 pub owners_last : (m : MessageFields) (others : List (Arc MessageFields Global)) (a : Arc MessageFields Global) → AreOf m (others ++ a ∷ []) → (a.value ≡ m) × AreOf m others
-owners_last m [] a are = (are.0, tt)
-owners_last m (b ∷ bs) a are = let rest = owners_last m bs a are.1 in (rest.0, (are.0, rest.1))
+owners_last m others a are = let parts = All-pop (λ (x : Arc MessageFields Global). x.value ≡ m) (others ++ a ∷ []) others (Some a) refl are in (parts.1, parts.0)
 
 -- those that are left own the rest of the message
 pub owners_left : (size count : ℕ) (m : Arc MessageFields Global) (had left : List (Arc MessageFields Global)) → 0 < count → length left + count ≡ length had + 1 → AreOf m.value left → IsOwned size 0 m had → IsOwned size (count - 1) m left

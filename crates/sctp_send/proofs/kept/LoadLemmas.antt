@@ -1,10 +1,10 @@
 -- How many messages wait, and how many bytes they have.
-use Rattle.std.proofs.Common.{◌≡◌, ℕ, suc, ◌+◌, ◌-◌, ◌*◌, ◌%◌, ◌^◌, ◌<◌, ◌≤◌, List, [], ◌∷◌, ◌++◌, length, map, get_or, Bool, true, false, refl, sym, ap, ◌∙◌, subst, arith, length-append}
-use Rattle.std.specs.Prelude.{insert, remove, if◌then◌else◌}
+use Rattle.std.proofs.Common.{◌≡◌, ℕ, suc, ◌+◌, ◌*◌, ◌%◌, ◌^◌, ◌<◌, ◌≤◌, List, [], ◌∷◌, ◌++◌, length, map, Bool, true, false, refl, ap, subst, arith, length-append}
+use Rattle.std.specs.Prelude.{if◌then◌else◌}
 use Rattle.std.specs.List.{sum_by}
 use Rattle.std.specs.declared.sync.Arc.{Arc}
 use Rattle.std.specs.declared.alloc.Global.{Global}
-use Rattle.std.proofs.lemmas.List.Sums.{sum_by-cons, sum_by-insert, sum_by-remove}
+use Rattle.std.proofs.lemmas.List.Recursion.{is_sum_by}
 use Rattle.sctp_model.specs.numbers.Limits.{LONGEST_MESSAGE, QUEUE_LIMIT}
 use Rattle.sctp_model.specs.numbers.Lists.{joined}
 use Rattle.sctp_model.specs.messages.Format.{Format}
@@ -23,31 +23,12 @@ use Rattle.sctp_send.specs.Waiting.{waiting_bytes, queued_bytes}
 use Rattle.sctp_send.specs.inner.Seating.{bytes_of}
 use Rattle.sctp_send.specs.declared.kept.message.Message.{Message as MessageFields}
 
--- ---- messages come and go
+-- ---- what is counted
 
 -- joined, the fragments are the message
 pub waiting_is : (size : ℕ) (ms : List (Arc MessageFields Global)) → 0 < size → waiting_bytes (map (queued_by size) ms) ≡ sum_by bytes_of ms
-waiting_is size [] some = refl
-waiting_is size (m ∷ ms) some =
-    let rest = waiting_is size ms some in
-    let here : length (joined (cut size m.value.bytes.items)) ≡ bytes_of m = ap (λ (bs : List ℕ). length bs) (joined_cut size m.value.bytes.items some) in
-    let all = sum_by-cons bytes_of m ms in
-    omega (arith, rest, here, all)
-
--- one message more
-pub bytes_inserted : (sum n bytes : ℕ) (ms next : List (Arc MessageFields Global)) (x : Arc MessageFields Global) → sum ≡ sum_by bytes_of ms % 2 ^ 64 → next ≡ insert ms n x → bytes ≡ bytes_of x → (sum + bytes) % 2 ^ 64 ≡ sum_by bytes_of next % 2 ^ 64
-bytes_inserted sum n bytes ms next x before is own =
-    let all : sum_by bytes_of next ≡ sum_by bytes_of ms + bytes_of x = ap (sum_by bytes_of) is ∙ sum_by-insert bytes_of ms n x in
-    omega (arith, all, before, own)
-
--- one less
-pub bytes_removed : (sum n bytes : ℕ) (ms next : List (Arc MessageFields Global)) (x : Arc MessageFields Global) → sum ≡ sum_by bytes_of ms % 2 ^ 64 → n < length ms → x ≡ get_or ms n x → next ≡ remove ms n → bytes ≡ bytes_of x → bytes < 2 ^ 64
-    → (sum + (2 ^ 64 - bytes)) % 2 ^ 64 ≡ sum_by bytes_of next % 2 ^ 64
-bytes_removed sum n bytes ms next x before lt read is own fits =
-    let here : bytes_of (get_or ms n x) ≡ bytes_of x = ap bytes_of (sym read) in
-    let less = sum_by-remove bytes_of ms n x lt in
-    let all : sum_by bytes_of next ≡ sum_by bytes_of (remove ms n) = ap (sum_by bytes_of) is in
-    omega (arith, all, before, own, here, less, fits)
+waiting_is size ms some = is_sum_by (λ (ds : List (Arc MessageFields Global)). waiting_bytes (map (queued_by size) ds)) bytes_of refl
+    (λ m ds. ap (λ (bs : List ℕ). length bs + waiting_bytes (map (queued_by size) ds)) (joined_cut size m.value.bytes.items some)) ms
 
 -- ---- in a view
 

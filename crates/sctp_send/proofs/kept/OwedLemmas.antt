@@ -1,63 +1,25 @@
 -- What is counted of the messages that wait, and of the streams: one message more, one less, one stream instead of another.
-use Rattle.std.proofs.Common.{◌≡◌, ℕ, zero, suc, ◌+◌, ◌-◌, ◌%◌, ◌^◌, ◌<◌, ◌≤◌, List, [], ◌∷◌, ◌++◌, length, map, Option, Some, None, refl, ap, ◌∙◌, arith, get_or}
-use Rattle.std.specs.Prelude.{set, insert, remove, replicate}
+use Rattle.std.proofs.Common.{◌≡◌, ℕ, zero, suc, ◌+◌, ◌-◌, ◌%◌, ◌^◌, ◌<◌, ◌≤◌, List, [], ◌∷◌, length, map, Option, Some, None, refl, ap, ◌∙◌, arith, get_or}
+use Rattle.std.specs.Prelude.{set, replicate}
+use Rattle.std.specs.List.{sum_by}
 use Rattle.std.proofs.lemmas.List.{length-set, length-replicate}
+use Rattle.std.proofs.lemmas.List.Recursion.{is_sum_by}
 use Rattle.std.specs.declared.sync.Arc.{Arc}
 use Rattle.std.specs.declared.alloc.Global.{Global}
-use Rattle.sctp_model.specs.sender.Queueing.{cut, owed_for, owed_by_queue}
+use Rattle.sctp_model.specs.sender.Queueing.{owed_by_queue}
 use Rattle.sctp_send.specs.SenderKept.{Track, Rest}
 use Rattle.sctp_send.specs.SenderFields.{queued_by, counts_meaning, rests_meaning, track_meaning}
 use Rattle.sctp_send.specs.inner.Walks.{total, one_if_rest, rest_owes}
-use Rattle.sctp_send.specs.inner.Counting.{IsOwedOf, IsCountedOf}
+use Rattle.sctp_send.specs.inner.Counting.{IsCountedOf}
+use Rattle.sctp_send.specs.inner.Seating.{owed_by}
 use Rattle.sctp_send.specs.declared.kept.message.Message.{Message as MessageFields}
 use Rattle.sctp_send.specs.declared.kept.track.Rest.{Rest as RestFields}
 use Rattle.sctp_send.specs.declared.kept.track.Track.{Track as TrackFields}
 
 -- ---- messages that wait
 
--- what one of them may take
-abbrev pub owed_by : (size : ℕ) → Arc MessageFields Global → ℕ
-owed_by size m = owed_for (length (cut size m.value.bytes.items))
-
--- what all may take
-abbrev pub owed_by_all : (size : ℕ) → List (Arc MessageFields Global) → ℕ
-owed_by_all size ms = owed_by_queue (map (queued_by size) ms)
-
-sum_push : (size : ℕ) (ms : List (Arc MessageFields Global)) (x : Arc MessageFields Global) → owed_by_all size (ms ++ x ∷ []) ≡ owed_by_all size ms + owed_by size x
-sum_push size [] x = omega arith
-sum_push size (m ∷ ms) x = let rest = sum_push size ms x in omega (arith, rest)
-
-sum_insert : (size : ℕ) (ms : List (Arc MessageFields Global)) (n : ℕ) (x : Arc MessageFields Global) → owed_by_all size (insert ms n x) ≡ owed_by_all size ms + owed_by size x
-sum_insert size ms zero x = omega arith
-sum_insert size [] (suc n) x = omega arith
-sum_insert size (m ∷ ms) (suc n) x = let rest = sum_insert size ms n x in omega (arith, rest)
-
-sum_remove : (size : ℕ) (ms : List (Arc MessageFields Global)) (n : ℕ) (x : Arc MessageFields Global) → n < length ms → x ≡ get_or ms n x → owed_by_all size (remove ms n) + owed_by size x ≡ owed_by_all size ms
-sum_remove size [] n x lt read = absurd (omega arith)
-sum_remove size (m ∷ ms) zero x lt read = let same : owed_by size x ≡ owed_by size m = ap (owed_by size) read in omega (arith, same)
-sum_remove size (m ∷ ms) (suc n) x lt read = let rest = sum_remove size ms n x (omega arith) read in omega (arith, rest)
-
--- the count once a message more waits, which owes so much
-pub owed_pushed : (size sum owed : ℕ) (ms next : List (Arc MessageFields Global)) (x : Arc MessageFields Global) → IsOwedOf size ms sum → next ≡ ms ++ x ∷ [] → owed ≡ owed_by size x % 2 ^ 64 → IsOwedOf size next ((sum + owed) % 2 ^ 64)
-owed_pushed size sum owed ms next x h is owes =
-    let all : owed_by_all size next ≡ owed_by_all size ms + owed_by size x = ap (owed_by_all size) is ∙ sum_push size ms x in
-    let before = h.owed in
-    record {
-      some = h.some;
-      owed = omega (arith, all, before, owes);
-    }
-
--- once it waits no more
-pub owed_removed : (size sum owed n : ℕ) (ms next : List (Arc MessageFields Global)) (x : Arc MessageFields Global) → IsOwedOf size ms sum → n < length ms → x ≡ get_or ms n x → next ≡ remove ms n → owed ≡ owed_by size x % 2 ^ 64
-    → IsOwedOf size next ((sum + (2 ^ 64 - owed)) % 2 ^ 64)
-owed_removed size sum owed n ms next x h lt read is owes =
-    let less : owed_by_all size (remove ms n) + owed_by size x ≡ owed_by_all size ms = sum_remove size ms n x lt read in
-    let all : owed_by_all size next ≡ owed_by_all size (remove ms n) = ap (owed_by_all size) is in
-    let before = h.owed in
-    record {
-      some = h.some;
-      owed = omega (arith, less, all, before, owes);
-    }
+pub owed_is : (size : ℕ) (ms : List (Arc MessageFields Global)) → owed_by_queue (map (queued_by size) ms) ≡ sum_by (owed_by size) ms
+owed_is size ms = is_sum_by (λ (ds : List (Arc MessageFields Global)). owed_by_queue (map (queued_by size) ds)) (owed_by size) refl (λ m ds. refl) ms
 
 -- ---- streams
 

@@ -8,10 +8,8 @@ use Rattle.sctp_model.specs.sender.Assigning.{first_on}
 use Rattle.sctp_sequence.specs.Pairs.{IsFirstFrom}
 use Rattle.sctp_sequence.specs.declared.pairs.Pair.{Pair}
 use Rattle.sctp_send.specs.SenderFields.{queued_by}
-use Rattle.sctp_send.specs.inner.Newcomers.{IsFirstOn}
 use Rattle.sctp_send.specs.inner.Seating.{ticket_in, seat_of, DoTicketsRise, IsPlaceOf, NextOnAnswer}
 use Rattle.sctp_send.specs.declared.kept.message.Message.{Message as MessageFields}
-use Rattle.sctp_send.specs.declared.kept.seats.Found.{Found}
 use Rattle.sctp_send.proofs.kept.RiseLemmas.{ticket_place}
 use Rattle.sctp_send.proofs.WalkLemmas.{queue_read}
 use Rattle.sctp_send.proofs.fill.TurnLemmas.{IsPassedOn, passed_none, passed_more, passed_here, passed_all}
@@ -31,29 +29,27 @@ passed_upto s size ms x (suc at) le apart =
     subst (λ (n : ℕ). IsPassedOn s n (map (queued_by size) ms)) one
     (passed_more s at (map (queued_by size) ms) (queued_by size m) (omega (arith, long)) (queue_read size ms at m (get_or_default ms at x m (omega arith))) (apart at (omega arith)) before)
 
-none_on : (s size : ℕ) (ms : List (Arc MessageFields Global)) (x : Arc MessageFields Global) → ((j : ℕ) → j < length ms → (get_or ms j x).value.stream ≡ s → ⊥) → first_on s (map (queued_by size) ms) ≡ None
-none_on s size ms x apart =
-    let long = length-map ms (queued_by size) in
-    passed_all s (length ms) (map (queued_by size) ms) (omega (arith, long)) (passed_upto s size ms x (length ms) (omega arith) apart)
+-- no seat on a stream: no message on it
+none_on : (s size : ℕ) (ms : List (Arc MessageFields Global)) → ((p : Pair) → Contains (map seat_of ms) p → p.first ≡ s → ⊥) → first_on s (map (queued_by size) ms) ≡ None
+none_on s size [] apart = refl
+none_on s size (m ∷ ms) apart =
+    let long = length-map (m ∷ ms) (queued_by size) in
+    passed_all s (length (m ∷ ms)) (map (queued_by size) (m ∷ ms)) (omega (arith, long)) (passed_upto s size (m ∷ ms) m (length (m ∷ ms)) (omega arith) (λ j lt. apart _ (seat_there (m ∷ ms) j m lt)))
 
--- no seat from a stream on: no message on one of these streams
+-- no seat from a stream on, or the first one is past another: no message on the streams between
 pub next_none : (from below size : ℕ) (ms : List (Arc MessageFields Global)) → ((p : Pair) → Contains (map seat_of ms) p → p.first < from) → NextOnAnswer from below (map (queued_by size) ms) None
-next_none from below size [] none s le high = refl
-next_none from below size (m ∷ ms) none s le high = none_on s size (m ∷ ms) m (λ j lt on.
-    let low : (get_or (m ∷ ms) j m).value.stream < from = none (seat_of (get_or (m ∷ ms) j m)) (seat_there (m ∷ ms) j m lt) in
-    omega (arith, low, on, le))
+next_none from below size ms none s low high = none_on s size ms (λ p has on. let less = none p has in absurd (omega (arith, less, on, low)))
 
--- the message of the first seat from a stream on stands where its ticket is, and nothing waits on the streams between
-record IsFirstSeat (from size place stream : ℕ) (ms : List (Arc MessageFields Global)) (x : Arc MessageFields Global) : Type 0 where
+pub next_past : (from below size : ℕ) (ms : List (Arc MessageFields Global)) (seat : Pair) → IsFirstFrom from (map seat_of ms) seat → below ≤ seat.first → NextOnAnswer from below (map (queued_by size) ms) None
+next_past from below size ms seat first past s low high = none_on s size ms (λ p has on. let after = first.first p has (omega (arith, on, low)) in absurd (omega (arith, after, on, high, past)))
+
+-- the message of the first seat stands where its ticket is
+record IsFirstSeat (place stream : ℕ) (ms : List (Arc MessageFields Global)) (x : Arc MessageFields Global) : Type 0 where
   within : place < length ms
   own : x.value.stream ≡ stream
-  above : from ≤ stream
-  first : IsFirstOn stream place (map (queued_by size) ms)
-  before : (s : ℕ) → from ≤ s → s < stream → first_on s (map (queued_by size) ms) ≡ None
 
-first_seat : (from size place : ℕ) (ms : List (Arc MessageFields Global)) (seat : Pair) (x : Arc MessageFields Global) → DoTicketsRise 0 ms → IsFirstFrom from (map seat_of ms) seat → IsPlaceOf seat.second place ms
-    → IsFirstSeat from size place seat.first ms (get_or ms place x)
-first_seat from size place ms seat x h found at =
+first_seat : (from place : ℕ) (ms : List (Arc MessageFields Global)) (seat : Pair) (x : Arc MessageFields Global) → DoTicketsRise ms → IsFirstFrom from (map seat_of ms) seat → IsPlaceOf seat.second place ms → IsFirstSeat place seat.first ms (get_or ms place x)
+first_seat from place ms seat x h found at =
     let k = found.there.0 in
     let k_within = found.there.1 in
     let k_read = found.there.2 in
@@ -61,55 +57,30 @@ first_seat from size place ms seat x h found at =
     let low : k < length ms = omega (arith, k_within, seats) in
     let mine : seat_of (get_or ms k x) ≡ seat = sym (get_or-map seat_of ms k x seat low) ∙ k_read in
     let here : place ≡ k = ticket_place seat.second k place ms x h at low (ap (λ (p : Pair). p.second) mine) in
-    let within : place < length ms = omega (arith, here, low) in
-    let stream : (get_or ms place x).value.stream ≡ seat.first = ap (λ (n : ℕ). (get_or ms n x).value.stream) here ∙ ap (λ (p : Pair). p.first) mine in
-    let q = get_or ms place x in
-    let own = get_or_default ms place x q within in
-    let long = length-map ms (queued_by size) in
-    let passed = passed_upto seat.first size ms x place (omega (arith, within)) (λ j lt on.
-    let after : seat.second ≤ ticket_in (get_or ms j x) = found.second (seat_of (get_or ms j x)) (seat_there ms j x (omega (arith, lt, within))) on in
-    let less = at.lower j x lt in
+    record {
+      within = omega (arith, here, low);
+      own = ap (λ (n : ℕ). (get_or ms n x).value.stream) here ∙ ap (λ (p : Pair). p.first) mine;
+    }
+
+pub next_within : (from place : ℕ) (ms : List (Arc MessageFields Global)) (seat : Pair) → DoTicketsRise ms → IsFirstFrom from (map seat_of ms) seat → IsPlaceOf seat.second place ms → place < length ms
+next_within from place [] seat h first at = absurd (let low = first.there.1 in omega (arith, low))
+next_within from place (m ∷ ms) seat h first at = (first_seat from place (m ∷ ms) seat m h first at).within
+
+pub next_found : (from below size place : ℕ) (ms : List (Arc MessageFields Global)) (seat : Pair) → DoTicketsRise ms → IsFirstFrom from (map seat_of ms) seat → IsPlaceOf seat.second place ms → seat.first < below
+    → NextOnAnswer from below (map (queued_by size) ms) (Some (record { stream = seat.first; place = place }))
+next_found from below size place [] seat h first at low = absurd (let none = first.there.1 in omega (arith, none))
+next_found from below size place (m ∷ ms) seat h first at low =
+    let f = first_seat from place (m ∷ ms) seat m h first at in
+    let q = get_or (m ∷ ms) place m in
+    let long = length-map (m ∷ ms) (queued_by size) in
+    let within = f.within in
+    let passed = passed_upto seat.first size (m ∷ ms) m place (omega (arith, within)) (λ j lt on.
+    let after : seat.second ≤ ticket_in (get_or (m ∷ ms) j m) = first.second _ (seat_there (m ∷ ms) j m (omega (arith, lt, within))) on in
+    let less = at.lower j m lt in
     omega (arith, after, less)) in
     record {
-      within = within;
-      own = stream;
-      above = found.above;
-      first = passed_here seat.first place (map (queued_by size) ms) (queued_by size q) (omega (arith, long, within)) (queue_read size ms place q own) stream passed;
-      before = λ s le less. none_on s size ms x (λ j lt on.
-          let after : seat.first ≤ (get_or ms j x).value.stream = found.first (seat_of (get_or ms j x)) (seat_there ms j x lt) (omega (arith, on, le)) in
-          omega (arith, after, on, less));
-    }
-
--- the answer, from the message that was read
-pub next_found : (from below size place : ℕ) (ms : List (Arc MessageFields Global)) (seat : Pair) (found : Found) (x : Arc MessageFields Global) → DoTicketsRise 0 ms → IsFirstFrom from (map seat_of ms) seat → IsPlaceOf seat.second place ms
-    → x ≡ get_or ms place x → found.stream ≡ x.value.stream → found.place ≡ place → found.stream < below → NextOnAnswer from below (map (queued_by size) ms) (Some found)
-next_found from below size place ms seat found x h first at here stream at_place low =
-    let f = first_seat from size place ms seat x h first at in
-    let one : seat.first ≡ found.stream = sym f.own ∙ ap (λ (m : Arc MessageFields Global). m.value.stream) (sym here) ∙ sym stream in
-    let above = f.above in
-    record {
-      above = omega (arith, above, one);
+      above = first.above;
       low = low;
-      first = subst (λ (n : ℕ). IsFirstOn n found.place (map (queued_by size) ms)) one (subst (λ (n : ℕ). IsFirstOn seat.first n (map (queued_by size) ms)) (sym at_place) f.first);
-      before = λ s le less. f.before s le (omega (arith, less, one));
+      first = passed_here seat.first place (map (queued_by size) (m ∷ ms)) (queued_by size q) (omega (arith, long, within)) (queue_read size (m ∷ ms) place q (get_or_default (m ∷ ms) place m q within)) f.own passed;
+      before = λ s le less. none_on s size (m ∷ ms) (λ p has on. let after = first.first p has (omega (arith, on, le)) in omega (arith, after, on, less));
     }
-
--- or its stream is none of them
-pub next_past : (from below size place : ℕ) (ms : List (Arc MessageFields Global)) (seat : Pair) (x : Arc MessageFields Global) → DoTicketsRise 0 ms → IsFirstFrom from (map seat_of ms) seat → IsPlaceOf seat.second place ms
-    → x ≡ get_or ms place x → below ≤ x.value.stream → NextOnAnswer from below (map (queued_by size) ms) None
-next_past from below size place ms seat x h first at here le s low high =
-    let f = first_seat from size place ms seat x h first at in
-    let one : seat.first ≡ x.value.stream = sym f.own ∙ ap (λ (m : Arc MessageFields Global). m.value.stream) (sym here) in
-    f.before s low (omega (arith, high, le, one))
-
-pub next_within : (from place : ℕ) (ms : List (Arc MessageFields Global)) (seat : Pair) → DoTicketsRise 0 ms → IsFirstFrom from (map seat_of ms) seat → IsPlaceOf seat.second place ms → place < length ms
-next_within from place [] seat h first at = absurd (let low = first.there.1 in omega (arith, low))
-next_within from place (m ∷ ms) seat h first at = (first_seat from 0 place (m ∷ ms) seat m h first at).within
-
--- two numbers as a seat
-abbrev seat_with : ℕ → ℕ → Pair
-seat_with a b = record { first = a; second = b }
-
--- a seat by what it says
-pub seat_is : (p : Pair) (m : MessageFields) (x : Arc MessageFields Global) → p.first ≡ m.stream → p.second ≡ m.ticket → m ≡ x.value → p ≡ seat_of x
-seat_is p m x first second is = ap (λ (n : ℕ). seat_with n p.second) (first ∙ ap (λ (y : MessageFields). y.stream) is) ∙ ap (λ (n : ℕ). seat_with x.value.stream n) (second ∙ ap (λ (y : MessageFields). y.ticket) is)

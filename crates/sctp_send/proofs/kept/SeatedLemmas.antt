@@ -1,28 +1,28 @@
--- The seats as messages come and go, and what is asked of the messages by their tickets.
-use Rattle.std.proofs.Common.{◌≡◌, ℕ, zero, suc, ◌+◌, ◌<◌, ◌≤◌, List, [], ◌∷◌, ◌++◌, length, map, take, drop, get_or, Bool, true, refl, sym, ap, ◌∙◌, arith, subst}
-use Rattle.std.specs.Prelude.{insert, remove}
+-- The messages that wait as they come and go, and what is asked of them by their tickets.
+use Rattle.std.proofs.Common.{◌≡◌, ℕ, zero, suc, ◌+◌, ◌-◌, ◌%◌, ◌^◌, ◌<◌, ◌≤◌, List, [], ◌∷◌, ◌++◌, length, map, take, drop, get_or, Bool, true, inl, inr, refl, sym, ap, ◌∙◌, arith, subst}
+use Rattle.std.specs.Prelude.{remove}
 use Rattle.std.specs.declared.sync.Arc.{Arc}
 use Rattle.std.specs.declared.alloc.Global.{Global}
-use Rattle.std.specs.List.{Contains, sum_by}
-use Rattle.std.proofs.lemmas.List.{length-map, get_or-map}
-use Rattle.std.proofs.lemmas.List.Sums.{sum_by-cons, sum_by-insert, sum_by-remove}
+use Rattle.std.specs.List.{All, Contains}
+use Rattle.std.proofs.lemmas.Bool.{cases_lt}
+use Rattle.std.proofs.lemmas.List.{length-map, get_or-map, map_push}
+use Rattle.std.proofs.lemmas.List.Edits.{length-remove, get_or-remove_below, get_or-remove_above}
+use Rattle.std.proofs.lemmas.List.Elements.{All-push, All-weaker}
+use Rattle.std.proofs.lemmas.List.Quantifiers.{all_pairs_push, all_pairs_remove}
+use Rattle.std.proofs.lemmas.List.Sums.{sum_by-cons, sum_by_push, sum_by-remove}
 use Rattle.sctp_sequence.specs.Pairs.{AreSame}
 use Rattle.sctp_sequence.specs.declared.pairs.Pair.{Pair}
 use Rattle.sctp_model.specs.sender.Abandoning.{without}
 use Rattle.sctp_model.specs.sender.SenderView.{Queued}
 use Rattle.sctp_send.specs.SenderFields.{queued_by}
-use Rattle.sctp_send.specs.inner.Seating.{ticket_in, seat_of, DoTicketsRise, IsBetween, AreLower, IsSeatedOf, IsQueueOf}
+use Rattle.sctp_send.specs.inner.Owning.{IsOwned, messages_of}
+use Rattle.sctp_send.specs.inner.Seating.{ticket_in, seat_of, bytes_of, owed_by, AreLower, IsQueueOf}
 use Rattle.sctp_send.specs.declared.kept.message.Message.{Message as MessageFields}
 use Rattle.sctp_send.specs.declared.kept.waiting.Waiting.{Waiting}
-use Rattle.sctp_send.proofs.kept.RiseLemmas.{rise_inserted, rise_removed}
+use Rattle.sctp_send.proofs.kept.OwnedLemmas.{message_read, messages_long}
 use Rattle.sctp_send.proofs.abandon.WithdrawLemmas.{walked_place}
 
 -- ---- messages come and go
-
-mapped_inserted : {A B : Type 0} (f : A → B) (xs : List A) (n : ℕ) (x : A) → map f (insert xs n x) ≡ insert (map f xs) n (f x)
-mapped_inserted f xs zero x = refl
-mapped_inserted f [] (suc n) x = refl
-mapped_inserted f (y ∷ xs) (suc n) x = ap (λ ys. f y ∷ ys) (mapped_inserted f xs n x)
 
 pub mapped_removed : {A B : Type 0} (f : A → B) (xs : List A) (n : ℕ) → map f (remove xs n) ≡ remove (map f xs) n
 mapped_removed f [] zero = refl
@@ -30,50 +30,69 @@ mapped_removed f [] (suc n) = refl
 mapped_removed f (y ∷ xs) zero = refl
 mapped_removed f (y ∷ xs) (suc n) = ap (λ ys. f y ∷ ys) (mapped_removed f xs n)
 
--- no message waits
-pub seated_fresh : (size : ℕ) (seated : Bool) (ws : List Waiting) (ps : List Pair) → 0 < size → ws ≡ [] → ps ≡ [] → IsQueueOf size ws 0 true seated ps 0
-seated_fresh size seated ws ps some none empty = rw (none, empty) (record {
-  owed = record { some = some; owed = omega arith };
-  seats = record { order = λ on. tt; seats = λ on f. refl };
-  bytes = refl;
-  owned = tt;
-})
-
--- the same messages and seats
-pub seated_same : (size sum : ℕ) (rises seated : Bool) (ws next : List Waiting) (ps qs : List Pair) (bytes : ℕ) → IsQueueOf size ws sum rises seated ps bytes → next ≡ ws → qs ≡ ps → IsQueueOf size next sum rises seated qs bytes
-seated_same size sum rises seated ws next ps qs bytes h is same = rw (is, same) (record { owed = h.owed; seats = h.seats; bytes = h.bytes; owned = h.owned })
+-- what holds of all holds of those that are left
+all_removed : {X : Type 0} (P : X → Type 0) (xs : List X) (n : ℕ) → n < length xs → All P xs → All P (remove xs n)
+all_removed P xs n lt all k d low =
+    let fewer = length-remove xs n lt in
+    elim (cases_lt k n) [
+      | inl before ↦ subst P (sym (get_or-remove_below xs n d k before lt)) (all k d (omega (arith, before, lt)))
+      | inr behind ↦ subst P (sym (get_or-remove_above xs n d k behind lt)) (all (k + 1) d (omega (arith, low, fewer)))
+    ]
 
 -- one message more
-pub seated_inserted : (was rises had seated : Bool) (n : ℕ) (x : Arc MessageFields Global) (ms next : List (Arc MessageFields Global)) (ps qs : List Pair) (p : Pair) → IsSeatedOf was had ms ps → next ≡ insert ms n x → n ≤ length ms
-    → (rises ≡ true → was ≡ true) → (rises ≡ true → IsBetween n (ticket_in x) ms) → (seated ≡ true → had ≡ true) → (seated ≡ true → AreSame qs (p ∷ ps)) → p ≡ seat_of x → IsSeatedOf rises seated next qs
-seated_inserted was rises had seated n x ms next ps qs p h is le up between kept taken own = record {
-  order = λ on. subst (DoTicketsRise 0) (sym is) (rise_inserted 0 n x ms (omega arith) le (between on) (h.order (up on)));
-  seats = λ on f.
-      let before_it = h.seats (kept on) f in
-      let one = sum_by-cons f p ps in
-      let other = sum_by-insert f (map seat_of ms) n (seat_of x) in
-      let same : f p ≡ f (seat_of x) = ap f own in
-      let left = taken on f in
-      let right : sum_by f (map seat_of next) ≡ sum_by f (map seat_of ms) + f (seat_of x) = ap (λ (ys : List (Arc MessageFields Global)). sum_by f (map seat_of ys)) is ∙ ap (sum_by f) (mapped_inserted seat_of ms n x) ∙ other in
-      omega (arith, left, one, right, before_it, same);
-}
+pub queue_pushed : (size sum more load bytes last : ℕ) (rises up seated kept : Bool) (ws : List Waiting) (w : Waiting) (ps qs : List Pair) → IsQueueOf size ws sum rises last seated ps load → more ≡ owed_by size w.message % 2 ^ 64
+    → bytes ≡ bytes_of w.message → IsOwned size 0 w.message w.others.items → (up ≡ true → (rises ≡ true) × (last < ticket_in w.message)) → (kept ≡ true → (seated ≡ true) × AreSame qs (seat_of w.message ∷ ps))
+    → IsQueueOf size (ws ++ w ∷ []) ((sum + more) % 2 ^ 64) up (ticket_in w.message) kept qs ((load + bytes) % 2 ^ 64)
+queue_pushed size sum more load bytes last rises up seated kept ws w ps qs h owes has own above taken =
+    let ms = messages_of ws in
+    let x = w.message in
+    let after : messages_of (ws ++ w ∷ []) ≡ ms ++ x ∷ [] = map_push (λ (y : Waiting). y.message) ws w in
+    record {
+      some = h.some;
+      owed = let all = sum_by_push (owed_by size) ms x in let was = h.owed in rw after (omega (arith, all, was, owes));
+      bytes = let all = sum_by_push bytes_of ms x in let was = h.bytes in rw after (omega (arith, all, was, has));
+      order = λ on.
+          rw after (all_pairs_push (λ m n. ticket_in m < ticket_in n) ms x (h.order (above on).0) (λ k d lt. let most = h.most (above on).0 k d lt in let less = (above on).1 in omega (arith, most, less)));
+      most = λ on.
+          let less = (above on).1 in
+          rw after (All-push (λ m. ticket_in m ≤ ticket_in x) ms x (All-weaker (λ m. ticket_in m ≤ last) (λ m. ticket_in m ≤ ticket_in x) (λ m le. omega (arith, le, less)) ms (h.most (above on).0)) (omega arith));
+      seats = λ on f.
+          let was = h.seats (taken on).0 f in
+          let now = (taken on).1 f in
+          let one = sum_by-cons f (seat_of x) ps in
+          let all = sum_by_push f (map seat_of ms) (seat_of x) in
+          rw (after, map_push seat_of ms x) (omega (arith, was, now, one, all));
+      owned = All-push (λ y. IsOwned size 0 y.message y.others.items) ws w h.owned own;
+    }
 
 -- one less
-pub seated_removed : (rises seated : Bool) (n : ℕ) (x : Arc MessageFields Global) (ms next : List (Arc MessageFields Global)) (ps qs : List Pair) (p : Pair) → IsSeatedOf rises seated ms ps → n < length ms → x ≡ get_or ms n x → next ≡ remove ms n → p ≡ seat_of x
-    → ((us : List Pair) → seated ≡ true → AreSame ps us → Contains us p → AreSame ps (p ∷ qs)) → IsSeatedOf rises seated next qs
-seated_removed rises seated n x ms next ps qs p h lt read is own gone = record {
-  order = λ on. subst (DoTicketsRise 0) (sym is) (rise_removed 0 n ms (h.order on));
-  seats = λ on f.
-      let long = length-map ms seat_of in
-      let there : get_or (map seat_of ms) n p ≡ p = get_or-map seat_of ms n x p lt ∙ ap seat_of (sym read) ∙ sym own in
-      let all = h.seats on f in
-      let left = gone (map seat_of ms) on (h.seats on) (n, omega (arith, long, lt), there) f in
-      let one = sum_by-cons f p qs in
-      let other = sum_by-remove f (map seat_of ms) n p (omega (arith, long, lt)) in
-      let same : f (get_or (map seat_of ms) n p) ≡ f p = ap f there in
-      let right : sum_by f (map seat_of next) ≡ sum_by f (remove (map seat_of ms) n) = ap (λ (ys : List (Arc MessageFields Global)). sum_by f (map seat_of ys)) is ∙ ap (sum_by f) (mapped_removed seat_of ms n) in
-      omega (arith, left, right, one, other, all, same);
-}
+pub queue_removed : (size sum less load bytes last n : ℕ) (rises seated : Bool) (ws : List Waiting) (w : Waiting) (ps qs : List Pair) → IsQueueOf size ws sum rises last seated ps load → n < length ws → w ≡ get_or ws n w
+    → less ≡ owed_by size w.message % 2 ^ 64 → bytes ≡ bytes_of w.message → bytes < 2 ^ 64 → ((us : List Pair) → seated ≡ true → AreSame ps us → Contains us (seat_of w.message) → AreSame ps (seat_of w.message ∷ qs))
+    → IsQueueOf size (remove ws n) ((sum + (2 ^ 64 - less)) % 2 ^ 64) rises last seated qs ((load + (2 ^ 64 - bytes)) % 2 ^ 64)
+queue_removed size sum less load bytes last n rises seated ws w ps qs h lt read owes has fits gone =
+    let ms = messages_of ws in
+    let x = w.message in
+    let after : messages_of (remove ws n) ≡ remove ms n = mapped_removed (λ (y : Waiting). y.message) ws n in
+    let long = messages_long ws in
+    let low : n < length ms = omega (arith, long, lt) in
+    let here : get_or ms n x ≡ x = sym (message_read ws n w read) in
+    record {
+      some = h.some;
+      owed = let all = sum_by-remove (owed_by size) ms n x low in let own = ap (owed_by size) here in let was = h.owed in rw after (omega (arith, all, own, was, owes));
+      bytes = let all = sum_by-remove bytes_of ms n x low in let own = ap bytes_of here in let was = h.bytes in rw after (omega (arith, all, own, was, has, fits));
+      order = λ on. rw after (all_pairs_remove (λ m n. ticket_in m < ticket_in n) ms n low (h.order on));
+      most = λ on. rw after (all_removed (λ m. ticket_in m ≤ last) ms n low (h.most on));
+      seats = λ on f.
+          let seats = length-map ms seat_of in
+          let there : get_or (map seat_of ms) n (seat_of x) ≡ seat_of x = get_or-map seat_of ms n x (seat_of x) low ∙ ap seat_of here in
+          let was = h.seats on f in
+          let now = gone (map seat_of ms) on (h.seats on) (n, omega (arith, seats, low), there) f in
+          let one = sum_by-cons f (seat_of x) qs in
+          let all = sum_by-remove f (map seat_of ms) n (seat_of x) (omega (arith, seats, low)) in
+          let own = ap f there in
+          rw (after, mapped_removed seat_of ms n) (omega (arith, was, now, one, all, own));
+      owned = all_removed (λ y. IsOwned size 0 y.message y.others.items) ws n lt h.owned;
+    }
 
 -- ---- by ticket
 

@@ -1,5 +1,5 @@
 -- A stream takes the next fragment of its message in part: what it was, how the stream goes on, and what is counted then.
-use Rattle.std.proofs.Common.{◌≡◌, ℕ, zero, suc, ◌+◌, ◌-◌, ◌%◌, ◌^◌, ◌<◌, List, [], ◌∷◌, ◌++◌, length, map, get_or, Bool, true, false, Option, Some, None, refl, sym, ap, ◌∙◌, subst, arith, length-append}
+use Rattle.std.proofs.Common.{◌≡◌, ℕ, zero, suc, ◌+◌, ◌-◌, ◌%◌, ◌^◌, ◌<◌, List, [], ◌∷◌, length, map, get_or, Bool, true, false, Option, Some, None, refl, sym, ap, ◌∙◌, subst, arith, length-append}
 use Rattle.std.specs.Prelude.{nat_lt, set}
 use Rattle.std.proofs.lemmas.Bool.Decides.{nat_tests}
 use Rattle.std.proofs.lemmas.List.{get_or-map, map-set}
@@ -23,6 +23,7 @@ use Rattle.sctp_send.specs.declared.kept.track.Rest.{Rest as RestFields}
 use Rattle.sctp_send.specs.declared.kept.track.Taken.{Taken}
 use Rattle.sctp_send.specs.declared.kept.track.Track.{Track as TrackFields}
 use Rattle.sctp_send.proofs.kept.OwedLemmas.{counted_set, IsCountOf}
+use Rattle.sctp_send.proofs.fill.OwnerLemmas.{owners_last}
 use Rattle.sctp_send.proofs.kept.OwnedLemmas.{rests_set}
 use Rattle.sctp_send.proofs.kept.TrackCounts.{rest_there}
 
@@ -31,11 +32,6 @@ use Rattle.sctp_send.proofs.kept.TrackCounts.{rest_there}
 -- a fragment of a message, as what is left of it
 abbrev left_at : (size : ℕ) → MessageFields → (number fragment : ℕ) → Rest
 left_at size m n k = record { entry = Part (lane_meaning m) n k; message = Some (message_meaning size m) }
-
--- the last of a message's owners is one of its
-last_of : (m : MessageFields) (xs : List (Arc MessageFields Global)) (x : Arc MessageFields Global) → AreOf m (xs ++ x ∷ []) → (x.value ≡ m) × AreOf m xs
-last_of m [] x all = (all.0, tt)
-last_of m (y ∷ ys) x all = let rest = last_of m ys x all.1 in (rest.0, (all.0, rest.1))
 
 -- what is left behind a fragment, where there is more, and where it was the last one
 more_left : (size : ℕ) (m : MessageFields) (n k : ℕ) → suc k < length (cut size m.bytes.items) → rest_after (left_at size m n k).entry (left_at size m n k).message ≡ Some (left_at size m n (suc k))
@@ -65,7 +61,7 @@ goes_on_from size x y t owned taken =
     let m = r.message.value in
     let n = number_left (counts_meaning x) r in
     let own : IsOwned size r.fragment r.message r.others.items = subst (IsRestOwned size) taken.before owned in
-    let mine = last_of m l.others.items t.message (subst (AreOf m) taken.others own.all) in
+    let mine = owners_last m l.others.items t.message (subst (AreOf m) taken.others own.all) in
     let long = ap length taken.others ∙ length-append l.others.items (t.message ∷ []) in
     let more : suc r.fragment < length (cut size m.bytes.items) = (let many = own.many in omega (arith, many, long)) in
     let next : l.fragment ≡ suc r.fragment = taken.next (let few = own.few in omega (arith, more, few)) in

@@ -1,18 +1,14 @@
 -- What is counted of entries, of messages that wait, and of streams.
 use Rattle.std.specs.Prelude.{◌≡◌, ℕ, suc, Bool, not, ◌==◌, ◌&&◌, ◌+◌, ◌-◌, ◌%◌, ◌^◌, ◌<◌, ◌≤◌, min, if◌then◌else◌, List, [], ◌∷◌, map, take, length, Option, None, Some, unwrap_or}
-use Rattle.std.specs.declared.sync.Arc.{Arc}
-use Rattle.std.specs.declared.alloc.Global.{Global}
 use Rattle.sctp_model.specs.numbers.Limits.{LAST_MOMENT}
 use Rattle.sctp_model.specs.messages.Plan.{Message}
-use Rattle.sctp_model.specs.sender.Queueing.{owed_by_queue}
 use Rattle.sctp_send.specs.SenderKept.{Item}
 use Rattle.sctp_send.specs.OutstandingFields.{item_meaning}
-use Rattle.sctp_send.specs.SenderFields.{queued_by, track_meaning}
+use Rattle.sctp_send.specs.SenderFields.{track_meaning}
 use Rattle.sctp_send.specs.inner.Wishing.{first_offset, is_item_marked, is_item_unsent, item_weight, item_flight}
 use Rattle.sctp_send.specs.inner.Walks.{total, one_if_rest, rest_owes, abandoned_items, is_item_unsettled}
 use Rattle.sctp_send.specs.inner.Newcomers.{one_if}
 use Rattle.sctp_send.specs.declared.kept.counts.Counts.{Counts}
-use Rattle.sctp_send.specs.declared.kept.message.Message.{Message as MessageFields}
 use Rattle.sctp_send.specs.declared.kept.entry.Entry.{Entry as EntryFields}
 use Rattle.sctp_send.specs.declared.kept.track.Track.{Track as TrackFields}
 
@@ -76,11 +72,6 @@ pub record IsCounted (size : ℕ) (es : List EntryFields) (c : Counts) : Type 0 
   pub front : c.front ≡ abandoned_items (map (item_meaning size) es)
 
 -- ---- messages that wait, and streams
-
--- what the messages that wait may take
-pub record IsOwedOf (size : ℕ) (ms : List (Arc MessageFields Global)) (sum : ℕ) : Type 0 where
-  pub some : 0 < size
-  pub owed : sum ≡ owed_by_queue (map (queued_by size) ms) % 2 ^ 64
 
 -- how many messages are in part, and what they may take
 pub record IsCountedOf (size : ℕ) (ts : List TrackFields) (many sum : ℕ) : Type 0 where

@@ -1,5 +1,6 @@
 -- The owners of a message, which are taken when it is queued: one for each of its fragments.
 use Rattle.std.specs.Prelude.{◌≡◌, ℕ, suc, ◌+◌, ◌<◌, ◌^◌, List, [], ◌∷◌, ◌++◌, map, length, Option, None, Some}
+use Rattle.std.specs.List.{All}
 use Rattle.std.specs.declared.sync.Arc.{Arc}
 use Rattle.std.specs.declared.alloc.Global.{Global}
 use Rattle.sctp_model.specs.messages.Plan.{Part}
@@ -15,8 +16,7 @@ use Rattle.sctp_send.specs.declared.kept.waiting.Waiting.{Waiting}
 
 -- these are owners of the same message
 abbrev pub AreOf : MessageFields → List (Arc MessageFields Global) → Type 0
-AreOf m [] = Unit {0}
-AreOf m (x ∷ xs) = (x.value ≡ m) × AreOf m xs
+AreOf m xs = All (λ x. x.value ≡ m) xs
 
 -- A message's owners from a fragment on: its own, and one for each fragment behind that. Fragments are counted in 32 bits.
 pub record IsOwned (size fragment : ℕ) (m : Arc MessageFields Global) (others : List (Arc MessageFields Global)) : Type 0 where
@@ -28,12 +28,7 @@ pub record IsOwned (size fragment : ℕ) (m : Arc MessageFields Global) (others 
 abbrev pub messages_of : List Waiting → List (Arc MessageFields Global)
 messages_of ws = map (λ w. w.message) ws
 
--- each of them has its owners
-abbrev pub AreAllOwned : (size : ℕ) → List Waiting → Type 0
-AreAllOwned size [] = Unit {0}
-AreAllOwned size (w ∷ ws) = IsOwned size 0 w.message w.others.items × AreAllOwned size ws
-
--- the same of what is left of a message in part
+-- what is left of a message in part has its owners
 abbrev pub IsRestOwned : (size : ℕ) → Option RestFields → Type 0
 IsRestOwned size None = Unit {0}
 IsRestOwned size (Some r) = IsOwned size r.fragment r.message r.others.items

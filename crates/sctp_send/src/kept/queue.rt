@@ -1,6 +1,6 @@
 //! The messages that wait for their numbers, the first to come in front, and what is counted of them.
 
-ghost use Rattle.std.specs.Prelude.{◌≡◌, ℕ, ◌+◌, ◌<◌, ◌≤◌, ◌%◌, ◌^◌, ◌++◌, ◌∷◌, [], true, false, map, length, remove, slice_index_or, IfOk, OnOk, OnErr, IfSome, IfNone};
+ghost use Rattle.std.specs.Prelude.{◌≡◌, ℕ, ◌+◌, ◌<◌, ◌≤◌, ◌%◌, ◌^◌, ◌++◌, ◌∷◌, [], true, false, map, length, remove, slice_index_or, OnOk, OnErr, IfSome, IfNone};
 ghost use Rattle.sctp_model.specs.numbers.Limits.{LONGEST_MESSAGE};
 ghost use Rattle.sctp_model.specs.sender.Queueing.{owed_by_queue};
 ghost use Rattle.sctp_model.specs.sender.Abandoning.{waits};
@@ -9,12 +9,12 @@ ghost use Rattle.sctp_send.specs.Waiting.{waiting_bytes};
 ghost use Rattle.sctp_send.specs.inner.Owning.{IsOwned};
 ghost use Rattle.sctp_send.specs.inner.Seating.{AreLower, NextOnAnswer};
 
-use crate::kept::message::{Message, bytes_of, owed_by_message};
+use crate::kept::message::{Message, bytes_of, fragments_of, owed, owed_by_message};
 use crate::kept::seats::{
-    Found, add_seat, first_from, fits_at, free_seat, is_in_front, make_room, next_by_looking,
-    remove_at, seat_of,
+    Found, add_seat, first_from, free_seat, is_in_front, make_place, make_room, next_by_looking,
+    next_by_seats, remove_at, seat_of,
 };
-use crate::kept::waiting::Waiting;
+use crate::kept::waiting::{Waiting, take_others};
 use sctp_sequence::Pairs;
 use sctp_values::NoMemory;
 use std::alloc::Global;
@@ -34,6 +34,8 @@ pub(crate) struct Queue {
     pub(crate) bytes: u64,
     // tickets rise from the front on: so it is where `queue` gives them
     pub(crate) rises: bool,
+    // that of the message that came last
+    pub(crate) last: u64,
     // where streams take turns, each message by its stream and its ticket
     pub(crate) seats: Pairs,
     pub(crate) is_seated: bool,
@@ -49,7 +51,7 @@ impl Model for Queue {
 
     ghost view = { λ w. record { size = w.size; items = messages_of w.messages.items } };
 
-    ghost invariant = { λ w. IsQueueOf w.size w.messages.items w.owed w.rises w.is_seated w.seats.items w.bytes };
+    ghost invariant = { λ w. IsQueueOf w.size w.messages.items w.owed w.rises w.last w.is_seated w.seats.items w.bytes };
 }
 
 impl Queue {
@@ -67,6 +69,7 @@ impl Queue {
             owed: 0,
             bytes: 0,
             rises: true,
+            last: 0,
             seats,
             is_seated: takes_turns,
         }
@@ -101,44 +104,31 @@ impl Queue {
         self.bytes
     }
 
-    /// A message with the owners of its fragments, as it comes to wait.
-    ///
-    /// # Errors
-    /// `NoMemory`.
-    #[inline(always)]
-    pub(crate) fn owners(&self, alloc: Global, message: Arc<Message>) -> Result<Waiting, NoMemory>
-        requires some { 0 < length message.value.bytes.items }
-        requires short { length message.value.bytes.items ≤ LONGEST_MESSAGE }
-        ensures { IfOk result (λ w. (w.message ≡ message) × IsOwned self.now.size 0 w.message w.others.items) }
-    {
-        Waiting::new(alloc, self.size, message)
-    }
-
-    /// A message waits behind the others.
+    /// A message waits behind the others, with the owners of its fragments.
     ///
     /// # Errors
     /// `NoMemory`: it doesn't wait.
     #[inline(always)]
-    pub(crate) fn push(&mut self, waiting: Waiting) -> Result<(), NoMemory>
-        requires { IsOwned self.old.size 0 waiting.message waiting.others.items }
+    pub(crate) fn push(&mut self, alloc: Global, message: Arc<Message>) -> Result<(), NoMemory>
+        requires some { 0 < length message.value.bytes.items }
+        requires short { length message.value.bytes.items ≤ LONGEST_MESSAGE }
         ensures size { self.new.size ≡ self.old.size }
-        ensures items { OnOk result (self.new.items ≡ self.old.items ++ waiting.message ∷ []) }
+        ensures items { OnOk result (self.new.items ≡ self.old.items ++ message ∷ []) }
         ensures unchanged { OnErr result (self.new.items ≡ self.old.items) }
     {
-        let message: &Message = &waiting.message;
-        let owed = owed_by_message(message, self.size);
-        let bytes = bytes_of(message);
-        let seat = seat_of(message);
-        let behind = self.messages.len();
-        let fits = fits_at(&self.messages, self.rises, behind, seat.second);
+        let seat = seat_of(&message);
+        let bytes = bytes_of(&message);
+        let fragments = fragments_of(self.size, &message.bytes);
+        let mut others = Vec::new(alloc);
+        take_others(&mut others, &message, fragments - 1)?;
         make_room(&mut self.seats, self.is_seated)?;
-        match self.messages.push_back(waiting) {
-            Ok(()) => {}
-            Err(_) => return Err(NoMemory),
-        }
-        self.owed = self.owed.wrapping_add(owed);
+        make_place(&mut self.messages)?;
+        self.messages
+            .push_back_reserved(Waiting { message, others });
+        self.owed = self.owed.wrapping_add(owed(fragments));
         self.bytes = self.bytes.wrapping_add(bytes);
-        self.rises = fits;
+        self.rises = self.rises && self.last < seat.second;
+        self.last = seat.second;
         self.is_seated = add_seat(&mut self.seats, self.is_seated, seat);
         Ok(())
     }
@@ -156,7 +146,7 @@ impl Queue {
         let owed = owed_by_message(message, self.size);
         self.owed = self.owed.wrapping_sub(owed);
         self.bytes = self.bytes.wrapping_sub(bytes_of(message));
-        let seat = seat_of(message);
+        let seat = seat_of(&waiting.message);
         free_seat(&mut self.seats, self.is_seated, seat);
         Some(waiting)
     }
@@ -198,21 +188,9 @@ impl Queue {
                 place: 0,
             });
         }
-        let (rises, is_seated) = (self.rises, self.is_seated);
-        if !rises || !is_seated {
-            return next_by_looking(&self.messages, from, below);
+        if self.rises && self.is_seated {
+            return next_by_seats(&self.messages, &self.seats, from, below);
         }
-        match self.seats.first_from(u64::from(from)) {
-            Some(seat) => {
-                let place = first_from(&self.messages, rises, seat.second);
-                let message = &self.messages[place].message;
-                let stream = message.stream;
-                if stream >= below {
-                    return None;
-                }
-                Some(Found { stream, place })
-            }
-            None => None,
-        }
+        next_by_looking(&self.messages, from, below)
     }
 }

@@ -1,12 +1,12 @@
 //! Where a message that waits stands: by its ticket among the others, and by its stream.
 
-ghost use Rattle.std.specs.Prelude.{◌≡◌, ℕ, ◌-◌, ◌<◌, ◌≤◌, ◌↔◌, ◌∷◌, true, List, nat_lt, map, length, remove, slice_index_or, IfSome, IfNone, OnSome, IsSome};
+ghost use Rattle.std.specs.Prelude.{◌≡◌, ℕ, ◌<◌, ◌≤◌, ◌↔◌, ◌∷◌, true, List, nat_lt, map, length, remove, slice_index_or, IfSome, IfNone, OnSome, IsSome, OnOk};
 ghost use Rattle.std.specs.List.{Contains};
-ghost use Rattle.std.specs.VecDeque.{deque_len};
+ghost use Rattle.std.specs.VecDeque.{deque_capacity, deque_len};
 ghost use Rattle.sctp_send.specs.SenderFields.{queued_by};
 ghost use Rattle.sctp_send.specs.inner.Newcomers.{FirstOnAnswer, IsFirstOn};
 ghost use Rattle.sctp_send.specs.inner.Owning.{messages_of};
-ghost use Rattle.sctp_send.specs.inner.Seating.{ticket_in, AreLower, DoTicketsRise, IsBetween, IsPlaceOf, NextOnAnswer};
+ghost use Rattle.sctp_send.specs.inner.Seating.{ticket_in, seat_of, AreLower, AreSeats, DoTicketsRise, IsPlaceOf, NextOnAnswer};
 ghost use Rattle.sctp_sequence.specs.Pairs.{AreSame};
 ghost use Rattle.sctp_sequence.specs.declared.pairs.Pair.{Pair};
 
@@ -15,6 +15,7 @@ use crate::kept::waiting::Waiting;
 use sctp_sequence::{Pair, Pairs};
 use sctp_values::NoMemory;
 use std::collections::VecDeque;
+use std::sync::Arc;
 
 /// A stream on which a message waits, and the place of the message that has waited longest on it.
 #[derive(Clone, Copy)]
@@ -24,9 +25,8 @@ pub(crate) struct Found {
 }
 
 /// A message by its stream and its ticket.
-pub(crate) fn seat_of(message: &Message) -> Pair
-    ensures first { result.first ≡ message.now.stream }
-    ensures second { result.second ≡ message.now.ticket }
+pub(crate) fn seat_of(message: &Arc<Message>) -> Pair
+    ensures { result ≡ seat_of message.now }
 {
     Pair {
         first: u64::from(message.stream),
@@ -34,22 +34,10 @@ pub(crate) fn seat_of(message: &Message) -> Pair
     }
 }
 
-/// Tickets rise, and go on rising with one at a place: it lies between those of its neighbours there.
-#[inline(always)]
-pub(crate) fn fits_at(messages: &VecDeque<Waiting>, rises: bool, place: usize, ticket: u64) -> bool
-    requires { place ≤ length messages.now.items }
-    ensures rises { result ≡ true → rises ≡ true }
-    ensures between { result ≡ true → IsBetween place ticket (messages_of messages.now.items) }
-{
-    rises
-        && (place == 0 || messages[place - 1].message.ticket < ticket)
-        && (place == messages.len() || ticket < messages[place].message.ticket)
-}
-
 /// How many of the first messages have lower tickets, by halves, where tickets rise; else none.
 #[inline(always)]
 pub(crate) fn first_from(messages: &VecDeque<Waiting>, rises: bool, ticket: u64) -> usize
-    requires { rises ≡ true → DoTicketsRise 0 (messages_of messages.now.items) }
+    requires { rises ≡ true → DoTicketsRise (messages_of messages.now.items) }
     ensures place { rises ≡ true → IsPlaceOf ticket result (messages_of messages.now.items) }
     ensures lower { AreLower ticket result (messages_of messages.now.items) }
     ensures within { result ≤ length messages.now.items }
@@ -68,7 +56,7 @@ pub(crate) fn first_from(messages: &VecDeque<Waiting>, rises: bool, ticket: u64)
 /// asked for most often.
 #[inline(never)]
 fn first_by_halves(messages: &VecDeque<Waiting>, ticket: u64) -> usize
-    requires { DoTicketsRise 0 (messages_of messages.now.items) }
+    requires { DoTicketsRise (messages_of messages.now.items) }
     ensures { IsPlaceOf ticket result (messages_of messages.now.items) }
 {
     messages.partition_point(
@@ -76,6 +64,30 @@ fn first_by_halves(messages: &VecDeque<Waiting>, ticket: u64) -> usize
             ensures { result ≡ nat_lt (ticket_in waiting.now.message) ticket }
         { waiting.message.ticket < ticket },
     )
+}
+
+/// There is room for one message more.
+///
+/// # Errors
+/// `NoMemory`.
+#[inline(always)]
+pub(crate) fn make_place(messages: &mut VecDeque<Waiting>) -> Result<(), NoMemory>
+    ensures items { messages.new.items ≡ messages.old.items }
+    ensures room { OnOk result (deque_len messages.new < deque_capacity messages.new) }
+{
+    if messages.len() < messages.capacity() {
+        return Ok(());
+    }
+    grow(messages)
+}
+
+/// Takes memory for messages to come. A function of its own, so that the test before it stays small.
+#[inline(never)]
+fn grow(messages: &mut VecDeque<Waiting>) -> Result<(), NoMemory>
+    ensures items { messages.new.items ≡ messages.old.items }
+    ensures room { OnOk result (deque_len messages.new < deque_capacity messages.new) }
+{
+    messages.reserve(1).map_err(|_| NoMemory)
 }
 
 /// There is room for one seat more, where the seats are kept.
@@ -91,8 +103,7 @@ pub(crate) fn make_room(seats: &mut Pairs, is_seated: bool) -> Result<(), NoMemo
 /// A seat is taken, where the seats are kept and there is memory for it: whether they still are those of all messages.
 #[inline(always)]
 pub(crate) fn add_seat(seats: &mut Pairs, is_seated: bool, seat: Pair) -> bool
-    ensures kept { result ≡ true → is_seated ≡ true }
-    ensures seats { result ≡ true → AreSame seats.new.items (seat ∷ seats.old.items) }
+    ensures { result ≡ true → (is_seated ≡ true) × AreSame seats.new.items (seat ∷ seats.old.items) }
 {
     is_seated && seats.insert(seat).is_ok()
 }
@@ -161,6 +172,31 @@ pub(crate) fn is_in_front(messages: &VecDeque<Waiting>, stream: u16, below: u16)
         return true;
     }
     false
+}
+
+/// The first stream from one on, below another, on which a message waits, and where, by the seats, when tickets rise.
+pub(crate) fn next_by_seats(
+    messages: &VecDeque<Waiting>,
+    seats: &Pairs,
+    from: u16,
+    below: u16,
+) -> Option<Found>
+    requires rise { DoTicketsRise (messages_of messages.now.items) }
+    requires seats { AreSeats (messages_of messages.now.items) seats.now.items }
+    ensures next { (size : ℕ) → NextOnAnswer from below (map (queued_by size) (messages_of messages.now.items)) result }
+    ensures within { IfSome result (λ found. found.place < length messages.now.items) }
+{
+    let Some(seat) = seats.first_from(u64::from(from)) else {
+        return None;
+    };
+    if seat.first >= u64::from(below) {
+        return None;
+    }
+    let place = first_from(messages, true, seat.second);
+    Some(Found {
+        stream: seat.first as u16,
+        place,
+    })
 }
 
 /// The first stream from one on, below another, on which a message waits, and where, by looking through all messages for each.

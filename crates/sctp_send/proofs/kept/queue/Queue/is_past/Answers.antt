@@ -18,7 +18,8 @@ pub returns-then-last-deref : goal.returns-then-last-deref
 returns-then-last-deref c = λ size t on le.
     let w = c.self.inside in
     let x = c.index.result.now in
+    let many = messages_long w.messages.items in
     let ticket = ap (λ (m : MessageFields). m.ticket) c.deref.ensures in
     let past : c.args.last < x.message.value.ticket = omega (arith, ticket, c.if-last-deref.true) in
     let first = message_read w.messages.items 0 x c.index.ensures in
-    subst (λ (k : QueueKept). waits t (map (queued_by size) k.items) ≡ false) c.self.view_is (rising_past size c.args.last t (messages_of w.messages.items) x.message (c.self.invariant.seats.order c.if-not-self.false) first past le)
+    subst (λ (k : QueueKept). waits t (map (queued_by size) k.items) ≡ false) c.self.view_is (rising_past size c.args.last t (messages_of w.messages.items) x.message (c.self.invariant.order c.if-not-self.false) (omega (arith, many, c.if-len-eq0.false, c.len.ensures, w.messages.ok)) first past le)

@@ -1,5 +1,13 @@
-use Rattle.sctp_send.proofs.kept.SeatedLemmas.{seated_fresh}
+use Rattle.std.proofs.Common.{refl, arith}
 use Rattle.sctp_send.proofs.kept.queue.Queue.new.Goals as goal
 
 pub invariant_of-result : goal.invariant_of-result
-invariant_of-result c = seated_fresh c.args.size c.args.takes_turns c.new-messages.result.items c.new-seats.result.items c.requires c.new-messages.ensures.items c.new-seats.ensures
+invariant_of-result c = rw (c.new-messages.ensures.items, c.new-seats.ensures) (record {
+  some = c.requires;
+  owed = refl;
+  bytes = refl;
+  order = λ on i j d lt low. absurd (omega (arith, low));
+  most = λ on k d low. absurd (omega (arith, low));
+  seats = λ on f. refl;
+  owned = λ k d low. absurd (omega (arith, low));
+})

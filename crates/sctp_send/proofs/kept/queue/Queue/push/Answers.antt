@@ -1,50 +1,31 @@
-use Rattle.std.proofs.Common.{◌≡◌, ◌∙◌, ◌%◌, ◌^◌, ℕ, List, [], ◌∷◌, ◌++◌, length, refl, ap, sym, subst, arith}
-use Rattle.std.specs.Prelude.{insert}
-use Rattle.std.proofs.lemmas.List.{map_push}
-use Rattle.std.proofs.lemmas.List.Edits.{insert_end}
-use Rattle.sctp_model.specs.sender.Queueing.{cut, owed_for}
-use Rattle.sctp_send.specs.PartsKept.{QueueKept}
-use Rattle.sctp_send.specs.inner.Owning.{IsOwned, AreAllOwned, messages_of}
-use Rattle.sctp_send.specs.inner.Seating.{seat_of, IsBetween, IsSeatedOf}
-use Rattle.sctp_send.specs.declared.kept.message.Message.{Message as MessageFields}
+use Rattle.std.proofs.Common.{◌≡◌, ◌∙◌, ◌%◌, ◌^◌, ◌<◌, true, length, refl, sym, arith}
+use Rattle.std.proofs.lemmas.Bool.{ltb-true}
+use Rattle.sctp_model.specs.sender.Queueing.{cut}
+use Rattle.sctp_model.proofs.sender.CutLaws.{cut_some}
+use Rattle.sctp_send.specs.inner.Seating.{bytes_of, owed_by}
 use Rattle.sctp_send.specs.declared.kept.waiting.Waiting.{Waiting}
-use Rattle.sctp_sequence.specs.declared.pairs.Pair.{Pair}
-use Rattle.sctp_send.proofs.kept.LoadLemmas.{bytes_inserted}
-use Rattle.sctp_send.proofs.kept.OwedLemmas.{owed_pushed}
-use Rattle.sctp_send.proofs.kept.OwnedLemmas.{messages_long, owned_pushed}
-use Rattle.sctp_send.proofs.kept.SeatLemmas.{seat_is}
-use Rattle.sctp_send.proofs.kept.SeatedLemmas.{seated_same, seated_inserted}
+use Rattle.sctp_send.proofs.kept.OwnedLemmas.{owned_new}
+use Rattle.sctp_send.proofs.kept.SeatedLemmas.{queue_pushed}
 use Rattle.sctp_send.proofs.kept.queue.Queue.push.Goals as goal
-
-pub invariant_of-self : goal.invariant_of-self
-invariant_of-self c =
-    let w = c.self.inside in
-    seated_same w.size w.owed w.rises w.is_seated w.messages.items w.messages.items w.seats.items c.make_room.new.seats.items w.bytes c.self.invariant refl c.make_room.ensures
-
-pub invariant_of-self-in-Err : goal.invariant_of-self-in-Err
-invariant_of-self-in-Err c =
-    let w = c.self.inside in
-    seated_same w.size w.owed w.rises w.is_seated w.messages.items c.push_back.new.self.items w.seats.items c.make_room.new.seats.items w.bytes c.self.invariant c.in-Err.ensures.items c.make_room.ensures
+use Rattle.sctp_send.proofs.kept.queue.Queue.push.Goals.{then-self, else-self}
 
 pub invariant_of-self-2 : goal.invariant_of-self-2
 invariant_of-self-2 c =
     let w = c.self.inside in
-    let ws = w.messages.items in
-    let ms = messages_of ws in
-    let x = c.args.waiting.message in
-    let owed = c.owed_by_message-owed.ensures ∙ ap (λ (m : MessageFields). owed_for (length (cut w.size m.bytes.items)) % 2 ^ 64) c.deref-message.ensures in
-    let p : Pair = c.seat_of-seat.result in
-    let own : p ≡ seat_of x = seat_is p c.deref-message.result.now x c.seat_of-seat.ensures.first c.seat_of-seat.ensures.second c.deref-message.ensures in
-    let many = messages_long ws in
-    let long : c.len-behind.result ≡ length ms = omega (arith, many) in
-    let after : messages_of c.push_back.new.self.items ≡ ms ++ x ∷ [] = ap messages_of c.in-Ok.ensures.items ∙ map_push (λ (y : Waiting). y.message) ws c.args.waiting in
-    let is : messages_of c.push_back.new.self.items ≡ insert ms c.len-behind.result x = after ∙ sym (insert_end ms x) ∙ ap (λ (n : ℕ). insert ms n x) (sym long) in
-    let seats : IsSeatedOf w.rises w.is_seated ms c.make_room.new.seats.items = subst (λ (ps : List Pair). IsSeatedOf w.rises w.is_seated ms ps) (sym c.make_room.ensures) c.self.invariant.seats in
-    let owned : IsOwned w.size 0 x c.args.waiting.others.items = subst (λ (k : QueueKept). IsOwned k.size 0 x c.args.waiting.others.items) (sym c.self.view_is) c.requires in
-    record {
-      owed = owed_pushed w.size w.owed c.owed_by_message-owed.result ms _ x c.self.invariant.owed after owed;
-      bytes = bytes_inserted w.bytes c.len-behind.result c.bytes_of-bytes.result ms (messages_of c.push_back.new.self.items) x c.self.invariant.bytes is (c.bytes_of-bytes.ensures ∙ ap (λ (m : MessageFields). length m.bytes.items) c.deref-message.ensures);
-      seats = seated_inserted w.rises c.fits_at-fits.result w.is_seated c.add_seat-self-inside.result c.len-behind.result x ms (messages_of c.push_back.new.self.items) c.make_room.new.seats.items c.add_seat-self-inside.new.seats.items p seats is (omega (arith, many))
-          c.fits_at-fits.ensures.rises (λ on. subst (λ (n : ℕ). IsBetween c.len-behind.result n ms) (ap (λ (q : Pair). q.second) own) (c.fits_at-fits.ensures.between on)) c.add_seat-self-inside.ensures.kept c.add_seat-self-inside.ensures.seats own;
-      owned = subst (AreAllOwned w.size) (sym c.in-Ok.ensures.items) (owned_pushed w.size ws c.args.waiting c.self.invariant.owned owned);
-    }
+    let x = c.args.message in
+    let i = c.self.invariant in
+    let is : c.fragments_of-fragments.result ≡ length (cut w.size x.value.bytes.items) = rw (c.fragments_of-fragments.ensures, c.deref-3.ensures.value, c.deref-2.ensures) refl in
+    let some = cut_some w.size x.value.bytes.items i.some c.requires.some in
+    let many = c.in_ok-take_others.ensures.1 in
+    let own = owned_new w.size c.fragments_of-fragments.result x c.take_others.new.others.items i.some c.requires.short is c.in_ok-take_others.ensures.0 (omega (arith, some, is, many)) in
+    let above : c.if-self.self ≡ true → (w.rises ≡ true) × (w.last < c.seat_of-seat.result.second) = λ on. elim c.if-self.branch [
+      | then-self b ↦ (b.if-self.true, ltb-true w.last c.seat_of-seat.result.second (sym b.self-is ∙ on))
+      | else-self b ↦ absurd (cc (b.self-is, on))
+    ] in
+    let seat = c.seat_of-seat.ensures in
+    let one : Waiting = record { message = x; others = c.take_others.new.others } in
+    let owes : c.owed.result ≡ owed_by w.size x % 2 ^ 64 = rw (← is) c.owed.ensures in
+    let has : c.bytes_of-bytes.result ≡ bytes_of x = rw (← c.deref.ensures) c.bytes_of-bytes.ensures in
+    rw (c.push_back_reserved.ensures.items, c.in_ok-make_place.ensures.items, seat)
+    (queue_pushed w.size w.owed c.owed.result w.bytes c.bytes_of-bytes.result w.last w.rises c.if-self.self w.is_seated c.add_seat-self-inside.result w.messages.items one w.seats.items c.add_seat-self-inside.new.seats.items i owes has own
+    (rw seat at above) (rw (seat, c.in_ok-make_room.ensures) at c.add_seat-self-inside.ensures))
