@@ -1,6 +1,6 @@
 -- What is kept when moments of tickets are told anew, are woken, or are passed.
-use Rattle.std.proofs.Common.{◌≡◌, ℕ, suc, ◌+◌, ◌<◌, ◌≤◌, ◌⊎◌, inl, inr, List, [], ◌∷◌, length, get_or, map, drop, Bool, true, false, Option, Some, None, refl, sym, ap, ◌∙◌, subst, arith, length-drop}
-use Rattle.std.specs.Prelude.{◌==◌, ◌&&◌, nat_lt, if◌then◌else◌, unwrap_or}
+use Rattle.std.proofs.Common.{◌≡◌, ℕ, suc, ◌+◌, ◌<◌, ◌≤◌, ◌⊎◌, inl, inr, List, [], ◌∷◌, length, get_or, map, drop, Bool, true, false, Option, Some, refl, sym, ap, ◌∙◌, subst, arith, length-drop}
+use Rattle.std.specs.Prelude.{◌&&◌, nat_lt, unwrap_or}
 use Rattle.std.specs.List.{All}
 use Rattle.std.proofs.lemmas.List.Elements.{All-tail}
 use Rattle.std.proofs.lemmas.Bool.{cases_lt, cases_eq}
@@ -14,14 +14,14 @@ use Rattle.sctp_model.specs.sender.Abandoning.{waits, is_to_expire}
 use Rattle.sctp_send.specs.SenderKept.{Item, Kept}
 use Rattle.sctp_send.specs.OutstandingFields.{item_meaning, message_meaning}
 use Rattle.sctp_send.specs.SenderFields.{queued_by}
-use Rattle.sctp_send.specs.SenderStands.{Keeps}
+use Rattle.sctp_send.specs.SenderStands.{AreOver, Keeps}
 use Rattle.sctp_send.specs.inner.Walks.{any_item, any_rest}
 use Rattle.sctp_send.specs.inner.Seating.{ticket_in, DoTicketsRise}
-use Rattle.sctp_send.specs.inner.Dues.{due_at, is_late, some_late, standing_message, standing_messages, AreWoken, has_come, IsIdle}
+use Rattle.sctp_send.specs.inner.Dues.{AreDue, due_at, is_late, some_late, standing_messages, AreWoken, has_come, IsIdle}
 use Rattle.sctp_send.specs.declared.kept.message.Message.{Message as MessageFields}
 use Rattle.sctp_send.specs.declared.kept.entry.Entry.{Entry as EntryFields}
 use Rattle.sctp_send.proofs.HeldLemmas.{still_held}
-use Rattle.sctp_send.proofs.DueLemmas.{both_off, late_before, late_other_items, over_idle}
+use Rattle.sctp_send.proofs.DueLemmas.{late_before, late_other_items, over_idle}
 use Rattle.sctp_send.proofs.kept.MomentLemmas.{not_come, due_behind}
 use Rattle.sctp_send.proofs.kept.RiseLemmas.{first_place}
 use Rattle.sctp_send.proofs.KeepLemmas.{items_given}
@@ -31,33 +31,27 @@ use Rattle.sctp_send.proofs.abandon.ExpireKept.{fewer_late, stays_idle}
 
 -- less is said of a ticket
 idle_asleep : (s : Kept) (now t : ℕ) (ms : List ℕ) → IsIdle s now t → IsIdle (record s { moments = ms; asleep = true }) now t
-idle_asleep s now t ms i = record { queue = i.queue; items = λ on. by_past (nat_lt s.passed t) (i.items on); tracks = i.tracks }
-  where
-    by_past : (c : Bool) → some_late now t (standing_messages (c && s.asleep) s.items) ≡ false → some_late now t (standing_messages (c && true) s.items) ≡ false
-    by_past true none = fewer_late now t s.asleep s.items none
-    by_past false none = none
+idle_asleep s now t ms i = record { queue = i.queue; items = λ on. grind (arith, i.items on, fewer_late now t s.asleep s.items); tracks = i.tracks }
+
+-- all but the moments stays
+still_kept : (f : Format) (s : Kept) (v : SenderView) (passed : ℕ) (ms : List ℕ) (b : Bool) → Keeps f s v → AreDue (record s { passed = passed; moments = ms; asleep = b }) v.tickets → Keeps f (record s { passed = passed; moments = ms; asleep = b }) v
+still_kept f s v passed ms b k due =
+    let over : AreOver (record s { passed = passed; moments = ms; asleep = b }) v.tickets = record { within = k.over.within; each = λ t le. assumption (k.over.each t le) } in
+    let holds = still_held s v s.ended passed ms b k.holds in
+    assumption (k, holds, over, due)
 
 pub keeps_told : (f : Format) (s : Kept) (v : SenderView) (t : ℕ) (r : Option ℕ) (ms : List ℕ) → Keeps f s v → ((now : ℕ) → is_to_expire v now t ≡ has_come now r) → length ms ≡ length s.moments
     → ((now : ℕ) → now < due_at s.passed ms t → ((s.passed < t) × (now < unwrap_or r LAST_MOMENT)) ⊎ (now < due_at s.passed s.moments t)) → ((u : ℕ) → (u ≡ t → ⊥) → due_at s.passed ms u ≡ due_at s.passed s.moments u)
     → Keeps f (record s { moments = ms; asleep = true }) v
-keeps_told f s v t r ms k told long here others = record {
-  holds = still_held s v s.ended s.passed ms true k.holds;
-  over = record { within = k.over.within; each = λ u le. let o = k.over.each u le in record { queue = o.queue; tracks = o.tracks; items = o.items } };
-  due = record {
-    many = let many = k.due.many in omega (arith, many, long);
-    each = λ u now lt. elim (cases_eq u t) [
-      | inr other ↦ let same = others u other in idle_asleep s now u ms (k.due.each u now (omega (arith, lt, same)))
-      | inl same ↦
-          let lower : now < due_at s.passed ms t = subst (λ (x : ℕ). now < due_at s.passed ms x) same lt in
-          subst (λ (x : ℕ). IsIdle (record s { moments = ms; asleep = true }) now x) (sym same) (by_moment now (here now lower))
-    ];
-  };
-  forward = k.forward;
-  resets = k.resets;
-  before = k.before;
-  counted = k.counted;
-  reached = k.reached;
-}
+keeps_told f s v t r ms k told long here others = still_kept f s v s.passed ms true k (record {
+  many = let many = k.due.many in omega (arith, many, long);
+  each = λ u now lt. elim (cases_eq u t) [
+    | inr other ↦ let same = others u other in idle_asleep s now u ms (k.due.each u now (omega (arith, lt, same)))
+    | inl same ↦
+        let lower : now < due_at s.passed ms t = subst (λ (x : ℕ). now < due_at s.passed ms x) same lt in
+        subst (λ (x : ℕ). IsIdle (record s { moments = ms; asleep = true }) now x) (sym same) (by_moment now (here now lower))
+  ];
+})
   where
     by_moment : (now : ℕ) → ((s.passed < t) × (now < unwrap_or r LAST_MOMENT)) ⊎ (now < due_at s.passed s.moments t) → IsIdle (record s { moments = ms; asleep = true }) now t
     by_moment now (inl below) = stays_idle f s v now t ms k below.0 (told now ∙ not_come now r below.1)
@@ -68,30 +62,16 @@ keeps_told f s v t r ms k told long here others = record {
 -- entries none of which is late
 all_idle : (now t size : ℕ) (es : List EntryFields) → ((k : ℕ) (d : EntryFields) → k < length es → is_late now t (Some (message_meaning size (get_or es k d).message.value)) ≡ false) → some_late now t (standing_messages false (map (item_meaning size) es)) ≡ false
 all_idle now t size [] off = refl
-all_idle now t size (e ∷ es) off =
-    both_off (is_late now t (standing_message false (item_meaning size e))) (some_late now t (standing_messages false (map (item_meaning size) es))) (by_abandoned e.abandoned (off 0 e (omega arith))) (all_idle now t size es (λ k d lt. off (suc k) d (omega (arith, lt))))
-  where
-    by_abandoned : (b : Bool) → is_late now t (Some (message_meaning size e.message.value)) ≡ false → is_late now t (if b then None else Some (message_meaning size e.message.value)) ≡ false
-    by_abandoned true off = refl
-    by_abandoned false off = off
+all_idle now t size (e ∷ es) off = grind (arith, off 0 e, all_idle now t size es (λ k d lt. off (suc k) d (omega (arith, lt))))
 
 pub keeps_awake : (f : Format) (s : Kept) (v : SenderView) (size : ℕ) (es : List EntryFields) (ms : List ℕ) (b : Bool) → Keeps f s v → s.items ≡ map (item_meaning size) es → length ms ≡ length s.moments
     → ((t now : ℕ) → now < due_at s.passed ms t → now < due_at s.passed s.moments t) → (s.asleep ≡ true → b ≡ false → AreWoken s.passed ms es (length es)) → Keeps f (record s { moments = ms; asleep = b }) v
-keeps_awake f s v size es ms b k are long each woken = record {
-  holds = still_held s v s.ended s.passed ms b k.holds;
-  over = record { within = k.over.within; each = λ u le. let o = k.over.each u le in record { queue = o.queue; tracks = o.tracks; items = o.items } };
-  due = record {
-    many = let many = k.due.many in omega (arith, many, long);
-    each = λ t now lt.
-        let i = k.due.each t now (each t now lt) in
-        record { queue = i.queue; items = λ on. by_past t now lt (nat_lt s.passed t) refl (i.items on); tracks = i.tracks };
-  };
-  forward = k.forward;
-  resets = k.resets;
-  before = k.before;
-  counted = k.counted;
-  reached = k.reached;
-}
+keeps_awake f s v size es ms b k are long each woken = still_kept f s v s.passed ms b k (record {
+  many = let many = k.due.many in omega (arith, many, long);
+  each = λ t now lt.
+      let i = k.due.each t now (each t now lt) in
+      record { queue = i.queue; items = λ on. grind (arith, nat_tests, i.items on, by_at t now lt, fewer_late now t false s.items); tracks = i.tracks };
+})
   where
     by_at : (t now : ℕ) → now < due_at s.passed ms t → s.passed < t → s.asleep ≡ true → b ≡ false → some_late now t (standing_messages false s.items) ≡ false
     by_at t now lt past is off = elim (cases_lt v.tickets t) [
@@ -105,40 +85,21 @@ keeps_awake f s v size es ms b k are long each woken = record {
           not_come now (get_or es n d).message.value.until (omega (arith, here, low))))
     ]
 
-    by_sleep : (t now : ℕ) → now < due_at s.passed ms t → s.passed < t → (was is : Bool) → s.asleep ≡ was → b ≡ is → some_late now t (standing_messages was s.items) ≡ false → some_late now t (standing_messages is s.items) ≡ false
-    by_sleep t now lt past true false asleep awake none = by_at t now lt past asleep awake
-    by_sleep t now lt past true true asleep awake none = none
-    by_sleep t now lt past false false asleep awake none = none
-    by_sleep t now lt past false true asleep awake none = fewer_late now t false s.items none
-
-    by_past : (t now : ℕ) → now < due_at s.passed ms t → (c : Bool) → nat_lt s.passed t ≡ c → some_late now t (standing_messages (c && s.asleep) s.items) ≡ false → some_late now t (standing_messages (c && b) s.items) ≡ false
-    by_past t now lt false is none = none
-    by_past t now lt true is none = let past : s.passed < t = grind (arith, nat_tests) in by_sleep t now lt past s.asleep b refl refl none
-
 -- ---- passed
 
 pub keeps_passed : (f : Format) (s : Kept) (v : SenderView) (n last : ℕ) → Keeps f s v → last ≡ s.passed + n → n ≤ length s.moments → ((t : ℕ) → t ≤ last → waits t s.queue ≡ false)
     → ((t : ℕ) → t ≤ last → any_rest t s.tracks ≡ false) → ((t : ℕ) → t ≤ last → any_item t s.items ≡ false) → Keeps f (record s { passed = s.passed + n; moments = drop n s.moments }) v
-keeps_passed f s v n last k end most queue rests items = record {
-  holds = still_held s v s.ended (s.passed + n) (drop n s.moments) s.asleep k.holds;
-  over = record { within = k.over.within; each = λ t le. let o = k.over.each t le in record { queue = o.queue; tracks = o.tracks; items = o.items } };
-  due = record {
-    many = let many = k.due.many in let long = length-drop n s.moments in omega (arith, many, long, most);
-    each = λ t now lt. elim (cases_lt last t) [
-      | inl past ↦
-          let i = k.due.each t now (due_behind s.passed s.moments n t now most (omega (arith, past, end)) lt) in
-          let is : nat_lt (s.passed + n) t ≡ true = grind (arith, nat_tests) in
-          let was : nat_lt s.passed t ≡ true = grind (arith, nat_tests) in
-          record { queue = i.queue; items = λ on. ap (λ (c : Bool). some_late now t (standing_messages (c && s.asleep) s.items)) (is ∙ sym was) ∙ i.items on; tracks = i.tracks }
-      | inr within ↦ over_idle (record s { passed = s.passed + n; moments = drop n s.moments }) now t (record { queue = queue t within; tracks = rests t within; items = items t within })
-    ];
-  };
-  forward = k.forward;
-  resets = k.resets;
-  before = k.before;
-  counted = k.counted;
-  reached = k.reached;
-}
+keeps_passed f s v n last k end most queue rests items = still_kept f s v (s.passed + n) (drop n s.moments) s.asleep k (record {
+  many = let many = k.due.many in let long = length-drop n s.moments in omega (arith, many, long, most);
+  each = λ t now lt. elim (cases_lt last t) [
+    | inl past ↦
+        let i = k.due.each t now (due_behind s.passed s.moments n t now most (omega (arith, past, end)) lt) in
+        let is : nat_lt (s.passed + n) t ≡ true = grind (arith, nat_tests) in
+        let was : nat_lt s.passed t ≡ true = grind (arith, nat_tests) in
+        record { queue = i.queue; items = λ on. ap (λ (c : Bool). some_late now t (standing_messages (c && s.asleep) s.items)) (is ∙ sym was) ∙ i.items on; tracks = i.tracks }
+    | inr within ↦ over_idle (record s { passed = s.passed + n; moments = drop n s.moments }) now t (record { queue = queue t within; tracks = rests t within; items = items t within })
+  ];
+})
 
 -- ---- the queue
 
@@ -150,8 +111,7 @@ all_above : (size t : ℕ) (ms : List (Arc MessageFields Global)) → All (λ m.
 all_above size t [] above = refl
 all_above size t (m ∷ ms) above =
     let low = above 0 m (omega arith) in
-    let off : (ticket_in m == t) ≡ false = grind (arith, nat_tests) in
-    both_off (ticket_in m == t) (waits t (map (queued_by size) ms)) off (all_above size t ms (All-tail (λ x. t < ticket_in x) m ms above))
+    grind (arith, nat_tests, low, all_above size t ms (All-tail (λ x. t < ticket_in x) m ms above))
 
 -- where the first ticket lies behind one, all do
 pub rising_past : (size last t : ℕ) (ms : List (Arc MessageFields Global)) (x : Arc MessageFields Global) → DoTicketsRise ms → 0 < length ms → x ≡ get_or ms 0 x → last < x.value.ticket → t ≤ last → waits t (map (queued_by size) ms) ≡ false

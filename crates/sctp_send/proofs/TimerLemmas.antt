@@ -11,7 +11,7 @@ use Rattle.sctp_model.proofs.sender.OwedLaws.{sum-zero}
 use Rattle.sctp_model.proofs.sender.PointLaws.{get-drop}
 use Rattle.sctp_model.specs.sender.Queueing.{owed_by_queue, owed_by_parts}
 use Rattle.sctp_send.specs.SenderKept.{Item, Kept}
-use Rattle.sctp_send.specs.SenderStands.{item_here, items_from, Keeps}
+use Rattle.sctp_send.specs.SenderStands.{table, track_here, item_here, items_from, Keeps}
 use Rattle.sctp_send.specs.OutstandingFields.{item_meaning}
 use Rattle.sctp_send.specs.inner.Dues.{some_late, standing_message, standing_messages, is_asleep}
 use Rattle.sctp_send.specs.inner.Walks.{any_item}
@@ -73,13 +73,8 @@ timed-items_from v test t j (e ∷ es) tells there =
     (λ k lt. let more : suc j + k ≡ j + suc k = omega arith in rw more (there (suc k) (omega arith))) in
     rw (here, ← passes, next, rest) (ap (λ (x : Item). x ∷ items_from (marking v test) (suc (v.cum + suc j)) es) (one (suc (v.cum + j)) (t j)))
   where
-    no_mark : (b : Bool) → (b || false) ≡ b
-    no_mark true = refl
-    no_mark false = refl
-
     one : (i : ℕ) (b : Bool) → (if b then timed_item v.partial (v.repeats i) (item_here v i e) else item_here v i e) ≡ record (item_here v i e) { marked = v.marked i || (b && is_to_repeat v i e) }
-    one i true = refl
-    one i false = ap (λ (m : Bool). record (item_here v i e) { marked = m }) (sym (no_mark (v.marked i)))
+    one i b = grind arith
 
 -- What is kept once the entries at some offsets are marked, where the test passes their indexes alone.
 pub keeps_marked : (f : Format) (s : Kept) (v : SenderView) (test : ℕ → Bool) (from to : ℕ) → Keeps f s v → ((k : ℕ) → k < length s.items → (nat_le from k && nat_lt k to) ≡ test (suc (v.cum + k)))
@@ -116,50 +111,26 @@ keeps_marked f s v test from to k tells =
 
 -- offsets from an index on, below another
 pub offsets_between : (cum from below k : ℕ) → (nat_le (from - cum - 1) k && nat_lt k (below - cum - 1)) ≡ (nat_le from (suc (cum + k)) && nat_lt (suc (cum + k)) below)
-offsets_between cum from below k = ap (λ (b : Bool). b && nat_lt k (below - cum - 1)) first ∙ ap (λ (b : Bool). nat_le from (suc (cum + k)) && b) last
-  where
-    le_same : (a b c d : ℕ) → (a ≤ b → c ≤ d) → (b < a → d < c) → nat_le a b ≡ nat_le c d
-    le_same a b c d on off = by_test (nat_le a b) refl
-      where
-        by_test : (t : Bool) → nat_le a b ≡ t → nat_le a b ≡ nat_le c d
-        by_test true is = let le : a ≤ b = grind (arith, nat_tests) in let further = on le in grind (arith, nat_tests)
-        by_test false is = let gt : b < a = grind (arith, nat_tests) in let further = off gt in grind (arith, nat_tests)
-
-    first : nat_le (from - cum - 1) k ≡ nat_le from (suc (cum + k))
-    first = le_same (from - cum - 1) k from (suc (cum + k)) (λ h. omega (arith, h)) (λ h. omega (arith, h))
-
-    last : nat_lt k (below - cum - 1) ≡ nat_lt (suc (cum + k)) below
-    last = le_same (suc k) (below - cum - 1) (suc (suc (cum + k))) below (λ h. omega (arith, h)) (λ h. omega (arith, h))
+offsets_between cum from below k = grind (arith, nat_tests)
 
 -- all offsets
 pub offsets_all : (last k : ℕ) → k < last → (nat_le 0 k && nat_lt k last) ≡ true
-offsets_all last k lt = let one : nat_le 0 k ≡ true = grind (arith, nat_tests) in let two : nat_lt k last ≡ true = grind (arith, nat_tests) in rw (one, two) refl
+offsets_all last k lt = grind (arith, nat_tests)
 
 -- a sender that was given nothing
 pub keeps_fresh : (f : Format) (initial streams fragment rwnd capacity : ℕ) (partial : Bool) → 0 < fragment
     → Keeps f (record { initial = initial; streams = streams; fragment = fragment; partial = partial; cum = 0; rwnd = rwnd; turn = 0; items = []; queue = []; tracks = replicate streams (record { ordered = 0; unordered = 0; rest = None }); fates = []; ended = 0; abandoned = 0; runs = Some []; capacity = capacity; passed = 0; moments = []; asleep = false; before = 0; forward = None; resets = record { table = None } })
     (fresh_sender initial streams fragment rwnd partial)
-keeps_fresh f initial streams fragment rwnd capacity partial large = record {
-  holds = record {
-    initial = refl;
-    streams = refl;
-    fragment = refl;
-    partial = refl;
-    cum = refl;
-    rwnd = refl;
-    turn = refl;
-    items = refl;
-    queue = refl;
-    tracks = sym (table-replicate (record { ordered = 0; unordered = 0; rest = None }) 0 streams);
-    fates = refl;
-    covered = (tt, λ i some. refl);
-    room = let none = sum-zero (λ j. 0) streams (λ j. refl) in omega (arith, none);
-  };
-  over = record { within = omega arith; each = λ t le. record { queue = refl; tracks = no_rests t streams; items = refl } };
-  due = record { many = refl; each = λ t now lt. record { queue = refl; items = λ on. refl; tracks = λ on. late_no_rests now t streams } };
-  forward = tt;
-  resets = record { base = refl; sending = λ s low. refl; made = refl; pending = refl; table = tt };
-  before = refl;
-  counted = refl;
-  reached = Begins initial streams fragment rwnd partial large;
-}
+keeps_fresh f initial streams fragment rwnd capacity partial large =
+    let v = fresh_sender initial streams fragment rwnd partial in
+    let tracks : table (track_here v) 0 streams ≡ replicate streams (record { ordered = 0; unordered = 0; rest = None }) = table-replicate _ 0 streams in
+    let room : 0 + (owed_by_queue [] + owed_by_parts v) ≤ capacity = let none = sum-zero (λ j. 0) streams (λ j. refl) in omega (arith, none) in record {
+      holds = assumption (sym tracks, room);
+      over = record { within = omega arith; each = λ t le. record { queue = refl; tracks = no_rests t streams; items = refl } };
+      due = record { many = refl; each = λ t now lt. record { queue = refl; items = λ on. refl; tracks = λ on. late_no_rests now t streams } };
+      forward = tt;
+      resets = record { base = refl; sending = λ s low. refl; made = refl; pending = refl; table = tt };
+      before = refl;
+      counted = refl;
+      reached = Begins initial streams fragment rwnd partial large;
+    }

@@ -2,7 +2,7 @@
 use Rattle.std.proofs.Common.{◌≡◌, ℕ, zero, suc, ◌+◌, ◌-◌, ◌<◌, ◌≤◌, List, [], ◌∷◌, length, map, drop, set, Bool, true, false, Option, Some, None, refl, ap, ◌∙◌, arith, sym}
 use Rattle.std.specs.Prelude.{not, ◌&&◌, ◌==◌, min, if◌then◌else◌, slice_get, unwrap_or}
 use Rattle.std.specs.Option.{option_map_or}
-use Rattle.std.proofs.lemmas.Bool.{and_parts}
+use Rattle.std.proofs.lemmas.Bool.{and_parts, false_from_ne_true}
 use Rattle.std.proofs.lemmas.Bool.Decides.{nat_tests}
 use Rattle.sctp_model.specs.messages.Format.{Format, Lane, same_lane}
 use Rattle.sctp_model.specs.messages.Plan.{Message, Entry, End, Plan, entry_at}
@@ -43,11 +43,7 @@ all_own_drop p k (suc c) all (e ∷ es) h = all_own_drop p k c all es h.1
 
 -- the plan's messages are as they were
 pub same_messages : (v : SenderView) (n : Name) → (ended v n).messages ≡ v.plan.messages
-same_messages v n = by_part (is_in_part v n.lane n.number)
-  where
-    by_part : (b : Bool) → (if b then with_entry v.plan (End n.lane n.number) else v.plan).messages ≡ v.plan.messages
-    by_part true = refl
-    by_part false = refl
+same_messages v n = grind arith
 
 pub same_entry_message : (v : SenderView) (n : Name) (e : Entry) → entry_message (with_abandoned v n).plan e ≡ entry_message v.plan e
 same_entry_message v n e = ap (λ (ms : Lane → List Message). slice_get (ms (entry_lane e)) (entry_number e)) (same_messages v n)
@@ -66,16 +62,8 @@ abandoned_one f v t n i e is all own here = by_name (is_of n.lane n.number e) re
     alike : (m k : Option Message) (a b c d : Bool) → m ≡ k → a ≡ b → c ≡ d → item m a c ≡ item k b d
     alike m k a b c d x y z = ap (λ (h : Option Message). item h a c) x ∙ ap (λ (h : Bool). item k h c) y ∙ ap (item k b) z
 
-    mark : (b : Bool) → is_of n.lane n.number e ≡ b → (with_abandoned v n).marked i ≡ (v.marked i && not b)
-    mark b name = ap (λ (o : Option Entry). v.marked i && not (some_passes (λ d. is_of n.lane n.number d) o)) here ∙ ap (λ (x : Bool). v.marked i && not x) name
-
-    and_true : (b : Bool) → (b && true) ≡ b
-    and_true true = refl
-    and_true false = refl
-
-    and_false : (b : Bool) → (b && false) ≡ false
-    and_false true = refl
-    and_false false = refl
+    mark : (with_abandoned v n).marked i ≡ (v.marked i && not (is_of n.lane n.number e))
+    mark = grind (arith, here)
 
     by_name : (b : Bool) → is_of n.lane n.number e ≡ b → abandoned_item t (item_here v i e) ≡ item_here (with_abandoned v n) i e
     by_name true name =
@@ -84,12 +72,12 @@ abandoned_one f v t n i e is all own here = by_name (is_of n.lane n.number e) re
         let number : n.number ≡ entry_number e = let on = tests.1 in grind (arith, nat_tests) in
         let is_given : is_of_abandoned (with_abandoned v n) e ≡ true = ap (λ (l : Lane). (with_abandoned v n).abandoned l (entry_number e)) (sym lane) ∙ ap ((with_abandoned v n).abandoned n.lane) (sym number) ∙ given_itself v n in
         ap (λ (b : Bool). if b then item (entry_message v.plan e) false true else item_here v i e) (has ∙ name)
-        ∙ alike _ _ _ _ _ _ (sym (same_entry_message v n e)) (sym (mark true name ∙ and_false (v.marked i))) (sym is_given)
+        ∙ alike _ _ _ _ _ _ (sym (same_entry_message v n e)) (grind (arith, mark, name)) (sym is_given)
     by_name false name =
         let apart : (entry_lane e ≡ n.lane) × (entry_number e ≡ n.number) → ⊥ = λ same. clash same.0 same.1 name in
         let is_given : is_of_abandoned (with_abandoned v n) e ≡ is_of_abandoned v e = given_other v n (entry_lane e) (entry_number e) apart in
         ap (λ (b : Bool). if b then item (entry_message v.plan e) false true else item_here v i e) (has ∙ name)
-        ∙ alike _ _ _ _ _ _ (sym (same_entry_message v n e)) (sym (mark false name ∙ and_true (v.marked i))) (sym is_given)
+        ∙ alike _ _ _ _ _ _ (sym (same_entry_message v n e)) (grind (arith, mark, name)) (sym is_given)
       where
         clash : entry_lane e ≡ n.lane → entry_number e ≡ n.number → is_of n.lane n.number e ≡ false → ⊥
         clash lane number off =
@@ -108,11 +96,7 @@ abandoned-items_from f v t n i (e ∷ es) h is own there =
 
 -- a message with a number waits no more
 not_waiting : (f : Format) (v : SenderView) (t : ℕ) (n : Name) → IsReached f v → name_of v t ≡ Some n → waits t v.queue ≡ false
-not_waiting f v t n h is = by_test (waits t v.queue) refl
-  where
-    by_test : (b : Bool) → waits t v.queue ≡ b → b ≡ false
-    by_test false off = refl
-    by_test true on = let none = ((is_ticketed f v h).waiting t on).2 in absurd (cc)
+not_waiting f v t n h is = false_from_ne_true _ (λ on. let none = ((is_ticketed f v h).waiting t on).2 in cc)
 
 -- its fate, and that of the others
 fate_abandoned : (f : Format) (v : SenderView) (t : ℕ) (n : Name) → IsReached f v → name_of v t ≡ Some n → fate_here (with_abandoned v n) t ≡ WasAbandoned
@@ -137,22 +121,7 @@ abandoned_fates f s v t n k is low high =
 -- ---- entries, as clauses see them
 
 abandoned_meaning : (size t : ℕ) (e : EntryFields) → item_meaning size (as_abandoned t e) ≡ abandoned_item t (item_meaning size e)
-abandoned_meaning size t e = by_ticket (e.message.value.ticket == t)
-  where
-    sent : (s : Standing) → was_sent (unmarked s) ≡ was_sent s
-    sent Unsent = refl
-    sent Sent = refl
-    sent Marked = refl
-
-    no_mark : (s : Standing) → is_marked (unmarked s) ≡ false
-    no_mark Unsent = refl
-    no_mark Sent = refl
-    no_mark Marked = refl
-
-    by_ticket : (b : Bool) → item_meaning size (if b then record e { abandoned = true; standing = unmarked e.standing } else e)
-        ≡ (if b then record (item_meaning size e) { abandoned = true; marked = false } else item_meaning size e)
-    by_ticket true = rw (sent e.standing, no_mark e.standing) refl
-    by_ticket false = refl
+abandoned_meaning size t e = grind arith
 
 pub items_abandoned : (size t : ℕ) (es : List EntryFields) → map (item_meaning size) (all_abandoned t es) ≡ map (abandoned_item t) (map (item_meaning size) es)
 items_abandoned size t [] = refl
@@ -169,25 +138,14 @@ pub record IsKept (v : SenderView) (t : ℕ) (n : Name) : Type 0 where
   pub high : t ≤ v.tickets
 
 pub kept_name : (f : Format) (v : SenderView) (t : ℕ) → IsReached f v → is_numbered_fate (fate_here v t) ≡ true → (n : Name) × IsKept v t n
-kept_name f v t h on = by_wait (waits t v.queue) refl on
+kept_name f v t h on = by_name (name_of v t) refl
   where
-    of_name : (n : Name) → name_of v t ≡ Some n → waits t v.queue ≡ false → is_abandoned v n ≡ false → IsKept v t n
-    of_name n is off kept =
+    by_name : (o : Option Name) → name_of v t ≡ o → (n : Name) × IsKept v t n
+    by_name None is = absurd (grind (arith, on, is))
+    by_name (Some n) is =
         let own = found_owns v.plan v.tickets t v.plan.entries v.plan.entries n (is_ticketed f v h).owned is in
         let was = own.0 t own.1 in
-        record { named = is; waits = off; kept = kept; low = was.0; high = was.1 }
-
-    by_kept : (n : Name) → name_of v t ≡ Some n → waits t v.queue ≡ false → (b : Bool) → is_abandoned v n ≡ b → is_numbered_fate (if b then WasAbandoned else Numbered) ≡ true → (m : Name) × IsKept v t m
-    by_kept n is off true gone here = absurd (cc)
-    by_kept n is off false kept here = (n, of_name n is off kept)
-
-    by_name : waits t v.queue ≡ false → (o : Option Name) → name_of v t ≡ o → is_numbered_fate (fate_named v o) ≡ true → (n : Name) × IsKept v t n
-    by_name off None is here = absurd (cc)
-    by_name off (Some n) is here = by_kept n is off (is_abandoned v n) refl here
-
-    by_wait : (b : Bool) → waits t v.queue ≡ b → is_numbered_fate (if b then StillQueued else fate_named v (name_of v t)) ≡ true → (n : Name) × IsKept v t n
-    by_wait true is here = absurd (cc)
-    by_wait false is here = by_name is (name_of v t) refl here
+        (n, record { named = is; waits = grind (arith, on); kept = grind (arith, on, is); low = was.0; high = was.1 })
 
 -- the answer for it, and the view that is left
 pub kept_answer : (v : SenderView) (t : ℕ) (n : Name) → IsKept v t n
@@ -199,11 +157,7 @@ kept_after v t n b k is =
     ap (λ (o : Option Name). option_map_or (abandon_named v) o (record v { queue = without t v.queue })) k.named ∙ ap (λ (c : Bool). if c then with_abandoned v n else v) is
 
 pub same_after : (v : SenderView) (t : ℕ) (n : Name) → IsKept v t n → is_covered v n ≡ true → abandon_after v t ≡ v
-same_after v t n k on = kept_after v t n false k (rw (k.kept, on) (by_partial v.partial))
-  where
-    by_partial : (b : Bool) → (b && false) ≡ false
-    by_partial true = refl
-    by_partial false = refl
+same_after v t n k on = kept_after v t n false k (grind (arith, on))
 
 pub reliable_after : (v : SenderView) (t : ℕ) (n : Name) → IsKept v t n → v.partial ≡ false → abandon_after v t ≡ v
 reliable_after v t n k fixed = kept_after v t n false k (rw fixed refl)

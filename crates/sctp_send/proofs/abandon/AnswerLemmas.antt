@@ -2,7 +2,6 @@
 use Rattle.std.proofs.Common.{◌≡◌, ℕ, suc, ◌-◌, ◌<◌, ◌≤◌, ◌⊎◌, inl, inr, List, length, Bool, true, false, Option, Some, None, refl, sym, ap, ◌∙◌, arith, get_or}
 use Rattle.std.specs.Prelude.{nat_lt, nat_le, not, ◌&&◌, if◌then◌else◌}
 use Rattle.std.specs.Option.{option_map_or}
-use Rattle.std.proofs.lemmas.Bool.{and_parts}
 use Rattle.std.proofs.lemmas.Bool.Decides.{nat_tests}
 use Rattle.sctp_model.specs.messages.Format.{Format}
 use Rattle.sctp_model.specs.sender.SenderView.{Queued, SenderView}
@@ -66,20 +65,12 @@ pub may_be_abandoned : (f : Format) (s : Kept) (v : SenderView) (t : ℕ) → Ke
 may_be_abandoned f s v t k on may =
     let m = kept_name f v t k.reached on in
     let named : may_abandon_named v m.0 ≡ true = sym (ap (λ (o : Option Name). option_map_or (may_abandon_named v) o (waits t v.queue)) m.1.named) ∙ may in
-    let parts = and_parts v.partial (not (is_abandoned v m.0) && not (is_covered v m.0)) named in
-    let uncovered = off_of_not (is_covered v m.0) (and_parts (not (is_abandoned v m.0)) (not (is_covered v m.0)) parts.1).1 in
-    record { name = m.0; kept = m.1; uncovered = uncovered; partial = parts.0; answer = sym (kept_answer v t m.0 m.1 ∙ rw (uncovered, parts.0) refl) }
-  where
-    off_of_not : (b : Bool) → not b ≡ true → b ≡ false
-    off_of_not false on = refl
-    off_of_not true on = absurd (cc)
-
-all_three : (a b c : Bool) → a ≡ true → b ≡ false → c ≡ false → (a && (not b && not c)) ≡ true
-all_three a b c x y z = rw (x, y, z) refl
+    let uncovered : is_covered v m.0 ≡ false = grind (arith, named) in
+    let partial : v.partial ≡ true = grind (arith, named) in
+    record { name = m.0; kept = m.1; uncovered = uncovered; partial = partial; answer = sym (kept_answer v t m.0 m.1 ∙ rw (uncovered, partial) refl) }
 
 pub abandoned_may : (v : SenderView) (t : ℕ) → IsAbandonedNow v t → may_abandon v t ≡ true
-abandoned_may v t g =
-    ap (λ (o : Option Name). option_map_or (may_abandon_named v) o (waits t v.queue)) g.kept.named ∙ all_three v.partial (is_abandoned v g.name) (is_covered v g.name) g.partial g.kept.kept g.uncovered
+abandoned_may v t g = grind (arith, g.kept.named, g.partial, g.kept.kept, g.uncovered)
 
 -- ---- by the byte of fate
 
@@ -94,10 +85,6 @@ nothing_done : (v : SenderView) (t : ℕ) → waits t v.queue ≡ false → name
 nothing_done v t off is =
     ap (λ (o : Option Name). option_map_or (gone.abandon_named v) o (record v { queue = gone.without t v.queue })) is ∙ ap (λ (qs : List Queued). record v { queue = qs }) (without_none t v.queue off)
 
-with_false : (b : Bool) → (b && false) ≡ false
-with_false true = refl
-with_false false = refl
-
 -- a ticket that was not given
 pub answered_unknown : (f : Format) (s : Kept) (v : SenderView) (t : ℕ) → Keeps f s v → (t ≡ 0) ⊎ (length s.fates < t) → IsAnswered v t gone.Unknown
 answered_unknown f s v t k out = by_wait (waits t v.queue) refl
@@ -111,13 +98,8 @@ answered_unknown f s v t k out = by_wait (waits t v.queue) refl
       | inr over ↦ omega (arith, given)
     ]
 
-    no_ticket : (b c : Bool) → nat_lt 0 t ≡ b → nat_le t v.tickets ≡ c → (b && c) ≡ false
-    no_ticket false c low high = refl
-    no_ticket true false low high = refl
-    no_ticket true true low high = absurd (never (grind (arith, nat_tests)) (grind (arith, nat_tests)))
-
     unknown : (nat_lt 0 t && nat_le t v.tickets) ≡ false
-    unknown = no_ticket (nat_lt 0 t) (nat_le t v.tickets) refl refl
+    unknown = grind (arith, nat_tests, never)
 
     by_name : waits t v.queue ≡ false → (o : Option Name) → name_of v t ≡ o → IsAnswered v t gone.Unknown
     by_name off None is = record { answer = rw (is, unknown) refl; after = nothing_done v t off is }
@@ -144,7 +126,7 @@ answered_by f s v t k low high = by_wait (waits t v.queue) refl
     by_kept n off is false kept = tt
     by_kept n off is true on = record {
       answer = rw (is, on) refl;
-      after = ap (λ (o : Option Name). option_map_or (gone.abandon_named v) o (record v { queue = gone.without t v.queue })) is ∙ ap (λ (b : Bool). if b then gone.with_abandoned v n else v) (ap (λ (b : Bool). v.partial && (not b && not (is_covered v n))) on ∙ with_false v.partial);
+      after = grind (arith, is, on);
     }
 
     by_name : waits t v.queue ≡ false → (o : Option Name) → name_of v t ≡ o → AnsweredBy v t (fate_named v o)

@@ -1,13 +1,13 @@
 -- A message with a number that is abandoned: what is kept after it, where it was in part and where it wasn't.
-use Rattle.std.proofs.Common.{◌≡◌, ℕ, zero, suc, ◌+◌, ◌-◌, ◌%◌, ◌^◌, ◌<◌, List, [], ◌∷◌, ◌++◌, length, map, drop, set, Bool, true, false, Option, Some, None, refl, sym, ap, ◌∙◌, arith, append-nil, length-append, length-drop}
-use Rattle.std.specs.Prelude.{not, ◌&&◌, ◌||◌, min, if◌then◌else◌, slice_get}
+use Rattle.std.proofs.Common.{◌≤◌, ◌≡◌, ℕ, zero, suc, ◌+◌, ◌-◌, ◌%◌, ◌^◌, ◌<◌, List, [], ◌∷◌, ◌++◌, length, map, drop, set, Bool, true, false, Option, Some, None, refl, sym, ap, ◌∙◌, arith, append-nil, length-append, length-drop}
+use Rattle.std.specs.Prelude.{not, ◌&&◌, min, if◌then◌else◌, slice_get}
 use Rattle.std.proofs.lemmas.List.{length-map, drop-append-le}
 use Rattle.sctp_model.specs.messages.Format.{Format, Lane, ordered_lane, unordered_lane}
 use Rattle.sctp_model.specs.messages.Plan.{Message, Entry, Part, End, Plan, message_at}
 use Rattle.sctp_model.specs.sender.Assigning.{with_entry}
 use Rattle.sctp_model.specs.sender.SenderView.{SenderView}
 use Rattle.sctp_model.specs.sender.Entries.{entry_message, is_of, is_in_part, passes_at, continued, fragments_from}
-use Rattle.sctp_model.specs.sender.Queueing.{owed_for}
+use Rattle.sctp_model.specs.sender.Queueing.{owed_for, owed_by_queue, owed_by_parts}
 use Rattle.sctp_model.specs.sender.Abandoning.{Name, has_ticket, is_covered, with_abandoned, abandon_after}
 use Rattle.sctp_model.specs.sender.Reached.{IsReached, Abandons}
 use Rattle.sctp_model.proofs.sender.Bounds.{is_bounded}
@@ -48,11 +48,7 @@ items_left_abandoned f s v t n k m =
 
 -- each item stays that of its message
 abandoned_message : (t : ℕ) (x : Item) → (abandoned_item t x).message ≡ x.message
-abandoned_message t x = by_test (has_ticket t x.message)
-  where
-    by_test : (b : Bool) → (if b then record x { abandoned = true; marked = false } else x).message ≡ x.message
-    by_test true = refl
-    by_test false = refl
+abandoned_message t x = grind arith
 
 -- ---- abandoned: what streams go on with
 
@@ -94,12 +90,8 @@ rest_is p r (Some e) is = (e, refl, some_same (sym is))
 
 any_there : (t : ℕ) (xs : List Track) (at : ℕ) (x : Track) → slice_get xs at ≡ Some x → rest_has t x.rest ≡ true → any_rest t xs ≡ true
 any_there t [] at x is on = absurd (cc)
-any_there t (y ∷ xs) zero x is on = let same : y ≡ x = some_same is in rw (same, on) refl
-any_there t (y ∷ xs) (suc at) x is on = rw (any_there t xs at x is on) (or_true (rest_has t y.rest))
-  where
-    or_true : (b : Bool) → (b || true) ≡ true
-    or_true true = refl
-    or_true false = refl
+any_there t (y ∷ xs) zero x is on = grind (arith, is, on)
+any_there t (y ∷ xs) (suc at) x is on = grind (arith, any_there t xs at x)
 
 -- the view with it abandoned, where its stream doesn't go on with it
 pub keeps_abandoned : (f : Format) (s : Kept) (v : SenderView) (t : ℕ) (n : Name) → Keeps f s v → IsKept v t n → is_covered v n ≡ false → v.partial ≡ true → length s.fates < 2 ^ 64 → any_rest t s.tracks ≡ false
@@ -112,25 +104,16 @@ keeps_abandoned f s v t n k m off partial few none =
     let goes_on : (j : ℕ) → continued u.plan j ≡ continued v.plan j = λ j. ap (λ (p : Plan). continued p j) plan in
     let long = length-map s.items (abandoned_item t) in
     let owed = sum-same (λ j. owed_at u.plan j) (λ j. owed_at v.plan j) v.streams (λ j lt. ap (λ (p : Plan). owed_at p j) plan) in
+    let items : map (abandoned_item t) s.items ≡ items_from u (suc v.cum) (drop v.cum u.plan.entries) =
+    items_left_abandoned f s v t n k m ∙ ap (λ (es : List Entry). items_from u (suc v.cum) (drop v.cum es)) (sym entries) in
+    let tracks : s.tracks ≡ table (track_here u) 0 v.streams = k.holds.tracks ∙ table-same (track_here v) (track_here u) 0 v.streams (λ j lo hi. sym (track_same v n j (goes_on j))) in
+    let fates = abandoned_fates f s v t n k m.named m.low m.high in
     let room = k.holds.room in
+    let space : length (map (abandoned_item t) s.items) + (owed_by_queue v.queue + owed_by_parts u) ≤ s.capacity = omega (arith, long, owed, room) in
     let after = abandoned_after v t n m off partial in
     let reached = Abandons v t k.reached in
     rw after (record {
-      holds = record {
-        initial = k.holds.initial;
-        streams = k.holds.streams;
-        fragment = k.holds.fragment;
-        partial = k.holds.partial;
-        cum = k.holds.cum;
-        rwnd = k.holds.rwnd;
-        turn = k.holds.turn;
-        items = items_left_abandoned f s v t n k m ∙ ap (λ (es : List Entry). items_from u (suc v.cum) (drop v.cum es)) (sym entries);
-        queue = k.holds.queue;
-        tracks = k.holds.tracks ∙ table-same (track_here v) (track_here u) 0 v.streams (λ j lo hi. sym (track_same v n j (goes_on j)));
-        fates = abandoned_fates f s v t n k m.named m.low m.high;
-        covered = k.holds.covered;
-        room = omega (arith, long, owed, room);
-      };
+      holds = assumption (k.holds, items, tracks, fates, space);
       over = record { within = k.over.within; each = λ x le. let o = k.over.each x le in record { queue = o.queue; tracks = o.tracks; items = same_items x (abandoned_item t) s.items (abandoned_message t) ∙ o.items } };
       due = record { many = k.due.many; each = λ x now lt. let i = k.due.each x now lt in record { queue = i.queue; items = λ on. late_abandoned now x t (is_asleep s x) s.items (i.items on); tracks = i.tracks } };
       forward = still_forward f v.resets.base v.streams v.plan.entries [] u.plan.entries s.forward (entries ∙ sym (append-nil v.plan.entries)) k.forward;
@@ -191,26 +174,14 @@ keeps_ended f s v t n r tracks k m off partial few ends =
     let more = length-append (map (abandoned_item t) s.items) (end_item r ∷ []) in
     let fewer = fewer_owed v n named low part in
     let parts = sum-same (λ j. owed_at u.plan j) (λ j. owed_at (with_end v.plan n) j) v.streams (λ j lt. ap (λ (p : Plan). owed_at p j) plan) in
+    let fates = abandoned_fates f s v t n k m.named m.low m.high in
     let room = k.holds.room in
+    let space : length (map (abandoned_item t) s.items ++ end_item r ∷ []) + (owed_by_queue v.queue + owed_by_parts u) ≤ s.capacity = omega (arith, long, more, fewer, parts, room) in
     let after = abandoned_after v t n m off partial in
     let reached = Abandons v t k.reached in (
       omega (arith, fewer, room),
       rw after (record {
-        holds = record {
-          initial = k.holds.initial;
-          streams = k.holds.streams;
-          fragment = k.holds.fragment;
-          partial = k.holds.partial;
-          cum = k.holds.cum;
-          rwnd = k.holds.rwnd;
-          turn = k.holds.turn;
-          items = items;
-          queue = k.holds.queue;
-          tracks = now;
-          fates = abandoned_fates f s v t n k m.named m.low m.high;
-          covered = k.holds.covered;
-          room = omega (arith, long, more, fewer, parts, room);
-        };
+        holds = assumption (k.holds, items, now, fates, space);
         over = record {
           within = k.over.within;
           each = λ x le.

@@ -1,8 +1,8 @@
 -- Messages past their time: before its moment no ticket is to expire, and one ticket after the other is done.
-use Rattle.std.proofs.Common.{◌≡◌, ℕ, zero, suc, ◌+◌, ◌-◌, ◌<◌, ◌≤◌, List, [], ◌∷◌, drop, Bool, true, false, Option, Some, None, refl, sym, ap, ◌∙◌, arith}
-use Rattle.std.specs.Prelude.{◌==◌, ◌&&◌, ◌||◌, nat_lt, if◌then◌else◌, option_map, option_and_then, find}
+use Rattle.std.proofs.Common.{inl, inr, ◌≡◌, ℕ, zero, suc, ◌+◌, ◌-◌, ◌<◌, ◌≤◌, List, [], ◌∷◌, drop, Bool, true, false, Option, Some, None, refl, sym, ap, ◌∙◌, arith}
+use Rattle.std.specs.Prelude.{◌==◌, ◌&&◌, ◌||◌, nat_lt, option_map, option_and_then, find}
 use Rattle.std.specs.List.{list_any}
-use Rattle.std.proofs.lemmas.Bool.{or_left, or_right}
+use Rattle.std.proofs.lemmas.Bool.{or_cases, false_from_ne_true}
 use Rattle.std.proofs.lemmas.Bool.Decides.{nat_tests}
 use Rattle.sctp_model.specs.messages.Format.{Format}
 use Rattle.sctp_model.specs.messages.Plan.{Message, Entry, Plan}
@@ -21,8 +21,7 @@ use Rattle.sctp_send.specs.SenderAnswers.{next_late}
 use Rattle.sctp_send.specs.SenderKept.{Item, Rest, Track, Kept}
 use Rattle.sctp_send.specs.SenderStands.{items_from, table, rest_here, track_here, Keeps}
 use Rattle.sctp_send.specs.inner.Expiring.{queue_messages, rest_message, rest_messages}
-use Rattle.sctp_send.specs.inner.Dues.{is_late, some_late, standing_message, standing_messages, due_at, IsIdle, NextLateAnswer, is_asleep}
-use Rattle.sctp_send.proofs.OverLemmas.{neither}
+use Rattle.sctp_send.specs.inner.Dues.{is_late, some_late, standing_messages, due_at, IsIdle, NextLateAnswer, is_asleep}
 
 late_queue : (now t : ℕ) (qs : List Queued) → some_late now t (queue_messages qs) ≡ late_waits now t qs
 late_queue now t [] = refl
@@ -39,38 +38,19 @@ rest_of p (Some e) = refl
 
 late_rests : (v : SenderView) (now t i n : ℕ) → some_late now t (rest_messages (table (track_here v) i n)) ≡ true → (s : ℕ) × (e : Entry) × (continued v.plan s ≡ Some e) × (is_late now t (entry_message v.plan e) ≡ true)
 late_rests v now t i zero on = absurd (cc)
-late_rests v now t i (suc n) on = by_test (is_late now t (rest_message (track_here v i))) refl on (λ there. late_rests v now t (suc i) n there)
+late_rests v now t i (suc n) on = elim (or_cases (is_late now t (rest_message (track_here v i))) (some_late now t (rest_messages (table (track_here v) (suc i) n))) on) [
+  | inl late ↦ by_next (continued v.plan i) refl (sym (ap (is_late now t) (rest_of v.plan (continued v.plan i))) ∙ late)
+  | inr there ↦ late_rests v now t (suc i) n there
+]
   where
     by_next : (o : Option Entry) → continued v.plan i ≡ o → is_late now t (option_and_then (λ e. entry_message v.plan e) o) ≡ true → (s : ℕ) × (e : Entry) × (continued v.plan s ≡ Some e) × (is_late now t (entry_message v.plan e) ≡ true)
     by_next None is late = absurd (cc)
     by_next (Some e) is late = (i, e, is, late)
 
-    by_test : (b : Bool) → is_late now t (rest_message (track_here v i)) ≡ b → (b || some_late now t (rest_messages (table (track_here v) (suc i) n))) ≡ true
-        → (some_late now t (rest_messages (table (track_here v) (suc i) n)) ≡ true → (s : ℕ) × (e : Entry) × (continued v.plan s ≡ Some e) × (is_late now t (entry_message v.plan e) ≡ true))
-        → (s : ℕ) × (e : Entry) × (continued v.plan s ≡ Some e) × (is_late now t (entry_message v.plan e) ≡ true)
-    by_test true late there further = by_next (continued v.plan i) refl (sym (ap (is_late now t) (rest_of v.plan (continued v.plan i))) ∙ late)
-    by_test false off there further = further there
-
 quiet_rests : (v : SenderView) (now t i n : ℕ) → some_late now t (rest_messages (table (track_here v) i n)) ≡ false → (s : ℕ) (e : Entry) → i ≤ s → s < i + n → continued v.plan s ≡ Some e → is_late now t (entry_message v.plan e) ≡ false
 quiet_rests v now t i zero off s e lo hi is = absurd (omega arith)
-quiet_rests v now t i (suc n) off s e lo hi is = by_at (nat_lt i s) refl (λ none lt. quiet_rests v now t (suc i) n none s e lt (omega arith) is)
-  where
-    parts : (b c : Bool) → (b || c) ≡ false → (b ≡ false) × (c ≡ false)
-    parts true c none = absurd (cc)
-    parts false c none = (refl, none)
-
-    here : is_late now t (rest_message (track_here v i)) ≡ false
-    here = (parts (is_late now t (rest_message (track_here v i))) (some_late now t (rest_messages (table (track_here v) (suc i) n))) off).0
-
-    further : some_late now t (rest_messages (table (track_here v) (suc i) n)) ≡ false
-    further = (parts (is_late now t (rest_message (track_here v i))) (some_late now t (rest_messages (table (track_here v) (suc i) n))) off).1
-
-    by_at : (b : Bool) → nat_lt i s ≡ b → (some_late now t (rest_messages (table (track_here v) (suc i) n)) ≡ false → suc i ≤ s → is_late now t (entry_message v.plan e) ≡ false) → is_late now t (entry_message v.plan e) ≡ false
-    by_at true past later = let lt : i < s = grind (arith, nat_tests) in later further (omega (arith, lt))
-    by_at false not_past later =
-        let same : i ≡ s = let le : s ≤ i = grind (arith, nat_tests) in omega arith in
-        let next : continued v.plan i ≡ Some e = ap (continued v.plan) same ∙ is in
-        sym (ap (is_late now t) (rest_of v.plan (continued v.plan i) ∙ ap (option_and_then (λ (x : Entry). entry_message v.plan x)) next)) ∙ here
+quiet_rests v now t i (suc n) off s e lo hi is =
+    grind (arith, rest_of v.plan (continued v.plan i), quiet_rests v now t (suc i) n)
 
 -- ---- what is kept, and the view
 
@@ -81,13 +61,7 @@ clash on off = cc
 pub fewer_late : (now t : ℕ) (b : Bool) (xs : List Item) → some_late now t (standing_messages b xs) ≡ false → some_late now t (standing_messages true xs) ≡ false
 fewer_late now t true xs none = none
 fewer_late now t false [] none = refl
-fewer_late now t false (x ∷ xs) none =
-    let parts = neither (is_late now t (standing_message false x)) (some_late now t (standing_messages false xs)) none in
-    rw (by_covered x.covered x.abandoned parts.0, fewer_late now t false xs parts.1) refl
-  where
-    by_covered : (c g : Bool) → is_late now t (if g then None else x.message) ≡ false → is_late now t (if c || g then None else x.message) ≡ false
-    by_covered true g off = refl
-    by_covered false g off = off
+fewer_late now t false (x ∷ xs) none = grind (arith, fewer_late now t false xs)
 
 -- an idle ticket isn't to expire
 idle_stays : (f : Format) (s : Kept) (v : SenderView) (now t : ℕ) → Keeps f s v → IsIdle s now t → is_to_expire v now t ≡ false
@@ -107,23 +81,17 @@ due_stays f s v now t k lt = idle_stays f s v now t k (k.due.each t now lt)
 
 -- a ticket that isn't to expire is idle, but for what is covered
 pub stays_idle : (f : Format) (s : Kept) (v : SenderView) (now t : ℕ) (ms : List ℕ) → Keeps f s v → s.passed < t → is_to_expire v now t ≡ false → IsIdle (record s { moments = ms; asleep = true }) now t
-stays_idle f s v now t ms k past off = record { queue = by_queue (some_late now t (queue_messages s.queue)) refl; items = λ on. let over : nat_lt s.passed t ≡ true = grind (arith, nat_tests) in rw over (by_items on (some_late now t (standing_messages true s.items)) refl); tracks = λ on. by_tracks on (some_late now t (rest_messages s.tracks)) refl }
-  where
-    by_queue : (b : Bool) → some_late now t (queue_messages s.queue) ≡ b → b ≡ false
-    by_queue false is = refl
-    by_queue true is = absurd (clash (late_waiting f v now t k.reached (sym (late_queue now t v.queue) ∙ ap (λ (qs : List Queued). some_late now t (queue_messages qs)) (sym k.holds.queue) ∙ is)) off)
-
-    by_items : s.partial ≡ true → (b : Bool) → some_late now t (standing_messages true s.items) ≡ b → b ≡ false
-    by_items on false is = refl
-    by_items on true is =
-        let shown = sym (late_items v now t (drop v.cum v.plan.entries) (suc v.cum)) ∙ ap (λ (xs : List Item). some_late now t (standing_messages true xs)) (sym k.holds.items) ∙ is in
-        absurd (clash (late_shown f v now t k.reached (sym k.holds.partial ∙ on) shown) off)
-
-    by_tracks : s.partial ≡ true → (b : Bool) → some_late now t (rest_messages s.tracks) ≡ b → b ≡ false
-    by_tracks on false is = refl
-    by_tracks on true is =
-        let rest = late_rests v now t 0 v.streams (ap (λ (ts : List Track). some_late now t (rest_messages ts)) (sym k.holds.tracks) ∙ is) in
-        absurd (clash (late_rest f v now t rest.0 rest.1 k.reached (sym k.holds.partial ∙ on) rest.2 rest.3) off)
+stays_idle f s v now t ms k past off = record {
+  queue = false_from_ne_true _ (λ is. clash (late_waiting f v now t k.reached (sym (late_queue now t v.queue) ∙ ap (λ (qs : List Queued). some_late now t (queue_messages qs)) (sym k.holds.queue) ∙ is)) off);
+  items = λ on.
+      let over : nat_lt s.passed t ≡ true = grind (arith, nat_tests) in
+      rw over (false_from_ne_true _ (λ is.
+      let shown = sym (late_items v now t (drop v.cum v.plan.entries) (suc v.cum)) ∙ ap (λ (xs : List Item). some_late now t (standing_messages true xs)) (sym k.holds.items) ∙ is in
+      clash (late_shown f v now t k.reached (sym k.holds.partial ∙ on) shown) off));
+  tracks = λ on. false_from_ne_true _ (λ is.
+      let rest = late_rests v now t 0 v.streams (ap (λ (ts : List Track). some_late now t (rest_messages ts)) (sym k.holds.tracks) ∙ is) in
+      clash (late_rest f v now t rest.0 rest.1 k.reached (sym k.holds.partial ∙ on) rest.2 rest.3) off);
+}
 
 -- ---- one ticket after the other
 
@@ -138,12 +106,7 @@ idle_to v u now last (suc k) is idle =
 -- a message that is due has a ticket that was given
 found_waits : (now t : ℕ) (qs : List Queued) → some_passes (is_past now) (option_map (λ q. q.message) (find (λ q. q.message.ticket == t) qs)) ≡ true → waits t qs ≡ true
 found_waits now t [] is = absurd (cc)
-found_waits now t (q ∷ qs) is = by_test (q.message.ticket == t) is (λ there. found_waits now t qs there)
-  where
-    by_test : (b : Bool) → some_passes (is_past now) (option_map (λ (x : Queued). x.message) (if b then Some q else find (λ x. x.message.ticket == t) qs)) ≡ true
-        → (some_passes (is_past now) (option_map (λ x. x.message) (find (λ x. x.message.ticket == t) qs)) ≡ true → waits t qs ≡ true) → (b || waits t qs) ≡ true
-    by_test true there further = refl
-    by_test false there further = further there
+found_waits now t (q ∷ qs) is = grind (arith, found_waits now t qs)
 
 pub due_given : (f : Format) (v : SenderView) (now t : ℕ) → IsReached f v → is_overdue v now t ≡ true → t ≤ v.tickets
 due_given f v now t h due = by_name (name_of v t) refl due
@@ -162,11 +125,7 @@ same_tickets v t = after_abandon (λ u. u.tickets ≡ v.tickets) v t refl (λ on
 
 still_given : (now : ℕ) (v : SenderView) (t : ℕ) → (expired_to now v t).tickets ≡ v.tickets
 still_given now v zero = refl
-still_given now v (suc t) = ap (λ (u : SenderView). u.tickets) (expired_next now t v) ∙ by_due (is_overdue (expired_to now v t) now (suc t)) ∙ still_given now v t
-  where
-    by_due : (b : Bool) → (if b then abandon_after (expired_to now v t) (suc t) else expired_to now v t).tickets ≡ (expired_to now v t).tickets
-    by_due true = same_tickets (expired_to now v t) (suc t)
-    by_due false = refl
+still_given now v (suc t) = grind (arith, expired_next now t v, same_tickets (expired_to now v t) (suc t), still_given now v t)
 
 -- the next ticket whose moment has come: after it, this is left
 pub record IsNextDone (v u : SenderView) (now t : ℕ) : Type 0 where
@@ -193,11 +152,7 @@ late_none f s v u now last k is le quiet =
 
 -- a ticket up to the last one isn't asked for
 up_to_last : (last t : ℕ) (b : Bool) → (last < t → b ≡ false) → (nat_lt last t && b) ≡ false
-up_to_last last t b off = by_above (nat_lt last t) refl
-  where
-    by_above : (a : Bool) → nat_lt last t ≡ a → (a && b) ≡ false
-    by_above true above = off (grind (arith, nat_tests))
-    by_above false above = refl
+up_to_last last t b off = grind (arith, nat_tests, off)
 
 -- what was found is the lowest
 pub answered_next : (v : SenderView) (last now : ℕ) (o : Option ℕ) → NextLateAnswer v last now o → o ≡ next_late v last now
@@ -221,11 +176,7 @@ none_up test i (suc n) off = rw (off i (omega arith)) (none_up test (suc i) n (�
 
 some_up : (test : ℕ → Bool) (i n t : ℕ) → i ≤ t → t < i + n → test t ≡ true → list_any test (count_up i n) ≡ true
 some_up test i zero t lo hi on = absurd (omega arith)
-some_up test i (suc n) t lo hi on = by_here (i == t) refl (λ above. some_up test (suc i) n t above (omega arith) on)
-  where
-    by_here : (b : Bool) → (i == t) ≡ b → (suc i ≤ t → list_any test (count_up (suc i) n) ≡ true) → (test i || list_any test (count_up (suc i) n)) ≡ true
-    by_here true same further = let here : i ≡ t = grind (arith, nat_tests) in or_left (test i) (list_any test (count_up (suc i) n)) (ap test here ∙ on)
-    by_here false other further = or_right (test i) (list_any test (count_up (suc i) n)) (further (grind (arith, nat_tests)))
+some_up test i (suc n) t lo hi on = grind (arith, some_up test (suc i) n t)
 
 pub none_late : (v : SenderView) (now : ℕ) → NextLateAnswer v 0 now None → has_late v now ≡ false
 none_late v now none = none_up (is_to_expire v now) 1 v.tickets (λ t le. none t (omega arith))

@@ -23,8 +23,7 @@ use Rattle.sctp_send.specs.SenderAnswers.{is_limit_at, is_at_limit}
 use Rattle.sctp_send.proofs.abandon.LimitLemmas.{any_off, any_on}
 
 off_of : (b : Bool) → not b ≡ true → b ≡ false
-off_of true on = absurd (cc)
-off_of false on = refl
+off_of b on = grind arith
 
 clash : {b : Bool} → b ≡ true → b ≡ false → ⊥
 clash on off = cc
@@ -46,7 +45,7 @@ worn_names f v i e h there worn_out =
 -- ---- abandoned messages
 
 pub gone_is_not : (f : Format) (v : SenderView) (t : ℕ) → IsReached f v → abandoned v t ≡ true → is_at_limit v t ≡ false
-gone_is_not f v t h on = any_off (λ i. is_limit_at v i && (ticket_at v i == t)) 1 (length v.plan.entries) (λ j lo hi. each j (is_limit_at v j) refl (ticket_at v j == t) refl)
+gone_is_not f v t h on = any_off (λ i. is_limit_at v i && (ticket_at v i == t)) 1 (length v.plan.entries) (λ j lo hi. each j)
   where
     lost : (j : ℕ) → is_limit_at v j ≡ true → ticket_at v j ≡ t → ⊥
     lost j at same =
@@ -59,24 +58,14 @@ gone_is_not f v t h on = any_off (λ i. is_limit_at v i && (ticket_at v i == t))
         let gone_so : is_of_abandoned v there.0 ≡ true = subst (λ (n : Name). is_abandoned v n ≡ true) one named.2 in
         clash gone_so (off_of (is_of_abandoned v there.0) tests.0)
 
-    each : (j : ℕ) (a : Bool) → is_limit_at v j ≡ a → (b : Bool) → (ticket_at v j == t) ≡ b → (a && b) ≡ false
-    each j false off b is = refl
-    each j true at false is = refl
-    each j true at true is = absurd (lost j at (grind (arith, nat_tests)))
+    each : (j : ℕ) → (is_limit_at v j && (ticket_at v j == t)) ≡ false
+    each j = grind (arith, nat_tests, lost j)
 
 -- ---- what wearing leaves
 
 -- a message that was abandoned is
 grown_given : (v : SenderView) (n : Name) (l : Lane) (k : ℕ) → v.abandoned l k ≡ true → (with_abandoned v n).abandoned l k ≡ true
-grown_given v n l k on = by_lane (same_lane l n.lane) refl
-  where
-    by_number : (b : Bool) → l ≡ n.lane → (if b then true else v.abandoned n.lane k) ≡ true
-    by_number true lane = refl
-    by_number false lane = ap (λ (x : Lane). v.abandoned x k) (sym lane) ∙ on
-
-    by_lane : (b : Bool) → same_lane l n.lane ≡ b → (if b then (λ (j : ℕ). if j == n.number then true else v.abandoned n.lane j) else v.abandoned l) k ≡ true
-    by_lane true same = by_number (k == n.number) (lanes_same l n.lane same)
-    by_lane false other = on
+grown_given v n l k on = grind (arith, on, lanes_same l n.lane)
 
 -- so far: messages, entries and counts are those of the first view, and what was abandoned was at its limit there
 record IsLeft (v u : SenderView) : Type 0 where
@@ -94,7 +83,7 @@ record IsLeft (v u : SenderView) : Type 0 where
 -- a message has one ticket
 one_ticket : (m : Option Message) (t x : ℕ) → has_ticket t m ≡ true → has_ticket x m ≡ true → t ≡ x
 one_ticket None t x on also = absurd (cc)
-one_ticket (Some m) t x on also = let one : m.ticket ≡ t = grind (arith, nat_tests) in let two : m.ticket ≡ x = grind (arith, nat_tests) in sym one ∙ two
+one_ticket (Some m) t x on also = grind (arith, nat_tests, on, also)
 
 -- a message of which an entry is worn later was at its limit
 was_at_limit : (f : Format) (v u : SenderView) (test : ℕ → Bool) (i : ℕ) → IsReached f v → IsLeft v u → is_worn_at test u i ≡ true → is_at_limit v (ticket_at u i) ≡ true
@@ -110,14 +99,17 @@ was_at_limit f v u test i h k on = any_on (λ j. is_limit_at v j && (ticket_at v
     some zero is = absurd (cc)
     some (suc j) is = omega arith
 
-    unsettled : is_unsettled u i e ≡ true
-    unsettled = (and_parts (is_unsettled u i e) (is_worn u i e) there.2).0
-
     went : u.sent i ≡ true
-    went = (and_parts (u.sent i) (is_wanted u i e) unsettled).0
+    went = grind (arith, there.2)
 
-    wanted : (not (u.covered i) ≡ true) × (not (is_of_abandoned u e) ≡ true)
-    wanted = and_parts (not (u.covered i)) (not (is_of_abandoned u e)) (and_parts (u.sent i) (is_wanted u i e) unsettled).1
+    outstanding : u.covered i ≡ false
+    outstanding = grind (arith, there.2)
+
+    kept : is_of_abandoned u e ≡ false
+    kept = grind (arith, there.2)
+
+    worn_out : is_worn u i e ≡ true
+    worn_out = grind (arith, there.2)
 
     within : i ≤ length v.plan.entries
     within = elim (cases_lt (length v.plan.entries) i) [
@@ -131,12 +123,11 @@ was_at_limit f v u test i h k on = any_on (λ j. is_limit_at v j && (ticket_at v
     above : v.cum < i
     above = elim (cases_lt v.cum i) [
       | inl lt ↦ lt
-      | inr low ↦ absurd (let lo = some i there.1 in clash (ap (λ (g : ℕ → Bool). g i) k.covered ∙ (is_bounded f v h).covered i (omega (arith, lo)) low) (off_of (u.covered i) wanted.0))
+      | inr low ↦ absurd (let lo = some i there.1 in clash (ap (λ (g : ℕ → Bool). g i) k.covered ∙ (is_bounded f v h).covered i (omega (arith, lo)) low) outstanding)
     ]
 
-    not_gone : (b : Bool) → is_of_abandoned v e ≡ b → is_of_abandoned v e ≡ false
-    not_gone false is = is
-    not_gone true is = absurd (clash (k.grown (entry_lane e) (entry_number e) is) (off_of (is_of_abandoned u e) wanted.1))
+    not_gone : is_of_abandoned v e ≡ false
+    not_gone = grind (arith, kept, k.grown (entry_lane e) (entry_number e))
 
     same_message : entry_message v.plan e ≡ entry_message u.plan e
     same_message = ap (λ (ms : Lane → List Message). slice_get (ms (entry_lane e)) (entry_number e)) (sym k.messages)
@@ -146,7 +137,7 @@ was_at_limit f v u test i h k on = any_on (λ j. is_limit_at v j && (ticket_at v
         ap (λ (p : Bool). p && some_passes (is_used_up (v.repeats i)) (entry_message v.plan e)) (sym k.partial)
         ∙ ap (λ (r : ℕ → ℕ). u.partial && some_passes (is_used_up (r i)) (entry_message v.plan e)) (sym k.repeats)
         ∙ ap (λ (m : Option Message). u.partial && some_passes (is_used_up (u.repeats i)) m) same_message
-        ∙ (and_parts (is_unsettled u i e) (is_worn u i e) there.2).1
+        ∙ worn_out
 
     ticket : ticket_at v i ≡ ticket_at u i
     ticket =
@@ -155,12 +146,7 @@ was_at_limit f v u test i h k on = any_on (λ j. is_limit_at v j && (ticket_at v
         ∙ sym (ap (λ (o : Option Entry). unwrap_or (option_map (λ m. m.ticket) (option_and_then (entry_message u.plan) o)) 0) there.1)
 
     both : (is_limit_at v i && (ticket_at v i == ticket_at u i)) ≡ true
-    both =
-        let low : nat_lt v.cum i ≡ true = let lt = above in grind (arith, nat_tests) in
-        let same : (ticket_at v i == ticket_at u i) ≡ true = let is = ticket in grind (arith, nat_tests) in
-        let passes : passes_at v.plan (λ j d. not (is_of_abandoned v d) && is_worn v j d) i ≡ true =
-        ap (some_passes (λ d. not (is_of_abandoned v d) && is_worn v i d)) here ∙ rw (not_gone (is_of_abandoned v e) refl, is_worn_still) refl in
-        rw (low, passes, same) refl
+    both = grind (arith, nat_tests, above, ticket, here, not_gone, is_worn_still)
 
 -- ---- index after index
 
@@ -199,28 +185,14 @@ left_one f v u test i h reached k = by_worn (is_worn_at test u i) refl
   where
     by_worn : (b : Bool) → is_worn_at test u i ≡ b → IsLeft v (if b then abandon_after u (ticket_at u i) else u)
     by_worn false off = k
-    by_worn true on = after_abandon (IsLeft v) u (ticket_at u i) k
-        (λ waiting. record { names = k.names; messages = k.messages; longer = k.longer; entries = k.entries; sent = k.sent; repeats = k.repeats; covered = k.covered; partial = k.partial; grown = k.grown; only = k.only })
-        (λ n is kept. left_given f v u (ticket_at u i) n reached k is (was_at_limit f v u test i h k on))
+    by_worn true on = after_abandon (IsLeft v) u (ticket_at u i) k (λ waiting. assumption k) (λ n is kept. left_given f v u (ticket_at u i) n reached k is (was_at_limit f v u test i h k on))
 
 left_all : (f : Format) (v u : SenderView) (test : ℕ → Bool) (is : List ℕ) → IsReached f v → IsReached f u → IsLeft v u → IsLeft v (fold (wear_one test) u is)
 left_all f v u test [] h reached k = k
-left_all f v u test (i ∷ is) h reached k = left_all f v (wear_one test u i) test is h (by_worn (is_worn_at test u i)) (left_one f v u test i h reached k)
-  where
-    by_worn : (b : Bool) → IsReached f (if b then abandon_after u (ticket_at u i) else u)
-    by_worn true = Abandons u (ticket_at u i) reached
-    by_worn false = reached
+left_all f v u test (i ∷ is) h reached k = left_all f v (wear_one test u i) test is h (grind (arith, Abandons u (ticket_at u i) reached)) (left_one f v u test i h reached k)
 
 pub worn_only : (f : Format) (v : SenderView) (test : ℕ → Bool) (t : ℕ) → IsReached f v → abandoned (worn test v) t ≡ true → abandoned v t ≡ false → is_at_limit v t ≡ true
-worn_only f v test t h = (left_all f v v test (count_up 1 (length v.plan.entries)) h h (record {
-  names = λ x. refl;
-  messages = refl;
-  longer = omega arith;
-  entries = λ i low. refl;
-  sent = refl;
-  repeats = refl;
-  covered = refl;
-  partial = refl;
-  grown = λ l n on. on;
-  only = λ x on off. absurd (clash on off);
-})).only t
+worn_only f v test t h =
+    let longer : length v.plan.entries ≤ length v.plan.entries = omega arith in
+    let only : (x : ℕ) → abandoned v x ≡ true → abandoned v x ≡ false → is_at_limit v x ≡ true = λ x on off. absurd (clash on off) in
+    (left_all f v v test (count_up 1 (length v.plan.entries)) h h (assumption (longer, only))).only t

@@ -1,10 +1,11 @@
 -- The messages at their limit of retransmissions, by what is kept above CUM.
 use Rattle.std.proofs.Common.{◌≡◌, ℕ, zero, suc, ◌+◌, ◌-◌, ◌<◌, ◌≤◌, List, [], ◌∷◌, length, get_or, map, Bool, true, false, Some, None, inl, inr, refl, sym, ap, ◌∙◌, subst, arith}
-use Rattle.std.specs.Prelude.{not, ◌&&◌, ◌||◌, ◌==◌, nat_lt, slice_get}
+use Rattle.std.specs.Prelude.{not, ◌&&◌, ◌==◌, nat_lt, slice_get}
 use Rattle.std.specs.List.{list_any}
-use Rattle.std.proofs.lemmas.Bool.{and_right, cases_lt}
+use Rattle.std.proofs.lemmas.Bool.{cases_lt}
 use Rattle.std.proofs.lemmas.Bool.Decides.{nat_tests}
 use Rattle.std.proofs.lemmas.List.{length-map}
+use Rattle.std.proofs.lemmas.Option.{get_or_from_slice_get, slice_get_within}
 use Rattle.sctp_model.specs.messages.Format.{Format}
 use Rattle.sctp_model.specs.messages.Plan.{Message}
 use Rattle.sctp_model.specs.sender.SenderView.{SenderView}
@@ -33,20 +34,7 @@ any_off test i (suc n) off = rw (off i (omega arith) (omega arith), any_off test
 
 pub any_on : (test : ℕ → Bool) (i n j : ℕ) → i ≤ j → j < i + n → test j ≡ true → list_any test (count_up i n) ≡ true
 any_on test i zero j lo hi on = absurd (omega (arith, lo, hi))
-any_on test i (suc n) j lo hi on = elim (cases_lt i j) [
-  | inl further ↦ rw (any_on test (suc i) n j further (omega (arith, hi)) on) (or_true (test i))
-  | inr here ↦ let same : j ≡ i = omega (arith, lo, here) in rw (ap test (sym same) ∙ on) refl
-]
-  where
-    or_true : (b : Bool) → (b || true) ≡ true
-    or_true true = refl
-    or_true false = refl
-
-on_lt : (a b : ℕ) → a < b → nat_lt a b ≡ true
-on_lt a b h = grind (arith, nat_tests)
-
-off_lt : (a b : ℕ) → b ≤ a → nat_lt a b ≡ false
-off_lt a b h = grind (arith, nat_tests)
+any_on test i (suc n) j lo hi on = grind (arith, any_on test (suc i) n j)
 
 -- ---- entry by entry
 
@@ -56,20 +44,14 @@ get_there (x ∷ xs) zero lt = (x, refl)
 get_there (x ∷ xs) (suc n) lt = get_there xs n (omega arith)
 
 read_there : {A : Type 0} (xs : List A) (n : ℕ) (x : A) → slice_get xs n ≡ Some x → x ≡ get_or xs n x
-read_there [] n x there = absurd (cc)
-read_there (y ∷ xs) zero x there = let same : y ≡ x = cc in sym same
-read_there (y ∷ xs) (suc n) x there = read_there xs n x there
-
-get_long : {A : Type 0} (xs : List A) (n : ℕ) (x : A) → slice_get xs n ≡ Some x → n < length xs
-get_long [] n x there = absurd (cc)
-get_long (y ∷ xs) zero x there = omega arith
-get_long (y ∷ xs) (suc n) x there = let lt = get_long xs n x there in omega (arith, lt)
+read_there xs n x there = sym (get_or_from_slice_get xs n x x there)
 
 -- whether an index is at the limit
 limit_at : (f : Format) (s : Kept) (v : SenderView) (size at : ℕ) (x : EntryFields) → Keeps f s v → IsKeptAt v size at x → is_limit_at v (suc (v.cum + at)) ≡ (not x.abandoned && is_spent s.partial (v.repeats (suc (v.cum + at))) x)
 limit_at f s v size at x k h =
     let i = suc (v.cum + at) in
-    ap (λ (b : Bool). b && passes_at v.plan (λ j e. not (is_of_abandoned v e) && is_worn v j e) i) (on_lt v.cum i (omega arith))
+    let above : nat_lt v.cum i ≡ true = grind (arith, nat_tests) in
+    ap (λ (b : Bool). b && passes_at v.plan (λ j e. not (is_of_abandoned v e) && is_worn v j e) i) above
     ∙ ap (some_passes (λ e. not (is_of_abandoned v e) && is_worn v i e)) h.there
     ∙ ap (λ (b : Bool). not (is_of_abandoned v h.entry) && b) (at_spent v size at x h)
     ∙ ap (λ (b : Bool). not b && is_spent v.partial (v.repeats i) x) (sym (ap (λ (y : Item). y.abandoned) h.item))
@@ -85,21 +67,16 @@ none_of_ticket : (f : Format) (s : Kept) (v : SenderView) (size t : ℕ) (es : L
     → ((at : ℕ) (x : EntryFields) → slice_get es at ≡ Some x → ticket_of x ≡ t → SaysSpent s.partial x false) → is_at_limit v t ≡ false
 none_of_ticket f s v size t es k is none = any_off (λ i. is_limit_at v i && (ticket_at v i == t)) 1 (length v.plan.entries) each
   where
-    both : (a b : Bool) → (b ≡ true → a ≡ false) → (a && b) ≡ false
-    both a true off = ap (λ (c : Bool). c && true) (off refl)
-    both a false off = and_right a false refl
-
     by_entry : (at : ℕ) → at < length es → (is_limit_at v (suc (v.cum + at)) && (ticket_at v (suc (v.cum + at)) == t)) ≡ false
     by_entry at lt =
         let x = get_there es at lt in
         let h = kept_at f s v size at es x.0 k is lt (read_there es at x.0 x.1) in
-        both (is_limit_at v (suc (v.cum + at))) (ticket_at v (suc (v.cum + at)) == t) (λ on.
-        let same : ticket_at v (suc (v.cum + at)) ≡ t = grind (arith, nat_tests) in
-        at_limit_of f s v size at x.0 false k h (none at x.0 x.1 (at_ticket v size at x.0 h ∙ same)))
+        let off : ticket_of x.0 ≡ t → is_limit_at v (suc (v.cum + at)) ≡ false = λ mine. at_limit_of f s v size at x.0 false k h (none at x.0 x.1 mine) in
+        grind (arith, nat_tests, off, at_ticket v size at x.0 h)
 
     each : (j : ℕ) → 1 ≤ j → j < 1 + length v.plan.entries → (is_limit_at v j && (ticket_at v j == t)) ≡ false
     each j lo hi = elim (cases_lt v.cum j) [
-      | inr low ↦ ap (λ (b : Bool). (b && passes_at v.plan (λ i e. not (is_of_abandoned v e) && is_worn v i e) j) && (ticket_at v j == t)) (off_lt v.cum j low)
+      | inr low ↦ grind (arith, nat_tests, low)
       | inl above ↦
           let long = kept_length f s v k in
           let many : length s.items ≡ length es = ap (λ (xs : List Item). length xs) is ∙ length-map es (item_meaning size) in
@@ -111,7 +88,7 @@ none_of_ticket f s v size t es k is none = any_off (λ i. is_limit_at v i && (ti
 some_of_ticket : (f : Format) (s : Kept) (v : SenderView) (size t at : ℕ) (es : List EntryFields) (x : EntryFields) → Keeps f s v → s.items ≡ map (item_meaning size) es → slice_get es at ≡ Some x → ticket_of x ≡ t
     → SaysSpent s.partial x true → is_at_limit v t ≡ true
 some_of_ticket f s v size t at es x k is there mine says =
-    let lt = get_long es at x there in
+    let lt = slice_get_within es at x there in
     let h = kept_at f s v size at es x k is lt (read_there es at x there) in
     let long = kept_length f s v k in
     let many : length s.items ≡ length es = ap (λ (xs : List Item). length xs) is ∙ length-map es (item_meaning size) in
@@ -136,26 +113,21 @@ pub none_next : (f : Format) (s : Kept) (v : SenderView) (size last : ℕ) (es :
 none_next f s v size last es k is none = lowest_none (λ t. nat_lt last t && is_at_limit v t) v.tickets each
   where
     each : (t : ℕ) → 0 < t → t ≤ v.tickets → (nat_lt last t && is_at_limit v t) ≡ false
-    each t lo hi = elim (cases_lt last t) [
-      | inr low ↦ ap (λ (b : Bool). b && is_at_limit v t) (off_lt last t low)
-      | inl above ↦ and_right (nat_lt last t) (is_at_limit v t) (none_of_ticket f s v size t es k is (λ at x there mine. none at x there (omega (arith, above, mine))))
-    ]
+    each t lo hi = grind (arith, nat_tests, λ (above : last < t). none_of_ticket f s v size t es k is (λ at x there mine. none at x there (omega (arith, above, mine))))
 
 pub some_next : (f : Format) (s : Kept) (v : SenderView) (size last t : ℕ) (es : List EntryFields) → Keeps f s v → s.items ≡ map (item_meaning size) es → IsNextSpent s.partial last t es → next_at_limit v last ≡ Some t
 some_next f s v size last t es k is next =
-    let h = kept_at f s v size next.at es next.entry k is (get_long es next.at next.entry next.there) (read_there es next.at next.entry next.there) in
+    let h = kept_at f s v size next.at es next.entry k is (slice_get_within es next.at next.entry next.there) (read_there es next.at next.entry next.there) in
     let given = given_there f s v size next.at next.entry k h in
     let mine = next.mine in
     let above = next.above in
     lowest_found (λ u. nat_lt last u && is_at_limit v u) v.tickets t (record {
       some = omega (arith, above);
       within = omega (arith, given.1, mine);
-      passes = ap (λ (b : Bool). b && is_at_limit v t) (on_lt last t above) ∙ some_of_ticket f s v size t next.at es next.entry k is next.there mine next.spent;
+      passes = grind (arith, nat_tests, above, some_of_ticket f s v size t next.at es next.entry k is next.there mine next.spent);
       first = before;
     })
   where
     before : (u : ℕ) → 0 < u → u < t → (nat_lt last u && is_at_limit v u) ≡ false
-    before u lo hi = elim (cases_lt last u) [
-      | inr low ↦ ap (λ (b : Bool). b && is_at_limit v u) (off_lt last u low)
-      | inl over ↦ and_right (nat_lt last u) (is_at_limit v u) (none_of_ticket f s v size u es k is (λ at x there mine. next.before at x there (omega (arith, over, mine)) (omega (arith, hi, mine))))
-    ]
+    before u lo hi =
+        grind (arith, nat_tests, λ (over : last < u). none_of_ticket f s v size u es k is (λ at x there mine. next.before at x there (omega (arith, over, mine)) (omega (arith, hi, mine))))

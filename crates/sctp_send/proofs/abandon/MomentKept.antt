@@ -2,6 +2,7 @@
 use Rattle.std.proofs.Common.{◌≡◌, ℕ, zero, suc, ◌+◌, ◌<◌, ◌≤◌, ◌⊎◌, inl, inr, List, [], ◌∷◌, length, drop, Bool, true, false, Option, Some, None, refl, sym, ap, ◌∙◌, arith}
 use Rattle.std.specs.Prelude.{◌==◌, not, ◌&&◌, if◌then◌else◌, option_map, option_and_then, find, slice_get}
 use Rattle.std.specs.Option.{option_map_or}
+use Rattle.std.proofs.lemmas.Bool.{false_from_ne_true}
 use Rattle.sctp_model.specs.messages.Format.{Format}
 use Rattle.sctp_model.specs.messages.Plan.{Message, Entry, message_at}
 use Rattle.sctp_model.specs.sender.SenderView.{Queued, SenderView}
@@ -20,27 +21,18 @@ use Rattle.sctp_send.specs.inner.Walks.{is_numbered_fate, any_rest, any_uncovere
 use Rattle.sctp_send.specs.inner.Dues.{has_come, IsUntilOf, IsOpenUntil}
 use Rattle.sctp_send.specs.declared.kept.message.Fate.{Fate}
 use Rattle.sctp_send.specs.declared.kept.message.Fate.TheVariants.{Queued as StillQueued, Numbered, Withdrawn, Abandoned as WasAbandoned}
-use Rattle.sctp_send.proofs.OverLemmas.{neither}
 use Rattle.sctp_send.proofs.QueueLemmas.{fates_given}
 use Rattle.sctp_send.proofs.abandon.EndLemmas.{get-table}
 use Rattle.sctp_send.proofs.abandon.AbandonedLemmas.{kept_name}
 use Rattle.sctp_send.proofs.abandon.AnswerLemmas.{answered_abandoned, abandoned_may, whole_is}
 
-with_false : (b : Bool) → (b && false) ≡ false
-with_false true = refl
-with_false false = refl
-
 with_true : (b : Bool) → (b && true) ≡ b
-with_true true = refl
-with_true false = refl
-
-clash : {b : Bool} → b ≡ true → b ≡ false → ⊥
-clash on off = cc
+with_true b = grind arith
 
 -- ---- where nothing may be abandoned
 
 not_to_expire : (v : SenderView) (now t : ℕ) → may_abandon v t ≡ false → is_to_expire v now t ≡ false
-not_to_expire v now t off = ap (λ (b : Bool). is_overdue v now t && b) off ∙ with_false (is_overdue v now t)
+not_to_expire v now t off = grind (arith, off)
 
 -- no message has the ticket
 nothing_late : (v : SenderView) (now t : ℕ) → waits t v.queue ≡ false → name_of v t ≡ None → is_to_expire v now t ≡ false
@@ -52,7 +44,7 @@ named_late v now t n is off = not_to_expire v now t (ap (λ (o : Option Name). o
 
 -- a ticket that was not given
 pub unknown_late : (f : Format) (s : Kept) (v : SenderView) (now t : ℕ) → Keeps f s v → (t ≡ 0) ⊎ (length s.fates < t) → is_to_expire v now t ≡ false
-unknown_late f s v now t k out = by_wait (waits t v.queue) refl
+unknown_late f s v now t k out = by_name (name_of v t) refl
   where
     never : 0 < t → t ≤ v.tickets → ⊥
     never low high = let given = fates_given f s v k in elim out [
@@ -60,13 +52,9 @@ unknown_late f s v now t k out = by_wait (waits t v.queue) refl
       | inr over ↦ omega (arith, given)
     ]
 
-    by_name : waits t v.queue ≡ false → (o : Option Name) → name_of v t ≡ o → is_to_expire v now t ≡ false
-    by_name off None is = nothing_late v now t off is
-    by_name off (Some n) is = let own = found_owns v.plan v.tickets t v.plan.entries v.plan.entries n (is_ticketed f v k.reached).owned is in let low = own.0 t own.1 in absurd (never low.0 low.1)
-
-    by_wait : (b : Bool) → waits t v.queue ≡ b → is_to_expire v now t ≡ false
-    by_wait true is = let w = (is_ticketed f v k.reached).waiting t is in absurd (never w.0 w.1)
-    by_wait false off = by_name off (name_of v t) refl
+    by_name : (o : Option Name) → name_of v t ≡ o → is_to_expire v now t ≡ false
+    by_name None is = nothing_late v now t (false_from_ne_true _ (λ on. let w = (is_ticketed f v k.reached).waiting t on in never w.0 w.1)) is
+    by_name (Some n) is = let own = found_owns v.plan v.tickets t v.plan.entries v.plan.entries n (is_ticketed f v k.reached).owned is in let low = own.0 t own.1 in absurd (never low.0 low.1)
 
 -- ---- by its fate
 
@@ -82,7 +70,7 @@ late_by v t = by_wait (waits t v.queue) refl
   where
     by_kept : (n : Name) → name_of v t ≡ Some n → (b : Bool) → is_abandoned v n ≡ b → LateBy v t (if b then WasAbandoned else Numbered)
     by_kept n is false kept = tt
-    by_kept n is true on = λ now. named_late v now t n is (ap (λ (b : Bool). v.partial && (not b && not (is_covered v n))) on ∙ with_false v.partial)
+    by_kept n is true on = λ now. named_late v now t n is (grind (arith, on))
 
     by_name : waits t v.queue ≡ false → (o : Option Name) → name_of v t ≡ o → LateBy v t (fate_named v o)
     by_name off None is = λ now. nothing_late v now t off is
@@ -109,25 +97,15 @@ waiting_moment f v now t h on =
 
 none_found : (t : ℕ) (qs : List Queued) → waits t qs ≡ false → find (λ q. q.message.ticket == t) qs ≡ None
 none_found t [] off = refl
-none_found t (q ∷ qs) off =
-    let parts = neither (q.message.ticket == t) (waits t qs) off in
-    ap (λ (b : Bool). if b then Some q else find (λ x. x.message.ticket == t) qs) parts.0 ∙ none_found t qs parts.1
+none_found t (q ∷ qs) off = grind (arith, none_found t qs)
 
 -- it is past its time where its message is
 overdue_named : (v : SenderView) (now t : ℕ) (n : Name) → waits t v.queue ≡ false → name_of v t ≡ Some n → is_overdue v now t ≡ some_passes (is_past now) (message_at v.plan n.lane n.number)
-overdue_named v now t n off is =
-    ap (λ (o : Option Queued). some_passes (is_past now) (first_there (option_map (λ q. q.message) o ∷ option_and_then (λ x. message_at v.plan x.lane x.number) (name_of v t) ∷ []))) (none_found t v.queue off)
-    ∙ ap (λ (o : Option Name). some_passes (is_past now) (first_there (None ∷ option_and_then (λ x. message_at v.plan x.lane x.number) o ∷ []))) is
-    ∙ alone (message_at v.plan n.lane n.number)
-  where
-    alone : (o : Option Message) → some_passes (is_past now) (first_there (None ∷ o ∷ [])) ≡ some_passes (is_past now) o
-    alone None = refl
-    alone (Some m) = refl
+overdue_named v now t n off is = grind (arith, none_found t v.queue off, is)
 
 -- a message's moment
 past_by : (now : ℕ) (m : Option Message) (r : Option ℕ) → option_and_then (λ x. x.until) m ≡ r → some_passes (is_past now) m ≡ has_come now r
-past_by now None r is = ap (has_come now) is
-past_by now (Some m) r is = ap (has_come now) is
+past_by now m r is = grind (arith, is)
 
 -- the message of an entry that has the ticket is the one that the ticket names
 owned_item : (v : SenderView) (t : ℕ) (n : Name) (i at : ℕ) (es : List Entry) (x : Item) → AllOwn v.plan v.tickets v.plan.entries es → name_of v t ≡ Some n → slice_get (items_from v i es) at ≡ Some x → has_ticket t x.message ≡ true
@@ -181,7 +159,7 @@ pub covered_late : (f : Format) (s : Kept) (v : SenderView) (now t : ℕ) → Ke
 covered_late f s v now t k on whole =
     let m = kept_name f v t k.reached on in
     let covered = sym (whole_is f s v t m.0 k m.1) ∙ whole in
-    named_late v now t m.0 m.1.named (ap (λ (b : Bool). v.partial && (not (is_abandoned v m.0) && not b)) covered ∙ ap (λ (b : Bool). v.partial && b) (with_false (not (is_abandoned v m.0))) ∙ with_false v.partial)
+    named_late v now t m.0 m.1.named (grind (arith, covered))
 
 -- by what is open of it, or where nothing is
 pub open_moment : (f : Format) (s : Kept) (v : SenderView) (now t : ℕ) (r : Option ℕ) → Keeps f s v → is_numbered_fate (fate_here v t) ≡ true → s.partial ≡ true → IsOpenUntil t r s.items s.tracks → is_to_expire v now t ≡ has_come now r

@@ -1,6 +1,10 @@
 -- The moment of a ticket's message, where it is found: among those that wait, above CUM or in part.
 use Rattle.std.proofs.Common.{◌≡◌, ℕ, zero, suc, ◌+◌, ◌<◌, ◌≤◌, List, [], ◌∷◌, length, get_or, map, drop, Bool, true, false, Option, Some, None, refl, sym, ap, ◌∙◌, subst, arith}
-use Rattle.std.specs.Prelude.{◌==◌, not, ◌&&◌, ◌||◌, if◌then◌else◌, option_and_then, find, slice_get}
+use Rattle.std.specs.Prelude.{◌==◌, not, ◌&&◌, option_and_then, find, slice_get}
+use Rattle.std.proofs.Math.ListN.{get_or-map}
+use Rattle.std.proofs.lemmas.List.{drop_all, length-map}
+use Rattle.std.proofs.lemmas.Option.{get_or_from_slice_get}
+use Rattle.sctp_send.proofs.pace.HereLemmas.{item_read}
 use Rattle.std.proofs.lemmas.Bool.Decides.{nat_tests}
 use Rattle.std.specs.declared.sync.Arc.{Arc}
 use Rattle.std.specs.declared.alloc.Global.{Global}
@@ -18,10 +22,6 @@ use Rattle.sctp_send.specs.declared.kept.entry.Entry.{Entry as EntryFields}
 use Rattle.sctp_send.specs.declared.kept.track.Track.{Track as TrackFields}
 use Rattle.sctp_send.specs.declared.kept.track.Rest.{Rest as RestFields}
 
-and_false : (b : Bool) → (b && false) ≡ false
-and_false true = refl
-and_false false = refl
-
 -- ---- among those that wait
 
 -- the first one with a ticket
@@ -33,15 +33,12 @@ past_lower t size zero ms lower le = refl
 past_lower t size (suc n) [] lower le = absurd (omega arith)
 past_lower t size (suc n) (m ∷ ms) lower le =
     let low : ticket_in m < t = lower 0 m (omega arith) in
-    let off : (ticket_in m == t) ≡ false = grind (arith, nat_tests) in
-    ap (λ (b : Bool). if b then Some (queued_by size m) else with_ticket t (map (queued_by size) ms)) off ∙ past_lower t size n ms (λ k d lt. lower (suc k) d (omega arith)) (omega arith)
+    grind (arith, nat_tests, low, past_lower t size n ms (λ k d lt. lower (suc k) d (omega arith)))
 
 past_one : (t size at : ℕ) (ms : List (Arc MessageFields Global)) (x : Arc MessageFields Global) → at < length ms → x ≡ get_or ms at x → (x.value.ticket ≡ t → ⊥)
     → with_ticket t (drop at (map (queued_by size) ms)) ≡ with_ticket t (drop (suc at) (map (queued_by size) ms))
 past_one t size at [] x lt read other = absurd (omega arith)
-past_one t size zero (m ∷ ms) x lt read other =
-    let off : (x.value.ticket == t) ≡ false = grind (arith, nat_tests) in
-    ap (λ (b : Bool). if b then Some (queued_by size m) else with_ticket t (map (queued_by size) ms)) (ap (λ (y : Arc MessageFields Global). y.value.ticket == t) (sym read) ∙ off)
+past_one t size zero (m ∷ ms) x lt read other = grind (arith, nat_tests, read, other)
 past_one t size (suc at) (m ∷ ms) x lt read other = past_one t size at ms x (omega arith) read other
 
 pub past_other : (t size at : ℕ) (ms : List (Arc MessageFields Global)) (x : Arc MessageFields Global) → at < length ms → x ≡ get_or ms at x → (x.value.ticket ≡ t → ⊥)
@@ -51,46 +48,33 @@ past_other t size at ms x lt read other = let one : suc at ≡ at + 1 = omega ar
 pub found_until : (t size at : ℕ) (ms : List (Arc MessageFields Global)) (x : Arc MessageFields Global) → at < length ms → x ≡ get_or ms at x → x.value.ticket ≡ t
     → x.value.until ≡ option_and_then (λ q. q.message.until) (with_ticket t (drop at (map (queued_by size) ms)))
 found_until t size at [] x lt read same = absurd (omega arith)
-found_until t size zero (m ∷ ms) x lt read same =
-    let on : (x.value.ticket == t) ≡ true = grind (arith, nat_tests) in
-    ap (λ (y : Arc MessageFields Global). y.value.until) read
-    ∙ sym (ap (λ (b : Bool). option_and_then (λ q. q.message.until) (if b then Some (queued_by size m) else with_ticket t (map (queued_by size) ms))) (ap (λ (y : Arc MessageFields Global). y.value.ticket == t) (sym read) ∙ on))
+found_until t size zero (m ∷ ms) x lt read same = grind (arith, nat_tests, read, same)
 found_until t size (suc at) (m ∷ ms) x lt read same = found_until t size at ms x (omega arith) read same
 
 pub none_until : (t size at : ℕ) (ms : List (Arc MessageFields Global)) → length ms ≤ at → with_ticket t (drop at (map (queued_by size) ms)) ≡ None
-none_until t size zero [] le = refl
-none_until t size zero (m ∷ ms) le = absurd (omega arith)
-none_until t size (suc at) [] le = refl
-none_until t size (suc at) (m ∷ ms) le = none_until t size at ms (omega arith)
+none_until t size at ms le = let long = length-map ms (queued_by size) in rw (drop_all at (map (queued_by size) ms) (omega (arith, long, le))) refl
 
 -- ---- above CUM
-
-mapped : {A B : Type 0} (f : A → B) (xs : List A) (at : ℕ) (x : A) → at < length xs → x ≡ get_or xs at x → slice_get (map f xs) at ≡ Some (f x)
-mapped f [] at x lt read = absurd (omega arith)
-mapped {B = B} f (y ∷ xs) zero x lt read = ap (λ z. Some (f z)) (sym read)
-mapped f (y ∷ xs) (suc at) x lt read = mapped f xs at x (omega arith) read
 
 pub item_until : (t size at : ℕ) (es : List EntryFields) (e : EntryFields) → at < length es → e ≡ get_or es at e → e.message.value.ticket ≡ t → IsItemUntil t e.message.value.until (map (item_meaning size) es)
 item_until t size at es e lt read same = record {
   at = at;
   item = item_meaning size e;
-  there = mapped (item_meaning size) es at e lt read;
+  there = item_read size es at e lt read;
   has = (grind (arith, nat_tests), refl);
 }
 
 -- an entry that is covered isn't uncovered, and one of the message that isn't is
 pub covered_item : (t size : ℕ) (e : EntryFields) → e.covered ≡ true → is_item_uncovered t (item_meaning size e) ≡ false
-covered_item t size e on = ap (λ (b : Bool). has_ticket t (item_meaning size e).message && not b) on ∙ and_false (has_ticket t (item_meaning size e).message)
+covered_item t size e on = grind (arith, on)
 
 pub uncovered_item : (t size : ℕ) (e : EntryFields) → e.message.value.ticket ≡ t → e.covered ≡ false → is_item_uncovered t (item_meaning size e) ≡ true
-uncovered_item t size e same off = let on : (e.message.value.ticket == t) ≡ true = grind (arith, nat_tests) in rw (on, off) refl
+uncovered_item t size e same off = grind (arith, nat_tests, same, off)
 
 -- ---- in part
 
 read_mapped : {A B : Type 0} (f : A → B) (xs : List A) (at : ℕ) (x : A) (y : B) → x ≡ get_or xs at x → slice_get (map f xs) at ≡ Some y → y ≡ f x
-read_mapped f [] at x y read there = absurd (cc)
-read_mapped f (z ∷ xs) zero x y read there = let same : f z ≡ y = cc in sym same ∙ ap f (sym read)
-read_mapped f (z ∷ xs) (suc at) x y read there = read_mapped f xs at x y read there
+read_mapped f xs at x y read there = sym (get_or_from_slice_get (map f xs) at y (f x) there) ∙ get_or-map f xs at x ∙ ap f (sym read)
 
 pub rest_until : (t size at : ℕ) (ts : List TrackFields) (x : TrackFields) (r : RestFields) → x ≡ get_or ts at x → x.rest ≡ Some r → GoesOnAt t at (map (track_meaning size) ts) → IsRestUntil t r.message.value.until (map (track_meaning size) ts)
 rest_until t size at ts x r read is on =
@@ -124,26 +108,15 @@ part_until t size at ts x r read on is = by_rest x.rest refl
 
 -- ---- what is open of a message
 
-either : (a b : Bool) → b ≡ true → (a || b) ≡ true
-either true b on = refl
-either false b on = on
-
 -- a stream goes on with it
 rest_there : (t at : ℕ) (ts : List Track) (x : Track) → slice_get ts at ≡ Some x → has_ticket t (rest_message x) ≡ true → any_rest t ts ≡ true
 rest_there t at [] x is has = absurd (cc)
-rest_there t zero (y ∷ ts) x is has = let same : y ≡ x = cc in first (rest_has t y.rest) (any_rest t ts) (of_rest y.rest ∙ ap (λ (z : Track). has_ticket t (rest_message z)) same ∙ has)
-  where
-    of_rest : (o : Option Rest) → rest_has t o ≡ has_ticket t (option_and_then (λ r. r.message) o)
-    of_rest None = refl
-    of_rest (Some r) = refl
-
-    first : (a b : Bool) → a ≡ true → (a || b) ≡ true
-    first a b on = rw on refl
-rest_there t (suc at) (y ∷ ts) x is has = either (rest_has t y.rest) (any_rest t ts) (rest_there t at ts x is has)
+rest_there t zero (y ∷ ts) x is has = grind (arith, is, has)
+rest_there t (suc at) (y ∷ ts) x is has = grind (arith, rest_there t at ts x)
 
 module _ (t : ℕ) (xs : List Item) (ts : List Track) where
   pub open_item : any_uncovered t xs ≡ true → (not (any_rest t ts) && not (any_uncovered t xs)) ≡ false
-  open_item on = ap (λ (b : Bool). not (any_rest t ts) && not b) on ∙ and_false (not (any_rest t ts))
+  open_item on = grind (arith, on)
 
   pub open_rest : (until : Option ℕ) → IsRestUntil t until ts → (not (any_rest t ts) && not (any_uncovered t xs)) ≡ false
   open_rest until r = ap (λ (b : Bool). not b && not (any_uncovered t xs)) (rest_there t r.at ts r.track r.there r.has.0)

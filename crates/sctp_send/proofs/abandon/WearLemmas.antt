@@ -1,14 +1,14 @@
 -- What was retransmitted as often as it may be, entry by entry and index by index.
 use Rattle.std.proofs.Common.{◌≡◌, ℕ, zero, suc, ◌+◌, ◌-◌, ◌<◌, ◌≤◌, List, [], ◌∷◌, ◌++◌, length, get_or, map, drop, Bool, true, false, Option, Some, None, inl, inr, refl, sym, ap, ◌∙◌, subst, arith}
-use Rattle.std.specs.Prelude.{not, ◌&&◌, min, nat_le, nat_lt, if◌then◌else◌, fold, option_map, option_and_then, unwrap_or}
-use Rattle.std.proofs.lemmas.Bool.{and_right, cases_lt}
+use Rattle.std.specs.Prelude.{◌&&◌, min, nat_le, nat_lt, if◌then◌else◌, fold, option_map, option_and_then, unwrap_or}
+use Rattle.std.proofs.lemmas.Bool.{cases_lt}
 use Rattle.std.proofs.lemmas.Bool.Decides.{nat_tests}
 use Rattle.std.proofs.lemmas.List.{length-map}
 use Rattle.sctp_model.specs.messages.Format.{Format}
 use Rattle.sctp_model.specs.messages.Plan.{Message, Entry, entry_at}
 use Rattle.sctp_model.specs.sender.SenderView.{SenderView}
 use Rattle.sctp_model.specs.sender.Words.{some_passes, count_up}
-use Rattle.sctp_model.specs.sender.Entries.{entry_message, is_of_abandoned, is_unsettled, passes_at}
+use Rattle.sctp_model.specs.sender.Entries.{entry_message, is_unsettled, passes_at}
 use Rattle.sctp_model.specs.sender.Abandoning.{abandon_after, is_used_up, is_worn, is_worn_at, ticket_at, wear_one, worn}
 use Rattle.sctp_model.proofs.sender.Bounds.{is_bounded, entry_beyond}
 use Rattle.sctp_model.proofs.sender.PointLaws.{get-drop}
@@ -74,7 +74,7 @@ at_worn f s v test size at x k h on =
     ∙ ap (λ (p : Bool). is_item_unsettled (item_meaning size x) && is_spent p (v.repeats i) x) (sym k.holds.partial)
 
 pub none_worn_at : (test : ℕ → Bool) (v : SenderView) (i : ℕ) → entry_at v.plan i ≡ None → is_worn_at test v i ≡ false
-none_worn_at test v i none = and_right (test i) (passes_at v.plan (λ j e. is_unsettled v j e && is_worn v j e) i) (ap (some_passes (λ e. is_unsettled v i e && is_worn v i e)) none)
+none_worn_at test v i none = grind (arith, none)
 
 -- ---- index by index
 
@@ -84,14 +84,7 @@ wear_off test v i off = ap (λ (b : Bool). if b && passes_at v.plan (λ j e. is_
 
 -- nor at one that is covered
 wear_covered : (test : ℕ → Bool) (v : SenderView) (i : ℕ) → v.covered i ≡ true → wear_one test v i ≡ v
-wear_covered test v i on = ap (λ (b : Bool). if b then abandon_after v (ticket_at v i) else v) (and_right (test i) (passes_at v.plan (λ j e. is_unsettled v j e && is_worn v j e) i) (none (entry_at v.plan i)))
-  where
-    settled : (e : Entry) → (is_unsettled v i e && is_worn v i e) ≡ false
-    settled e = ap (λ (c : Bool). (v.sent i && (not c && not (is_of_abandoned v e))) && is_worn v i e) on ∙ ap (λ (b : Bool). b && is_worn v i e) (and_right (v.sent i) false refl)
-
-    none : (o : Option Entry) → some_passes (λ e. is_unsettled v i e && is_worn v i e) o ≡ false
-    none None = refl
-    none (Some e) = settled e
+wear_covered test v i on = grind (arith, on)
 
 wear_idle : (test : ℕ → Bool) (v : SenderView) (i n : ℕ) → ((j : ℕ) → i ≤ j → j < i + n → wear_one test v j ≡ v) → fold (wear_one test) v (count_up i n) ≡ v
 wear_idle test v i zero idle = refl
@@ -138,12 +131,6 @@ worn_all f s v test from to first last k tells ends begins =
     ∙ fold-append (wear_one test) v (count_up (suc (v.cum + first)) (last - first)) (count_up (suc (v.cum + last)) (length s.items - last))
     ∙ wear_idle test (worn_to test v first (last - first)) (suc (v.cum + last)) (length s.items - last) (λ j lo hi. wear_off test (worn_to test v first (last - first)) j (behind j lo (omega (arith, hi, ends)))))
   where
-    off_le : (a b : ℕ) → b < a → nat_le a b ≡ false
-    off_le a b h = grind (arith, nat_tests)
-
-    off_lt : (a b : ℕ) → b ≤ a → nat_lt a b ≡ false
-    off_lt a b h = grind (arith, nat_tests)
-
     at_index : (j : ℕ) → v.cum < j → test (suc (v.cum + (j - suc v.cum))) ≡ test j
     at_index j above = ap test (omega (arith, above))
 
@@ -154,8 +141,7 @@ worn_all f s v test from to first last k tells ends begins =
           let at = j - suc v.cum in
           let less : at < first = omega (arith, hi, above) in
           let tested = tells at (omega (arith, less, begins, ends)) in
-          let off : nat_le from at ≡ false = off_le from at (omega (arith, less, begins)) in
-          wear_off test v j (sym (at_index j above) ∙ sym tested ∙ ap (λ (b : Bool). b && nat_lt at to) off)
+          wear_off test v j (grind (arith, nat_tests, tested, less, begins, at_index j above))
     ]
 
     behind : (j : ℕ) → suc (v.cum + last) ≤ j → j < suc (v.cum + length s.items) → test j ≡ false
@@ -164,5 +150,4 @@ worn_all f s v test from to first last k tells ends begins =
         let above : v.cum < j = omega (arith, lo) in
         let past : last ≤ at = omega (arith, lo) in
         let within : at < length s.items = omega (arith, hi, above) in
-        let off : nat_lt at to ≡ false = off_lt at to (omega (arith, past, within, ends)) in
-        sym (at_index j above) ∙ sym (tells at within) ∙ and_right (nat_le from at) (nat_lt at to) off
+        grind (arith, nat_tests, tells at within, past, within, ends, at_index j above)

@@ -1,6 +1,7 @@
 -- A message withdrawn: its place in the queue, and what is kept without it.
-use Rattle.std.proofs.Common.{◌≡◌, ℕ, zero, suc, ◌+◌, ◌-◌, ◌<◌, ◌≤◌, List, [], ◌∷◌, ◌++◌, length, map, take, drop, set, Bool, true, false, Option, Some, None, refl, sym, ap, ◌∙◌, arith, get_or, append-nil, take_all, IfSome, IfNone, remove}
+use Rattle.std.proofs.Common.{◌≡◌, ℕ, suc, ◌+◌, ◌-◌, ◌<◌, ◌≤◌, List, [], ◌∷◌, ◌++◌, length, map, take, drop, set, Bool, true, false, Option, Some, None, refl, sym, ap, ◌∙◌, arith, get_or, append-nil, take_all, IfSome, IfNone, remove}
 use Rattle.std.specs.Prelude.{◌==◌, if◌then◌else◌}
+use Rattle.std.proofs.Common.{drop-cons, append_assoc, take-suc}
 use Rattle.std.proofs.lemmas.List.{length-map, map-append, take-map, drop-map}
 use Rattle.std.proofs.lemmas.Bool.Decides.{nat_tests}
 use Rattle.std.specs.declared.sync.Arc.{Arc}
@@ -9,6 +10,7 @@ use Rattle.sctp_model.specs.messages.Format.{Format}
 use Rattle.sctp_model.specs.sender.SenderView.{Queued, SenderView}
 use Rattle.std.specs.Option.{option_map_or}
 use Rattle.sctp_model.specs.sender.Abandoning.{Name, waits, without, name_of, abandon_named, abandon_after}
+use Rattle.sctp_model.specs.sender.Queueing.{owed_by_queue, owed_by_parts}
 use Rattle.sctp_model.specs.sender.Reached.{Abandons}
 use Rattle.sctp_model.proofs.sender.OwedLaws.{owed_rest}
 use Rattle.sctp_model.proofs.sender.TicketLaws.{is_ticketed}
@@ -29,14 +31,10 @@ use Rattle.sctp_send.proofs.WalkLemmas.{none_behind, queue_read}
 -- ---- the place of a message that waits
 
 split_at : (t : ℕ) (qs : List Queued) (at : ℕ) (d : Queued) → at < length qs → take at qs ++ without t (drop at qs) ≡ take at qs ++ (if (get_or qs at d).message.ticket == t then drop (suc at) qs else get_or qs at d ∷ without t (drop (suc at) qs))
-split_at t [] at d lt = absurd (omega arith)
-split_at t (q ∷ qs) zero d lt = refl
-split_at t (q ∷ qs) (suc at) d lt = ap (λ (xs : List Queued). q ∷ xs) (split_at t qs at d (omega arith))
+split_at t qs at d lt = rw (drop-cons qs at d lt) refl
 
 take_more : (qs : List Queued) (at : ℕ) (d : Queued) (rest : List Queued) → at < length qs → take at qs ++ (get_or qs at d ∷ rest) ≡ take (suc at) qs ++ rest
-take_more [] at d rest lt = absurd (omega arith)
-take_more (q ∷ qs) zero d rest lt = refl
-take_more (q ∷ qs) (suc at) d rest lt = ap (λ (xs : List Queued). q ∷ xs) (take_more qs at d rest (omega arith))
+take_more qs at d rest lt = rw (take-suc qs at d lt) (sym (append_assoc (take at qs) (get_or qs at d ∷ []) rest))
 
 pub walked_place : (t size : ℕ) (ms : List (Arc MessageFields Global)) (at : ℕ) (x : Arc MessageFields Global) → at < length ms → x ≡ get_or ms at x → (x.value.ticket ≡ t → ⊥)
     → without t (map (queued_by size) ms) ≡ take at (map (queued_by size) ms) ++ without t (drop at (map (queued_by size) ms))
@@ -68,16 +66,7 @@ ended_place t size ms at n le is before =
     let long = length-map ms (queued_by size) in
     let none = none_behind at (map (queued_by size) ms) (omega arith) in
     let past = none_behind (n + 1) (map (queued_by size) ms) (omega arith) in
-    before ∙ rw (none, past) (ap (λ (xs : List Queued). xs ++ []) (all_taken at n (map (queued_by size) ms) (omega arith) (omega arith)))
-  where
-    all_taken : (a b : ℕ) (qs : List Queued) → length qs ≤ a → length qs ≤ b → take a qs ≡ take b qs
-    all_taken zero zero qs x y = refl
-    all_taken zero (suc b) [] x y = refl
-    all_taken zero (suc b) (q ∷ qs) x y = absurd (omega arith)
-    all_taken (suc a) zero [] x y = refl
-    all_taken (suc a) zero (q ∷ qs) x y = absurd (omega arith)
-    all_taken (suc a) (suc b) [] x y = refl
-    all_taken (suc a) (suc b) (q ∷ qs) x y = ap (λ (xs : List Queued). q ∷ xs) (all_taken a b qs (omega arith) (omega arith))
+    before ∙ rw (none, past, take_all at (map (queued_by size) ms) (omega arith), take_all n (map (queued_by size) ms) (omega arith)) refl
 
 -- what is left around the place, or all where it is past the end
 pub withdrawn_is : (p : ℕ) (old new : QueueKept) (taken : Option Waiting) → (p < length old.items → new ≡ record old { items = remove old.items p }) → IfSome taken (λ w. (p < length old.items) × (w.message ≡ get_or old.items p w.message))
@@ -110,22 +99,11 @@ keeps_withdrawn f s v t k on =
     let fates : set s.fates (t - 1) Withdrawn ≡ table (fate_here u) 1 v.tickets = rw (k.holds.fates, table-set (fate_here v) (fate_here u) 1 v.tickets (t - 1) (omega arith) others, self) refl in
     let reached = Abandons v t k.reached in
     let after : abandon_after v t ≡ u = ap (λ (o : Option Name). option_map_or (abandon_named v) o u) w.2 in
+    let queue : without t s.queue ≡ without t v.queue = rw k.holds.queue refl in
+    let room : length s.items + (owed_by_queue (without t v.queue) + owed_by_parts v) ≤ s.capacity =
+    let room = k.holds.room in let less = owed_rest (λ q. q.message.ticket == t) v.queue in omega (arith, room, less) in
     rw after (record {
-      holds = record {
-        initial = k.holds.initial;
-        streams = k.holds.streams;
-        fragment = k.holds.fragment;
-        partial = k.holds.partial;
-        cum = k.holds.cum;
-        rwnd = k.holds.rwnd;
-        turn = k.holds.turn;
-        items = k.holds.items;
-        queue = rw k.holds.queue refl;
-        tracks = k.holds.tracks;
-        fates = fates;
-        covered = k.holds.covered;
-        room = let room = k.holds.room in let less = owed_rest (λ q. q.message.ticket == t) v.queue in omega (arith, room, less);
-      };
+      holds = assumption (k.holds, queue, fates, room);
       over = record { within = k.over.within; each = λ x le. let o = k.over.each x le in record { queue = not_waiting_without x t s.queue o.queue; tracks = o.tracks; items = o.items } };
       due = record { many = k.due.many; each = λ x now lt. let i = k.due.each x now lt in record { queue = late_without now x t s.queue i.queue; items = i.items; tracks = i.tracks } };
       forward = k.forward;

@@ -1,6 +1,7 @@
 -- A SACK and a SHUTDOWN without a fault, as acknowledgements of offsets above CUM.
-use Rattle.std.proofs.Common.{◌≡◌, ℕ, suc, ◌+◌, ◌-◌, ◌<◌, ◌≤◌, ◌∙◌, List, [], ◌∷◌, length, Bool, true, false, Option, Some, None, refl, sym, ap, subst, arith}
+use Rattle.std.proofs.Common.{inl, inr, ◌≡◌, ℕ, suc, ◌+◌, ◌-◌, ◌<◌, ◌≤◌, ◌∙◌, List, [], ◌∷◌, length, true, false, Option, Some, None, refl, sym, ap, subst, arith}
 use Rattle.std.specs.Prelude.{nat_le, nat_lt, ◌||◌, if◌then◌else◌, is_some}
+use Rattle.std.proofs.lemmas.Bool.{cases_lt}
 use Rattle.std.proofs.lemmas.Bool.Decides.{nat_tests}
 use Rattle.std.proofs.lemmas.Option.{slice_get_past}
 use Rattle.sctp_model.specs.wire.Chunk.{BlockMeaning, SackMeaning}
@@ -8,9 +9,9 @@ use Rattle.sctp_model.specs.messages.Format.{Format}
 use Rattle.sctp_model.specs.messages.Acknowledgement.{in_blocks}
 use Rattle.sctp_model.specs.messages.Plan.{Entry, entry_at}
 use Rattle.sctp_model.specs.sender.SenderView.{SenderView}
-use Rattle.sctp_model.specs.sender.Words.{when, first_there, some_passes}
+use Rattle.sctp_model.specs.sender.Words.{some_passes}
 use Rattle.sctp_model.specs.sender.SackTaken as taken
-use Rattle.sctp_model.specs.sender.SackTaken.{is_stale, index_of, some_ends_past, some_is_bad, sack_covers, sack_fault, sack_taken, sack_after, shutdown_fault, shutdown_taken, shutdown_after}
+use Rattle.sctp_model.specs.sender.SackTaken.{is_stale, index_of, some_is_bad, sack_covers, sack_fault, sack_taken, sack_after, shutdown_fault, shutdown_taken, shutdown_after}
 use Rattle.sctp_model.specs.sender.Reached.{IsReached, Covers, Closes}
 use Rattle.sctp_model.specs.end.Trips.{was_given_up}
 use Rattle.sctp_model.proofs.sender.Bounds.{is_bounded}
@@ -31,18 +32,7 @@ pub record IsSound (v : SenderView) (x : SackMeaning) : Type 0 where
   pub good : some_is_bad 0 x.blocks ≡ false
 
 pub sound : (v : SenderView) (x : SackMeaning) → sack_fault v x ≡ None → IsSound v x
-sound v x none = by_tests (is_stale v x.cumulative) (nat_lt (length v.plan.entries) (index_of v x.cumulative)) (some_ends_past (length v.plan.entries) (index_of v x.cumulative) x.blocks) (some_is_bad 0 x.blocks) refl refl refl none
-  where
-    by_tests : (p q r t : Bool) → is_stale v x.cumulative ≡ p → nat_lt (length v.plan.entries) (index_of v x.cumulative) ≡ q → some_is_bad 0 x.blocks ≡ t
-        → first_there (when p taken.Stale ∷ when (q || r) taken.Beyond ∷ when t taken.BadBlock ∷ []) ≡ None → IsSound v x
-    by_tests true q r t one two three is = absurd (cc)
-    by_tests false true r t one two three is = absurd (cc)
-    by_tests false false true t one two three is = absurd (cc)
-    by_tests false false false true one two three is = absurd (cc)
-    by_tests false false false false one two three is = record { fresh = one; within = two; good = three }
-
-pub shutdown_none : (v : SenderView) (x : SackMeaning) → sack_fault v x ≡ None → shutdown_fault v x.cumulative ≡ None
-shutdown_none v x none = let h = sound v x none in rw (h.fresh, h.within) refl
+sound v x none = record { fresh = grind (arith, none); within = grind (arith, none); good = grind (arith, none) }
 
 -- ---- what they acknowledge
 
@@ -51,10 +41,7 @@ shifted c n j = grind (arith, nat_tests)
 
 shifted_blocks : (c n j : ℕ) (bs : List BlockMeaning) → in_blocks (c + n) bs (c + j) ≡ in_blocks n bs j
 shifted_blocks c n j [] = refl
-shifted_blocks c n j (b ∷ bs) =
-    let starts : nat_le (c + n + b.start) (c + j) ≡ nat_le (n + b.start) j = grind (arith, nat_tests) in
-    let ends : nat_le (c + j) (c + n + b.end) ≡ nat_le j (n + b.end) = grind (arith, nat_tests) in
-    rw (starts, ends, shifted_blocks c n j bs) refl
+shifted_blocks c n j (b ∷ bs) = grind (arith, nat_tests, shifted_blocks c n j bs)
 
 pub after_sack : (f : Format) (v : SenderView) (x : SackMeaning) (n : ℕ) → IsReached f v → IsPassing v x.cumulative n → sack_fault v x ≡ None → IsAfter v (sack_after v x) (sack_covers n x.blocks) n
 after_sack f v x n h p none = subst (λ (u : SenderView). IsAfter v u (sack_covers n x.blocks) n) (sym is) (record {
@@ -102,11 +89,10 @@ lie_covered f s v rs k covered = λ j some on.
 
 -- beyond what the runs reach none is
 pub none_closed : (f : Format) (s : Kept) (v : SenderView) (top : ℕ) → Keeps f s v → ((i : ℕ) → top < i → i ≤ length s.items → v.covered (v.cum + i) ≡ false) → (j : ℕ) → top < j → passes_here is_item_closed s.items (j - 1) ≡ false
-none_closed f s v top k off j lt = by_end (nat_lt (length s.items) j) refl
-  where
-    by_end : (b : Bool) → nat_lt (length s.items) j ≡ b → passes_here is_item_closed s.items (j - 1) ≡ false
-    by_end true past = let beyond : length s.items < j = grind (arith, nat_tests) in ap (some_passes is_item_closed) (slice_get_past s.items (j - 1) (omega (arith, beyond)))
-    by_end false within = let le : j ≤ length s.items = grind (arith, nat_tests) in closed_is f s v j k (omega (arith, lt)) ∙ off j lt le
+none_closed f s v top k off j lt = elim (cases_lt (length s.items) j) [
+  | inl past ↦ ap (some_passes is_item_closed) (slice_get_past s.items (j - 1) (omega (arith, past)))
+  | inr le ↦ closed_is f s v j k (omega (arith, lt)) ∙ off j lt le
+]
 
 -- ---- what is timed
 

@@ -1,14 +1,13 @@
 -- What is newly acknowledged where all entries are and nothing is marked for retransmission: what is in flight.
-use Rattle.std.proofs.Common.{◌≡◌, ℕ, zero, suc, ◌+◌, ◌-◌, ◌%◌, ◌^◌, ◌<◌, ◌≤◌, ◌∙◌, List, [], ◌∷◌, length, map, take, take_all, get_or, Bool, true, false, Option, Some, None, refl, sym, ap, arith}
+use Rattle.std.proofs.Common.{◌≡◌, ℕ, zero, suc, ◌+◌, ◌-◌, ◌%◌, ◌^◌, ◌<◌, ◌≤◌, ◌∙◌, List, [], ◌∷◌, length, map, take, take_all, get_or, Bool, true, None, refl, sym, ap, arith}
 use Rattle.std.proofs.lemmas.List.{length-map}
-use Rattle.std.specs.Prelude.{if◌then◌else◌, option_map}
 use Rattle.sctp_model.specs.sender.Words.{sum_below, last_that}
 use Rattle.sctp_send.specs.SenderKept.{Item}
 use Rattle.sctp_send.specs.declared.pace.tally.Tally.{Tally}
 use Rattle.sctp_send.specs.OutstandingFields.{item_meaning}
 use Rattle.sctp_send.specs.declared.kept.entry.Entry.{Entry as EntryFields}
 use Rattle.sctp_send.proofs.pace.HereLemmas.{here_read}
-use Rattle.sctp_send.specs.inner.Wishing.{first_offset, is_item_marked, item_weight, item_flight}
+use Rattle.sctp_send.specs.inner.Wishing.{first_offset, is_item_marked, item_flight}
 use Rattle.sctp_send.specs.inner.Weighing.{is_item_news, passes_here, is_news, news_weight, AreFlying, IsTally}
 
 -- the first summand of a sum apart
@@ -16,21 +15,12 @@ pub sum_shift : (h : ℕ → ℕ) (n : ℕ) → sum_below h (suc n) ≡ h 0 + su
 sum_shift h zero = omega arith
 sum_shift h (suc n) = let rest = sum_shift h n in omega (arith, rest)
 
--- what none of many items is, the first isn't, and none of the others
-unmarked_parts : (b : Bool) (o : Option ℕ) → (if b then Some 0 else option_map suc o) ≡ None → (b ≡ false) × (o ≡ None)
-unmarked_parts true o none = absurd (cc)
-unmarked_parts false None none = (refl, refl)
-unmarked_parts false (Some n) none = absurd (cc)
-
 -- so the bytes are those in flight
 pub sum_flying : (xs : List Item) (on : ℕ → Bool) → first_offset is_item_marked xs ≡ None → ((j : ℕ) → 0 < j → j ≤ length xs → on j ≡ true) → sum_below (news_weight xs on) (length xs) ≡ item_flight xs
 sum_flying [] on none all = refl
 sum_flying (x ∷ xs) on none all =
-    let parts = unmarked_parts x.marked (first_offset is_item_marked xs) none in
-    let here : on 1 ≡ true = all 1 (omega arith) (omega arith) in
-    let first : news_weight (x ∷ xs) on 0 ≡ item_weight x = rw (here, parts.0) refl in
-    let rest : sum_below (news_weight xs (λ k. on (suc k))) (length xs) ≡ item_flight xs = sum_flying xs (λ k. on (suc k)) parts.1 (λ j lo hi. all (suc j) (omega arith) (omega (arith, hi))) in
-    sum_shift (news_weight (x ∷ xs) on) (length xs) ∙ (ap (λ (n : ℕ). n + sum_below (news_weight xs (λ k. on (suc k))) (length xs)) first ∙ ap (λ (n : ℕ). item_weight x + n) rest)
+    let rest = sum_flying xs (λ k. on (suc k)) (grind (arith, none)) (λ j lo hi. all (suc j) (omega arith) (omega (arith, hi))) in
+    grind (arith, sum_shift (news_weight (x ∷ xs) on) (length xs), rest, all 1, none)
 
 -- the last of them is the newest
 last_flying : (xs : List Item) (on : ℕ → Bool) (n : ℕ) → on (suc n) ≡ true → passes_here is_item_news xs n ≡ true → last_that (is_news xs on) (suc n) ≡ suc n

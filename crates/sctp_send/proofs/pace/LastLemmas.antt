@@ -1,6 +1,5 @@
 -- Beyond the end of the last run nothing lies in the runs.
 use Rattle.std.proofs.Common.{◌≡◌, ℕ, zero, suc, ◌+◌, ◌<◌, ◌≤◌, ◌∙◌, List, [], ◌∷◌, length, get_or, Bool, true, false, refl, arith}
-use Rattle.std.specs.Prelude.{nat_lt, nat_le, ◌&&◌}
 use Rattle.std.proofs.lemmas.Bool.Decides.{nat_tests}
 use Rattle.sctp_model.specs.sender.Words.{when}
 use Rattle.sctp_send.specs.CoveredRuns.{in_run, in_runs, AreInOrder, AreCovered}
@@ -12,11 +11,7 @@ last_behind n (r ∷ rs) zero d order is = let from = order.0 in let to = order.
 last_behind n (r ∷ rs) (suc k) d order is = let from = order.0 in let to = order.1 in let rest = last_behind r.to rs k d order.2 (omega arith) in omega (arith, from, to, rest)
 
 run_before : (r : CoveredRun) (i : ℕ) → r.to < i → in_run r i ≡ false
-run_before r i lt = let off : nat_le i r.to ≡ false = grind (arith, nat_tests) in rw off (by_from (nat_lt r.from i))
-  where
-    by_from : (b : Bool) → (b && false) ≡ false
-    by_from true = refl
-    by_from false = refl
+run_before r i lt = grind (arith, nat_tests)
 
 pub none_past : (n : ℕ) (rs : List CoveredRun) (k i : ℕ) (d : CoveredRun) → AreInOrder n rs → suc k ≡ length rs → (get_or rs k d).to < i → in_runs rs i ≡ false
 none_past n [] k i d order is lt = absurd (omega arith)

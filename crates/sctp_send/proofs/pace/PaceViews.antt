@@ -1,8 +1,8 @@
 -- What a view says of an index above CUM, by the item that is kept of it; the first index in flight, and what isn't timed any more.
-use Rattle.std.proofs.Common.{◌≡◌, ℕ, zero, suc, ◌+◌, ◌-◌, ◌*◌, ◌%◌, ◌^◌, ◌<◌, ◌≤◌, ◌∙◌, List, [], ◌∷◌, length, drop, Bool, true, false, Option, Some, None, refl, sym, ap, subst, arith}
-use Rattle.std.specs.Prelude.{nat_le, nat_lt, not, ◌&&◌, ◌||◌, slice_get, option_map}
+use Rattle.std.proofs.Common.{inl, inr, ◌≡◌, ℕ, zero, suc, ◌+◌, ◌-◌, ◌*◌, ◌%◌, ◌^◌, ◌<◌, ◌≤◌, ◌∙◌, List, [], ◌∷◌, length, drop, Bool, true, false, Option, Some, None, refl, sym, ap, subst, arith}
+use Rattle.std.specs.Prelude.{nat_le, nat_lt, ◌&&◌, ◌||◌, slice_get, option_map}
+use Rattle.std.proofs.lemmas.Bool.{cases_lt}
 use Rattle.std.proofs.lemmas.Bool.Decides.{nat_tests}
-use Rattle.std.proofs.lemmas.Option.{slice_get_within}
 use Rattle.sctp_model.specs.messages.Format.{Format}
 use Rattle.sctp_model.specs.messages.Plan.{Entry, entry_at}
 use Rattle.sctp_model.specs.sender.SenderView.{SenderView}
@@ -39,6 +39,12 @@ passes_mapped test g (Some e) = refl
 pub kept_passes : (f : Format) (s : Kept) (v : SenderView) (test : Item → Bool) (k : ℕ) → Keeps f s v → passes_here test s.items k ≡ some_passes (λ e. test (item_here v (suc (v.cum + k)) e)) (entry_at v.plan (suc (v.cum + k)))
 kept_passes f s v test k h = ap (some_passes test) (kept_get f s v k h) ∙ passes_mapped test (item_here v (suc (v.cum + k))) (entry_at v.plan (suc (v.cum + k)))
 
+-- an offset that passes is one of the items
+pub passing_within : (test : Item → Bool) (xs : List Item) (k : ℕ) → passes_here test xs k ≡ true → k < length xs
+passing_within test [] k on = absurd (cc)
+passing_within test (x ∷ xs) zero on = omega arith
+passing_within test (x ∷ xs) (suc k) on = let lt = passing_within test xs k on in omega (arith, lt)
+
 -- ---- the first in flight
 
 -- the test of an index for `first_in_flight`
@@ -46,52 +52,22 @@ abbrev On : SenderView → (from below : ℕ) → ℕ → Bool
 On v from below = passes_at v.plan (λ i e. (nat_le from i && nat_lt i below) && is_in_flight v i e)
 
 on_above : (f : Format) (s : Kept) (v : SenderView) (from below k : ℕ) → Keeps f s v → On v from below (suc (v.cum + k)) ≡ ((nat_le from (suc (v.cum + k)) && nat_lt (suc (v.cum + k)) below) && passes_here is_item_flying s.items k)
-on_above f s v from below k h =
-    by_entry (nat_le from (suc (v.cum + k)) && nat_lt (suc (v.cum + k)) below) (entry_at v.plan (suc (v.cum + k)))
-    ∙ ap (λ (b : Bool). (nat_le from (suc (v.cum + k)) && nat_lt (suc (v.cum + k)) below) && b) (sym (kept_passes f s v is_item_flying k h))
-  where
-    nothing : (b : Bool) → false ≡ (b && false)
-    nothing true = refl
-    nothing false = refl
-
-    by_entry : (b : Bool) (o : Option Entry) → some_passes (λ e. b && is_in_flight v (suc (v.cum + k)) e) o ≡ (b && some_passes (λ e. is_item_flying (item_here v (suc (v.cum + k)) e)) o)
-    by_entry b None = nothing b
-    by_entry b (Some e) = refl
+on_above f s v from below k h = grind (arith, kept_passes f s v is_item_flying k h)
 
 on_below : (v : SenderView) (from below j : ℕ) → IsBounded v → 0 < j → j ≤ v.cum → On v from below j ≡ false
-on_below v from below j h some le = by_entry (entry_at v.plan j)
-  where
-    by_tests : (b m s : Bool) → (b && (not m && (s && false))) ≡ false
-    by_tests true true s = refl
-    by_tests true false true = refl
-    by_tests true false false = refl
-    by_tests false m s = refl
-
-    by_entry : (o : Option Entry) → some_passes (λ e. (nat_le from j && nat_lt j below) && is_in_flight v j e) o ≡ false
-    by_entry None = refl
-    by_entry (Some e) = rw (h.covered j some le) (by_tests (nat_le from j && nat_lt j below) (v.marked j) (v.sent j))
+on_below v from below j h some le = grind (arith, h.covered j some le)
 
 on_off : (f : Format) (s : Kept) (v : SenderView) (from below k : ℕ) → Keeps f s v → (from - v.cum - 1 ≤ k → k < below - v.cum - 1 → passes_here is_item_flying s.items k ≡ false) → On v from below (suc (v.cum + k)) ≡ false
-on_off f s v from below k h off = on_above f s v from below k h ∙ by_tests (nat_le from (suc (v.cum + k))) (nat_lt (suc (v.cum + k)) below) refl refl
-  where
-    by_tests : (p q : Bool) → nat_le from (suc (v.cum + k)) ≡ p → nat_lt (suc (v.cum + k)) below ≡ q → ((p && q) && passes_here is_item_flying s.items k) ≡ false
-    by_tests false q one two = refl
-    by_tests true false one two = refl
-    by_tests true true one two =
-        let lo : from ≤ suc (v.cum + k) = grind (arith, nat_tests) in
-        let hi : suc (v.cum + k) < below = grind (arith, nat_tests) in
-        off (omega (arith, lo)) (omega (arith, hi))
+on_off f s v from below k h off = grind (arith, nat_tests, on_above f s v from below k h, off)
 
 -- no index passes of which that is so
 all_off : (f : Format) (s : Kept) (v : SenderView) (from below j : ℕ) → Keeps f s v → 0 < j → ((k : ℕ) → suc (v.cum + k) ≡ j → from - v.cum - 1 ≤ k → k < below - v.cum - 1 → passes_here is_item_flying s.items k ≡ false) → On v from below j ≡ false
-all_off f s v from below j h some off = by_cum (nat_le j v.cum) refl
-  where
-    by_cum : (b : Bool) → nat_le j v.cum ≡ b → On v from below j ≡ false
-    by_cum true le = on_below v from below j (is_bounded f v h.reached) some (grind (arith, nat_tests))
-    by_cum false gt =
-        let past : v.cum < j = grind (arith, nat_tests) in
-        let is : suc (v.cum + (j - suc v.cum)) ≡ j = omega (arith, past) in
-        subst (λ (m : ℕ). On v from below m ≡ false) is (on_off f s v from below (j - suc v.cum) h (off (j - suc v.cum) is))
+all_off f s v from below j h some off = elim (cases_lt v.cum j) [
+  | inl past ↦
+      let is : suc (v.cum + (j - suc v.cum)) ≡ j = omega (arith, past) in
+      subst (λ (m : ℕ). On v from below m ≡ false) is (on_off f s v from below (j - suc v.cum) h (off (j - suc v.cum) is))
+  | inr low ↦ on_below v from below j (is_bounded f v h.reached) some low
+]
 
 pub first_is : (f : Format) (s : Kept) (v : SenderView) (from below : ℕ) (o : Option ℕ) → Keeps f s v → FirstAnswer (passes_here is_item_flying s.items) (from - v.cum - 1) (below - v.cum - 1) o
     → option_map (λ at. suc (v.cum + at)) o ≡ first_in_flight v from below
@@ -100,7 +76,7 @@ first_is f s v from below (Some at) h first =
     let above = first.above in
     let under = first.below in
     let long = kept_length f s v h in
-    let low = within (slice_get s.items at) refl first.passes in
+    let low = passing_within is_item_flying s.items at first.passes in
     let lo : nat_le from (suc (v.cum + at)) ≡ true = grind (arith, nat_tests) in
     let hi : nat_lt (suc (v.cum + at)) below ≡ true = grind (arith, nat_tests) in
     sym (lowest_found (On v from below) (length v.plan.entries) (suc (v.cum + at)) (record {
@@ -109,10 +85,6 @@ first_is f s v from below (Some at) h first =
       passes = on_above f s v from below at h ∙ rw (lo, hi) first.passes;
       first = λ j some lt. all_off f s v from below j h some (λ k is lo hi. first.before k lo (omega (arith, is, lt)));
     }))
-  where
-    within : (o : Option Item) → slice_get s.items at ≡ o → some_passes is_item_flying o ≡ true → at < length s.items
-    within None is on = absurd (cc)
-    within (Some x) is on = slice_get_within s.items at x is
 
 -- indexes fit their bits
 pub index_fits : (f : Format) (s : Kept) (v : SenderView) (at : ℕ) → Keeps f s v → at < length s.items → (s.cum + at + 1) % 2 ^ 64 ≡ suc (v.cum + at)
@@ -135,39 +107,24 @@ first_told f s v from below lo hi xs o h items low high first = by_option o here
 
     by_option : (p : Option ℕ) → FirstAnswer (passes_here is_item_flying s.items) (from - v.cum - 1) (below - v.cum - 1) p → option_map (λ at. (s.cum + at + 1) % 2 ^ 64) p ≡ option_map (λ at. suc (v.cum + at)) p
     by_option None none = refl
-    by_option (Some at) some = ap Some (index_fits f s v at h (within (slice_get s.items at) refl some.passes))
-      where
-        within : (x : Option Item) → slice_get s.items at ≡ x → some_passes is_item_flying x ≡ true → at < length s.items
-        within None is on = absurd (cc)
-        within (Some x) is on = slice_get_within s.items at x is
+    by_option (Some at) some = ap Some (index_fits f s v at h (passing_within is_item_flying s.items at some.passes))
 
 -- ---- what is said of an index, from 1 on above CUM
 
 pub index_is : (f : Format) (s : Kept) (v : SenderView) (test : Item → Bool) (on : ℕ → Bool) (j : ℕ) → Keeps f s v → 0 < j → ((i : ℕ) (e : Entry) → test (item_here v i e) ≡ on i) → ((i : ℕ) → length v.plan.entries < i → on i ≡ false)
     → passes_here test s.items (j - 1) ≡ on (v.cum + j)
-index_is f s v test on j k some here beyond = kept_passes f s v test (j - 1) k ∙ ap (λ (m : ℕ). some_passes (λ e. test (item_here v m e)) (entry_at v.plan m)) at ∙ by_end (nat_lt (length s.items) j) refl
+index_is f s v test on j k some here beyond = kept_passes f s v test (j - 1) k ∙ by_entry ∙ ap on at
   where
     at : suc (v.cum + (j - 1)) ≡ v.cum + j
     at = omega (arith, some)
 
-    by_entry : (o : Option Entry) → (o ≡ None → on (v.cum + j) ≡ false) → some_passes (λ e. test (item_here v (v.cum + j) e)) o ≡ on (v.cum + j)
-    by_entry None off = sym (off refl)
-    by_entry (Some e) off = here (v.cum + j) e
+    past : (es : List Entry) (n : ℕ) → slice_get es n ≡ None → length es ≤ n
+    past [] n none = omega arith
+    past (e ∷ es) zero none = absurd (cc)
+    past (e ∷ es) (suc n) none = let le = past es n none in omega (arith, le)
 
-    there : (es : List Entry) (n : ℕ) → n < length es → slice_get es n ≡ None → ⊥
-    there [] n lt none = omega (arith, lt)
-    there (e ∷ es) zero lt none = cc
-    there (e ∷ es) (suc n) lt none = there es n (omega arith) none
-
-    by_end : (b : Bool) → nat_lt (length s.items) j ≡ b → some_passes (λ e. test (item_here v (v.cum + j) e)) (entry_at v.plan (v.cum + j)) ≡ on (v.cum + j)
-    by_end true past =
-        let over : length s.items < j = grind (arith, nat_tests) in
-        let long = kept_length f s v k in
-        by_entry (entry_at v.plan (v.cum + j)) (λ none. beyond (v.cum + j) (omega (arith, long, over)))
-    by_end false within =
-        let le : j ≤ length s.items = grind (arith, nat_tests) in
-        let long = kept_length f s v k in
-        by_entry (entry_at v.plan (v.cum + j)) (λ none. absurd (there v.plan.entries (v.cum + (j - 1)) (omega (arith, long, le, some)) (ap (entry_at v.plan) at ∙ none)))
+    by_entry : some_passes (λ e. test (item_here v (suc (v.cum + (j - 1))) e)) (entry_at v.plan (suc (v.cum + (j - 1)))) ≡ on (suc (v.cum + (j - 1)))
+    by_entry = grind (arith, past v.plan.entries (v.cum + (j - 1)), beyond (suc (v.cum + (j - 1))), here)
 
 done_is : (f : Format) (s : Kept) (v : SenderView) (i : ℕ) → Keeps f s v → v.cum < i → passes_here is_item_done s.items (i - v.cum - 1) ≡ (v.marked i || v.covered i)
 done_is f s v i h past =
@@ -184,11 +141,7 @@ pub covered_is : (f : Format) (s : Kept) (v : SenderView) (i : ℕ) → Keeps f 
 covered_is f s v i h some le =
     let cum = h.holds.cum in
     let on = (is_bounded f v h.reached).covered i some (omega (arith, cum, le)) in
-    rw on (by_mark (v.marked i))
-  where
-    by_mark : (b : Bool) → true ≡ (b || true)
-    by_mark true = refl
-    by_mark false = refl
+    grind (arith, on)
 
 -- ---- what is in flight
 

@@ -1,5 +1,5 @@
 -- The space that retransmissions take: of what is kept, entry by entry, and of FILL, wish by wish.
-use Rattle.std.proofs.Common.{◌≡◌, ℕ, zero, suc, ◌+◌, ◌-◌, ◌<◌, ◌≤◌, ◌∙◌, List, [], ◌∷◌, length, take, drop, get_or, set, Bool, true, false, Option, Some, None, refl, sym, ap, subst, arith}
+use Rattle.std.proofs.Common.{◌≡◌, ℕ, zero, suc, ◌+◌, ◌-◌, ◌<◌, ◌≤◌, ◌∙◌, List, [], ◌∷◌, length, take, drop, get_or, set, Bool, true, false, Option, Some, None, refl, sym, ap, arith}
 use Rattle.std.specs.Prelude.{nat_le, if◌then◌else◌, slice_get, option_map}
 use Rattle.std.specs.Option.{option_map_or}
 use Rattle.std.proofs.lemmas.Bool.Decides.{nat_tests}
@@ -30,53 +30,30 @@ use Rattle.sctp_send.proofs.fill.RoomLemmas.{within_window, unsent_new}
 pub repeats_behind : (f : Format) (room n : ℕ) (xs : List Item) → first_offset is_item_marked (take n xs) ≡ None → repeats_room f room xs ≡ repeats_room f room (drop n xs)
 repeats_behind f room zero xs none = refl
 repeats_behind f room (suc n) [] none = refl
-repeats_behind f room (suc n) (x ∷ xs) none = by_mark x.marked refl none (λ rest. repeats_behind f room n xs rest)
-  where
-    by_option : (o : Option ℕ) → option_map suc o ≡ None → o ≡ None
-    by_option None is = refl
-    by_option (Some j) is = absurd (cc)
-
-    by_mark : (b : Bool) → x.marked ≡ b → (if b then Some 0 else option_map suc (first_offset is_item_marked (take n xs))) ≡ None → (first_offset is_item_marked (take n xs) ≡ None → repeats_room f room xs ≡ repeats_room f room (drop n xs))
-        → repeats_room f room (x ∷ xs) ≡ repeats_room f room (drop n xs)
-    by_mark true on is further = absurd (cc)
-    by_mark false off is further = rw off (further (by_option (first_offset is_item_marked (take n xs)) is))
+repeats_behind f room (suc n) (x ∷ xs) none = grind (arith, repeats_behind f room n xs)
 
 -- the item at an offset is marked, and fits
 pub repeats_fit : (f : Format) (room at : ℕ) (xs : List Item) (x : Item) → slice_get xs at ≡ Some x → x.marked ≡ true → item_room f x ≤ room → repeats_room f room (drop at xs) ≡ item_room f x + repeats_room f (room - item_room f x) (drop (suc at) xs)
 repeats_fit f room at [] x read on le = absurd (cc)
-repeats_fit f room zero (y ∷ xs) x read on le =
-    let same : y ≡ x = cc in
-    let fits : nat_le (item_room f x) room ≡ true = grind (arith, nat_tests) in
-    rw (same, on, fits) refl
+repeats_fit f room zero (y ∷ xs) x read on le = grind (arith, nat_tests, read, on, le)
 repeats_fit f room (suc at) (y ∷ xs) x read on le = repeats_fit f room at xs x read on le
 
 -- it is marked, and doesn't fit
 pub repeats_full : (f : Format) (room at : ℕ) (xs : List Item) (x : Item) → slice_get xs at ≡ Some x → x.marked ≡ true → room < item_room f x → repeats_room f room (drop at xs) ≡ 0
 repeats_full f room at [] x read on lt = absurd (cc)
-repeats_full f room zero (y ∷ xs) x read on lt =
-    let same : y ≡ x = cc in
-    let full : nat_le (item_room f x) room ≡ false = grind (arith, nat_tests) in
-    rw (same, on, full) refl
+repeats_full f room zero (y ∷ xs) x read on lt = grind (arith, nat_tests, read, on, lt)
 repeats_full f room (suc at) (y ∷ xs) x read on lt = repeats_full f room at xs x read on lt
 
 -- it isn't marked
 pub repeats_past : (f : Format) (room at : ℕ) (xs : List Item) (x : Item) → slice_get xs at ≡ Some x → x.marked ≡ false → repeats_room f room (drop at xs) ≡ repeats_room f room (drop (suc at) xs)
 repeats_past f room at [] x read off = absurd (cc)
-repeats_past f room zero (y ∷ xs) x read off = let same : y ≡ x = cc in rw (same, off) refl
+repeats_past f room zero (y ∷ xs) x read off = grind (arith, read, off)
 repeats_past f room (suc at) (y ∷ xs) x read off = repeats_past f room at xs x read off
 
 -- none is marked
 repeats_none : (f : Format) (room : ℕ) (xs : List Item) → first_offset is_item_marked xs ≡ None → repeats_room f room xs ≡ 0
 repeats_none f room [] none = refl
-repeats_none f room (x ∷ xs) none = by_mark x.marked refl none (λ rest. repeats_none f room xs rest)
-  where
-    by_option : (o : Option ℕ) → option_map suc o ≡ None → o ≡ None
-    by_option None is = refl
-    by_option (Some j) is = absurd (cc)
-
-    by_mark : (b : Bool) → x.marked ≡ b → (if b then Some 0 else option_map suc (first_offset is_item_marked xs)) ≡ None → (first_offset is_item_marked xs ≡ None → repeats_room f room xs ≡ 0) → repeats_room f room (x ∷ xs) ≡ 0
-    by_mark true on is further = absurd (cc)
-    by_mark false off is further = rw off (further (by_option (first_offset is_item_marked xs) is))
+repeats_none f room (x ∷ xs) none = grind (arith, repeats_none f room xs)
 
 -- a chunk takes some room
 room_some : (f : Format) (x : Item) → 0 < item_room f x
@@ -85,37 +62,13 @@ room_some Interleaved x = omega arith
 
 repeats_nowhere : (f : Format) (xs : List Item) → repeats_room f 0 xs ≡ 0
 repeats_nowhere f [] = refl
-repeats_nowhere f (x ∷ xs) = by_mark x.marked (repeats_nowhere f xs)
-  where
-    some : 0 < item_room f x
-    some = room_some f x
-
-    full : nat_le (item_room f x) 0 ≡ false
-    full = grind (arith, nat_tests, some)
-
-    by_mark : (b : Bool) → repeats_room f 0 xs ≡ 0 → (if b then (if nat_le (item_room f x) 0 then item_room f x + repeats_room f (0 - item_room f x) xs else 0) else repeats_room f 0 xs) ≡ 0
-    by_mark true rest = rw full refl
-    by_mark false rest = rest
+repeats_nowhere f (x ∷ xs) = grind (arith, nat_tests, room_some f x, repeats_nowhere f xs)
 
 -- the first that is marked goes, if it fits
 repeats_first : (f : Format) (room at : ℕ) (xs : List Item) (d : Item) → first_offset is_item_marked xs ≡ Some at
     → repeats_room f room xs ≡ (if nat_le (item_room f (get_or xs at d)) room then item_room f (get_or xs at d) + repeats_room f (room - item_room f (get_or xs at d)) (set xs at (gone_item (get_or xs at d))) else 0)
 repeats_first f room at [] d is = absurd (cc)
-repeats_first f room at (x ∷ xs) d is = by_mark x.marked refl is (λ k there. repeats_first f room k xs d there)
-  where
-    First : ℕ → Type 0
-    First k = repeats_room f room (x ∷ xs)
-        ≡ (if nat_le (item_room f (get_or (x ∷ xs) k d)) room then item_room f (get_or (x ∷ xs) k d) + repeats_room f (room - item_room f (get_or (x ∷ xs) k d)) (set (x ∷ xs) k (gone_item (get_or (x ∷ xs) k d))) else 0)
-
-    by_at : (o : Option ℕ) → x.marked ≡ false → option_map suc o ≡ Some at → ((k : ℕ) → o ≡ Some k
-        → repeats_room f room xs ≡ (if nat_le (item_room f (get_or xs k d)) room then item_room f (get_or xs k d) + repeats_room f (room - item_room f (get_or xs k d)) (set xs k (gone_item (get_or xs k d))) else 0)) → First at
-    by_at None off none further = absurd (cc)
-    by_at (Some k) off some further = let same : suc k ≡ at = cc in subst First same (rw off (further k refl))
-
-    by_mark : (b : Bool) → x.marked ≡ b → (if b then Some 0 else option_map suc (first_offset is_item_marked xs)) ≡ Some at → ((k : ℕ) → first_offset is_item_marked xs ≡ Some k
-        → repeats_room f room xs ≡ (if nat_le (item_room f (get_or xs k d)) room then item_room f (get_or xs k d) + repeats_room f (room - item_room f (get_or xs k d)) (set xs k (gone_item (get_or xs k d))) else 0)) → First at
-    by_mark true on here further = let same : 0 ≡ at = cc in subst First same (rw on refl)
-    by_mark false off here further = by_at (first_offset is_item_marked xs) off here further
+repeats_first f room at (x ∷ xs) d is = grind (arith, λ (k : ℕ). repeats_first f room k xs d)
 
 -- ---- wish by wish
 
@@ -132,11 +85,7 @@ room_standing f s v at k low = ap size_of_chunk (chunk_standing f s v at no_item
 -- what isn't a retransmission counts as nothing
 new_counts_nothing : (f : Format) (n room : ℕ) (v : SenderView) → ((w : Wish) → next_wish f v ≡ Some w → w.view.sent w.index ≡ false) → room_of_repeats f (fill_at_most n f room v).wishes ≡ 0
 new_counts_nothing f zero room v new = refl
-new_counts_nothing f (suc n) room v new = by_goes (goes f room v) refl
-  where
-    by_goes : (o : Option Wish) → goes f room v ≡ o → room_of_repeats f (option_map_or (λ w. before_these w (fill_at_most n f (room - room_of f w) (gone w))) o (no_more v)).wishes ≡ 0
-    by_goes None is = refl
-    by_goes (Some w) is = rw (new w (goes_parts f room v w is).0) refl
+new_counts_nothing f (suc n) room v new = grind (arith, new, λ (w : Wish). goes_parts f room v w)
 
 some_same : (x y : Wish) → Some x ≡ Some y → x ≡ y
 some_same x y is = cc

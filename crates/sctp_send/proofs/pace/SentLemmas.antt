@@ -1,6 +1,5 @@
 -- The highest index that was sent, by the highest up to CUM and the items above it.
 use Rattle.std.proofs.Common.{◌≡◌, ℕ, zero, suc, ◌+◌, ◌-◌, ◌%◌, ◌^◌, ◌<◌, ◌≤◌, ◌∙◌, List, Bool, true, false, refl, sym, ap, arith, length}
-use Rattle.std.specs.Prelude.{if◌then◌else◌}
 use Rattle.sctp_model.specs.messages.Format.{Format}
 use Rattle.sctp_model.specs.sender.SenderView.{SenderView}
 use Rattle.sctp_model.specs.sender.Words.{last_that}
@@ -19,15 +18,11 @@ last_here on zero some here = absurd (omega (arith, some))
 last_here on (suc n) some here = rw here refl
 
 pub last_before : (on : ℕ → Bool) (n m : ℕ) → n ≡ suc m → on n ≡ false → last_that on n ≡ last_that on m
-last_before on n m is off = ap (last_that on) is ∙ ap (λ (b : Bool). if b then suc m else last_that on m) (ap on (sym is) ∙ off)
+last_before on n m is off = grind (arith, is, off)
 
 pub last_low : (on : ℕ → Bool) (n : ℕ) → last_that on n ≤ n
 last_low on zero = omega arith
-last_low on (suc n) = by_test (on (suc n)) (last_low on n)
-  where
-    by_test : (b : Bool) → last_that on n ≤ n → (if b then suc n else last_that on n) ≤ suc n
-    by_test true le = omega arith
-    by_test false le = omega arith
+last_low on (suc n) = grind (arith, last_low on n)
 
 -- the last beyond an index, or else the last up to it
 abbrev index_from : (c before offset : ℕ) → ℕ
@@ -38,12 +33,7 @@ last_from : (on above : ℕ → Bool) (c n : ℕ) → ((j : ℕ) → 0 < j → o
 last_from on above c zero same = ap (last_that on) (let e : c + 0 ≡ c = omega arith in e)
 last_from on above c (suc n) same =
     let next : c + suc n ≡ suc (c + n) = omega arith in
-    let here : on (suc (c + n)) ≡ above (suc n) = ap on (sym next) ∙ same (suc n) (omega arith) in
-    ap (last_that on) next ∙ ap (λ (b : Bool). if b then suc (c + n) else last_that on (c + n)) here ∙ by_test (above (suc n)) (last_from on above c n same)
-  where
-    by_test : (b : Bool) → last_that on (c + n) ≡ index_from c (last_that on c) (last_that above n) → (if b then suc (c + n) else last_that on (c + n)) ≡ index_from c (last_that on c) (if b then suc n else last_that above n)
-    by_test true rest = omega arith
-    by_test false rest = rest
+    grind (arith, next, same (suc n), last_from on above c n same)
 
 -- ---- of a view
 

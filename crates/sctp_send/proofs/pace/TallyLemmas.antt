@@ -1,14 +1,12 @@
 -- The sums of what is newly acknowledged: one entry more, entries of which none is newly acknowledged, and all entries.
-use Rattle.std.proofs.Common.{◌≡◌, ℕ, zero, suc, ◌+◌, ◌-◌, ◌%◌, ◌^◌, ◌<◌, ◌≤◌, ◌∙◌, List, [], ◌∷◌, length, get_or, Bool, true, false, Option, Some, None, refl, sym, ap, arith, max, min}
-use Rattle.std.specs.Prelude.{nat_lt, nat_le, not, ◌&&◌, ◌||◌, if◌then◌else◌, slice_get}
-use Rattle.std.specs.Option.{option_map_or}
+use Rattle.std.proofs.Common.{◌≡◌, ℕ, zero, suc, ◌+◌, ◌-◌, ◌%◌, ◌^◌, ◌<◌, ◌≤◌, ◌∙◌, List, [], ◌∷◌, length, get_or, Bool, true, false, Some, refl, sym, ap, arith, max, min}
+use Rattle.std.specs.Prelude.{nat_le, ◌&&◌, ◌||◌, if◌then◌else◌, slice_get}
 use Rattle.std.proofs.lemmas.Bool.Decides.{nat_tests}
-use Rattle.sctp_model.specs.sender.Words.{some_passes, sum_below, last_that}
+use Rattle.sctp_model.specs.sender.Words.{sum_below, last_that}
 use Rattle.sctp_send.specs.SenderKept.{Item}
 use Rattle.sctp_send.specs.CoveredRuns.{in_run, in_runs}
 use Rattle.sctp_send.specs.declared.kept.entry.CoveredRun.{CoveredRun}
 use Rattle.sctp_send.specs.declared.pace.tally.Tally.{Tally}
-use Rattle.sctp_send.specs.inner.Wishing.{item_bytes}
 use Rattle.sctp_send.specs.inner.Weighing.{is_item_closed, is_item_open, is_item_news, unsettled_bytes, passes_here, is_news, news_weight, IsIdle, IsTally, LieCovered}
 
 -- ---- an offset at which nothing is newly acknowledged
@@ -19,37 +17,11 @@ behind_one k = omega arith
 idle_parts : (xs : List Item) (on : ℕ → Bool) (k : ℕ) → IsIdle xs on (suc k) → (on (suc k) && passes_here is_item_open xs k) ≡ false
 idle_parts xs on k idle = ap (λ (n : ℕ). on (suc k) && passes_here is_item_open xs n) (sym (behind_one k)) ∙ idle
 
-closed_weight : (x : Item) → not x.covered ≡ false → unsettled_bytes x ≡ 0
-closed_weight x on = by_cover x.covered on
-  where
-    by_cover : (b : Bool) → not b ≡ false → (if x.sent && (not b && not x.abandoned) then length (item_bytes x) else 0) ≡ 0
-    by_cover false off = absurd (cc)
-    by_cover true off = by_sent x.sent
-      where
-        by_sent : (s : Bool) → (if s && false then length (item_bytes x) else 0) ≡ 0
-        by_sent true = refl
-        by_sent false = refl
-
 idle_weight : (xs : List Item) (on : ℕ → Bool) (k : ℕ) → IsIdle xs on (suc k) → news_weight xs on k ≡ 0
-idle_weight xs on k idle = by_on (on (suc k)) (slice_get xs k) (idle_parts xs on k idle)
-  where
-    by_on : (b : Bool) (o : Option Item) → (b && some_passes is_item_open o) ≡ false → (if b then option_map_or unsettled_bytes o 0 else 0) ≡ 0
-    by_on false o off = refl
-    by_on true None off = refl
-    by_on true (Some x) off = closed_weight x off
+idle_weight xs on k idle = grind (arith, idle_parts xs on k idle)
 
 idle_news : (xs : List Item) (on : ℕ → Bool) (k : ℕ) → IsIdle xs on (suc k) → is_news xs on (suc k) ≡ false
-idle_news xs on k idle = ap (λ (n : ℕ). on (suc k) && passes_here is_item_news xs n) (behind_one k) ∙ by_on (on (suc k)) (slice_get xs k) (idle_parts xs on k idle)
-  where
-    by_item : (s c : Bool) → not c ≡ false → (s && not c) ≡ false
-    by_item s false off = absurd (cc)
-    by_item true true off = refl
-    by_item false true off = refl
-
-    by_on : (b : Bool) (o : Option Item) → (b && some_passes is_item_open o) ≡ false → (b && some_passes is_item_news o) ≡ false
-    by_on false o off = refl
-    by_on true None off = refl
-    by_on true (Some x) off = by_item x.sent x.covered off
+idle_news xs on k idle = let one = behind_one k in grind (arith, one, idle_parts xs on k idle)
 
 -- so many of them after each other add nothing
 pub idle_sum : (xs : List Item) (on : ℕ → Bool) (a d : ℕ) → ((j : ℕ) → a < j → j ≤ a + d → IsIdle xs on j) → sum_below (news_weight xs on) (a + d) ≡ sum_below (news_weight xs on) a
@@ -106,34 +78,23 @@ pub idle_off : (xs : List Item) (on : ℕ → Bool) (j : ℕ) → on j ≡ false
 idle_off xs on j off = rw off refl
 
 pub idle_closed : (xs : List Item) (on : ℕ → Bool) (j : ℕ) → passes_here is_item_open xs (j - 1) ≡ false → IsIdle xs on j
-idle_closed xs on j off = rw off (by_on (on j))
-  where
-    by_on : (b : Bool) → (b && false) ≡ false
-    by_on true = refl
-    by_on false = refl
+idle_closed xs on j off = grind (arith, off)
 
 pub in_one : (rs : List CoveredRun) (k j : ℕ) (d : CoveredRun) → k < length rs → in_run (get_or rs k d) j ≡ true → in_runs rs j ≡ true
 in_one [] k j d lt on = absurd (omega arith)
 in_one (r ∷ rs) zero j d lt on = rw on refl
-in_one (r ∷ rs) (suc k) j d lt on = rw (in_one rs k j d (omega arith) on) (by_first (in_run r j))
-  where
-    by_first : (b : Bool) → (b || true) ≡ true
-    by_first true = refl
-    by_first false = refl
+in_one (r ∷ rs) (suc k) j d lt on = grind (arith, in_one rs k j d (omega arith) on)
 
 -- ---- past one run: what is before it up to an offset was weighed, and what is in it up to there is acknowledged already
 pub run_skipped : (xs : List Item) (on : ℕ → Bool) (rs : List CoveredRun) (k to a b : ℕ) (d : CoveredRun) (t m u : Tally) → LieCovered rs xs → k < length rs → a ≡ min (get_or rs k d).from to → b ≡ min (get_or rs k d).to to
     → IsTally xs on m → m.at ≡ max t.at a → u.at ≡ max m.at b → u.bytes ≡ m.bytes → u.newest ≡ m.newest → IsTally xs on u
 run_skipped xs on rs k to a b d t m u lie lt start end h weighed at bytes newest = tally_skip xs on m u b h (λ j lo hi. idle_closed xs on j (lie j (omega (arith, lo)) (in_one rs k j d lt (inside j lo hi)))) at bytes newest
   where
-    within : (from upto j : ℕ) → from < j → j ≤ upto → (nat_lt from j && nat_le j upto) ≡ true
-    within from upto j lo hi =
-        let one : nat_lt from j ≡ true = grind (arith, nat_tests) in
-        let two : nat_le j upto ≡ true = grind (arith, nat_tests) in
-        rw (one, two) refl
-
     inside : (j : ℕ) → m.at < j → j ≤ b → in_run (get_or rs k d) j ≡ true
-    inside j lo hi = within (get_or rs k d).from (get_or rs k d).to j (omega (arith, lo, hi, start, end, weighed)) (omega (arith, lo, hi, end))
+    inside j lo hi =
+        let past : (get_or rs k d).from < j = omega (arith, lo, hi, start, end, weighed) in
+        let upto : j ≤ (get_or rs k d).to = omega (arith, lo, hi, end) in
+        grind (arith, nat_tests, past, upto)
 
 -- ---- the cumulative TSN of a SHUTDOWN: what it passes, and what gap blocks acknowledge
 
@@ -141,18 +102,10 @@ abbrev pub Shut : List Item → (passed : ℕ) → ℕ → Bool
 Shut xs n j = nat_le j n || passes_here is_item_closed xs (j - 1)
 
 pub shut_passed : (xs : List Item) (n j : ℕ) → j ≤ n → Shut xs n j ≡ true
-shut_passed xs n j le = let on : nat_le j n ≡ true = grind (arith, nat_tests) in rw on refl
+shut_passed xs n j le = grind (arith, nat_tests)
 
 pub shut_beyond : (xs : List Item) (n j : ℕ) → n < j → Shut xs n j ≡ passes_here is_item_closed xs (j - 1)
-shut_beyond xs n j lt = let off : nat_le j n ≡ false = grind (arith, nat_tests) in rw off refl
+shut_beyond xs n j lt = grind (arith, nat_tests)
 
 pub shut_idle : (xs : List Item) (n j : ℕ) → n < j → IsIdle xs (Shut xs n) j
-shut_idle xs n j lt = ap (λ (b : Bool). b && passes_here is_item_open xs (j - 1)) (shut_beyond xs n j lt) ∙ by_item (slice_get xs (j - 1))
-  where
-    never : (b : Bool) → (b && not b) ≡ false
-    never true = refl
-    never false = refl
-
-    by_item : (o : Option Item) → (some_passes is_item_closed o && some_passes is_item_open o) ≡ false
-    by_item None = refl
-    by_item (Some x) = never x.covered
+shut_idle xs n j lt = grind (arith, shut_beyond xs n j lt)

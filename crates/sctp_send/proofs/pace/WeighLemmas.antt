@@ -9,7 +9,7 @@ use Rattle.sctp_model.specs.messages.Format.{Format}
 use Rattle.sctp_model.specs.messages.Plan.{Entry, entry_at}
 use Rattle.sctp_model.specs.sender.SenderView.{SenderView}
 use Rattle.sctp_model.specs.sender.Words.{some_passes, sum_below, last_that}
-use Rattle.sctp_model.specs.sender.Entries.{entry_bytes, is_unsettled, sum_from}
+use Rattle.sctp_model.specs.sender.Entries.{sum_from}
 use Rattle.sctp_model.specs.end.Trips.{was_given_up}
 use Rattle.sctp_model.specs.end.Misses.{moves, is_newly_covered, newest}
 use Rattle.sctp_model.specs.end.Control.{acked_of, newly_acked}
@@ -25,11 +25,11 @@ use Rattle.sctp_send.specs.OutstandingFields.{item_meaning}
 use Rattle.sctp_send.specs.declared.kept.entry.Entry.{Entry as EntryFields}
 use Rattle.sctp_send.specs.declared.pace.tally.Tally.{Tally}
 use Rattle.sctp_send.specs.declared.pace.weight.Weight.{Weight}
-use Rattle.sctp_send.specs.inner.Wishing.{item_bytes}
-use Rattle.sctp_send.specs.inner.Weighing.{is_item_open, is_item_news, unsettled_bytes, passes_here, is_news, news_weight, IsIdle, IsTallied, IsAfter, index_above}
+use Rattle.sctp_send.specs.inner.Weighing.{is_item_open, is_item_news, unsettled_bytes, is_news, news_weight, IsIdle, IsTallied, IsAfter, index_above}
 use Rattle.sctp_send.proofs.KeepLemmas.{kept_length}
 use Rattle.sctp_send.proofs.kept.WeightLemmas.{bytes_short}
-use Rattle.sctp_send.proofs.pace.PaceViews.{kept_get, kept_passes}
+use Rattle.sctp_send.proofs.pace.PaceViews.{kept_get, index_is}
+use Rattle.sctp_send.proofs.pace.SentLemmas.{last_low}
 use Rattle.sctp_send.proofs.pace.FlyingLemmas.{sum_shift}
 use Rattle.sctp_send.proofs.pace.TallyLemmas.{idle_sum, idle_last, idle_off, idle_closed}
 
@@ -64,20 +64,12 @@ all_tallied xs on t h = elim (cases_lt t.at (length xs)) [
 
 -- the bytes are few
 weight_few : (size : ℕ) (es : List EntryFields) (on : ℕ → Bool) (k : ℕ) → 0 < size → size < 2 ^ 16 → news_weight (map (item_meaning size) es) on k ≤ 65535
-weight_few size es on k some small = by_on (on (suc k)) (short es k)
+weight_few size es on k some small = grind (arith, short es k)
   where
-    by_test : (b : Bool) (n : ℕ) → n ≤ 65535 → (if b then n else 0) ≤ 65535
-    by_test true n le = le
-    by_test false n le = omega arith
-
     short : (ds : List EntryFields) (n : ℕ) → option_map_or unsettled_bytes (slice_get (map (item_meaning size) ds) n) 0 ≤ 65535
     short [] n = omega arith
-    short (e ∷ ds) zero = by_test (let x = item_meaning size e in x.sent && (not x.covered && not x.abandoned)) (length (item_bytes (item_meaning size e))) (let le = bytes_short size e some in omega (arith, le, small))
+    short (e ∷ ds) zero = let le = bytes_short size e some in grind (arith, le, small)
     short (e ∷ ds) (suc n) = short ds n
-
-    by_on : (b : Bool) → option_map_or unsettled_bytes (slice_get (map (item_meaning size) es) k) 0 ≤ 65535 → (if b then option_map_or unsettled_bytes (slice_get (map (item_meaning size) es) k) 0 else 0) ≤ 65535
-    by_on true le = le
-    by_on false le = omega arith
 
 pub weights_few : (size : ℕ) (es : List EntryFields) (on : ℕ → Bool) (n : ℕ) → 0 < size → size < 2 ^ 16 → sum_below (news_weight (map (item_meaning size) es) on) n ≤ n * 65535
 weights_few size es on zero some small = omega arith
@@ -103,49 +95,22 @@ last_none on (suc n) off = rw (off (suc n) (omega arith) (omega arith)) (last_no
 
 last_at : (on : ℕ → Bool) (n m : ℕ) → 0 < m → m ≤ n → on m ≡ true → ((j : ℕ) → m < j → j ≤ n → on j ≡ false) → last_that on n ≡ m
 last_at on zero m some le here off = absurd (omega (arith, some, le))
-last_at on (suc n) m some le here off = by_test (on (suc n)) refl (λ less. last_at on n m some less here (λ j lo hi. off j lo (omega arith)))
-  where
-    by_test : (b : Bool) → on (suc n) ≡ b → (m ≤ n → last_that on n ≡ m) → (if b then suc n else last_that on n) ≡ m
-    by_test true is rest = elim (cases_lt m (suc n)) [
-      | inl less ↦ let no_more = off (suc n) less (omega arith) in absurd (cc)
-      | inr more ↦ omega (arith, le, more)
-    ]
-    by_test false is rest = elim (cases_lt m (suc n)) [
-      | inl less ↦ rest (omega (arith, less))
-      | inr more ↦ let same : suc n ≡ m = omega (arith, le, more) in let on_here : on (suc n) ≡ true = ap on same ∙ here in absurd (cc)
-    ]
+last_at on (suc n) m some le here off = grind (arith, off, last_at on n m)
 
 last_same : (on other : ℕ → Bool) (n : ℕ) → ((j : ℕ) → on j ≡ other j) → last_that on n ≡ last_that other n
 last_same on other zero same = refl
 last_same on other (suc n) same = rw (same (suc n), last_same on other n same) refl
 
-last_within : (on : ℕ → Bool) (n : ℕ) → last_that on n ≤ n
-last_within on zero = omega arith
-last_within on (suc n) = by_test (on (suc n)) (last_within on n)
-  where
-    by_test : (b : Bool) → last_that on n ≤ n → (if b then suc n else last_that on n) ≤ suc n
-    by_test true le = omega arith
-    by_test false le = omega arith
-
 last_shift : (on above : ℕ → Bool) (c n : ℕ) → ((i : ℕ) → 0 < i → i ≤ c → on i ≡ false) → ((j : ℕ) → 0 < j → j ≤ n → on (c + j) ≡ above j) → last_that on (c + n) ≡ index_above c (last_that above n)
 last_shift on above c zero off same = ap (last_that on) (let e : c + 0 ≡ c = omega arith in e) ∙ last_none on c off
 last_shift on above c (suc n) off same =
     let next : c + suc n ≡ suc (c + n) = omega arith in
-    let here : on (suc (c + n)) ≡ above (suc n) = ap on (sym next) ∙ same (suc n) (omega arith) (omega arith) in
-    ap (last_that on) next ∙ ap (λ (b : Bool). if b then suc (c + n) else last_that on (c + n)) here ∙ by_test (above (suc n)) (last_shift on above c n off (λ j lo hi. same j lo (omega arith)))
-  where
-    by_test : (b : Bool) → last_that on (c + n) ≡ index_above c (last_that above n) → (if b then suc (c + n) else last_that on (c + n)) ≡ index_above c (if b then suc n else last_that above n)
-    by_test true rest = omega arith
-    by_test false rest = rest
+    grind (arith, next, same (suc n), last_shift on above c n off (λ j lo hi. same j lo (omega (arith, hi))))
 
 -- ---- the bytes that are newly acknowledged
 
 covered_weighs : (v u : SenderView) (i : ℕ) (e : Entry) → v.covered i ≡ true → acked_of v u i e ≡ 0
-covered_weighs v u i e on = rw on (by_tests (v.sent i) (u.covered i))
-  where
-    by_tests : (s b : Bool) → (if (s && false) && b then length (entry_bytes v.plan e) else 0) ≡ 0
-    by_tests true b = refl
-    by_tests false b = refl
+covered_weighs v u i e on = grind (arith, on)
 
 acked_here : (f : Format) (s : Kept) (v u : SenderView) (on : ℕ → Bool) (passed k : ℕ) → Keeps f s v → IsAfter v u on passed
     → option_map_or (acked_of v u (suc v.cum + k)) (slice_get (drop v.cum v.plan.entries) k) 0 ≡ news_weight s.items on k
@@ -158,21 +123,8 @@ acked_here f s v u on passed k h a =
     covered : u.covered (suc (v.cum + k)) ≡ on (suc k)
     covered = ap u.covered (let same : suc (v.cum + k) ≡ v.cum + suc k = omega arith in same) ∙ a.covered (suc k) (omega arith)
 
-    both : (b c : Bool) (n : ℕ) → (if c && b then n else 0) ≡ (if b then (if c then n else 0) else 0)
-    both true true n = refl
-    both true false n = refl
-    both false true n = refl
-    both false false n = refl
-
-    nothing : (b : Bool) (n : ℕ) → (if b then n else n) ≡ n
-    nothing true n = refl
-    nothing false n = refl
-
     by_entry : (o : Option Entry) → option_map_or (acked_of v u (suc (v.cum + k))) o 0 ≡ (if on (suc k) then option_map_or unsettled_bytes (option_map (item_here v (suc (v.cum + k))) o) 0 else 0)
-    by_entry None = sym (nothing (on (suc k)) 0)
-    by_entry (Some e) =
-        ap (λ (b : Bool). if is_unsettled v (suc (v.cum + k)) e && b then length (entry_bytes v.plan e) else 0) covered
-        ∙ both (on (suc k)) (is_unsettled v (suc (v.cum + k)) e) (length (entry_bytes v.plan e))
+    by_entry o = grind (arith, covered)
 
 bytes_all : (f : Format) (s : Kept) (v u : SenderView) (on : ℕ → Bool) (passed : ℕ) → Keeps f s v → IsAfter v u on passed → newly_acked v u ≡ sum_below (news_weight s.items on) (length s.items)
 bytes_all f s v u on passed h a =
@@ -186,42 +138,15 @@ bytes_all f s v u on passed h a =
 
 -- ---- the highest indexes
 
-none_there : (xs : List Item) (k : ℕ) → k < length xs → slice_get xs k ≡ None → ⊥
-none_there [] k lt none = omega (arith, lt)
-none_there (x ∷ xs) zero lt none = cc
-none_there (x ∷ xs) (suc k) lt none = none_there xs k (omega arith) none
-
 newest_below : (v u : SenderView) (i : ℕ) → v.covered i ≡ true → (is_newly_covered v u i || (false && (moves v u && u.covered i))) ≡ false
-newest_below v u i on = rw on (by_tests (v.sent i) (u.covered i))
-  where
-    by_tests : (s b : Bool) → ((s && (b && false)) || false) ≡ false
-    by_tests true true = refl
-    by_tests true false = refl
-    by_tests false b = refl
+newest_below v u i on = grind (arith, on)
 
 newest_above : (f : Format) (s : Kept) (v u : SenderView) (on : ℕ → Bool) (passed j : ℕ) → Keeps f s v → IsAfter v u on passed → 0 < j → j ≤ length s.items
     → (is_newly_covered v u (v.cum + j) || (false && (moves v u && u.covered (v.cum + j)))) ≡ is_news s.items on j
-newest_above f s v u on passed j h a some le = by_entry (entry_at v.plan (suc (v.cum + (j - 1)))) refl
+newest_above f s v u on passed j h a some le = grind (arith, a.covered j some, index_is f s v is_item_news (λ i. v.sent i && not (v.covered i)) j h some (λ i e. refl) unsent)
   where
-    at : suc (v.cum + (j - 1)) ≡ v.cum + j
-    at = omega (arith, some)
-
-    here : passes_here is_item_news s.items (j - 1) ≡ some_passes (λ e. is_item_news (item_here v (v.cum + j) e)) (entry_at v.plan (v.cum + j))
-    here = kept_passes f s v is_item_news (j - 1) h ∙ ap (λ (m : ℕ). some_passes (λ e. is_item_news (item_here v m e)) (entry_at v.plan m)) at
-
-    shuffled : (b o c : Bool) → ((b && (o && not c)) || false) ≡ (o && (b && not c))
-    shuffled true true true = refl
-    shuffled true true false = refl
-    shuffled true false c = refl
-    shuffled false true c = refl
-    shuffled false false c = refl
-
-    by_entry : (o : Option Entry) → entry_at v.plan (suc (v.cum + (j - 1))) ≡ o → (is_newly_covered v u (v.cum + j) || (false && (moves v u && u.covered (v.cum + j)))) ≡ is_news s.items on j
-    by_entry None is = absurd (none_there s.items (j - 1) (omega (arith, some, le)) (kept_get f s v (j - 1) h ∙ ap (option_map (item_here v (suc (v.cum + (j - 1))))) is))
-    by_entry (Some e) is =
-        ap (λ (b : Bool). (v.sent (v.cum + j) && (b && not (v.covered (v.cum + j)))) || false) (a.covered j some)
-        ∙ shuffled (v.sent (v.cum + j)) (on j) (v.covered (v.cum + j))
-        ∙ ap (λ (b : Bool). on j && b) (sym (here ∙ ap (λ (o : Option Entry). some_passes (λ d. is_item_news (item_here v (v.cum + j) d)) o) (ap (entry_at v.plan) (sym at) ∙ is)))
+    unsent : (i : ℕ) → length v.plan.entries < i → (v.sent i && not (v.covered i)) ≡ false
+    unsent i past = rw ((is_bounded f v h.reached).unsent i past) refl
 
 outside_is : (f : Format) (s : Kept) (v u : SenderView) (on : ℕ → Bool) (passed : ℕ) → Keeps f s v → IsAfter v u on passed → newest false v u ≡ index_above v.cum (last_that (is_news s.items on) (length s.items))
 outside_is f s v u on passed h a =
@@ -259,27 +184,14 @@ inside_moved f s v u on passed t k a h some =
     moved : moves v u ≡ true
     moved = let by : nat_lt 0 passed ≡ true = grind (arith, nat_tests) in sym (moves_is v u on passed a) ∙ by
 
-    or_true : (b : Bool) → (b || true) ≡ true
-    or_true true = refl
-    or_true false = refl
-
     here : (is_newly_covered v u (v.cum + t.at) || (true && (moves v u && u.covered (v.cum + t.at)))) ≡ true
-    here =
-        let reach = reaches_passed s.items v u on passed t a h in
-        let on_here : u.covered (v.cum + t.at) ≡ true = a.covered t.at (omega (arith, reach, some)) ∙ h.here in
-        ap (λ (b : Bool). is_newly_covered v u (v.cum + t.at) || (b && u.covered (v.cum + t.at))) moved ∙ ap (λ (b : Bool). is_newly_covered v u (v.cum + t.at) || b) on_here ∙ or_true (is_newly_covered v u (v.cum + t.at))
-
-    nothing : (b m : Bool) → ((b && false) || (m && false)) ≡ false
-    nothing true true = refl
-    nothing true false = refl
-    nothing false true = refl
-    nothing false false = refl
+    here = let reach = reaches_passed s.items v u on passed t a h in grind (arith, moved, reach, some, a.covered t.at, h.here)
 
     off : (j : ℕ) → v.cum + t.at < j → j ≤ length v.plan.entries → (is_newly_covered v u j || (true && (moves v u && u.covered j))) ≡ false
     off j lo hi =
         let is : v.cum + (j - v.cum) ≡ j = omega (arith, lo) in
         let none : u.covered j ≡ false = ap u.covered (sym is) ∙ a.covered (j - v.cum) (omega (arith, lo)) ∙ h.beyond (j - v.cum) (omega (arith, lo)) in
-        ap (λ (b : Bool). (v.sent j && (b && not (v.covered j))) || (moves v u && b)) none ∙ nothing (v.sent j) (moves v u)
+        grind (arith, none)
 
 inside_still : (v u : SenderView) (on : ℕ → Bool) (passed : ℕ) → IsAfter v u on passed → passed ≡ 0 → newest true v u ≡ newest false v u
 inside_still v u on passed a none =
@@ -291,8 +203,7 @@ inside_still v u on passed a none =
 -- ---- all of it
 
 index_low : (c n : ℕ) → index_above c n ≤ c + n
-index_low c zero = omega arith
-index_low c (suc n) = omega arith
+index_low c n = grind arith
 
 pub weight_is : (f : Format) (s : Kept) (v u : SenderView) (on : ℕ → Bool) (timed : Option ℕ) (passed : ℕ) (t : Tally) (w : Weight) → Keeps f s v → IsAfter v u on passed → IsTallied s.items on t
     → sum_below (news_weight s.items on) (length s.items) ≤ length s.items * 65535 → w.moved ≡ nat_lt 0 passed → w.cum ≡ (s.cum + passed) % 2 ^ 64 → w.newest ≡ index_above s.cum t.newest % 2 ^ 64
@@ -330,7 +241,7 @@ weight_is f s v u on timed passed t w k a h few moved cum newest_here inside_her
     outside : w.newest ≡ newest false v u
     outside =
         let low = index_low v.cum (last_that (is_news s.items on) (length s.items)) in
-        let within = last_within (is_news s.items on) (length s.items) in
+        let within = last_low (is_news s.items on) (length s.items) in
         newest_here ∙ ap (λ (c : ℕ). index_above c t.newest % 2 ^ 64) k.holds.cum ∙ ap (λ (n : ℕ). index_above v.cum n % 2 ^ 64) all.last
         ∙ fits (index_above v.cum (last_that (is_news s.items on) (length s.items))) (omega (arith, low, within, long)) ∙ sym (outside_is f s v u on passed k a)
 
