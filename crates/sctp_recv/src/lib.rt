@@ -24,7 +24,7 @@
 //! | the number of maximal runs of TSNs received above it, never more than 16,383, whatever the peer does | [`Receiver::run_count`]: `runs`, `bound` |
 //! | whether a TSN above it was received, so that one below that is missing | [`Receiver::has_gap`]: `TellsGap` |
 //! | a SACK has the cumulative TSN, the buffer less the bytes held, the lowest 64 maximal runs, and the duplicates noted; it changes nothing, and can always be written as a chunk | [`Receiver::sack`]: `sack`, `IsSack`, `fits`; [`SackLists::view`] |
-//! | where it has neither runs nor duplicates it is told without lists; else that is refused, and only then | [`Receiver::plain_sack`]: `plain_meaning`, `TellsLists` |
+//! | if it has neither runs nor duplicates, its cumulative TSN and its space are there without an allocation; else there is none | [`Receiver::plain_sack`]: `plain_meaning`, `TellsLists` |
 //! | after `sack_sent` the duplicates noted are forgotten, and all else is as before | [`Receiver::sack_sent`] |
 //! | the number of streams; the message that waits at a position of a stream, None if and only if there is none | [`Receiver::stream_count`], [`Receiver::waiting`] |
 //! | the lowest stream from one on, on which a message waits; None if and only if none waits from there on | [`Receiver::readable`]: `ReadableAnswer` |
