@@ -1,16 +1,17 @@
 -- A packet in the making: which chunks went in, and what that leaves at its end (RFC 9260, 6.10).
 use Rattle.std.specs.Prelude.{◌≡◌, ◌≤◌, ℕ, Bool, true, false, not, List, [], map, Option, None}
 use Rattle.sctp_model.specs.wire.Typed.{Typed}
+use Rattle.sctp_model.specs.wire.Chunk.{SackMeaning, Sack}
 use Rattle.sctp_model.specs.sender.SenderView.{SenderView}
 use Rattle.sctp_model.specs.sender.Filling.{newly_numbered}
 use Rattle.sctp_model.specs.receiver.ReceiverView.{ReceiverView}
-use Rattle.sctp_model.specs.receiver.SackMade.{sack_sent}
+use Rattle.sctp_model.specs.receiver.SackMade.{IsSack, sack_sent}
 use Rattle.sctp_model.specs.receiver.ResetTaken.{with_answers}
 use Rattle.sctp_model.specs.end.EndView.{Configuration, EndView, format_of}
 use Rattle.sctp_model.specs.end.EndView as model
 use Rattle.sctp_model.specs.end.Pacing.{Pace}
 use Rattle.sctp_model.specs.end.Building.{Slot, Puts, Builds, tag_to}
-use Rattle.sctp_packet.specs.Draft.{Draft}
+use Rattle.sctp_packet.specs.Draft.{Draft, has_room, after_try}
 use Rattle.sctp_send.specs.declared.fill.Filled.{Filled}
 use Rattle.sctp_association.specs.StartsMean.{starts_at, started_from}
 use Rattle.sctp_association.specs.Asks.{asks}
@@ -21,6 +22,13 @@ use Rattle.sctp_association.specs.declared.state.due.Due.{Due}
 use Rattle.sctp_association.specs.declared.traffic.Traffic.{Traffic}
 use Rattle.sctp_association.specs.declared.build.packing.Marks.{Marks}
 use Rattle.sctp_association.specs.declared.build.packing.Packing.{Packing}
+
+-- the SACK of a receiver goes into a packet, or doesn't fit
+pub record PutsSack (r : ReceiverView) (old new : Draft) (put : Bool) : Type 0 where
+  pub sack : SackMeaning
+  pub told : IsSack r sack
+  pub answer : put ≡ has_room old (Sack sack)
+  pub after : new ≡ after_try old (Sack sack) put
 
 -- ---- what a packet leaves
 

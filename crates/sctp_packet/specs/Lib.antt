@@ -7,3 +7,4 @@ pub mod PacketBytes
 pub mod PacketTree
 pub mod PacketLaws
 pub mod Draft
+pub mod PlainSack

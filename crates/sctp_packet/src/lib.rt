@@ -21,6 +21,7 @@
 //! | [`PacketWriter::reserve`] | `reserved`: memory for all that the limit allows is there; `before`: whether it was reserved already; `unchanged`, `early`: [`NoMemory`] changes nothing, and is returned only before the packet's second chunk |
 //! | [`PacketWriter::put`] | the chunk, for which there is space, is after the others, in a packet whose memory is reserved |
 //! | [`PacketWriter::put_piece`] | the same for a DATA or I-DATA with the fields of a `Piece` |
+//! | [`PacketWriter::try_sack`] | the same as [`PacketWriter::try_chunk`] with a SACK that has this cumulative TSN, this space, and no lists |
 //! | [`PacketWriter::restore`] | the packet's memory counts as reserved, or doesn't, as before [`PacketWriter::reserve`] |
 //! | [`PacketWriter::finish`], [`PacketWriter::finish_or_room`] | `packet`: None, or the buffer, if and only if there is no chunk, else bytes with `WritesPacket`; `size`, `within`: their length is that of header and padded chunks, at most the limit |
 //!
@@ -56,6 +57,7 @@ mod folding;
 mod laws;
 mod read;
 mod reserved;
+mod sacks;
 mod tables;
 mod writer;
 

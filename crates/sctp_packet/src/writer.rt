@@ -158,7 +158,7 @@ impl PacketWriter {
 
 /// Reserves capacity for a chunk of `size` bytes. Before the first chunk that is all, and the header is written; after one it is capacity for
 /// the whole packet, unless it is there.
-fn begin(
+pub(crate) fn begin(
     bytes: &mut Vec<u8>,
     size: usize,
     limit: u16,

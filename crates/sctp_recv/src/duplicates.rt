@@ -1,6 +1,6 @@
 //! Duplicate TSNs, until a SACK reports them (RFC 9260, 3.3.4 and 6.2).
 
-ghost use Rattle.std.specs.Prelude.{◌≡◌, ◌≤◌, ◌<◌, ◌%◌, [], ◌∷◌, ◌++◌, length, take, OnOk, OnErr};
+ghost use Rattle.std.specs.Prelude.{◌≡◌, ◌≤◌, ◌<◌, ◌%◌, [], ◌∷◌, ◌++◌, nat_lt, length, take, OnOk, OnErr};
 ghost use Rattle.std.specs.List.{AllByRecursion};
 ghost use Rattle.sctp_model.specs.numbers.Limits.{DUPLICATE_LIMIT};
 ghost use Rattle.sctp_wire.specs.Items.{words_in, IsWord};
@@ -39,6 +39,14 @@ impl Duplicates {
             self.tsns.push(tsn).map_err(|_| NoMemory)?;
         }
         Ok(())
+    }
+
+    /// Whether there is one.
+    #[inline(always)]
+    pub(crate) fn has_some(&self) -> bool
+        ensures { result ≡ nat_lt 0 (length self.now.tsns.items) }
+    {
+        !self.tsns.is_empty()
     }
 
     /// Keeps the first ones, and drops the rest.

@@ -24,6 +24,7 @@
 //! | the number of maximal runs of TSNs received above it, never more than 16,383, whatever the peer does | [`Receiver::run_count`]: `runs`, `bound` |
 //! | whether a TSN above it was received, so that one below that is missing | [`Receiver::has_gap`]: `TellsGap` |
 //! | a SACK has the cumulative TSN, the buffer less the bytes held, the lowest 64 maximal runs, and the duplicates noted; it changes nothing, and can always be written as a chunk | [`Receiver::sack`]: `sack`, `IsSack`, `fits`; [`SackLists::view`] |
+//! | if it has neither runs nor duplicates, its cumulative TSN and its space are there without an allocation; else there is none | [`Receiver::plain_sack`]: `plain_meaning`, `TellsLists` |
 //! | after `sack_sent` the duplicates noted are forgotten, and all else is as before | [`Receiver::sack_sent`] |
 //! | the number of streams; the message that waits at a position of a stream, None if and only if there is none | [`Receiver::stream_count`], [`Receiver::waiting`] |
 //! | the lowest stream from one on, on which a message waits; None if and only if none waits from there on | [`Receiver::readable`]: `ReadableAnswer` |
@@ -92,5 +93,5 @@ pub use laws::{
 pub use message::Message;
 pub use receiver::Receiver;
 pub use restart::{Reset, ResetResponse};
-pub use sack::SackLists;
+pub use sack::{PlainSack, SackLists};
 pub use sctp_values::NoMemory;

@@ -1,4 +1,4 @@
-//! A SACK that owns its lists.
+//! A SACK that owns its lists, and one without lists.
 
 ghost use Rattle.std.specs.Prelude.{◌≡◌, ◌%◌, length};
 
@@ -13,6 +13,13 @@ pub struct SackLists {
     pub(crate) duplicates: Vec<u8>,
     ghost whole_blocks: { length blocks.items % 4 ≡ 0 },
     ghost whole_duplicates: { length duplicates.items % 4 ≡ 0 },
+}
+
+/// The contents of a SACK that has neither gap ack blocks nor duplicates.
+#[derive(Clone, Copy)]
+pub struct PlainSack {
+    pub cumulative: u32,
+    pub rwnd: u32,
 }
 
 impl SackLists {

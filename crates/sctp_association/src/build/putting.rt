@@ -2,12 +2,15 @@
 //! (RFC 9260, 6.10). Each function returns false exactly if its chunk is due and doesn't fit.
 
 ghost use Rattle.std.specs.Prelude.{◌≡◌, [], ◌∷◌, IfOk};
+ghost use Rattle.sctp_model.specs.messages.Format.{Format};
+ghost use Rattle.sctp_model.specs.sender.SenderView.{SenderView};
+ghost use Rattle.sctp_model.specs.receiver.ReceiverView.{ReceiverView};
 ghost use Rattle.sctp_model.specs.end.EndView.{EndView, Echoing, format_of};
 ghost use Rattle.sctp_model.specs.end.EndView as model;
 ghost use Rattle.sctp_model.specs.end.Building.{SackSlot, ForwardSlot, ShutdownSlot, ShutdownAckSlot, EchoSlot, open_slots, echoing_slots};
 ghost use Rattle.sctp_association.specs.DueStands.{DueStands};
 ghost use Rattle.sctp_association.specs.TrafficStands.{TrafficStands};
-ghost use Rattle.sctp_association.specs.Drafted.{PutsAt, IsOf, IsPartOf};
+ghost use Rattle.sctp_association.specs.Drafted.{PutsSack, PutsAt, IsOf, IsPartOf};
 ghost use Rattle.sctp_association.specs.PlainPacket.{still_due};
 ghost use Rattle.sctp_association.specs.declared.build.packing.Marks as marks;
 
@@ -122,11 +125,36 @@ pub(crate) fn put_due_sack(
     if !sack {
         return Ok(true);
     }
-    let lists = traffic.sack()?;
-    if !writer.try_chunk(&Chunk::Sack(lists.view()))? {
+    if !put_told(traffic, writer)? {
         return Ok(false);
     }
     Ok(true)
+}
+
+/// Puts what the SACK tells at this point into a packet. False if it doesn't fit.
+///
+/// # Errors
+/// `NoMemory` if an allocation was refused.
+#[inline(always)]
+fn put_told(traffic: &Traffic, writer: &mut PacketWriter) -> Result<bool, NoMemory>
+    ensures { (f : Format) (s : SenderView) (r : ReceiverView) → TrafficStands traffic.now f s r → IfOk result (λ put. PutsSack r writer.old writer.new put) }
+{
+    match traffic.plain_sack() {
+        Some(plain) => writer.try_sack(plain.cumulative, plain.rwnd),
+        None => put_lists(traffic, writer),
+    }
+}
+
+/// The same by a SACK's lists.
+///
+/// # Errors
+/// `NoMemory` if an allocation was refused.
+#[inline(never)]
+fn put_lists(traffic: &Traffic, writer: &mut PacketWriter) -> Result<bool, NoMemory>
+    ensures { (f : Format) (s : SenderView) (r : ReceiverView) → TrafficStands traffic.now f s r → IfOk result (λ put. PutsSack r writer.old writer.new put) }
+{
+    let lists = traffic.sack()?;
+    writer.try_chunk(&Chunk::Sack(lists.view()))
 }
 
 /// FORWARD-TSN or I-FORWARD-TSN, if it skips something, up to the TSN whose entries fit one packet (RFC 3758, 3.5; RFC 8260, 2.3.1).

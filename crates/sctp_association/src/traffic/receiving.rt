@@ -13,12 +13,12 @@ ghost use Rattle.sctp_model.specs.end.Arriving.{TellsGap};
 ghost use Rattle.sctp_wire.specs.ChunkTree.{piece_meaning, forward_meaning};
 ghost use Rattle.sctp_wire.specs.Layouts.{Fits};
 ghost use Rattle.sctp_recv.specs.AnswerOf.{answer_of, forward_answer_of};
-ghost use Rattle.sctp_recv.specs.SackOf.{lists_meaning};
+ghost use Rattle.sctp_recv.specs.SackOf.{lists_meaning, plain_meaning, TellsLists};
 ghost use Rattle.sctp_recv.specs.HandedOf.{handed_of};
 ghost use Rattle.sctp_association.specs.TrafficStands.{TrafficStands};
 
 use crate::traffic::Traffic;
-use sctp_recv::{Answer, ForwardAnswer, Message, SackLists};
+use sctp_recv::{Answer, ForwardAnswer, Message, PlainSack, SackLists};
 use sctp_values::NoMemory;
 use sctp_wire::{Forward, Piece};
 
@@ -63,6 +63,17 @@ impl Traffic {
         match self {
             Traffic::Plain(directions) => directions.receiver.sack(),
             Traffic::Interleaved(directions) => directions.receiver.sack(),
+        }
+    }
+
+    /// The contents of a SACK at this point, if it has no lists: None if and only if it has. Nothing changes.
+    #[inline(always)]
+    pub(crate) fn plain_sack(&self) -> Option<PlainSack>
+        ensures { (f : Format) (s : SenderView) (r : ReceiverView) → TrafficStands self.now f s r → MatchOption result (TellsLists r) (λ p. IsSack r (plain_meaning p)) }
+    {
+        match self {
+            Traffic::Plain(directions) => directions.receiver.plain_sack(),
+            Traffic::Interleaved(directions) => directions.receiver.plain_sack(),
         }
     }
 

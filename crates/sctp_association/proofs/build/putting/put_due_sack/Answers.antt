@@ -1,9 +1,7 @@
 use Rattle.std.proofs.Common.{Bool, true, false, [], ◌∷◌, sym, subst}
 use Rattle.sctp_model.specs.wire.Chunk.{Sack}
-use Rattle.sctp_model.specs.receiver.SackMade.{IsSack}
 use Rattle.sctp_model.specs.end.EndView.{format_of}
 use Rattle.sctp_model.specs.end.Building.{SackSlot}
-use Rattle.sctp_wire.specs.ChunkTree.{sack_meaning}
 use Rattle.sctp_association.specs.Drafted.{PutsAt}
 use Rattle.sctp_association.specs.declared.build.packing.Marks.{Marks}
 use Rattle.sctp_association.specs.declared.build.packing.Packing.{Packing}
@@ -19,15 +17,14 @@ returns-then-not-sack c = λ e m stands packet.
 pub returns-then-not-branch : goal.returns-then-not-branch
 returns-then-not-branch c = λ e m stands packet.
     let n : Marks = record m { sack = c.args.sack } in
-    let told : IsSack e.receiver (sack_meaning c.view.result) = subst (IsSack e.receiver) (sym c.view.ensures) (c.in_ok-lists.ensures.sack (format_of e) e.sender e.receiver stands) in
-    stays_out SackSlot e (record { writer = c.args.writer.now; marks = n }) _ (Sack (sack_meaning c.view.result)) _ c.if-not-sack.false
-    (acknowledges e n (sack_meaning c.view.result) c.if-not-sack.false told)
-    packet c.if-not-branch.true c.in_ok-try_chunk.ensures.answer c.in_ok-try_chunk.ensures.after
+    let w = c.in_ok-put_told.ensures (format_of e) e.sender e.receiver stands in
+    stays_out SackSlot e (record { writer = c.args.writer.now; marks = n }) _ (Sack w.sack) _ c.if-not-sack.false
+    (acknowledges e n w.sack c.if-not-sack.false w.told) packet c.if-not-branch.true w.answer w.after
 
 pub returns : goal.returns
 returns c = λ e m stands packet.
     let n : Marks = record m { sack = c.args.sack } in
-    let told : IsSack e.receiver (sack_meaning c.view.result) = subst (IsSack e.receiver) (sym c.view.ensures) (c.in_ok-lists.ensures.sack (format_of e) e.sender e.receiver stands) in
-    goes_in SackSlot e (record { writer = c.args.writer.now; marks = n }) (record m { sack = false }) _ (Sack (sack_meaning c.view.result)) _ c.if-not-sack.false
-    (acknowledges e n (sack_meaning c.view.result) c.if-not-sack.false told) (sack_left e n c.if-not-sack.false (packet.sack c.if-not-sack.false))
-    (λ still. c.if-not-sack.false) packet c.if-not-branch.false c.in_ok-try_chunk.ensures.answer c.in_ok-try_chunk.ensures.after
+    let w = c.in_ok-put_told.ensures (format_of e) e.sender e.receiver stands in
+    goes_in SackSlot e (record { writer = c.args.writer.now; marks = n }) (record m { sack = false }) _ (Sack w.sack) _ c.if-not-sack.false
+    (acknowledges e n w.sack c.if-not-sack.false w.told) (sack_left e n c.if-not-sack.false (packet.sack c.if-not-sack.false))
+    (λ still. c.if-not-sack.false) packet c.if-not-branch.false w.answer w.after

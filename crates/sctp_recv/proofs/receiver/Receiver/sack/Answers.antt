@@ -13,8 +13,8 @@ pub returns-clause-sack : goal.returns-clause-sack
 unfolding StandsFor
 returns-clause-sack g c = λ v w.
     let s = c.args.self.now.seen.kept in
-    let first = c.tsn_of.ensures ∙ ap (λ (i : ℕ). tsn c.args.self.now.initial i) c.cumulative.ensures.value ∙ ap (λ (i : ℕ). tsn i s.cumulative) (sym w.0.initial) in
-    let room : c.saturating_sub.result ≡ v.buffer - held_bytes v = let held = w.0.held in let all = w.0.buffer in let left = c.saturating_sub.ensures in omega arith in
+    let first = c.sack_words-words.ensures.cumulative ∙ ap (λ (i : ℕ). tsn i s.cumulative) (sym w.0.initial) in
+    let room : c.sack_words-words.result.rwnd ≡ v.buffer - held_bytes v = let held = w.0.held in let all = w.0.buffer in let left = c.sack_words-words.ensures.rwnd in omega arith in
     let lowest = c.in_ok-put_blocks.ensures.blocks ∙ sym (take-map (block_of_run s.cumulative) BLOCK_LIMIT s.runs) in
     let again = c.in_ok-put.ensures.words ∙ sym w.0.duplicates in
     record {
@@ -27,7 +27,7 @@ returns-clause-sack g c = λ v w.
 
 pub returns-clause-fits : goal.returns-clause-fits
 returns-clause-fits g c = record {
-  fields = record { cumulative = omega (arith, c.tsn_of.ensures); rwnd = omega (arith, c.saturating_sub.ensures); blocks = c.in_ok-put_blocks.ensures.in_range; duplicates = c.in_ok-put.ensures.in_range };
+  fields = record { cumulative = c.sack_words-words.ensures.fits.0; rwnd = c.sack_words-words.ensures.fits.1; blocks = c.in_ok-put_blocks.ensures.in_range; duplicates = c.in_ok-put.ensures.in_range };
   length = omega (arith, c.in_ok-put_blocks.ensures.few, c.in_ok-put.ensures.few);
   plain = tt;
 }
