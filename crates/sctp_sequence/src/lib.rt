@@ -44,7 +44,7 @@
 //! | public function | what is promised |
 //! |---|---|
 //! | [`Pairs::new`], [`Pairs::reserve`], [`Pairs::insert`], [`Pairs::remove`] | `items`, `gone`: the pairs and one more, or one less, in any order (`AreSame`); `unchanged`, if allocation fails or the pair isn't there; `memory`: `insert` doesn't fail if there was memory for one more; memory stays (`capacity`) |
-//! | [`Pairs::insert_reserved`], [`Pairs::reserve_exact`], [`Pairs::capacity`], [`Pairs::shrink_to`], [`Pairs::clear`] | inserts as `insert` does, for a caller that has reserved; memory for so many pairs more, and for how many there is; all goes but what so many pairs take; no pair stays, and the memory does |
+//! | [`Pairs::insert_reserved`], [`Pairs::reserve_exact`], [`Pairs::capacity`], [`Pairs::shrink_to`], [`Pairs::clear`] | inserts as `insert` does, for a caller that has reserved; memory for a number of pairs more, and for how many there is; all is given back but what a number of pairs take; no pair stays, and the memory does |
 //! | [`Pairs::rank_from`], [`Pairs::rank_above`], [`Pairs::get`], [`Pairs::len`] | how many pairs in front have a first number below, or up to, a given one (`IsRankFrom`), with first numbers rising from rank to rank; the pair at a rank, and their number |
 //! | [`Pairs::first_from`] | the lowest pair whose first number is a given one or a higher one; None if and only if there is none (`FirstFromAnswer`) |
 //! | [`TwoWayMap::new`], [`TwoWayMap::change`] | the map of no value, complete if and only if memory was asked for; that of the values with another one, or none, at a key (`IsMapOf`) |

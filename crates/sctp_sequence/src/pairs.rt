@@ -79,7 +79,7 @@ impl Pairs {
         self.pairs.capacity()
     }
 
-    /// Gives memory back, but for so many pairs; all of it stays if a smaller block can't be allocated.
+    /// Gives memory back, but for this many pairs; all of it stays if a smaller block can't be allocated.
     pub fn shrink_to(&mut self, kept: usize)
         ensures items { self.new.items ≡ self.old.items }
         ensures capacity { min kept self.old.capacity ≤ self.new.capacity }
@@ -120,7 +120,7 @@ impl Pairs {
         self.pairs.insert(rank, pair).map_err(|_| NoMemory)
     }
 
-    /// Inserts a pair for which there is memory. The last one is looked at before others, since most are inserted behind it.
+    /// Inserts a pair for which there is memory. The last one is looked at before others, since most are inserted after it.
     #[inline(always)]
     pub fn insert_reserved(&mut self, pair: Pair)
         requires { length self.old.items < self.old.capacity }
