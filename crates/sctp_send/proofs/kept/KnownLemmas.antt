@@ -8,7 +8,7 @@ use Rattle.sctp_send.specs.inner.Stretching.{AreAlike, told_run, index_at, slot_
 use Rattle.sctp_send.specs.declared.kept.stretches.Stretch.{Stretch}
 use Rattle.sctp_send.specs.declared.kept.entry.Entry.{Entry as EntryFields}
 use Rattle.sctp_send.proofs.kept.ChangedLemmas.{count_changed}
-use Rattle.sctp_send.proofs.kept.StretchLemmas.{length-run_changed, alike_pushed, alike_before, alike_behind, alike_turned, alike_front, alike_back}
+use Rattle.sctp_send.proofs.kept.StretchLemmas.{length-run_changed, alike_pushed, changed_run, alike_turned, alike_front, alike_back}
 
 -- no more is said of any stretch
 abbrev pub SayNoMore : (now before : List Stretch) → Type 0
@@ -55,10 +55,10 @@ known_changed size first at g ss now es same none h n s within begins read known
     let other = λ (is : slot_at (index_at first n) ≡ slot_at (index_at first at)). not_there (index_at first at) (index_at first n) now s none is read known in
     let before = h n s (omega (arith, within, long)) begins (sym (same (slot_at (index_at first n)) other) ∙ read) known in
     elim (cases_lt at n) [
-      | inl lt ↦ alike_before size s.covered s.bytes s.plain n 64 at g es lt before
+      | inl lt ↦ rw (changed_run g at es) (alike_front size s.covered g s.bytes s.plain n 64 at 1 es (omega (arith, lt)) before)
       | inr ge ↦ elim (cases_lt at (n + 64)) [
         | inl lt ↦ absurd (other (omega (arith, ge, lt, begins)))
-        | inr past ↦ alike_behind size s.covered s.bytes s.plain n 64 at g es past before
+        | inr past ↦ rw (changed_run g at es) (alike_back size s.covered g s.bytes s.plain n 64 at 1 es past before)
       ]
     ]
 
@@ -87,9 +87,9 @@ known_turned size first at b c bytes plain ss now new es few there starts same h
       | inr ne ↦
           let before = h n s (omega (arith, within, long)) begins (sym (same (slot_at (index_at first n)) ne) ∙ read) known in
           elim (cases_lt n at) [
-            | inl lt ↦ alike_back size s.covered c s.bytes s.plain n 64 at 64 es (lie_apart first n at lt begins starts) before
+            | inl lt ↦ alike_back size s.covered (told c) s.bytes s.plain n 64 at 64 es (lie_apart first n at lt begins starts) before
             | inr ge ↦ elim (cases_lt at n) [
-              | inl lt ↦ alike_front size s.covered c s.bytes s.plain n 64 at 64 es (lie_apart first at n lt starts begins) before
+              | inl lt ↦ alike_front size s.covered (told c) s.bytes s.plain n 64 at 64 es (lie_apart first at n lt starts begins) before
               | inr le ↦ let one : n ≡ at = omega (arith, ge, le) in absurd (ne (ap (λ (m : ℕ). slot_at (index_at first m)) one))
             ]
           ]

@@ -1,5 +1,5 @@
 -- Stretches whose entries are alike: they stay so as other entries are added, removed or changed, and once they are set as a whole.
-use Rattle.std.proofs.Common.{◌≡◌, ℕ, zero, suc, ◌+◌, ◌-◌, ◌<◌, ◌≤◌, List, [], ◌∷◌, ◌++◌, length, Bool, true, false, Some, refl, sym, ap, ◌∙◌, subst, arith}
+use Rattle.std.proofs.Common.{◌≡◌, ℕ, zero, suc, ◌+◌, ◌-◌, ◌≤◌, List, [], ◌∷◌, ◌++◌, length, Bool, true, false, Some, refl, sym, ap, ◌∙◌, subst, arith}
 use Rattle.std.specs.Prelude.{not, slice_get}
 use Rattle.std.proofs.lemmas.Bool.Decides.{nat_tests}
 use mathlib.Core.Bool.{beq}
@@ -54,23 +54,6 @@ alike_pushed size c n p (suc at) k (e ∷ es) ds h = alike_pushed size c n p at 
 alike_pushed size c n p zero zero es ds h = h
 alike_pushed size c n p zero (suc k) [] ds h = absurd h
 alike_pushed size c n p zero (suc k) (e ∷ es) ds h = (h.0, h.1, h.2, alike_pushed size c (n - plain_bytes size e) (p - plain_one e) zero k es ds h.3)
-
--- an entry before them changes
-pub alike_before : (size : ℕ) (c : Bool) (n p at k i : ℕ) (g : EntryFields → EntryFields) (es : List EntryFields) → i < at → AreAlike size c n p at k es → AreAlike size c n p at k (changed_at g i es)
-alike_before size c n p zero k i g es lt h = absurd (omega (arith, lt))
-alike_before size c n p (suc at) k i g [] lt h = absurd h
-alike_before size c n p (suc at) k zero g (e ∷ es) lt h = h
-alike_before size c n p (suc at) k (suc i) g (e ∷ es) lt h = alike_before size c n p at k i g es (omega (arith, lt)) h
-
--- an entry behind them does
-pub alike_behind : (size : ℕ) (c : Bool) (n p at k i : ℕ) (g : EntryFields → EntryFields) (es : List EntryFields) → at + k ≤ i → AreAlike size c n p at k es → AreAlike size c n p at k (changed_at g i es)
-alike_behind size c n p (suc at) k i g [] le h = absurd h
-alike_behind size c n p (suc at) k zero g (e ∷ es) le h = absurd (omega (arith, le))
-alike_behind size c n p (suc at) k (suc i) g (e ∷ es) le h = alike_behind size c n p at k i g es (omega (arith, le)) h
-alike_behind size c n p zero zero i g es le h = h
-alike_behind size c n p zero (suc k) i g [] le h = absurd h
-alike_behind size c n p zero (suc k) zero g (e ∷ es) le h = absurd (omega (arith, le))
-alike_behind size c n p zero (suc k) (suc i) g (e ∷ es) le h = (h.0, h.1, h.2, alike_behind size c (n - plain_bytes size e) (p - plain_one e) zero k i g es (omega (arith, le)) h.3)
 
 -- one more stands so
 pub alike_more : (size : ℕ) (c : Bool) (n p at k : ℕ) (es : List EntryFields) (e : EntryFields) → AreAlike size c n p at k es → slice_get es (at + k) ≡ Some e → IsQuiet c e → AreAlike size c (n + plain_bytes size e) (p + plain_one e) at (suc k) es
@@ -168,22 +151,29 @@ alike_turned size b c n p zero (suc k) (e ∷ es) h =
     by_told true quiet more = (quiet, more.0, more.1, more.2)
     by_told false quiet more = (quiet, more.0, more.1, more.2)
 
--- others that lie behind those told
-pub alike_front : (size : ℕ) (b c : Bool) (n p m j at k : ℕ) (es : List EntryFields) → at + k ≤ m → AreAlike size b n p m j es → AreAlike size b n p m j (told_run c at k es)
-alike_front size b c n p zero j (suc at) k es le h = absurd (omega (arith, le))
-alike_front size b c n p (suc m) j (suc at) k [] le h = absurd h
-alike_front size b c n p (suc m) j (suc at) k (e ∷ es) le h = alike_front size b c n p m j at k es (omega (arith, le)) h
-alike_front size b c n p m j zero zero es le h = h
-alike_front size b c n p zero j zero (suc k) es le h = absurd (omega (arith, le))
-alike_front size b c n p (suc m) j zero (suc k) [] le h = absurd h
-alike_front size b c n p (suc m) j zero (suc k) (e ∷ es) le h = alike_front size b c n p m j zero k es (omega (arith, le)) h
+-- an entry that changes is a run
+pub changed_run : (g : EntryFields → EntryFields) (i : ℕ) (es : List EntryFields) → changed_at g i es ≡ run_changed g i 1 es
+changed_run g zero [] = refl
+changed_run g (suc i) [] = refl
+changed_run g zero (e ∷ es) = refl
+changed_run g (suc i) (e ∷ es) = ap (λ (xs : List EntryFields). e ∷ xs) (changed_run g i es)
+
+-- others that lie behind those that change
+pub alike_front : (size : ℕ) (b : Bool) (g : EntryFields → EntryFields) (n p m j at k : ℕ) (es : List EntryFields) → at + k ≤ m → AreAlike size b n p m j es → AreAlike size b n p m j (run_changed g at k es)
+alike_front size b g n p zero j (suc at) k es le h = absurd (omega (arith, le))
+alike_front size b g n p (suc m) j (suc at) k [] le h = absurd h
+alike_front size b g n p (suc m) j (suc at) k (e ∷ es) le h = alike_front size b g n p m j at k es (omega (arith, le)) h
+alike_front size b g n p m j zero zero es le h = h
+alike_front size b g n p zero j zero (suc k) es le h = absurd (omega (arith, le))
+alike_front size b g n p (suc m) j zero (suc k) [] le h = absurd h
+alike_front size b g n p (suc m) j zero (suc k) (e ∷ es) le h = alike_front size b g n p m j zero k es (omega (arith, le)) h
 
 -- others that lie before them
-pub alike_back : (size : ℕ) (b c : Bool) (n p m j at k : ℕ) (es : List EntryFields) → m + j ≤ at → AreAlike size b n p m j es → AreAlike size b n p m j (told_run c at k es)
-alike_back size b c n p (suc m) j zero k es le h = absurd (omega (arith, le))
-alike_back size b c n p (suc m) j (suc at) k [] le h = absurd h
-alike_back size b c n p (suc m) j (suc at) k (e ∷ es) le h = alike_back size b c n p m j at k es (omega (arith, le)) h
-alike_back size b c n p zero zero at k es le h = h
-alike_back size b c n p zero (suc j) zero k es le h = absurd (omega (arith, le))
-alike_back size b c n p zero (suc j) (suc at) k [] le h = absurd h
-alike_back size b c n p zero (suc j) (suc at) k (e ∷ es) le h = (h.0, h.1, h.2, alike_back size b c (n - plain_bytes size e) (p - plain_one e) zero j at k es (omega (arith, le)) h.3)
+pub alike_back : (size : ℕ) (b : Bool) (g : EntryFields → EntryFields) (n p m j at k : ℕ) (es : List EntryFields) → m + j ≤ at → AreAlike size b n p m j es → AreAlike size b n p m j (run_changed g at k es)
+alike_back size b g n p (suc m) j zero k es le h = absurd (omega (arith, le))
+alike_back size b g n p (suc m) j (suc at) k [] le h = absurd h
+alike_back size b g n p (suc m) j (suc at) k (e ∷ es) le h = alike_back size b g n p m j at k es (omega (arith, le)) h
+alike_back size b g n p zero zero at k es le h = h
+alike_back size b g n p zero (suc j) zero k es le h = absurd (omega (arith, le))
+alike_back size b g n p zero (suc j) (suc at) k [] le h = absurd h
+alike_back size b g n p zero (suc j) (suc at) k (e ∷ es) le h = (h.0, h.1, h.2, alike_back size b g (n - plain_bytes size e) (p - plain_one e) zero j at k es (omega (arith, le)) h.3)

@@ -50,28 +50,21 @@ not_first size e out = by_flag e.abandoned refl
 
 -- ---- sums
 
--- of entries that are acknowledged
-covered_sums : (size n p at k : ℕ) (es : List EntryFields) → AreAlike size false n p at k es
-    → (item_flight (map (item_meaning size) (told_run true at k es)) + n ≡ item_flight (map (item_meaning size) es)) × (count_unsettled (map (item_meaning size) (told_run true at k es)) + p ≡ count_unsettled (map (item_meaning size) es))
-covered_sums size n p (suc at) k [] h = absurd h
-covered_sums size n p (suc at) k (e ∷ es) h = let rest = covered_sums size n p at k es h in (omega (arith, rest.0), omega (arith, rest.1))
-covered_sums size n p zero zero es h = (omega (arith, h.0), omega (arith, h.1))
-covered_sums size n p zero (suc k) [] h = absurd h
-covered_sums size n p zero (suc k) (e ∷ es) h =
-    let rest = covered_sums size (n - plain_bytes size e) (p - plain_one e) zero k es h.3 in
+-- of entries that are acknowledged, or no longer are
+turned_sums : (c : Bool) (size n p at k : ℕ) (es : List EntryFields) → AreAlike size (not c) n p at k es
+    → (item_flight (map (item_meaning size) (told_run c at k es)) + (if c then n else 0) ≡ item_flight (map (item_meaning size) es) + (if c then 0 else n))
+    × (count_unsettled (map (item_meaning size) (told_run c at k es)) + (if c then p else 0) ≡ count_unsettled (map (item_meaning size) es) + (if c then 0 else p))
+turned_sums c size n p (suc at) k [] h = absurd h
+turned_sums c size n p (suc at) k (e ∷ es) h = let rest = turned_sums c size n p at k es h in (omega (arith, rest.0), omega (arith, rest.1))
+turned_sums c size n p zero zero es h = (grind (arith, nat_tests, h.0), grind (arith, nat_tests, h.1))
+turned_sums c size n p zero (suc k) [] h = absurd h
+turned_sums true size n p zero (suc k) (e ∷ es) h =
+    let rest = turned_sums true size (n - plain_bytes size e) (p - plain_one e) zero k es h.3 in
     let was = quiet_uncovered size e h.0 in
     let is = quiet_covered size (told true e) (quiet_told false true e h.0) in
     (omega (arith, rest.0, was.0, is.0, h.1), omega (arith, rest.1, was.1, is.1, h.2))
-
--- of entries that no longer are
-uncovered_sums : (size n p at k : ℕ) (es : List EntryFields) → AreAlike size true n p at k es
-    → (item_flight (map (item_meaning size) (told_run false at k es)) ≡ item_flight (map (item_meaning size) es) + n) × (count_unsettled (map (item_meaning size) (told_run false at k es)) ≡ count_unsettled (map (item_meaning size) es) + p)
-uncovered_sums size n p (suc at) k [] h = absurd h
-uncovered_sums size n p (suc at) k (e ∷ es) h = let rest = uncovered_sums size n p at k es h in (omega (arith, rest.0), omega (arith, rest.1))
-uncovered_sums size n p zero zero es h = (omega (arith, h.0), omega (arith, h.1))
-uncovered_sums size n p zero (suc k) [] h = absurd h
-uncovered_sums size n p zero (suc k) (e ∷ es) h =
-    let rest = uncovered_sums size (n - plain_bytes size e) (p - plain_one e) zero k es h.3 in
+turned_sums false size n p zero (suc k) (e ∷ es) h =
+    let rest = turned_sums false size (n - plain_bytes size e) (p - plain_one e) zero k es h.3 in
     let was = quiet_covered size e h.0 in
     let is = quiet_uncovered size (told false e) (quiet_told true false e h.0) in
     (omega (arith, rest.0, was.0, is.0, h.1), omega (arith, rest.1, was.1, is.1, h.2))
@@ -141,12 +134,12 @@ counts_turned_by size b c n p at es d flight unsettled h counted one two =
 pub counts_turned : (size : ℕ) (c : Bool) (n p at : ℕ) (es : List EntryFields) (d : Counts) → n < 2 ^ 32 → p < 2 ^ 8 → AreAlike size (not c) n p at 64 es → IsCounted size es d
     → IsCounted size (told_run c at 64 es) (turned_counts n p c d)
 counts_turned size true n p at es d small few h counted =
-    let sums = covered_sums size n p at 64 es h in
+    let sums = turned_sums true size n p at 64 es h in
     let flight = counted.flight in
     let unsettled = counted.unsettled in
     counts_turned_by size false true n p at es d _ _ h counted (omega (arith, small, sums.0, flight)) (omega (arith, few, sums.1, unsettled))
 counts_turned size false n p at es d small few h counted =
-    let sums = uncovered_sums size n p at 64 es h in
+    let sums = turned_sums false size n p at 64 es h in
     let flight = counted.flight in
     let unsettled = counted.unsettled in
     counts_turned_by size true false n p at es d _ _ h counted (omega (arith, sums.0, flight)) (omega (arith, sums.1, unsettled))

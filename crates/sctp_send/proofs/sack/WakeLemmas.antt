@@ -48,11 +48,8 @@ woken_more p ms ns es at x t m woken long each here read ticket until = λ k d l
       omega (arith, ap (due_at p ns) (own ∙ sym ticket), low, until, moment)
   | inr other ↦
       let before = woken k d (omega (arith, lt, other)) within past (omega (arith, given, long)) in
-      at_most (due_at p ns (get_or es k d).message.value.ticket) (due_at p ms (get_or es k d).message.value.ticket) (until_of (get_or es k d).message) (λ now. each (get_or es k d).message.value.ticket now) before
+      elim (cases_lt (until_of (get_or es k d).message) (due_at p ns (get_or es k d).message.value.ticket)) [
+        | inl past ↦ let lower = each (get_or es k d).message.value.ticket (until_of (get_or es k d).message) past in absurd (omega (arith, lower, before))
+        | inr le ↦ le
+      ]
 ]
-  where
-    at_most : (new old moment : ℕ) → ((now : ℕ) → now < new → now < old) → old ≤ moment → new ≤ moment
-    at_most new old moment lower le = elim (cases_lt moment new) [
-      | inl lt ↦ let past = lower moment lt in absurd (omega (arith, past, le))
-      | inr ge ↦ ge
-    ]

@@ -1,4 +1,4 @@
-use Rattle.std.proofs.Common.{◌≡◌, ◌<◌, length, refl, sym, subst}
+use Rattle.std.proofs.Common.{◌<◌, length, refl, sym, subst}
 use Rattle.sctp_send.specs.PartsKept.{OutstandingKept}
 use Rattle.sctp_send.specs.inner.Stocking.{went_out}
 use Rattle.sctp_send.proofs.kept.TicketWalks.{entry_changed}

@@ -1,4 +1,4 @@
-use Rattle.std.proofs.Common.{◌≡◌, ◌<◌, length, refl, sym, ap, subst}
+use Rattle.std.proofs.Common.{◌<◌, length, refl, sym, ap, subst}
 use Rattle.sctp_send.specs.PartsKept.{OutstandingKept}
 use Rattle.sctp_send.specs.inner.Changes.{told}
 use Rattle.sctp_send.specs.declared.kept.stretches.Stretch.{Stretch}
