@@ -51,11 +51,7 @@ few_rest meant qs h = record { many = let less = fewer qs in omega (arith, less,
   where
     fewer : (xs : List Queued) → length (without_first meant xs) ≤ length xs
     fewer [] = omega arith
-    fewer (x ∷ xs) = by_test (meant x) (fewer xs)
-      where
-        by_test : (b : Bool) → length (without_first meant xs) ≤ length xs → length (if b then xs else x ∷ without_first meant xs) ≤ suc (length xs)
-        by_test true rest = omega arith
-        by_test false rest = omega arith
+    fewer (x ∷ xs) = let rest = fewer xs in grind arith
 
     lighter : (xs : List Queued) → AllLight xs → AllLight (without_first meant xs)
     lighter [] light = tt
