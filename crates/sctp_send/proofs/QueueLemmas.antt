@@ -3,6 +3,8 @@ use Rattle.std.proofs.Common.{◌≡◌, ℕ, zero, suc, ◌+◌, ◌*◌, ◌/�
 use Rattle.std.specs.Prelude.{min, nat_lt, nat_le, if◌then◌else◌, ◌==◌, ◌&&◌, ◌||◌, Result, Ok, Err, IsErrAnd, unwrap_or}
 use Rattle.std.proofs.lemmas.Bool.{cases_lt}
 use Rattle.std.specs.Int.{div_ceil}
+use Rattle.std.proofs.lemmas.Grind.{common_steps}
+use Rattle.std.proofs.lemmas.List.Recursion.{is_sum_by}
 use Rattle.std.proofs.lemmas.Bool.Decides.{nat_tests}
 use Rattle.sctp_model.specs.numbers.Limits.{LONGEST_MESSAGE, QUEUE_LIMIT, TICKET_LIMIT, TSN_LIMIT, LAST_MOMENT}
 use Rattle.sctp_model.specs.messages.Format.{Format, Lane}
@@ -60,8 +62,7 @@ few_are size bytes some le = ceil_few (length bytes) size some le ∙ sym (lengt
 -- ---- sums
 
 total_push : (f : Track → ℕ) (ts : List Track) (t : Track) → total f (ts ++ t ∷ []) ≡ total f ts + f t
-total_push f [] t = omega arith
-total_push f (x ∷ ts) t = let rest = total_push f ts t in omega arith
+total_push f ts t = grind (arith, common_steps, is_sum_by (total f) f refl (λ x xs. refl))
 
 -- a sum over a table of streams
 total_table : (f : Track → ℕ) (g : ℕ → Track) (h : ℕ → ℕ) (n : ℕ) → ((s : ℕ) → f (g s) ≡ h s) → total f (table g 0 n) ≡ sum_below h n

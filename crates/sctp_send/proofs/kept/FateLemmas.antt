@@ -1,138 +1,92 @@
 -- Fates in blocks: how many they are, each of them, and a block more.
-use Rattle.std.proofs.Common.{◌≡◌, ℕ, zero, suc, ◌+◌, ◌-◌, ◌*◌, ◌/◌, ◌%◌, ◌<◌, ◌≤◌, List, [], ◌∷◌, ◌++◌, length, get_or, take, drop, refl, sym, ap, ◌∙◌, subst, arith, length-append, length-drop, append-nil, take_all}
+use Rattle.std.proofs.Common.{◌≡◌, ℕ, ◌+◌, ◌*◌, ◌/◌, ◌%◌, ◌<◌, ◌≤◌, List, [], ◌∷◌, ◌++◌, length, get_or, take, drop, refl, sym, ap, ◌∙◌, arith, length-append, length-drop, append-nil, take_all}
 use Rattle.std.specs.Prelude.{replicate}
-use Rattle.std.proofs.lemmas.List.{get_or_default, append_assoc, length-replicate, length-take-le, get_or-replicate, get_or_append_left, get_or-append_right, get_or-take, get_or-drop, take-append-le, drop-append-le, take-append-drop, drop_at, length_push}
-use Rattle.sctp_send.specs.inner.FateBlocks.{fates_in, fates_of, IsWithin, AreWithin, AreFates, IsBlock, IsEnded}
+use Rattle.std.proofs.lemmas.List.{append_assoc, length-take, length-take-le, get_or-replicate, get_or-take, get_or-drop, take-append-le, drop-append-le, take-append-drop, drop_at, length_push, flat_map_more}
+use Rattle.std.proofs.lemmas.List.Concat.{get_or-flat_map}
+use Rattle.std.proofs.lemmas.List.Elements.{All-head, All-tail, All-take, All-push}
+use Rattle.sctp_send.specs.inner.FateBlocks.{fates_in, fates_of, AreWithin, AreFates, IsBlock}
 use Rattle.sctp_send.specs.declared.kept.message.Fate.{Fate}
 use Rattle.sctp_send.specs.declared.kept.blocks.Block.{Block}
 use Rattle.sctp_send.specs.declared.kept.blocks.Block.TheVariants.{Alike, Each}
 
 -- ---- how many
 
-long_in : (m : List Fate) (b : Block) → IsWithin (length m) b → length (fates_in m b) ≡ 4096
-long_in m (Alike x) within = length-replicate 4096 x
-long_in m (Each k) within = length-take-le 4096 (drop k m) (let long = length-drop k m in omega (arith, long, within))
-
-pub long_of : (m : List Fate) (bs : List Block) → AreWithin (length m) bs → length (fates_of m bs) ≡ 4096 * length bs
-long_of m [] within = omega arith
+long_of : (m : List Fate) (bs : List Block) → AreWithin m bs → length (fates_of m bs) ≡ 4096 * length bs
+long_of m [] within = refl
 long_of m (b ∷ bs) within =
-    let one = long_in m b within.0 in
-    let rest = long_of m bs within.1 in
+    let one = All-head (λ x. length (fates_in m x) ≡ 4096) b bs within in
+    let rest = long_of m bs (All-tail (λ x. length (fates_in m x) ≡ 4096) b bs within) in
     let all = length-append (fates_in m b) (fates_of m bs) in
     omega (arith, one, rest, all)
 
+pub long_ended : (ended : ℕ) (bs : List Block) (m r : List Fate) → AreFates ended bs m r → length (fates_of m bs) ≡ ended
+long_ended ended bs m r are = let olds = long_of m bs are.within in let many = are.many in omega (arith, olds, many)
+
 pub long_all : (ended : ℕ) (bs : List Block) (m r : List Fate) → AreFates ended bs m r → length (fates_of m bs ++ r) ≡ ended + length r
-long_all ended bs m r are =
-    let olds = long_of m bs are.within in
-    let all = length-append (fates_of m bs) r in
-    let many = are.many in
-    omega (arith, olds, all, many)
+long_all ended bs m r are = let olds = long_ended ended bs m r are in let all = length-append (fates_of m bs) r in omega (arith, olds, all)
 
 -- ---- each of them
 
-one_of : (m : List Fate) (bs : List Block) (q r : ℕ) (b : Block) (d : Fate) → AreWithin (length m) bs → q < length bs → r < 4096 → get_or (fates_of m bs) (4096 * q + r) d ≡ get_or (fates_in m (get_or bs q b)) r d
-one_of m [] q r b d within lt small = absurd (omega arith)
-one_of m (x ∷ bs) zero r b d within lt small =
-    let zeroed : 4096 * 0 + r ≡ r = omega arith in
-    let long = long_in m x within.0 in
-    ap (λ (n : ℕ). get_or (fates_in m x ++ fates_of m bs) n d) zeroed ∙ get_or_append_left (fates_in m x) (fates_of m bs) d r (omega (arith, long, small))
-one_of m (x ∷ bs) (suc q) r b d within lt small =
-    let less : 4096 * suc q + r - 4096 ≡ 4096 * q + r = omega arith in
-    get_or-append_right (fates_in m x) (fates_of m bs) 4096 (4096 * suc q + r) d (long_in m x within.0) (omega arith) ∙ ap (λ (n : ℕ). get_or (fates_of m bs) n d) less
-    ∙ one_of m bs q r b d within.1 (omega arith) small
+read_of : (m : List Fate) (bs : List Block) (at : ℕ) (b : Block) (d : Fate) → AreWithin m bs → at < 4096 * length bs → get_or (fates_of m bs) at d ≡ get_or (fates_in m (get_or bs (at / 4096) b)) (at % 4096) d
+read_of m bs at b d within lt =
+    let low : at / 4096 < length bs = omega (arith, lt) in
+    let olds = long_of m (take (at / 4096) bs) (All-take (λ x. length (fates_in m x) ≡ 4096) (at / 4096) bs within) in
+    let many = length-take-le (at / 4096) bs (omega (arith, low)) in
+    let before : length (fates_of m (take (at / 4096) bs)) + at % 4096 ≡ at = omega (arith, olds, many) in
+    let here = within (at / 4096) b low in
+    ap (λ (n : ℕ). get_or (fates_of m bs) n d) (sym before) ∙ get_or-flat_map (fates_in m) bs (at / 4096) (at % 4096) b d low (omega (arith, here))
 
-pub within_at : (n : ℕ) (bs : List Block) (q : ℕ) (b : Block) → AreWithin n bs → q < length bs → IsWithin n (get_or bs q b)
-within_at n [] q b within lt = absurd (omega arith)
-within_at n (x ∷ bs) zero b within lt = within.0
-within_at n (x ∷ bs) (suc q) b within lt = within_at n bs q b within.1 (omega arith)
+pub read_alike : (m : List Fate) (bs : List Block) (at : ℕ) (b : Block) (x : Fate) → AreWithin m bs → at < 4096 * length bs → get_or bs (at / 4096) b ≡ Alike x → x ≡ get_or (fates_of m bs) at x
+read_alike m bs at b x within lt is = rw (read_of m bs at b x within lt, is) (sym (get_or-replicate 4096 (at % 4096) x x (omega arith)))
 
-read_of : (m : List Fate) (bs : List Block) (at : ℕ) (b c : Block) (d : Fate) → AreWithin (length m) bs → at < 4096 * length bs → get_or bs (at / 4096) b ≡ c → get_or (fates_of m bs) at d ≡ get_or (fates_in m c) (at % 4096) d
-read_of m bs at b c d within lt is =
-    let parts : at ≡ 4096 * (at / 4096) + at % 4096 = omega arith in
-    ap (λ (n : ℕ). get_or (fates_of m bs) n d) parts ∙ one_of m bs (at / 4096) (at % 4096) b d within (omega (arith, lt)) (omega arith) ∙ ap (λ (x : Block). get_or (fates_in m x) (at % 4096) d) is
+fits : (m : List Fate) (k : ℕ) → length (take 4096 (drop k m)) ≡ 4096 → k + 4096 ≤ length m
+fits m k is = let one = length-take 4096 (drop k m) in let rest = length-drop k m in omega (arith, one, rest, is)
 
-pub read_alike : (m : List Fate) (bs : List Block) (at : ℕ) (b : Block) (x : Fate) → AreWithin (length m) bs → at < 4096 * length bs → get_or bs (at / 4096) b ≡ Alike x → x ≡ get_or (fates_of m bs) at x
-read_alike m bs at b x within lt is = sym (read_of m bs at b (Alike x) x within lt is ∙ get_or-replicate 4096 (at % 4096) x x (omega arith))
+pub each_within : (m : List Fate) (bs : List Block) (at : ℕ) (b : Block) (k : ℕ) → AreWithin m bs → at < 4096 * length bs → get_or bs (at / 4096) b ≡ Each k → k + at % 4096 < length m
+each_within m bs at b k within lt is = let there = fits m k (rw is at (within (at / 4096) b (omega (arith, lt)))) in omega (arith, there)
 
-pub each_within : (n : ℕ) (bs : List Block) (at : ℕ) (b : Block) (k : ℕ) → AreWithin n bs → at < 4096 * length bs → get_or bs (at / 4096) b ≡ Each k → k + at % 4096 < n
-each_within n bs at b k within lt is =
-    let there : IsWithin n (Each k) = subst (λ (x : Block). IsWithin n x) is (within_at n bs (at / 4096) b within (omega (arith, lt))) in
-    let small : at % 4096 < 4096 = omega arith in
-    omega (arith, there, small)
-
-pub read_each : (m : List Fate) (bs : List Block) (at : ℕ) (b : Block) (k : ℕ) (x : Fate) → AreWithin (length m) bs → at < 4096 * length bs → get_or bs (at / 4096) b ≡ Each k → x ≡ get_or m (k + at % 4096) x
-    → x ≡ get_or (fates_of m bs) at x
-read_each m bs at b k x within lt is there =
-    there ∙ sym (read_of m bs at b (Each k) x within lt is ∙ get_or-take 4096 (drop k m) (at % 4096) x (omega arith) ∙ get_or-drop k m (at % 4096) x)
-
--- what is read there doesn't depend on what is read elsewhere
-pub get_self : (xs : List Fate) (i : ℕ) (d : Fate) → i < length xs → get_or xs i d ≡ get_or xs i (get_or xs i d)
-get_self xs i d lt = get_or_default xs i d (get_or xs i d) lt
-
--- ---- more mixed ones
-
-in_more : (m xs : List Fate) (b : Block) → IsWithin (length m) b → fates_in (m ++ xs) b ≡ fates_in m b
-in_more m xs (Alike x) within = refl
-in_more m xs (Each k) within =
-    let long = length-drop k m in
-    ap (take 4096) (drop-append-le k m xs (omega (arith, within))) ∙ take-append-le 4096 (drop k m) xs (omega (arith, long, within))
-
-of_more : (m xs : List Fate) (bs : List Block) → AreWithin (length m) bs → fates_of (m ++ xs) bs ≡ fates_of m bs
-of_more m xs [] within = refl
-of_more m xs (b ∷ bs) within = rw (in_more m xs b within.0, of_more m xs bs within.1) refl
-
-one_more : (n k : ℕ) (b : Block) → n ≤ k → IsWithin n b → IsWithin k b
-one_more n k (Alike x) le within = tt
-one_more n k (Each s) le within = omega (arith, le, within)
-
-all_more : (n k : ℕ) (bs : List Block) → n ≤ k → AreWithin n bs → AreWithin k bs
-all_more n k [] le within = tt
-all_more n k (b ∷ bs) le within = (one_more n k b le within.0, all_more n k bs le within.1)
+pub read_each : (m : List Fate) (bs : List Block) (at : ℕ) (b : Block) (k : ℕ) (x : Fate) → AreWithin m bs → at < 4096 * length bs → get_or bs (at / 4096) b ≡ Each k → x ≡ get_or m (k + at % 4096) x → x ≡ get_or (fates_of m bs) at x
+read_each m bs at b k x within lt is there = rw (read_of m bs at b x within lt, is) (there ∙ sym (get_or-take 4096 (drop k m) (at % 4096) x (omega arith) ∙ get_or-drop k m (at % 4096) x))
 
 -- ---- a block more
 
-of_push : (m : List Fate) (bs : List Block) (b : Block) → fates_of m (bs ++ b ∷ []) ≡ fates_of m bs ++ fates_in m b
-of_push m [] b = append-nil (fates_in m b)
-of_push m (x ∷ bs) b = ap (λ (xs : List Fate). fates_in m x ++ xs) (of_push m bs b) ∙ sym (append_assoc (fates_in m x) (fates_of m bs) (fates_in m b))
+in_more : (m xs : List Fate) (b : Block) → length (fates_in m b) ≡ 4096 → fates_in (m ++ xs) b ≡ fates_in m b
+in_more m xs (Alike x) is = refl
+in_more m xs (Each k) is =
+    let there = fits m k is in
+    let long = length-drop k m in
+    ap (take 4096) (drop-append-le k m xs (omega (arith, there))) ∙ take-append-le 4096 (drop k m) xs (omega (arith, long, there))
 
-within_push : (n : ℕ) (bs : List Block) (b : Block) → AreWithin n bs → IsWithin n b → AreWithin n (bs ++ b ∷ [])
-within_push n [] b within one = (one, tt)
-within_push n (x ∷ bs) b within one = (within.0, within_push n bs b within.1 one)
+of_more : (m xs : List Fate) (bs : List Block) → AreWithin m bs → fates_of (m ++ xs) bs ≡ fates_of m bs
+of_more m xs [] within = refl
+of_more m xs (b ∷ bs) within =
+    rw (in_more m xs b (All-head (λ x. length (fates_in m x) ≡ 4096) b bs within), of_more m xs bs (All-tail (λ x. length (fates_in m x) ≡ 4096) b bs within)) refl
 
-pub within_ended : (bs : List Block) (b : Block) (fates old new : List Fate) → AreWithin (length old) bs → IsBlock b fates old new → AreWithin (length new) (bs ++ b ∷ [])
-within_ended bs b fates old new within is =
-    let long = ap (λ (xs : List Fate). length xs) is.grown ∙ length-append old is.more in
-    within_push (length new) bs b (all_more (length old) (length new) bs (omega (arith, long)) within) is.within
+pub are_ended : (ended : ℕ) (bs : List Block) (b : Block) (old new recent : List Fate) → AreFates ended bs old recent → 4096 ≤ length recent → IsBlock b (take 4096 recent) old new → AreFates (ended + 4096) (bs ++ b ∷ []) new (drop 4096 recent)
+are_ended ended bs b old new recent are many is =
+    let one = length_push bs b in
+    let fewer = length-drop 4096 recent in
+    record {
+      many = omega (arith, one, are.many);
+      within = All-push (λ x. length (fates_in new x) ≡ 4096) bs b
+          (λ k d lt. rw is.grown (ap length (in_more old is.more (get_or bs k d) (are.within k d lt)) ∙ are.within k d lt))
+          (ap length is.same ∙ length-take-le 4096 recent many);
+      few = omega (arith, fewer, are.few, many);
+    }
 
-pub same_ended : (bs : List Block) (b : Block) (recent old new : List Fate) → AreWithin (length old) bs → IsBlock b (take 4096 recent) old new → fates_of new (bs ++ b ∷ []) ++ drop 4096 recent ≡ fates_of old bs ++ recent
-same_ended bs b recent old new within is =
-    let same : fates_of new bs ≡ fates_of old bs = ap (λ (m : List Fate). fates_of m bs) is.grown ∙ of_more old is.more bs within in
-    ap (λ (xs : List Fate). xs ++ drop 4096 recent) (of_push new bs b) ∙ rw (same, is.same) (append_assoc (fates_of old bs) (take 4096 recent) (drop 4096 recent))
-    ∙ ap (λ (xs : List Fate). fates_of old bs ++ xs) (take-append-drop 4096 recent)
+pub ended_same : (ended : ℕ) (bs : List Block) (b : Block) (old new recent : List Fate) → AreFates ended bs old recent → IsBlock b (take 4096 recent) old new → fates_of new (bs ++ b ∷ []) ++ drop 4096 recent ≡ fates_of old bs ++ recent
+ended_same ended bs b old new recent are is =
+    let same : fates_of new bs ≡ fates_of old bs = rw is.grown (of_more old is.more bs are.within) in
+    rw (← flat_map_more (fates_in new) [] bs b, same, is.same, append_assoc, take-append-drop) refl
 
 -- ---- a block of them
 
 pub alike_block : (fates old : List Fate) (x : Fate) → length fates ≡ 4096 → fates ≡ replicate (length fates) x → IsBlock (Alike x) fates old old
-alike_block fates old x long alike = record { more = []; grown = sym (append-nil old); within = tt; same = ap (λ (n : ℕ). replicate n x) (sym long) ∙ sym alike }
+alike_block fates old x long alike = record { more = []; grown = sym (append-nil old); same = ap (λ (n : ℕ). replicate n x) (sym long) ∙ sym alike }
 
 pub each_block : (fates old new : List Fate) (k : ℕ) → length fates ≡ 4096 → k ≡ length old → new ≡ old ++ fates → IsBlock (Each k) fates old new
 each_block fates old new k long start grown = record {
   more = fates;
   grown = grown;
-  within = let all = ap (λ (xs : List Fate). length xs) grown ∙ length-append old fates in omega (arith, all, long, start);
-  same = ap (λ (xs : List Fate). take 4096 (drop k xs)) grown ∙ ap (take 4096) (drop_at old fates k (sym start)) ∙ take_all 4096 fates (omega (arith, long));
+  same = rw (grown, drop_at old fates k (sym start)) (take_all 4096 fates (omega (arith, long)));
 }
-
--- what is kept once it is over
-pub are_ended : (ended : ℕ) (bs more : List Block) (old new recent left : List Fate) → AreFates ended bs old recent → 4096 ≤ length recent → IsEnded bs more old new recent left → AreFates (ended + 4096) more new left
-are_ended ended bs more old new recent left are many is =
-    let one = ap (λ (xs : List Block). length xs) is.push ∙ length_push bs is.block in
-    let fewer = ap (λ (xs : List Fate). length xs) is.rest ∙ length-drop 4096 recent in
-    record {
-      many = omega (arith, one, are.many);
-      within = subst (λ (xs : List Block). AreWithin (length new) xs) (sym is.push) (within_ended bs is.block (take 4096 recent) old new are.within is.is);
-      few = omega (arith, fewer, are.few, many);
-    }
-
-pub ended_same : (ended : ℕ) (bs more : List Block) (old new recent left : List Fate) → AreFates ended bs old recent → IsEnded bs more old new recent left → fates_of new more ++ left ≡ fates_of old bs ++ recent
-ended_same ended bs more old new recent left are is = rw (is.push, is.rest) (same_ended bs is.block recent old new are.within is.is)

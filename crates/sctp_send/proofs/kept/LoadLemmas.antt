@@ -1,10 +1,12 @@
 -- How many messages wait, and how many bytes they have.
 use Rattle.std.proofs.Common.{◌≡◌, ℕ, suc, ◌+◌, ◌*◌, ◌%◌, ◌^◌, ◌<◌, ◌≤◌, List, [], ◌∷◌, ◌++◌, length, map, Bool, true, false, refl, ap, subst, arith, length-append}
 use Rattle.std.specs.Prelude.{if◌then◌else◌}
-use Rattle.std.specs.List.{sum_by}
+use Rattle.std.specs.List.{All, sum_by}
 use Rattle.std.specs.declared.sync.Arc.{Arc}
 use Rattle.std.specs.declared.alloc.Global.{Global}
+use Rattle.std.proofs.lemmas.List.Elements.{All-cons, All-tail, All-push}
 use Rattle.std.proofs.lemmas.List.Recursion.{is_sum_by}
+use Rattle.std.proofs.lemmas.List.Sums.{sum_by-le}
 use Rattle.sctp_model.specs.numbers.Limits.{LONGEST_MESSAGE, QUEUE_LIMIT}
 use Rattle.sctp_model.specs.numbers.Lists.{joined}
 use Rattle.sctp_model.specs.messages.Format.{Format}
@@ -32,41 +34,32 @@ waiting_is size ms some = is_sum_by (λ (ds : List (Arc MessageFields Global)). 
 
 -- ---- in a view
 
--- none of these messages is longer than may be
-abbrev AllLight : List Queued → Type 0
-AllLight [] = Unit {0}
-AllLight (q ∷ qs) = (length (joined q.message.fragments) ≤ LONGEST_MESSAGE) × AllLight qs
-
-light_push : (qs : List Queued) (q : Queued) → AllLight qs → length (joined q.message.fragments) ≤ LONGEST_MESSAGE → AllLight (qs ++ q ∷ [])
-light_push [] q h light = (light, tt)
-light_push (x ∷ qs) q h light = (h.0, light_push qs q h.1 light)
+-- a message isn't longer than may be
+abbrev IsLight : Queued → Type 0
+IsLight q = length (joined q.message.fragments) ≤ LONGEST_MESSAGE
 
 -- no more messages than may wait, and no longer ones
 record AreFew (qs : List Queued) : Type 0 where
   many : length qs ≤ QUEUE_LIMIT
-  light : AllLight qs
+  light : All IsLight qs
 
 few_rest : (meant : Queued → Bool) (qs : List Queued) → AreFew qs → AreFew (without_first meant qs)
 few_rest meant qs h = record { many = let less = fewer qs in omega (arith, less, h.many); light = lighter qs h.light }
   where
     fewer : (xs : List Queued) → length (without_first meant xs) ≤ length xs
     fewer [] = omega arith
-    fewer (x ∷ xs) = by_test (meant x) (fewer xs)
-      where
-        by_test : (b : Bool) → length (without_first meant xs) ≤ length xs → length (if b then xs else x ∷ without_first meant xs) ≤ suc (length xs)
-        by_test true rest = omega arith
-        by_test false rest = omega arith
+    fewer (x ∷ xs) = let rest = fewer xs in grind arith
 
-    lighter : (xs : List Queued) → AllLight xs → AllLight (without_first meant xs)
-    lighter [] light = tt
-    lighter (x ∷ xs) light = by_test (meant x) (lighter xs light.1)
+    lighter : (xs : List Queued) → All IsLight xs → All IsLight (without_first meant xs)
+    lighter [] light = light
+    lighter (x ∷ xs) light = by_test (meant x) (lighter xs (All-tail IsLight x xs light))
       where
-        by_test : (b : Bool) → AllLight (without_first meant xs) → AllLight (if b then xs else x ∷ without_first meant xs)
-        by_test true rest = light.1
-        by_test false rest = (light.0, rest)
+        by_test : (b : Bool) → All IsLight (without_first meant xs) → All IsLight (if b then xs else x ∷ without_first meant xs)
+        by_test true rest = All-tail IsLight x xs light
+        by_test false rest = All-cons IsLight x _ (light 0 x (omega arith)) rest
 
 few_behind : (q : Queued) (qs : List Queued) → AreFew (q ∷ qs) → AreFew qs
-few_behind q qs h = record { many = let all = h.many in omega (arith, all); light = h.light.1 }
+few_behind q qs h = record { many = let all = h.many in omega (arith, all); light = All-tail IsLight q qs h.light }
 
 abbrev AreQueuedFew : SenderView → Type 0
 AreQueuedFew v = AreFew v.queue
@@ -77,14 +70,14 @@ few_assigned _ v _ h (Begun s q lt idle first) = few_rest (is_on s) v.queue h
 few_assigned _ v _ h (Continued s e lt on) = h
 
 are_few : (f : Format) (v : SenderView) → IsReached f v → AreQueuedFew v
-are_few f _ (Begins i s b r p large) = record { many = omega arith; light = tt }
+are_few f _ (Begins i s b r p large) = record { many = omega arith; light = λ k d low. absurd (omega (arith, low)) }
 are_few f _ (Queues v l p b u x h free) =
     let k = are_few f v h in
     let a = accepted v l.stream b free in
     let bytes : length (joined (cut v.fragment b)) ≡ length b = ap (λ (bs : List ℕ). length bs) (joined_cut v.fragment b (is_set f v h).fragment) in
     record {
       many = let more = length-append v.queue (record { lane = l; message = record { ticket = suc v.tickets; payload = p; fragments = cut v.fragment b; until = u; limit = x } } ∷ []) in omega (arith, more, a.waits);
-      light = light_push v.queue _ k.light (omega (arith, bytes, a.short));
+      light = All-push IsLight v.queue _ k.light (omega (arith, bytes, a.short));
     }
 are_few f _ (Goes v room w h next may) = after_wish AreQueuedFew f v w (are_few f v h) (λ u a. few_assigned f v u (are_few f v h) a) (λ u i k. k) next
 are_few f _ (Covers v x h none) = are_few f v h
@@ -93,9 +86,8 @@ are_few f _ (Abandons v t h) = let k = are_few f v h in after_abandon AreQueuedF
 are_few f _ (Repeats v test h) = are_few f v h
 are_few f _ (Rebases v x h) = are_few f v h
 
-light_sum : (qs : List Queued) → AllLight qs → waiting_bytes qs ≤ length qs * LONGEST_MESSAGE
-light_sum [] h = omega arith
-light_sum (q ∷ qs) h = let rest = light_sum qs h.1 in let here = h.0 in omega (arith, rest, here)
+light_sum : (qs : List Queued) → All IsLight qs → waiting_bytes qs ≤ length qs * LONGEST_MESSAGE
+light_sum qs h = rw (is_sum_by waiting_bytes (λ q. length (joined q.message.fragments)) refl (λ q qs. refl) qs) (sum_by-le (λ q. length (joined q.message.fragments)) LONGEST_MESSAGE qs h)
 
 -- ---- what is told of them
 

@@ -48,6 +48,10 @@ counted_fresh size n ts some few is =
     let owes : total_by (λ t. rest_owes t.rest) size (replicate n fresh_fields) ≡ 0 = none_fresh (λ (t : Track). rest_owes t.rest) size n refl in
     rw is (record { some = some; few = omega (arith, long, few); parts = omega (arith, parts); owed = omega (arith, owes) })
 
+at_most : (o : Option Rest) → one_if_rest o ≤ 1
+at_most None = omega arith
+at_most (Some r) = omega arith
+
 -- what a stream counts for
 pub record IsCountOf (size : ℕ) (t : TrackFields) (part owed : ℕ) : Type 0 where
   pub one : part ≡ one_if_rest (track_meaning size t).rest
@@ -66,17 +70,10 @@ counted_set size many sum part owed was had n ts next x y h lt read is new old =
     record {
       some = h.some;
       few = omega (arith, long, h.few);
-      parts = count_turned many part was _ _ _ _ h.parts new.one old.one (at_most (track_meaning size x)) parts;
+      parts = count_turned many part was _ _ _ _ h.parts new.one old.one (at_most (track_meaning size x).rest) parts;
       owed = sum_turned sum owed had _ _ _ _ h.owed new.owes old.owes owes;
     }
   where
-    at_most : (t : Track) → one_if_rest t.rest ≤ 1
-    at_most t = by_rest t.rest
-      where
-        by_rest : (o : Option Rest) → one_if_rest o ≤ 1
-        by_rest None = omega arith
-        by_rest (Some r) = omega arith
-
     count_turned : (many part was before new old after : ℕ) → many ≡ before % 2 ^ 32 → part ≡ new → was ≡ old → old ≤ 1 → after + old ≡ before + new → ((many + part) % 2 ^ 32 + (2 ^ 32 - was)) % 2 ^ 32 ≡ after % 2 ^ 32
     count_turned many part was before new old after a b c d e = omega arith
 
@@ -96,11 +93,7 @@ parts_of_any a b (t ∷ ts) = let rest = parts_of_any a b ts in let here = same 
 
 parts_within : (size : ℕ) (ts : List TrackFields) → total_by (λ t. one_if_rest t.rest) size ts ≤ length ts
 parts_within size [] = omega arith
-parts_within size (t ∷ ts) = let rest = parts_within size ts in let here = most t.rest in omega (arith, here, rest)
-  where
-    most : (o : Option RestFields) → one_if_rest (rests_meaning size (counts_meaning t) o) ≤ 1
-    most None = omega arith
-    most (Some r) = omega arith
+parts_within size (t ∷ ts) = let rest = parts_within size ts in let here = at_most (rests_meaning size (counts_meaning t) t.rest) in omega (arith, here, rest)
 
 -- the count is exact, since streams are few
 pub no_part : (size other many sum : ℕ) (ts : List TrackFields) → IsCountedOf size ts many sum → many ≡ 0 → total_by (λ t. one_if_rest t.rest) other ts ≡ 0

@@ -2,6 +2,7 @@
 use Rattle.std.proofs.Common.{◌≡◌, ℕ, zero, suc, ◌+◌, ◌<◌, ◌≤◌, List, [], ◌∷◌, length, get_or, refl, sym, ap, ◌∙◌, arith, subst}
 use Rattle.std.specs.Prelude.{set, replicate}
 use Rattle.std.proofs.lemmas.List.{length-map}
+use Rattle.std.proofs.lemmas.List.Elements.{All-cons, All-tail, All-replicate, All-set}
 use Rattle.std.specs.declared.sync.Arc.{Arc}
 use Rattle.std.specs.declared.alloc.Global.{Global}
 use Rattle.sctp_model.specs.numbers.Limits.{LONGEST_MESSAGE}
@@ -43,24 +44,20 @@ owned_new size fragments m xs some short is all many = record {
 -- ---- messages in part
 
 pub rests_fresh : (size n : ℕ) → AreRestsOwned size (replicate n fresh_fields)
-rests_fresh size zero = tt
-rests_fresh size (suc n) = (tt, rests_fresh size n)
+rests_fresh size n = All-replicate (λ (t : TrackFields). IsRestOwned size t.rest) n fresh_fields tt
 
 pub rests_read : (size n : ℕ) (ts : List TrackFields) (x : TrackFields) → AreRestsOwned size ts → n < length ts → x ≡ get_or ts n x → IsRestOwned size x.rest
-rests_read size n [] x all lt read = absurd (omega (arith, lt))
-rests_read size zero (t ∷ ts) x all lt read = subst (λ (y : TrackFields). IsRestOwned size y.rest) (sym read) all.0
-rests_read size (suc n) (t ∷ ts) x all lt read = rests_read size n ts x all.1 (omega (arith, lt)) read
+rests_read size n ts x all lt read = subst (λ (y : TrackFields). IsRestOwned size y.rest) (sym read) (all n x lt)
 
 pub rests_set : (size n : ℕ) (ts : List TrackFields) (y : TrackFields) → AreRestsOwned size ts → IsRestOwned size y.rest → AreRestsOwned size (set ts n y)
-rests_set size n [] y all own = tt
-rests_set size zero (t ∷ ts) y all own = (own, all.1)
-rests_set size (suc n) (t ∷ ts) y all own = (all.0, rests_set size n ts y all.1 own)
+rests_set size n ts y all own = All-set (λ (t : TrackFields). IsRestOwned size t.rest) ts n y own all
 
 pub rests_counted : (size many at : ℕ) (k : Kind) (ts : List TrackFields) → AreRestsOwned size ts → AreRestsOwned size (changed_at (counted_to k many) at ts)
-rests_counted size many at k [] all = tt
-rests_counted size many zero k (t ∷ ts) all = (one k, all.1)
+rests_counted size many at k [] all = all
+rests_counted size many zero k (t ∷ ts) all = All-cons (λ (x : TrackFields). IsRestOwned size x.rest) _ ts (one k) (All-tail (λ (x : TrackFields). IsRestOwned size x.rest) t ts all)
   where
     one : (k : Kind) → IsRestOwned size (counted_to k many t).rest
-    one Ordered = all.0
-    one Unordered = all.0
-rests_counted size many (suc at) k (t ∷ ts) all = (all.0, rests_counted size many at k ts all.1)
+    one Ordered = all 0 t (omega arith)
+    one Unordered = all 0 t (omega arith)
+rests_counted size many (suc at) k (t ∷ ts) all =
+    All-cons (λ (x : TrackFields). IsRestOwned size x.rest) t _ (all 0 t (omega arith)) (rests_counted size many at k ts (All-tail (λ (x : TrackFields). IsRestOwned size x.rest) t ts all))

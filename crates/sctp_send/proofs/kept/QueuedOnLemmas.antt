@@ -1,5 +1,5 @@
 -- How many bytes wait on one stream with given payload protocol identifiers.
-use Rattle.std.proofs.Common.{◌≡◌, ℕ, ◌+◌, ◌*◌, ◌%◌, ◌^◌, ◌<◌, ◌≤◌, List, [], ◌∷◌, ◌++◌, length, map, take, filter, get_or, Bool, true, false, refl, sym, ap, subst, ◌∙◌, arith, take_all}
+use Rattle.std.proofs.Common.{◌≡◌, ℕ, ◌+◌, ◌*◌, ◌%◌, ◌^◌, ◌<◌, ◌≤◌, List, [], ◌∷◌, ◌++◌, length, map, take, filter, get_or, Bool, sym, ap, subst, ◌∙◌, arith, take_all}
 use Rattle.std.specs.Prelude.{if◌then◌else◌, cond}
 use Rattle.std.specs.declared.sync.Arc.{Arc}
 use Rattle.std.specs.declared.alloc.Global.{Global}
@@ -28,8 +28,7 @@ bytes_joined [] ys = omega arith
 bytes_joined (x ∷ xs) ys = let rest = bytes_joined xs ys in omega (arith, rest)
 
 bytes_of_one : (b : Bool) (q : Queued) → waiting_bytes (cond b (q ∷ []) []) ≡ (if b then length (joined q.message.fragments) else 0)
-bytes_of_one true q = omega arith
-bytes_of_one false q = refl
+bytes_of_one b q = grind arith
 
 -- one message more
 pub looked_at : (size s : ℕ) (ids : List ℕ) (ms : List (Arc MessageFields Global)) (at : ℕ) (x : Arc MessageFields Global) (m : MessageFields) (sum bytes : ℕ) → 0 < size → at < length ms → x ≡ get_or ms at x → m ≡ x.value
@@ -66,11 +65,7 @@ fragment_some f k v keeps =
 
 bytes_filtered : (p : Queued → Bool) (qs : List Queued) → waiting_bytes (filter p qs) ≤ waiting_bytes qs
 bytes_filtered p [] = omega arith
-bytes_filtered p (q ∷ qs) = by_test (p q) refl (bytes_filtered p qs)
-  where
-    by_test : (b : Bool) → p q ≡ b → waiting_bytes (filter p qs) ≤ waiting_bytes qs → waiting_bytes (filter p (q ∷ qs)) ≤ waiting_bytes (q ∷ qs)
-    by_test true on rest = rw on (omega (arith, rest))
-    by_test false off rest = rw off (omega (arith, rest))
+bytes_filtered p (q ∷ qs) = let rest = bytes_filtered p qs in grind arith
 
 pub queued_on_fit : (f : Format) (k : Kept) (v : SenderView) (s : ℕ) (ids : List ℕ) → Keeps f k v → queued_bytes_on s ids v ≤ QUEUE_LIMIT * LONGEST_MESSAGE
 queued_on_fit f k v s ids keeps =

@@ -40,10 +40,10 @@ all_removed P xs n lt all k d low =
     ]
 
 -- one message more
-pub queue_pushed : (size sum more load bytes last : ℕ) (rises up seated kept : Bool) (ws : List Waiting) (w : Waiting) (ps qs : List Pair) → IsQueueOf size ws sum rises last seated ps load → more ≡ owed_by size w.message % 2 ^ 64
-    → bytes ≡ bytes_of w.message → IsOwned size 0 w.message w.others.items → (up ≡ true → (rises ≡ true) × (last < ticket_in w.message)) → (kept ≡ true → (seated ≡ true) × AreSame qs (seat_of w.message ∷ ps))
-    → IsQueueOf size (ws ++ w ∷ []) ((sum + more) % 2 ^ 64) up (ticket_in w.message) kept qs ((load + bytes) % 2 ^ 64)
-queue_pushed size sum more load bytes last rises up seated kept ws w ps qs h owes has own above taken =
+pub queue_pushed : (size sum more load bytes last : ℕ) (rises up seated : Bool) (ws : List Waiting) (w : Waiting) (ps qs : List Pair) → IsQueueOf size ws sum rises last seated ps load → more ≡ owed_by size w.message % 2 ^ 64
+    → bytes ≡ bytes_of w.message → IsOwned size 0 w.message w.others.items → (up ≡ true → (rises ≡ true) × (last < ticket_in w.message)) → (seated ≡ true → AreSame qs (seat_of w.message ∷ ps))
+    → IsQueueOf size (ws ++ w ∷ []) ((sum + more) % 2 ^ 64) up (ticket_in w.message) seated qs ((load + bytes) % 2 ^ 64)
+queue_pushed size sum more load bytes last rises up seated ws w ps qs h owes has own above taken =
     let ms = messages_of ws in
     let x = w.message in
     let after : messages_of (ws ++ w ∷ []) ≡ ms ++ x ∷ [] = map_push (λ (y : Waiting). y.message) ws w in
@@ -57,8 +57,8 @@ queue_pushed size sum more load bytes last rises up seated kept ws w ps qs h owe
           let less = (above on).1 in
           rw after (All-push (λ m. ticket_in m ≤ ticket_in x) ms x (All-weaker (λ m. ticket_in m ≤ last) (λ m. ticket_in m ≤ ticket_in x) (λ m le. omega (arith, le, less)) ms (h.most (above on).0)) (omega arith));
       seats = λ on f.
-          let was = h.seats (taken on).0 f in
-          let now = (taken on).1 f in
+          let was = h.seats on f in
+          let now = taken on f in
           let one = sum_by-cons f (seat_of x) ps in
           let all = sum_by_push f (map seat_of ms) (seat_of x) in
           rw (after, map_push seat_of ms x) (omega (arith, was, now, one, all));

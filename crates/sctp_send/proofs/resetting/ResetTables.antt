@@ -21,7 +21,7 @@ use Rattle.sctp_send.specs.ResetsKept.{base_there, base_in, base_under, sending_
 use Rattle.sctp_send.specs.inner.Resetting.{stream_as, restarted_by, refused_by, number_from, all_changed, waiting_of, IsFresh}
 use Rattle.sctp_send.specs.declared.kept.track.Track.{Track as TrackFields}
 use Rattle.sctp_send.specs.declared.kept.resets.Sending.{Sending}
-use Rattle.sctp_send.specs.declared.kept.resets.Sending.TheVariants.{Sends, Resets, Refuses}
+use Rattle.sctp_send.specs.declared.kept.resets.Sending.TheVariants.{Sends, Resets}
 use Rattle.sctp_send.specs.declared.kept.resets.StreamReset.{StreamReset}
 use Rattle.sctp_send.specs.declared.kept.resets.Request.{Request}
 use Rattle.sctp_send.specs.declared.kept.resets.ResetTable.{ResetTable}

@@ -35,8 +35,7 @@ IsRestOwned size (Some r) = IsOwned size r.fragment r.message r.others.items
 
 -- the same of each stream
 abbrev pub AreRestsOwned : (size : ℕ) → List TrackFields → Type 0
-AreRestsOwned size [] = Unit {0}
-AreRestsOwned size (t ∷ ts) = IsRestOwned size t.rest × AreRestsOwned size ts
+AreRestsOwned size ts = All (λ t. IsRestOwned size t.rest) ts
 
 -- a fragment that its stream takes, as what was left of its message
 abbrev pub taken_meaning : (size : ℕ) → Taken → Rest

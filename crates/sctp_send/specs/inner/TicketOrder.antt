@@ -1,5 +1,5 @@
 -- The entries above CUM in the order of their tickets.
-use Rattle.std.specs.Prelude.{◌≡◌, ℕ, ◌+◌, ◌-◌, ◌%◌, ◌^◌, ◌<◌, ◌≤◌, List, [], ◌∷◌, length, map}
+use Rattle.std.specs.Prelude.{ℕ, ◌+◌, ◌-◌, ◌%◌, ◌^◌, ◌<◌, ◌≤◌, List, [], ◌∷◌, length, map}
 use Rattle.sctp_sequence.specs.Pairs.{AreSame}
 use Rattle.sctp_sequence.specs.declared.pairs.Pair.{Pair}
 use Rattle.sctp_send.specs.declared.kept.by_ticket.ByTicket.{ByTicket}

@@ -1,7 +1,7 @@
 //! Blocks of tickets that are over: of one whose messages ended alike one fate is kept, and of another one for each ticket.
 
-ghost use Rattle.std.specs.Prelude.{◌≡◌, ◌*◌, ◌<◌, ◌≤◌, true, false, length, take, drop, replicate, slice_index_or, IfSome, IfNone};
-ghost use Rattle.sctp_send.specs.inner.FateBlocks.{fates_of, AreWithin, IsBlock, IsEnded};
+ghost use Rattle.std.specs.Prelude.{◌≡◌, ◌*◌, ◌<◌, ◌≤◌, true, length, take, drop, replicate, slice_index_or, IfSome, IfNone};
+ghost use Rattle.sctp_send.specs.inner.FateBlocks.{fates_of, AreWithin, IsBlock};
 
 use crate::kept::message::Fate;
 
@@ -20,7 +20,7 @@ pub(crate) enum Block {
 /// The fate of a ticket, counted from 0, of one of these blocks.
 pub(crate) fn fate_in(blocks: &[Block], mixed: &[Fate], at: usize) -> Fate
     requires there { at < 4096 * length blocks.now }
-    requires within { AreWithin (length mixed.now) blocks.now }
+    requires within { AreWithin mixed.now blocks.now }
     ensures { result ≡ slice_index_or (fates_of mixed.now blocks.now) at result }
 {
     match blocks[at / BLOCK] {
@@ -29,34 +29,8 @@ pub(crate) fn fate_in(blocks: &[Block], mixed: &[Fate], at: usize) -> Fate
     }
 }
 
-/// The first of so many tickets are a block from now on, if there is memory for it.
-pub(crate) fn end_first(
-    blocks: &mut Vec<Block>,
-    mixed: &mut Vec<Fate>,
-    recent: &mut Vec<Fate>,
-) -> bool
-    requires many { 4096 ≤ length recent.old.items }
-    ensures ended { result ≡ true → IsEnded blocks.old.items blocks.new.items mixed.old.items mixed.new.items recent.old.items recent.new.items }
-    ensures blocks { result ≡ false → blocks.new.items ≡ blocks.old.items }
-    ensures mixed { result ≡ false → mixed.new.items ≡ mixed.old.items }
-    ensures recent { result ≡ false → recent.new.items ≡ recent.old.items }
-{
-    match blocks.reserve(1) {
-        Ok(()) => {}
-        Err(_) => return false,
-    }
-    match block_of(recent, mixed) {
-        Some(block) => {
-            blocks.push_reserved(block);
-            drop_front(recent);
-            true
-        }
-        None => false,
-    }
-}
-
 /// A block's fates go from the front.
-fn drop_front(fates: &mut Vec<Fate>)
+pub(crate) fn drop_front(fates: &mut Vec<Fate>)
     requires { 4096 ≤ length fates.old.items }
     ensures { fates.new.items ≡ drop 4096 fates.old.items }
 {
@@ -65,7 +39,7 @@ fn drop_front(fates: &mut Vec<Fate>)
 }
 
 /// The block of the first fates, if there is memory for it; they stand behind others where they aren't alike.
-fn block_of(recent: &[Fate], mixed: &mut Vec<Fate>) -> Option<Block>
+pub(crate) fn block_of(recent: &[Fate], mixed: &mut Vec<Fate>) -> Option<Block>
     requires { 4096 ≤ length recent.now }
     ensures block { IfSome result (λ block. IsBlock block (take 4096 recent.now) mixed.old.items mixed.new.items) }
     ensures same { IfNone result (mixed.new.items ≡ mixed.old.items) }
@@ -90,22 +64,9 @@ fn are_alike(fates: &[Fate], fate: Fate) -> bool
     ensures { result ≡ true → fates.now ≡ replicate (length fates.now) fate }
 {
     for at in 0..fates.len() {
-        if !are_same(fates[at], fate) {
+        if fates[at] != fate {
             return false;
         }
     }
     true
-}
-
-/// Two fates are the same.
-fn are_same(one: Fate, other: Fate) -> bool
-    ensures { result ≡ true → one ≡ other }
-{
-    match (one, other) {
-        (Fate::Queued, Fate::Queued) => true,
-        (Fate::Numbered, Fate::Numbered) => true,
-        (Fate::Withdrawn, Fate::Withdrawn) => true,
-        (Fate::Abandoned, Fate::Abandoned) => true,
-        _ => false,
-    }
 }

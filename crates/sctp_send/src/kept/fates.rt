@@ -3,7 +3,7 @@
 ghost use Rattle.std.specs.Prelude.{◌≡◌, ℕ, ◌+◌, ◌%◌, ◌^◌, ◌<◌, ◌≤◌, ◌++◌, ◌∷◌, [], length, set, slice_index_or, OnOk, IfSome};
 ghost use Rattle.sctp_send.specs.declared.kept.message.Fate.TheVariants.{Abandoned};
 
-use crate::kept::blocks::{BLOCK, Block, end_first, fate_in};
+use crate::kept::blocks::{BLOCK, Block, block_of, drop_front, fate_in};
 use crate::kept::message::Fate;
 use sctp_values::NoMemory;
 use std::alloc::Global;
@@ -185,7 +185,13 @@ impl Fates {
         if self.recent.len() < BLOCK {
             return;
         }
-        if end_first(&mut self.blocks, &mut self.mixed, &mut self.recent) {
+        match self.blocks.reserve(1) {
+            Ok(()) => {}
+            Err(_) => return,
+        }
+        if let Some(block) = block_of(&self.recent, &mut self.mixed) {
+            self.blocks.push_reserved(block);
+            drop_front(&mut self.recent);
             self.ended += BLOCK;
         }
     }

@@ -136,7 +136,7 @@ fn in_new_shell(alloc: Global, message: Message) -> Result<Arc<Message>, NoMemor
 }
 
 /// What became of an accepted message.
-#[derive(Clone, Copy)]
+#[derive(Clone, Copy, PartialEq, Eq)]
 pub(crate) enum Fate {
     /// It waits for its number.
     Queued,

@@ -129,7 +129,7 @@ impl Queue {
         self.bytes = self.bytes.wrapping_add(bytes);
         self.rises = self.rises && self.last < seat.second;
         self.last = seat.second;
-        self.is_seated = add_seat(&mut self.seats, self.is_seated, seat);
+        add_seat(&mut self.seats, self.is_seated, seat);
         Ok(())
     }
 

@@ -95,17 +95,21 @@ fn grow(messages: &mut VecDeque<Waiting>) -> Result<(), NoMemory>
 /// # Errors
 /// `NoMemory`.
 pub(crate) fn make_room(seats: &mut Pairs, is_seated: bool) -> Result<(), NoMemory>
-    ensures { seats.new.items ≡ seats.old.items }
+    ensures items { seats.new.items ≡ seats.old.items }
+    ensures room { OnOk result (is_seated ≡ true → length seats.new.items < seats.new.capacity) }
 {
     if is_seated { seats.reserve(1) } else { Ok(()) }
 }
 
-/// A seat is taken, where the seats are kept and there is memory for it: whether they still are those of all messages.
+/// A seat is taken, where the seats are kept.
 #[inline(always)]
-pub(crate) fn add_seat(seats: &mut Pairs, is_seated: bool, seat: Pair) -> bool
-    ensures { result ≡ true → (is_seated ≡ true) × AreSame seats.new.items (seat ∷ seats.old.items) }
+pub(crate) fn add_seat(seats: &mut Pairs, is_seated: bool, seat: Pair)
+    requires { is_seated ≡ true → length seats.old.items < seats.old.capacity }
+    ensures { is_seated ≡ true → AreSame seats.new.items (seat ∷ seats.old.items) }
 {
-    is_seated && seats.insert(seat).is_ok()
+    if is_seated {
+        seats.insert_reserved(seat);
+    }
 }
 
 /// A seat is free again, where the seats are kept.

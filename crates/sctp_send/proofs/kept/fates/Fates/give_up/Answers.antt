@@ -6,5 +6,4 @@ pub returns-clause-few : goal.returns-clause-few
 returns-clause-few c =
     let s = c.self.inside in
     let long = long_all s.ended s.blocks.items s.mixed.items s.recent.items c.self.invariant in
-    let few = c.self.invariant.few in
-    omega (arith, long, few)
+    omega (arith, long, c.self.invariant.few)

@@ -1,5 +1,4 @@
-use Rattle.std.proofs.Common.{◌<◌, length, subst, arith}
-use Rattle.sctp_send.specs.PartsKept.{FatesKept}
+use Rattle.std.proofs.Common.{arith}
 use Rattle.sctp_send.proofs.kept.FateLemmas.{long_all}
 use Rattle.sctp_send.proofs.kept.fates.Fates.reserve.Goals as goal
 use Rattle.sctp_send.proofs.kept.fates.Fates.reserve.Goals.{in-Ok, in-Err}
@@ -17,4 +16,4 @@ pub returns-then-len-capacity-clause-room : goal.returns-then-len-capacity-claus
 returns-then-len-capacity-clause-room c =
     let s = c.self.inside in
     let long = long_all s.ended s.blocks.items s.mixed.items s.recent.items c.self.invariant in
-    subst (λ (k : FatesKept). length k.items < k.capacity) c.self.view_is (omega (arith, long, c.if-len-capacity.true, c.len.ensures, c.capacity.ensures, s.recent.ok))
+    rw (← c.self.view_is) (omega (arith, long, c.if-len-capacity.true, c.len.ensures, c.capacity.ensures, s.recent.ok))
