@@ -38,41 +38,9 @@ pub(crate) enum Next {
     Continues(u16),
 }
 
-/// What takes the next index: under DATA the message that has waited longest, whole; under I-DATA the streams take turns.
-#[inline(always)]
-pub(crate) fn next_new<F: Framing>(stock: &Stock, streams: u16, size: u16) -> Option<Next>
-    requires { 0 < size }
-    ensures next { (s : Kept) (v : SenderView) → s.streams ≡ streams → s.fragment ≡ size → Keeps F.format (stocked s stock.now) v → NewAnswer F.format v result }
-    ensures within { IsNextWithin stock.now streams result }
-{
-    if F::takes_turns() {
-        next_in_turn(stock, streams)
-    } else {
-        next_whole(stock, size)
-    }
-}
-
-/// The message that has waited longest, whole.
-#[inline(always)]
-fn next_whole(stock: &Stock, size: u16) -> Option<Next>
-    requires { 0 < size }
-    ensures next { (s : Kept) (v : SenderView) → s.fragment ≡ size → Keeps Plain (stocked s stock.now) v → NewAnswer Plain v result }
-    ensures within { (streams : ℕ) → IsNextWithin stock.now streams result }
-{
-    if stock.queue.len() == 0 {
-        return None;
-    }
-    let message = stock.queue.get(0);
-    Some(Next::Begins(Beginning {
-        place: 0,
-        count: fragments_of(size, &message.bytes).max(1),
-        turn: stock.turn,
-    }))
-}
-
 /// What the first stream in turn that has something to send does.
 #[inline(always)]
-fn next_in_turn(stock: &Stock, streams: u16) -> Option<Next>
+pub(crate) fn next_in_turn(stock: &Stock, streams: u16) -> Option<Next>
     ensures next { (s : Kept) (v : SenderView) → s.streams ≡ streams → Keeps Interleaved (stocked s stock.now) v → NewAnswer Interleaved v result }
     ensures within { IsNextWithin stock.now streams result }
 {
@@ -148,27 +116,4 @@ pub(crate) fn rest_of(tracks: &[Track], stream: u16) -> Option<&Rest>
         Some(track) => track.rest.as_ref(),
         None => None,
     }
-}
-
-/// So many indexes more keep within the window, where the stream then has a message in part or not.
-pub(crate) fn has_window(
-    entries: &Outstanding,
-    streams: &Streams,
-    stream: u16,
-    count: usize,
-    more: bool,
-) -> bool
-    requires { 0 < count }
-    ensures fits { (size : ℕ) → size ≡ streams.now.size → result ≡ nat_le (length entries.now.items + count + (total (λ t. one_if_rest t.rest) (map (track_meaning size) streams.now.items) % 2 ^ 32 + one_if more))
-        (WINDOW + one_if (has_rest (rest_at (map (track_meaning size) streams.now.items) stream))) }
-    ensures few { result ≡ true → count ≤ WINDOW + 1 }
-{
-    let window = WINDOW as usize;
-    let outstanding = entries.len();
-    if outstanding > window || count > window + 1 {
-        return false;
-    }
-    let parts = streams.in_part() as usize + usize::from(more);
-    let had = usize::from(streams.goes_on(stream));
-    outstanding + count + parts <= window + had
 }
