@@ -17,11 +17,10 @@ ghost use Rattle.std.specs.Prelude.{◌≡◌, ℕ, ◌+◌, ◌*◌, ◌^◌, �
 ghost use Rattle.std.specs.Vec.{vec_capacity};
 ghost use Rattle.sctp_model.specs.sender.Filling.{next_wish, fill};
 ghost use Rattle.sctp_model.specs.sender.SenderView.{SenderView};
-ghost use Rattle.sctp_send.specs.SenderStands.{StandsFor, Keeps};
+ghost use Rattle.sctp_send.specs.SenderStands.{StandsFor};
 ghost use Rattle.sctp_send.specs.FillAnswers.{FillAnswer, PutSomeOf, sendings_of};
 ghost use Rattle.sctp_packet.specs.Draft.{room_in, with_space};
-ghost use Rattle.sctp_send.specs.inner.Stocking.{bare, numbers_of, all_numbered, stocked, AreOpen, AllPut};
-ghost use Rattle.sctp_send.specs.inner.Entering.{IsSized};
+ghost use Rattle.sctp_send.specs.inner.Stocking.{bare, numbers_of, all_numbered, stocked, AreOpen};
 
 use crate::fill::sendings::Sendings;
 use crate::kept::fates::Fates;

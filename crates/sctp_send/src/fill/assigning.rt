@@ -1,24 +1,17 @@
 //! What takes an index next, found among what waits and what is in part (RFC 9260, 6.9; RFC 8260, 2.2.2 and 3.2).
 
-ghost use Rattle.std.specs.Prelude.{◌≡◌, ℕ, suc, ◌+◌, ◌<◌, ◌≤◌, ◌%◌, ◌^◌, true, None, Some, map, length, nat_le, IfSome, MatchOption};
-ghost use Rattle.sctp_model.specs.messages.Format.{Plain, Interleaved};
-ghost use Rattle.sctp_model.specs.numbers.Limits.{WINDOW};
+ghost use Rattle.std.specs.Prelude.{◌≡◌, ℕ, suc, ◌+◌, ◌<◌, ◌≤◌, ◌%◌, None, Some, map, length, IfSome, MatchOption};
+ghost use Rattle.sctp_model.specs.messages.Format.{Interleaved};
 ghost use Rattle.sctp_model.specs.sender.Assigning.{first_on};
 ghost use Rattle.sctp_model.specs.sender.SenderView.{SenderView};
 ghost use Rattle.sctp_send.specs.SenderKept.{Kept};
 ghost use Rattle.sctp_send.specs.SenderStands.{Keeps};
 ghost use Rattle.sctp_send.specs.SenderFields.{track_meaning, rest_meaning};
-ghost use Rattle.sctp_send.specs.inner.Walks.{total, one_if_rest};
 ghost use Rattle.sctp_send.specs.inner.Stocking.{stocked, NewAnswer, FirstTurnAnswer, IsNextWithin};
-ghost use Rattle.sctp_send.specs.inner.Newcomers.{rest_at, has_rest, one_if, track_of};
+ghost use Rattle.sctp_send.specs.inner.Newcomers.{rest_at, track_of};
 
-use crate::kept::message::fragments_of;
-use crate::kept::outstanding::Outstanding;
-use crate::kept::streams::Streams;
 use crate::kept::track::{Rest, Track};
 use crate::stock::Stock;
-use sctp_framing::Framing;
-use sctp_values::WINDOW;
 
 /// A message that takes its number: it stands at this place of the queue, so many of its fragments take their indexes, and this stream's turn
 /// is next then.

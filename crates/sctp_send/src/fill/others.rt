@@ -1,6 +1,6 @@
 //! Fragments take the next indexes: there is memory for their entries, and each has its owner.
 
-ghost use Rattle.std.specs.Prelude.{◌≡◌, ℕ, ◌+◌, ◌<◌, ◌≤◌, ◌^◌, ◌∷◌, [], ◌++◌, false, map, length};
+ghost use Rattle.std.specs.Prelude.{◌≡◌, ◌+◌, ◌<◌, ◌≤◌, ◌^◌, ◌∷◌, [], ◌++◌, false, map, length};
 ghost use Rattle.sctp_send.specs.SenderFields.{track_meaning};
 ghost use Rattle.sctp_send.specs.inner.Newcomers.{has_rest, rest_at};
 ghost use Rattle.sctp_send.specs.inner.Owning.{IsOwned};
