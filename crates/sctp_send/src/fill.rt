@@ -9,29 +9,30 @@
 pub mod asking;
 pub mod assigning;
 pub mod entering;
-pub mod pushing;
-pub mod putting;
+pub mod others;
 pub mod sendings;
+pub mod turning;
 
 ghost use Rattle.std.specs.Prelude.{◌≡◌, ℕ, ◌+◌, ◌*◌, ◌^◌, ◌<◌, ◌≤◌, [], true, None, IfOk, OnOk, OnErr};
 ghost use Rattle.std.specs.Vec.{vec_capacity};
 ghost use Rattle.sctp_model.specs.sender.Filling.{next_wish, fill};
 ghost use Rattle.sctp_model.specs.sender.SenderView.{SenderView};
-ghost use Rattle.sctp_send.specs.SenderStands.{StandsFor, Keeps};
+ghost use Rattle.sctp_send.specs.SenderStands.{StandsFor};
 ghost use Rattle.sctp_send.specs.FillAnswers.{FillAnswer, PutSomeOf, sendings_of};
 ghost use Rattle.sctp_packet.specs.Draft.{room_in, with_space};
-ghost use Rattle.sctp_send.specs.inner.Stocking.{bare, numbers_of, all_numbered, stocked, AreOpen, AllPut};
-ghost use Rattle.sctp_send.specs.inner.Entering.{IsSized};
+ghost use Rattle.sctp_send.specs.inner.Stocking.{bare, numbers_of, all_numbered, stocked, AreOpen};
 
-use crate::fill::sendings::{Resent, Sendings};
+use crate::fill::sendings::Sendings;
 use crate::kept::fates::Fates;
 use crate::kept::message::Fate;
 use crate::sender::Sender;
-use crate::stock::{Stock, begin_anew, reserve_tickets, take_tickets};
+use crate::stock::Stock;
 use crate::told::Told;
 use sctp_framing::Framing;
 use sctp_packet::PacketWriter;
 use sctp_values::{NoMemory, Ticket};
+use std::alloc::Global;
+use std::mem;
 
 /// No buffer for more tickets is kept for the next fill.
 const MOST_TICKETS: usize = 128;
@@ -115,10 +116,13 @@ impl<F: Framing> Sender<F> {
         ensures memory { (v : SenderView) → StandsFor F.format self.old v → OnErr result (StandsFor F.format self.new v) }
         ensures some { (v : SenderView) → StandsFor F.format self.old v → OnErr result (PutSomeOf F.format v packet.old packet.new) }
     {
-        let Ok(before) = reserve_all(&mut self.parts, packet) else {
+        let most = most_chunks(packet.room());
+        let Ok(before) = reserve_all(&mut self.parts, most, packet) else {
             return self.fill_unreserved(packet);
         };
-        let sendings = self.told.put_all::<F>(&mut self.parts, missed, packet);
+        let sendings = self
+            .told
+            .put_all::<F>(&mut self.parts, most, missed, packet);
         packet.restore(before);
         let tickets = take_tickets(self.told.alloc, &mut self.parts.tickets);
         number_all(&mut self.told.fates, &tickets);
@@ -133,7 +137,7 @@ impl<F: Framing> Sender<F> {
         ensures memory { (v : SenderView) → StandsFor F.format self.old v → OnErr result (StandsFor F.format self.new v) }
         ensures some { (v : SenderView) → StandsFor F.format self.old v → OnErr result (PutSomeOf F.format v packet.now packet.now) }
     {
-        begin_anew(&mut self.parts);
+        self.parts.tickets.clear();
         let room = packet.room();
         if let Some(_going) = self.told.next_going::<F>(&mut self.parts, room) {
             return Err(NoMemory);
@@ -157,36 +161,6 @@ impl<F: Framing> Sender<F> {
     }
 }
 
-impl Told {
-    /// Puts the next chunk to be sent, until none may go, and counts them; all indexes below `missed` were missed.
-    fn put_all<F: Framing>(
-        &self,
-        stock: &mut Stock,
-        missed: u64,
-        packet: &mut PacketWriter,
-    ) -> Sendings
-        requires fresh { stock.old.tickets.items ≡ [] }
-        requires sized { IsSized self.now.fragment stock.old }
-        requires reserved { packet.old.space ≡ true }
-        requires told { room_in packet.old < 16 * vec_capacity stock.old.tickets }
-        ensures all { (v : SenderView) → Keeps F.format (stocked (bare self.now) stock.old) v
-            → AllPut F.format (bare self.now) v packet.old packet.new stock.new missed result }
-        ensures sized { IsSized self.now.fragment stock.new }
-        ensures reserved { packet.new.space ≡ true }
-    {
-        let mut resent = Resent::none(missed);
-        let most = most_chunks(packet.room());
-        for turn in 0..most {
-            let Some(going) = self.next_going::<F>(stock, packet.room()) else {
-                return resent.of_all(turn);
-            };
-            resent.count(going, self.cum);
-            self.go::<F>(stock, going, packet);
-        }
-        resent.of_all(most)
-    }
-}
-
 /// More chunks than a packet with so many bytes left takes: each takes its header at least.
 #[inline(always)]
 fn most_chunks(room: usize) -> usize
@@ -197,22 +171,36 @@ fn most_chunks(room: usize) -> usize
     room / HEADER + 1
 }
 
-/// All memory that a fill may want is taken: for the tickets of messages that begin, each of which takes a chunk, and for the packet.
+/// All memory that a fill of so many chunks may want is taken: for the tickets of messages that begin, each of which takes a chunk, and for the packet.
 ///
 /// # Errors
 /// `NoMemory`: the packet is as before.
 #[inline(always)]
-fn reserve_all(stock: &mut Stock, packet: &mut PacketWriter) -> Result<bool, NoMemory>
+fn reserve_all(stock: &mut Stock, most: usize, packet: &mut PacketWriter) -> Result<bool, NoMemory>
     ensures same { stock.new ≡ record stock.old { tickets = stock.new.tickets } }
     ensures fresh { stock.new.tickets.items ≡ [] }
-    ensures told { OnOk result (room_in packet.new < 16 * vec_capacity stock.new.tickets) }
+    ensures told { OnOk result (most ≤ vec_capacity stock.new.tickets) }
     ensures before { IfOk result (λ before. before ≡ packet.old.space) }
     ensures reserved { OnOk result (packet.new ≡ with_space packet.old true) }
     ensures unchanged { OnErr result (packet.new ≡ packet.old) }
 {
-    begin_anew(stock);
-    reserve_tickets(&mut stock.tickets, most_chunks(packet.room()))?;
+    stock.tickets.clear();
+    // Where there is room, it costs one test.
+    if most > stock.tickets.capacity() {
+        stock.tickets.reserve(most).map_err(|_| NoMemory)?;
+    }
     packet.reserve()
+}
+
+/// Takes the tickets that are told; if there are none, their buffer stays.
+#[inline(always)]
+fn take_tickets(alloc: Global, tickets: &mut Vec<Ticket>) -> Vec<Ticket>
+    ensures { result.items ≡ tickets.old.items }
+{
+    if tickets.is_empty() {
+        return Vec::new(alloc);
+    }
+    mem::replace(tickets, Vec::new(alloc))
 }
 
 /// The messages with these tickets have their numbers.

@@ -71,9 +71,9 @@
 //!
 //! The files of `src` form a path on which each imports only what is before it: `last_forward`, `message`, `resets`; `blocks`, `by_ticket`,
 //! `dues`, `entry`, `seats`, `track`; `fates`, `pieces`; `looking`, `queue`, `told`, `wishes`; `counts`, `queued_on`, `streams`; `stretches`;
-//! `outstanding`; `by_message`, `entries`, `flying`, `giving_back`, `going_out`, `lanes`, `marking`, `pushing`, `repeats`, `run_room`, `searching`, `stock`, `table`, `tally`, `telling`,
-//! `weight`; `assigning`, `covered`, `restarting`, `sender`, `still`, `waking`; `answering`, `asking`, `at_limit`, `entering`, `last`, `laws`, `owing`, `pace`,
-//! `readers`, `resetting`, `sack`, `wear`, `weighing`; `abandon`, `keeping`, `moments`, `passing`, `putting`, `queueing`, `sendings`;
+//! `outstanding`; `by_message`, `entries`, `flying`, `giving_back`, `going_out`, `lanes`, `marking`, `repeats`, `run_room`, `searching`, `stock`, `table`, `tally`, `telling`,
+//! `weight`; `assigning`, `covered`, `others`, `restarting`, `sender`, `still`, `waking`; `answering`, `asking`, `at_limit`, `last`, `laws`, `owing`, `pace`,
+//! `readers`, `resetting`, `sack`, `wear`, `weighing`; `abandon`, `entering`, `keeping`, `moments`, `passing`, `queueing`, `sendings`, `turning`;
 //! `expire`, `fill`, `forward`.
 //!
 //! What a body may still get away with: nothing that a caller can see but costs, how much memory is kept, and the texts of `Debug` and of faults. Only

@@ -45,8 +45,9 @@ use Rattle.sctp_send.proofs.fill.AssignedKept.{begun_kept, outstanding_begun}
 use Rattle.sctp_send.proofs.fill.ChunkLemmas.{chunk_begun, bytes_begun}
 use Rattle.sctp_send.proofs.fill.FewLemmas.{few_messages}
 use Rattle.sctp_send.proofs.fill.NewlyLemmas.{newly_begun}
-use Rattle.sctp_send.proofs.fill.NewMayLemmas.{in_window, new_may, next_is, asked_is, few_parts, rest_read, when_rest, window_test, and_off, map_read}
+use Rattle.sctp_send.proofs.fill.NewMayLemmas.{in_window, new_may, next_is, asked_is, few_parts, rest_read, when_rest, window_test, and_off}
 use Rattle.sctp_send.proofs.RoomKept.{room_assigned, room_begins}
+use Rattle.sctp_send.proofs.WalkLemmas.{queue_read}
 use Rattle.sctp_send.proofs.fill.IdleLemmas.{ready}
 
 -- ---- a message begins
@@ -55,7 +56,7 @@ use Rattle.sctp_send.proofs.fill.IdleLemmas.{ready}
 pub begun_message : (f : Format) (s : Kept) (v : SenderView) (old : Stock) (place count turn : ℕ) (x : Arc MessageFields Global) → Keeps f (stocked s old) v → (b : IsBegun f v place count turn) → x ≡ get_or old.queue.items place x
     → queued_meaning s.fragment x.value ≡ b.message
 begun_message f s v old place count turn x k b read =
-    sym (map_read (queued_by s.fragment) old.queue.items place x read) ∙ ap (λ (qs : List Queued). get_or qs place (queued_by s.fragment x)) k.holds.queue
+    sym (queue_read s.fragment old.queue.items place x read) ∙ ap (λ (qs : List Queued). get_or qs place (queued_by s.fragment x)) k.holds.queue
     ∙ get_or_from_slice_get v.queue place b.message (queued_by s.fragment x) b.there
 
 -- what is known of a message that begins
@@ -90,10 +91,6 @@ begun_by f s v place count turn k b =
   where
     now : assigned f v ≡ Some (numbered v b.message (suc b.less) (without_place place v.queue) turn)
     now = b.assigned ∙ ap (λ (n : ℕ). Some (numbered v b.message n (without_place place v.queue) turn)) b.some
-
--- the test of the window, as it was read
-pub window_read : (x : ℕ) (ts : List Track) (m y : MessageFields) (r b : Bool) → y ≡ m → r ≡ nat_le x (WINDOW + one_if (has_rest (rest_at ts y.stream))) → r ≡ b → nat_le x (WINDOW + one_if (has_rest (rest_at ts m.stream))) ≡ b
-window_read x ts m y r b same is tested = ap (λ (z : MessageFields). nat_le x (WINDOW + one_if (has_rest (rest_at ts z.stream)))) (sym same) ∙ sym is ∙ tested
 
 -- a stock, and the message that begins: it stands at a place of the queue, and this is its number
 module _ (f : Format) (s : Kept) (v : SenderView) (old : Stock) (m : MessageFields) (place count turn number : ℕ) (k : Keeps f (stocked s old) v) (stands : NothingStands f v) (b : IsBegun f v place count turn)

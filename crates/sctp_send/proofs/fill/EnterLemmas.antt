@@ -3,7 +3,7 @@ use Rattle.std.proofs.Common.{◌≡◌, ℕ, zero, suc, ◌+◌, ◌-◌, ◌*�
 use Rattle.std.specs.Prelude.{◌==◌, nat_le}
 use Rattle.std.proofs.lemmas.Bool.Decides.{nat_tests}
 use Rattle.std.proofs.lemmas.List.{length-map, map-append, map-set, take-map, drop-map, take_all}
-use Rattle.sctp_model.specs.messages.Format.{Format, Plain, Interleaved, Lane, Kind, Ordered, Unordered}
+use Rattle.sctp_model.specs.messages.Format.{Format, Plain, Interleaved, Lane, Kind}
 use Rattle.sctp_model.specs.messages.Framing.{lane_kind, data_chunk, takes_turns, wire_number}
 use Rattle.sctp_values.specs.Meanings.{kind_meaning}
 use Rattle.sctp_model.specs.messages.Pieces.{word_of}
@@ -16,10 +16,10 @@ use Rattle.sctp_model.specs.sender.Queueing.{cut}
 use Rattle.sctp_model.specs.sender.PieceSaid.{is_unordered}
 use Rattle.sctp_send.specs.SenderKept.{Item, Rest, Track, Kept}
 use Rattle.sctp_send.specs.OutstandingFields.{item_meaning, queued_meaning, lane_meaning, message_meaning, entry_meaning, no_base}
-use Rattle.sctp_send.specs.inner.Newcomers.{gone_item, new_item, new_items, begun_items, fresh_track, track_of, number_on, without_place, number_in, counted_in, rest_after, rest_at, has_rest, begun, gone_on}
+use Rattle.sctp_send.specs.inner.Newcomers.{gone_item, new_item, new_items, begun_items, fresh_track, track_of, number_on, without_place, rest_after, rest_at, has_rest, begun, gone_on}
 use Rattle.sctp_send.specs.inner.Owning.{taken_meaning}
 use Rattle.sctp_send.specs.inner.Stocking.{numbers_of, all_numbered, AreOpen, stocked, fragment_chunk, fragment_item, rest_from, counted_track, left_track}
-use Rattle.sctp_send.specs.SenderFields.{queued_by, latest_in, track_meaning, rests_meaning}
+use Rattle.sctp_send.specs.SenderFields.{queued_by, track_meaning, rests_meaning}
 use Rattle.std.specs.declared.alloc.Global.{Global}
 use Rattle.std.specs.declared.sync.Arc.{Arc}
 use Rattle.sctp_send.specs.declared.kept.track.Track.{Track as TrackFields}
@@ -166,11 +166,6 @@ pub begun_is : (s : Kept) (old new : Stock) (m : MessageFields) (place count num
 begun_is s old new m place count number turn left items queue tracks rest told turned numbered space =
     let fates : all_numbered s.fates (numbers_of new.tickets.items) ≡ set (all_numbered s.fates (numbers_of old.tickets.items)) (m.ticket - 1) Numbered = ap (all_numbered s.fates) told ∙ numbered_push s.fates (numbers_of old.tickets.items) m.ticket in
     rw (items, queue, tracks, fates, turned, rest, numbered, space) refl
-
--- the number that a message took is the latest of its kind then
-pub latest_counted : (k : Kind) (t : Track) → latest_in k (counted_in k t) ≡ number_in k t
-latest_counted Ordered t = omega arith
-latest_counted Unordered t = omega arith
 
 -- a message in part went on
 pub gone_on_is : (s : Kept) (old new : Stock) (t : Taken) (stream turn : ℕ)

@@ -1,5 +1,5 @@
 -- One wish after the other: the packet and the stock after some steps, and when none may go any more.
-use Rattle.std.proofs.Common.{◌≡◌, ℕ, ◌+◌, ◌*◌, ◌-◌, ◌<◌, ◌≤◌, List, [], ◌∷◌, ◌++◌, length, map, true, Option, Some, None, refl, sym, ap, ◌∙◌, subst, arith, append-nil, append_assoc, length-append}
+use Rattle.std.proofs.Common.{◌≡◌, ℕ, ◌+◌, ◌*◌, ◌-◌, ◌<◌, ◌≤◌, List, [], ◌∷◌, ◌++◌, length, map, true, Some, None, refl, sym, ap, ◌∙◌, arith, append-nil, append_assoc, length-append}
 use Rattle.std.proofs.lemmas.List.{map-append}
 use Rattle.std.specs.Vec.{vec_len, vec_capacity}
 use Rattle.sctp_model.specs.messages.Format.{Format, Plain, Interleaved}
@@ -12,14 +12,14 @@ use Rattle.sctp_packet.specs.Draft.{Draft as PacketDraft, room_in, with_chunks}
 use Rattle.sctp_send.specs.SenderKept.{Kept}
 use Rattle.sctp_send.specs.SenderStands.{Keeps}
 use Rattle.sctp_send.specs.inner.Stocking.{numbers_of, stocked, IsPut, AllPut}
-use Rattle.sctp_send.specs.inner.Sending.{resent_by, IsResent}
+use Rattle.sctp_send.specs.FillAnswers.{sendings_of}
+use Rattle.sctp_send.specs.inner.Sending.{sent_more}
 use Rattle.sctp_send.specs.inner.Entering.{IsSized}
-use Rattle.sctp_send.specs.declared.fill.sendings.Resent.{Resent}
 use Rattle.sctp_send.specs.declared.fill.sendings.Sendings.{Sendings}
 use Rattle.sctp_send.specs.declared.stock.Stock.{Stock}
 use Rattle.sctp_send.proofs.fill.RoomLemmas.{room_more}
 use Rattle.sctp_send.proofs.fill.NewlyLemmas.{newly_self, newly_more}
-use Rattle.sctp_send.proofs.fill.SendingLemmas.{none_resent, one_resent, all_sent}
+use Rattle.sctp_send.proofs.fill.SendingLemmas.{one_sent}
 
 -- ---- chunks behind chunks
 
@@ -50,8 +50,8 @@ room_used f v u room (w ∷ ws) is =
 
 -- ---- step by step
 
--- So many wishes went: their chunks are in the packet, the stock keeps what they leave, and those sent again are counted.
-pub record IsSoFar (f : Format) (s : Kept) (v : SenderView) (p now : PacketDraft) (d : Stock) (steps n : ℕ) (r : Resent) : Type 0 where
+-- So many wishes went: their chunks are in the packet and counted, and the stock keeps what they leave.
+pub record IsSoFar (f : Format) (s : Kept) (v : SenderView) (p now : PacketDraft) (d : Stock) (steps n : ℕ) (r : Sendings) : Type 0 where
   pub wishes : List Wish
   pub view : SenderView
   pub from : IsReached f v
@@ -60,9 +60,9 @@ pub record IsSoFar (f : Format) (s : Kept) (v : SenderView) (p now : PacketDraft
   pub keeps : Keeps f (stocked s d) view
   pub told : numbers_of d.tickets.items ≡ newly_numbered v view
   pub many : length wishes ≡ steps
-  pub resent : IsResent n wishes r
+  pub counts : r ≡ sendings_of n wishes
 
-abbrev pub loop_init : (f : Format) (s : Kept) (v : SenderView) (p : PacketDraft) (d : Stock) (n : ℕ) (r : Resent) → Keeps f (stocked s d) v → d.tickets.items ≡ [] → r ≡ record { below = n; timed = 0; missed = 0 } → IsSoFar f s v p p d 0 n r
+abbrev pub loop_init : (f : Format) (s : Kept) (v : SenderView) (p : PacketDraft) (d : Stock) (n : ℕ) (r : Sendings) → Keeps f (stocked s d) v → d.tickets.items ≡ [] → r ≡ sendings_of n [] → IsSoFar f s v p p d 0 n r
 loop_init f s v p d n r k none fresh = record {
   wishes = [];
   view = v;
@@ -72,11 +72,11 @@ loop_init f s v p d n r k none fresh = record {
   keeps = k;
   told = ap numbers_of none ∙ sym (newly_self v);
   many = refl;
-  resent = none_resent n r fresh;
+  counts = fresh;
 }
 
 -- the room at a step
-pub room_now : (f : Format) (s : Kept) (v : SenderView) (p now : PacketDraft) (d : Stock) (steps n : ℕ) (r : Resent) → (x : IsSoFar f s v p now d steps n r) → room_in now ≡ room_after f (room_in p) x.wishes
+pub room_now : (f : Format) (s : Kept) (v : SenderView) (p now : PacketDraft) (d : Stock) (steps n : ℕ) (r : Sendings) → (x : IsSoFar f s v p now d steps n r) → room_in now ≡ room_after f (room_in p) x.wishes
 room_now f s v p now d steps n r x = ap room_in x.chunks ∙ room_left f p x.wishes
 
 -- chunks behind those that are there
@@ -84,8 +84,8 @@ pub chunks_more : (f : Format) (p now later : PacketDraft) (ws xs : List Wish) �
 chunks_more f p now later ws xs here then =
     then ∙ ap (λ (y : PacketDraft). with_chunks y (map (chunk_of f) xs)) here ∙ chunks_joined p (map (chunk_of f) ws) (map (chunk_of f) xs) ∙ ap (with_chunks p) (sym (map-append (chunk_of f) ws xs))
 
-abbrev pub loop_more : (f : Format) (s : Kept) (v : SenderView) (p now later : PacketDraft) (old new : Stock) (steps n : ℕ) (r q : Resent) → (x : IsSoFar f s v p now old steps n r) → steps < 65536 → IsPut f s x.view now later old new
-    → q ≡ resent_by (next_wish f x.view) r → IsSoFar f s v p later new (steps + 1) n q
+abbrev pub loop_more : (f : Format) (s : Kept) (v : SenderView) (p now later : PacketDraft) (old new : Stock) (steps n : ℕ) (r q : Sendings) → (x : IsSoFar f s v p now old steps n r) → steps < 65536 → IsPut f s x.view now later old new
+    → ((w : Wish) → next_wish f x.view ≡ Some w → q ≡ sent_more (w.view.sent w.index) w.index n r) → IsSoFar f s v p later new (steps + 1) n q
 loop_more f s v p now later old new steps n r q x few put counted =
     let next : goes f (room_after f (room_in p) x.wishes) x.view ≡ Some put.wish = ap (λ (n : ℕ). goes f n x.view) (sym (room_now f s v p now old steps n r x)) ∙ put.next in
     record {
@@ -97,15 +97,15 @@ loop_more f s v p now later old new steps n r q x few put counted =
       keeps = put.keeps;
       told = put.told ∙ ap (λ (ts : List ℕ). ts ++ newly_numbered x.view (gone put.wish)) x.told ∙ sym (newly_more f v x.view (room_in p) x.wishes put.wish x.from x.follows next);
       many = let long = length-append x.wishes (put.wish ∷ []) in let before = x.many in omega (arith, long, before);
-      resent =
+      counts =
           let many = x.many in
-          let wish = ap (λ (o : Option Wish). resent_by o r) (goes_parts f (room_in now) x.view put.wish put.next).0 in
-          subst (λ (y : Resent). IsResent n (x.wishes ++ put.wish ∷ []) y) (sym (counted ∙ wish)) (one_resent n x.wishes put.wish r x.resent (omega (arith, few, many)));
+          let wish = (goes_parts f (room_in now) x.view put.wish put.next).0 in
+          counted put.wish wish ∙ ap (sent_more (put.wish.view.sent put.wish.index) put.wish.index n) x.counts ∙ sym (one_sent n x.wishes put.wish (omega (arith, few, many)));
     }
 
 -- What holds at each step: the packet has its whole memory, the stock has parts of one size, each step takes room for one ticket at most, and so many
 -- wishes went.
-pub record IsFilledSoFar (f : Format) (s : Kept) (p now : PacketDraft) (old new : Stock) (steps n : ℕ) (r : Resent) : Type 0 where
+pub record IsFilledSoFar (f : Format) (s : Kept) (p now : PacketDraft) (old new : Stock) (steps n : ℕ) (r : Sendings) : Type 0 where
   pub reserved : now.space ≡ true
   pub sized : IsSized s.fragment new
   pub left : vec_capacity old.tickets + vec_len new.tickets ≤ vec_capacity new.tickets + steps
@@ -114,9 +114,8 @@ pub record IsFilledSoFar (f : Format) (s : Kept) (p now : PacketDraft) (old new 
 -- ---- the end
 
 -- the next wish may not go
-pub loop_stopped : (f : Format) (s : Kept) (v : SenderView) (p now : PacketDraft) (d : Stock) (steps n : ℕ) (r : Resent) (y : Sendings) → (x : IsSoFar f s v p now d steps n r) → goes f (room_in now) x.view ≡ None
-    → (r.timed + r.missed ≤ steps → y ≡ record { first = steps - (r.timed + r.missed); timed = r.timed; missed = r.missed }) → AllPut f s v p now d n y
-loop_stopped f s v p now d steps n r y x stop here =
+pub loop_stopped : (f : Format) (s : Kept) (v : SenderView) (p now : PacketDraft) (d : Stock) (steps n : ℕ) (r : Sendings) → (x : IsSoFar f s v p now d steps n r) → goes f (room_in now) x.view ≡ None → AllPut f s v p now d n r
+loop_stopped f s v p now d steps n r x stop =
     let none : goes f (room_after f (room_in p) x.wishes) x.view ≡ None = ap (λ (m : ℕ). goes f m x.view) (sym (room_now f s v p now d steps n r x)) ∙ stop in
     record {
       wishes = x.wishes;
@@ -125,11 +124,11 @@ loop_stopped f s v p now d steps n r y x stop here =
       chunks = x.chunks;
       keeps = x.keeps;
       told = x.told;
-      counts = all_sent n x.wishes r steps y x.resent x.many here;
+      counts = x.counts;
     }
 
 -- no more go than there is room for
-pub loop_ends : (f : Format) (s : Kept) (v : SenderView) (p now : PacketDraft) (d : Stock) (steps n : ℕ) (r : Resent) → IsSoFar f s v p now d steps n r → room_in p < 16 * steps → ⊥
+pub loop_ends : (f : Format) (s : Kept) (v : SenderView) (p now : PacketDraft) (d : Stock) (steps n : ℕ) (r : Sendings) → IsSoFar f s v p now d steps n r → room_in p < 16 * steps → ⊥
 loop_ends f s v p now d steps n r x past =
     let used = room_used f v x.view (room_in p) x.wishes x.follows in
     let count = x.many in

@@ -1,5 +1,5 @@
 -- Whether what is assigned next may go, as the code tests it: flow, room, and the window.
-use Rattle.std.proofs.Common.{◌≡◌, ℕ, zero, suc, ◌+◌, ◌*◌, ◌%◌, ◌^◌, ◌<◌, ◌≤◌, List, [], ◌∷◌, length, map, get_or, Bool, true, false, Option, Some, None, refl, sym, ap, ◌∙◌, arith}
+use Rattle.std.proofs.Common.{◌≡◌, ℕ, suc, ◌+◌, ◌*◌, ◌%◌, ◌^◌, ◌<◌, ◌≤◌, List, length, map, get_or, Bool, true, false, Option, Some, None, refl, sym, ap, ◌∙◌, arith}
 use Rattle.std.specs.Prelude.{nat_le, ◌&&◌, option_map, Result, Ok, Err, OnErr, nat_lt}
 use Rattle.std.proofs.lemmas.Bool.Decides.{nat_tests}
 use Rattle.std.proofs.lemmas.Option.{slice_get-get_or}
@@ -29,7 +29,6 @@ use Rattle.sctp_send.specs.inner.Stocking.{stocked, NothingStands}
 use Rattle.sctp_send.proofs.KeepLemmas.{kept_length}
 use Rattle.std.proofs.lemmas.List.{length-map}
 use Rattle.sctp_send.specs.declared.stock.Stock.{Stock}
-use Rattle.sctp_send.specs.declared.kept.message.Message.{Message as MessageFields}
 use Rattle.sctp_send.proofs.QueueLemmas.{kept_in_part}
 use Rattle.sctp_send.proofs.fill.RoomLemmas.{has_room_is, go_new}
 
@@ -40,6 +39,11 @@ abbrev pub in_window : Kept → Stock → (count stream : ℕ) → (more : Bool)
 in_window s d count stream more =
     nat_le (length d.outstanding.items + count + (total (λ t. one_if_rest t.rest) (map (track_meaning s.fragment) d.streams.items) % 2 ^ 32 + one_if more))
     (WINDOW + one_if (has_rest (rest_at (map (track_meaning s.fragment) d.streams.items) stream)))
+
+-- as it was read, where the stream had a message in part or not
+pub window_read : (s : Kept) (d : Stock) (count stream : ℕ) (more had r b : Bool) → has_rest (rest_at (map (track_meaning s.fragment) d.streams.items) stream) ≡ had
+    → r ≡ nat_le (length d.outstanding.items + count + (total (λ t. one_if_rest t.rest) (map (track_meaning s.fragment) d.streams.items) % 2 ^ 32 + one_if more)) (WINDOW + one_if had) → r ≡ b → in_window s d count stream more ≡ b
+window_read s d count stream more had r b is read tested = rw is (sym read ∙ tested)
 
 -- ---- may it go
 
@@ -113,17 +117,6 @@ flying_is f s v d flying k sized counted few =
     let all : flying ≡ item_flight (map (item_meaning d.outstanding.size) d.outstanding.items) = omega (arith, counted, few, count, long, most) in
     all ∙ ap (λ (n : ℕ). item_flight (map (item_meaning n) d.outstanding.items)) sized
 
--- ---- lists
-
--- an item that was read is the one that its meaning is read by
-pub map_read : {A B : Type 0} (g : A → B) (xs : List A) (i : ℕ) (x : A) → x ≡ get_or xs i x → get_or (map g xs) i (g x) ≡ g x
-map_read g xs i x read = of_map xs i x ∙ ap g (sym read)
-  where
-    of_map : (ys : List _) (j : ℕ) (d : _) → get_or (map g ys) j (g d) ≡ g (get_or ys j d)
-    of_map [] j d = refl
-    of_map (y ∷ ys) zero d = refl
-    of_map (y ∷ ys) (suc j) d = of_map ys j d
-
 -- ---- as the code reads it
 
 -- what is so anyway is so after an error
@@ -137,11 +130,6 @@ pub more_read : (fragment size n count : ℕ) (bytes items : List ℕ) → suc f
 more_read fragment size n count bytes items small many one same =
     let next : (fragment + 1) % 2 ^ 32 ≡ suc fragment = omega arith in
     ap (λ (k : ℕ). nat_lt k count) next ∙ ap (nat_lt (suc fragment)) (many ∙ ap (λ (k : ℕ). length (cut k bytes)) one ∙ ap (λ (bs : List ℕ). length (cut n bs)) same)
-
--- the same of a message that begins
-pub left_over : (count size n many : ℕ) (bytes : List ℕ) (m y : MessageFields) → many ≡ length (cut size bytes) → size ≡ n → bytes ≡ y.bytes.items → y ≡ m → nat_lt count many ≡ nat_lt count (length (cut n m.bytes.items))
-left_over count size n many bytes m y all one read same =
-    ap (nat_lt count) (all ∙ ap (λ (k : ℕ). length (cut k bytes)) one ∙ ap (λ (bs : List ℕ). length (cut n bs)) (read ∙ ap (λ (z : MessageFields). z.bytes.items) same))
 
 -- an item, for an offset at which there is none
 pub no_item : Item

@@ -77,10 +77,6 @@ within_window f v h = let most = is_windowed f v h in let low = (is_bounded f v 
     test : (a b : ℕ) → a ≤ b → nat_le a b ≡ true
     test a b le = grind (arith, nat_tests)
 
-and_true : (b : Bool) → (b && true) ≡ b
-and_true true = refl
-and_true false = refl
-
 -- an assignment sends nothing, and says nothing of the peer
 record IsQuiet (v u : SenderView) : Type 0 where
   sent : u.sent ≡ v.sent

@@ -1,128 +1,67 @@
 -- Which wishes are sent again: the marked ones, and no others; and what is counted of them, one after the other.
-use Rattle.std.proofs.Common.{◌≡◌, ℕ, suc, ◌+◌, ◌-◌, ◌%◌, ◌^◌, ◌<◌, ◌≤◌, List, [], ◌∷◌, ◌++◌, length, Bool, true, false, Option, Some, None, refl, sym, ap, ◌∙◌, subst, arith}
+use Rattle.std.proofs.Common.{◌≡◌, ℕ, suc, ◌+◌, ◌%◌, ◌^◌, ◌<◌, ◌≤◌, List, [], ◌∷◌, ◌++◌, length, Bool, true, false, Some, refl, sym, ap, ◌∙◌, arith}
 use Rattle.std.specs.Prelude.{nat_lt, not, ◌&&◌, if◌then◌else◌, cond, count_by, option_map}
 use Rattle.std.proofs.lemmas.List.{length-map}
-use Rattle.std.proofs.lemmas.List.Sums.{sum_by-cons, sum_by_push, count_by-le-length}
+use Rattle.std.proofs.lemmas.List.Sums.{sum_by_push, count_by-le-length}
 use Rattle.sctp_model.specs.messages.Format.{Format}
 use Rattle.sctp_model.specs.sender.SenderView.{SenderView}
 use Rattle.sctp_model.specs.sender.Assigning.{assigned}
-use Rattle.sctp_model.specs.sender.Filling.{Wish, newcomer, next_wish}
+use Rattle.sctp_model.specs.sender.Filling.{Wish, newcomer, next_wish, standing}
 use Rattle.sctp_model.proofs.sender.OwedLaws.{is_promised}
 use Rattle.sctp_packet.specs.Draft.{Draft as PacketDraft}
 use Rattle.sctp_send.specs.SenderKept.{Kept}
 use Rattle.sctp_send.specs.SenderStands.{Keeps}
 use Rattle.sctp_send.specs.FillAnswers.{is_sent_first, is_timed, is_missed, sendings_of}
 use Rattle.sctp_send.specs.OutstandingFields.{item_meaning}
-use Rattle.sctp_send.specs.inner.Asking.{CanGo, IsNext, IsNextPending}
+use Rattle.sctp_send.specs.inner.Asking.{CanGo, IsNext}
 use Rattle.sctp_send.specs.inner.Stocking.{stocked, NothingStands}
-use Rattle.sctp_send.specs.inner.Sending.{resent_if, resent_by, resent_going, IsResent}
+use Rattle.sctp_send.specs.inner.Sending.{sent_more, sent_going}
 use Rattle.sctp_send.specs.declared.fill.asking.Going.{Going}
 use Rattle.sctp_send.specs.declared.fill.asking.Going.TheVariants.{Indexed, New}
-use Rattle.sctp_send.specs.declared.fill.sendings.Resent.{Resent}
+use Rattle.sctp_send.specs.declared.fill.assigning.Next.TheVariants.{Begins, Continues}
 use Rattle.sctp_send.specs.declared.fill.sendings.Sendings.{Sendings}
 use Rattle.sctp_send.specs.declared.stock.Stock.{Stock}
 use Rattle.sctp_send.specs.declared.told.Told.{Told}
 use Rattle.sctp_send.proofs.KeepLemmas.{kept_length}
 use Rattle.sctp_send.proofs.fill.RoomLemmas.{unsent_new}
 
--- ---- the next wish
+-- what takes an index wasn't sent before
+counted_new : (f : Format) (v u : SenderView) (w : Wish) (n : ℕ) (r : Sendings) (s : Kept) → Keeps f s v → NothingStands f v → assigned f v ≡ Some u → next_wish f v ≡ Some w
+    → record r { first = (r.first + 1) % 2 ^ 32 } ≡ sent_more (w.view.sent w.index) w.index n r
+counted_new f v u w n r s k stands is next =
+    let same : newcomer v u ≡ w = let here : Some (newcomer v u) ≡ Some w = sym (stands ∙ ap (option_map (newcomer v)) is) ∙ next in cc in
+    ap (λ (b : Bool). sent_more b (suc (length v.plan.entries)) n r) (sym (unsent_new f v u k.reached is)) ∙ ap (λ (x : Wish). sent_more (x.view.sent x.index) x.index n r) same
 
--- an entry counts where it was sent before, at its index
-counted_pending : (f : Format) (s : Kept) (v : SenderView) (at : ℕ) (again : Bool) (r : Resent) → Keeps f s v → at < length s.items → IsNextPending f v at again
-    → resent_if again ((s.cum + at + 1) % 2 ^ 64) r ≡ resent_by (next_wish f v) r
-counted_pending f s v at again r k low next =
-    let long = kept_length f s v k in
+-- the next wish counts as the code says
+pub counted_going : (f : Format) (s : Kept) (v : SenderView) (p : PacketDraft) (h : Told) (d : Stock) (going : Going) (n : ℕ) (r : Sendings) (w : Wish) → Keeps f (stocked s d) v → CanGo f p h d going → IsNext f v going → next_wish f v ≡ Some w
+    → sent_going going s.cum n r ≡ sent_more (w.view.sent w.index) w.index n r
+counted_going f s v p h d (Indexed x) n r w k can next is =
+    let items = length-map d.outstanding.items (item_meaning s.fragment) in
+    let low = can.0 in
+    let long = kept_length f (stocked s d) v k in
     let most = is_promised f v k.reached in
     let cum = k.holds.cum in
-    let index : (s.cum + at + 1) % 2 ^ 64 ≡ suc (v.cum + at) = omega (arith, low, long, most, cum) in
-    ap (λ (i : ℕ). resent_if again i r) index ∙ ap (λ (b : Bool). resent_if b (suc (v.cum + at)) r) (sym next.sent) ∙ ap (λ (o : Option Wish). resent_by o r) (sym next.next)
+    let index : (s.cum + x.at + 1) % 2 ^ 64 ≡ suc (v.cum + x.at) = omega (arith, items, low, long, most, cum) in
+    let same : standing v (suc (v.cum + x.at)) ≡ w = let here : Some (standing v (suc (v.cum + x.at))) ≡ Some w = sym next.next ∙ is in cc in
+    ap (λ (i : ℕ). sent_more x.again i n r) index ∙ ap (λ (b : Bool). sent_more b (suc (v.cum + x.at)) n r) (sym next.sent) ∙ ap (λ (y : Wish). sent_more (y.view.sent y.index) y.index n r) same
+counted_going f s v p h d (New (Begins x)) n r w k can next is = counted_new f v _ w n r (stocked s d) k next.0 next.1.assigned is
+counted_going f s v p h d (New (Continues x)) n r w k can next is = counted_new f v _ w n r (stocked s d) k next.0 next.1.assigned is
 
--- what takes an index wasn't sent before, and doesn't count
-counted_new : (f : Format) (s : Kept) (v : SenderView) (r : Resent) → Keeps f s v → NothingStands f v → r ≡ resent_by (next_wish f v) r
-counted_new f s v r k stands = sym (ap (λ (o : Option Wish). resent_by o r) stands ∙ by_assigned (assigned f v) refl)
+-- so many of each kind
+abbrev made : (first timed missed : ℕ) → Sendings
+made a b c = record { first = a; timed = b; missed = c }
+
+-- one wish more
+pub one_sent : (n : ℕ) (ws : List Wish) (w : Wish) → length ws < 65536 → sendings_of n (ws ++ w ∷ []) ≡ sent_more (w.view.sent w.index) w.index n (sendings_of n ws)
+one_sent n ws w few =
+    let first = sum_by_push (λ x. cond (is_sent_first x) 1 0) ws w in
+    let timed = sum_by_push (λ x. cond (is_timed n x) 1 0) ws w in
+    let missed = sum_by_push (λ x. cond (is_missed n x) 1 0) ws w in
+    rw (first, timed, missed) (by_kind (count_by is_sent_first ws) (count_by (is_timed n) ws) (count_by (is_missed n) ws) (w.view.sent w.index) (nat_lt w.index n)
+    (count_by-le-length is_sent_first ws) (count_by-le-length (is_timed n) ws) (count_by-le-length (is_missed n) ws))
   where
-    by_assigned : (o : Option SenderView) → assigned f v ≡ o → resent_by (option_map (newcomer v) o) r ≡ r
-    by_assigned None is = refl
-    by_assigned (Some u) is = ap (λ (b : Bool). resent_if b (suc (length v.plan.entries)) r) (unsent_new f v u k.reached is)
-
-pub counted_going : (f : Format) (s : Kept) (v : SenderView) (p : PacketDraft) (h : Told) (d : Stock) (going : Going) (r : Resent) → Keeps f (stocked s d) v → CanGo f p h d going → IsNext f v going
-    → resent_going going s.cum r ≡ resent_by (next_wish f v) r
-counted_going f s v p h d (Indexed x) r k can next =
-    let long = length-map d.outstanding.items (item_meaning s.fragment) in
-    let low = can.0 in
-    counted_pending f (stocked s d) v x.at x.again r k (omega (arith, long, low)) next
-counted_going f s v p h d (New x) r k can next = counted_new f (stocked s d) v r k next.0
-
--- ---- one after the other
-
-pub none_resent : (n : ℕ) (r : Resent) → r ≡ record { below = n; timed = 0; missed = 0 } → IsResent n [] r
-none_resent n r is = rw is (record { below = refl; timed = refl; missed = refl })
-
-pub one_resent : (n : ℕ) (ws : List Wish) (w : Wish) (r : Resent) → IsResent n ws r → length ws < 65536 → IsResent n (ws ++ w ∷ []) (resent_by (Some w) r)
-one_resent n ws w r is few = by_sent (w.view.sent w.index) refl
-  where
-    timed : count_by (is_timed n) (ws ++ w ∷ []) ≡ count_by (is_timed n) ws + cond (w.view.sent w.index && not (nat_lt w.index n)) 1 0
-    timed = sum_by_push (λ x. cond (is_timed n x) 1 0) ws w
-
-    missed : count_by (is_missed n) (ws ++ w ∷ []) ≡ count_by (is_missed n) ws + cond (w.view.sent w.index && nat_lt w.index n) 1 0
-    missed = sum_by_push (λ x. cond (is_missed n x) 1 0) ws w
-
-    more : (x c : ℕ) → x ≡ c → c ≤ length ws → (x + 1) % 2 ^ 32 ≡ c + 1
-    more x c same le = omega (arith, same, le, few)
-
-    same : (x c : ℕ) → x ≡ c → x ≡ c + 0
-    same x c is = omega (arith, is)
-
-    by_low : (b : Bool) → w.view.sent w.index ≡ true → nat_lt w.index n ≡ b → IsResent n (ws ++ w ∷ []) (if b then record r { missed = (r.missed + 1) % 2 ^ 32 } else record r { timed = (r.timed + 1) % 2 ^ 32 })
-    by_low true sent low =
-        record {
-          below = is.below;
-          timed = same r.timed (count_by (is_timed n) ws) is.timed ∙ sym (timed ∙ ap (λ (b : Bool). count_by (is_timed n) ws + cond b 1 0) (ap (λ (b : Bool). b && not (nat_lt w.index n)) sent ∙ ap not low));
-          missed = more r.missed (count_by (is_missed n) ws) is.missed (count_by-le-length (is_missed n) ws) ∙ sym (missed ∙ ap (λ (b : Bool). count_by (is_missed n) ws + cond b 1 0) (ap (λ (b : Bool). b && nat_lt w.index n) sent ∙ low));
-        }
-    by_low false sent high =
-        record {
-          below = is.below;
-          timed = more r.timed (count_by (is_timed n) ws) is.timed (count_by-le-length (is_timed n) ws) ∙ sym (timed ∙ ap (λ (b : Bool). count_by (is_timed n) ws + cond b 1 0) (ap (λ (b : Bool). b && not (nat_lt w.index n)) sent ∙ ap not high));
-          missed = same r.missed (count_by (is_missed n) ws) is.missed ∙ sym (missed ∙ ap (λ (b : Bool). count_by (is_missed n) ws + cond b 1 0) (ap (λ (b : Bool). b && nat_lt w.index n) sent ∙ high));
-        }
-
-    by_sent : (b : Bool) → w.view.sent w.index ≡ b → IsResent n (ws ++ w ∷ []) (resent_if b w.index r)
-    by_sent true sent =
-        subst (λ (m : ℕ). IsResent n (ws ++ w ∷ []) (if nat_lt w.index m then record r { missed = (r.missed + 1) % 2 ^ 32 } else record r { timed = (r.timed + 1) % 2 ^ 32 })) (sym is.below) (by_low (nat_lt w.index n) sent refl)
-    by_sent false unsent =
-        record {
-          below = is.below;
-          timed = same r.timed (count_by (is_timed n) ws) is.timed ∙ sym (timed ∙ ap (λ (b : Bool). count_by (is_timed n) ws + cond b 1 0) (ap (λ (b : Bool). b && not (nat_lt w.index n)) unsent));
-          missed = same r.missed (count_by (is_missed n) ws) is.missed ∙ sym (missed ∙ ap (λ (b : Bool). count_by (is_missed n) ws + cond b 1 0) (ap (λ (b : Bool). b && nat_lt w.index n) unsent));
-        }
-
--- ---- all of them
-
--- each is of one of the three kinds
-all_kinds : (n : ℕ) (ws : List Wish) → count_by is_sent_first ws + (count_by (is_timed n) ws + count_by (is_missed n) ws) ≡ length ws
-all_kinds n [] = refl
-all_kinds n (w ∷ ws) =
-    let first = sum_by-cons (λ x. cond (is_sent_first x) 1 0) w ws in
-    let timed = sum_by-cons (λ x. cond (is_timed n x) 1 0) w ws in
-    let missed = sum_by-cons (λ x. cond (is_missed n x) 1 0) w ws in
-    let one = one_kind (w.view.sent w.index) (nat_lt w.index n) in
-    let rest = all_kinds n ws in
-    omega (arith, first, timed, missed, one, rest)
-  where
-    one_kind : (sent low : Bool) → cond (not sent) 1 0 + (cond (sent && not low) 1 0 + cond (sent && low) 1 0) ≡ 1
-    one_kind true true = refl
-    one_kind true false = refl
-    one_kind false low = refl
-
-pub all_sent : (n : ℕ) (ws : List Wish) (r : Resent) (steps : ℕ) (x : Sendings) → IsResent n ws r → length ws ≡ steps
-    → (r.timed + r.missed ≤ steps → x ≡ record { first = steps - (r.timed + r.missed); timed = r.timed; missed = r.missed }) → x ≡ sendings_of n ws
-all_sent n ws r steps x is many here =
-    let all = all_kinds n ws in
-    let timed = is.timed in
-    let missed = is.missed in
-    let first : steps - (r.timed + r.missed) ≡ count_by is_sent_first ws = omega (arith, all, timed, missed, many) in
-    here (omega (arith, all, timed, missed, many))
-    ∙ ap (λ (c : ℕ). record { first = c; timed = r.timed; missed = r.missed }) first
-    ∙ ap (λ (c : ℕ). record { first = count_by is_sent_first ws; timed = c; missed = r.missed }) timed
-    ∙ ap (λ (c : ℕ). record { first = count_by is_sent_first ws; timed = count_by (is_timed n) ws; missed = c }) missed
+    by_kind : (a b c : ℕ) (again low : Bool) → a ≤ length ws → b ≤ length ws → c ≤ length ws
+        → made (a + cond (not again) 1 0) (b + cond (again && not low) 1 0) (c + cond (again && low) 1 0) ≡ (if again then (if low then made a b ((c + 1) % 2 ^ 32) else made a ((b + 1) % 2 ^ 32) c) else made ((a + 1) % 2 ^ 32) b c)
+    by_kind a b c true true ha hb hc = let x : a + 0 ≡ a = omega arith in let y : b + 0 ≡ b = omega arith in let z : (c + 1) % 2 ^ 32 ≡ c + 1 = omega (arith, few) in rw (x, y, z) refl
+    by_kind a b c true false ha hb hc = let x : a + 0 ≡ a = omega arith in let y : (b + 1) % 2 ^ 32 ≡ b + 1 = omega (arith, few) in let z : c + 0 ≡ c = omega arith in rw (x, y, z) refl
+    by_kind a b c false low ha hb hc = let x : (a + 1) % 2 ^ 32 ≡ a + 1 = omega (arith, few) in let y : b + 0 ≡ b = omega arith in let z : c + 0 ≡ c = omega arith in rw (x, y, z) refl

@@ -1,28 +1,35 @@
 -- The message that has waited longest, of all or on a stream, and what the streams do in their turns, from what is kept.
-use Rattle.std.proofs.Common.{◌≡◌, ℕ, zero, suc, ◌+◌, ◌-◌, ◌%◌, ◌<◌, ◌≤◌, inl, inr, List, [], ◌∷◌, ◌++◌, length, map, take, drop, get_or, Bool, true, false, Option, Some, None, refl, sym, ap, ◌∙◌, subst, arith}
+use Rattle.std.proofs.Common.{◌≡◌, ℕ, zero, suc, ◌+◌, ◌-◌, ◌%◌, ◌<◌, ◌≤◌, inl, inr, List, [], ◌∷◌, ◌++◌, length, map, take, drop, get_or, max, Bool, true, false, Option, Some, None, refl, sym, ap, ◌∙◌, subst, arith}
 use Rattle.std.specs.Prelude.{◌==◌, if◌then◌else◌, slice_get, option_map, option_and_then}
 use Rattle.std.specs.Option.{option_or}
 use Rattle.std.proofs.lemmas.Bool.Decides.{nat_tests}
-use Rattle.std.proofs.lemmas.List.{append_assoc, take_more}
+use Rattle.std.proofs.lemmas.List.{append_assoc, length-map, take_more}
 use Rattle.std.proofs.lemmas.Option.{slice_get-get_or}
 use Rattle.sctp_model.specs.messages.Format.{Format, Plain, Interleaved}
+use Rattle.sctp_model.specs.messages.Framing.{takes_turns}
 use Rattle.sctp_model.specs.messages.Plan.{Entry}
 use Rattle.sctp_model.specs.sender.Entries.{continued}
 use Rattle.sctp_model.proofs.sender.OwedLaws.{first_stream}
 use Rattle.sctp_model.specs.sender.SenderView.{Queued, SenderView}
 use Rattle.sctp_model.specs.sender.Words.{first_there, count_up}
 use Rattle.sctp_model.specs.sender.Assigning.{with_message, is_on, first_on, without_first, whole_next, going_on, beginning, turn_of, assigned}
+use Rattle.sctp_model.specs.sender.Queueing.{cut}
 use Rattle.sctp_model.specs.sender.Reached.{IsReached}
 use Rattle.sctp_model.proofs.sender.SetLaws.{AllFilled, is_filled}
 use Rattle.sctp_send.specs.inner.Newcomers.{rest_at, has_rest, fresh_track, without_place, IsFirstOn, IsBegun, IsContinued, IsTurnBegun, IsTurnContinued}
-use Rattle.sctp_send.specs.inner.Stocking.{TurnAnswer, NewAnswer}
+use Rattle.sctp_send.specs.inner.Stocking.{stocked, TurnAnswer, NewAnswer}
 use Rattle.sctp_send.specs.SenderKept.{Track, Kept}
 use Rattle.sctp_send.specs.SenderStands.{rest_here, track_here, Keeps}
 use Rattle.sctp_send.specs.declared.fill.assigning.Next.{Next}
 use Rattle.sctp_send.specs.declared.fill.assigning.Next.TheVariants.{Begins, Continues}
+use Rattle.std.specs.declared.alloc.Global.{Global}
+use Rattle.std.specs.declared.sync.Arc.{Arc}
+use Rattle.sctp_send.specs.SenderFields.{queued_by}
+use Rattle.sctp_send.specs.declared.kept.message.Message.{Message as MessageFields}
+use Rattle.sctp_send.specs.declared.stock.Stock.{Stock}
 use Rattle.sctp_send.proofs.TableLemmas.{length-table}
 use Rattle.sctp_send.proofs.fill.AssignLemmas.{track_at}
-use Rattle.sctp_send.proofs.WalkLemmas.{none_behind}
+use Rattle.sctp_send.proofs.WalkLemmas.{none_behind, queue_read}
 
 -- ---- the first message of a stream
 
@@ -79,6 +86,12 @@ passed_all s at qs le before = before.first ∙ ap (first_on s) (none_behind at 
 
 -- ---- under DATA
 
+-- the format that takes turns
+pub turning : (f : Format) → takes_turns f ≡ true → f ≡ Interleaved
+turning Plain turns = absurd (cc)
+turning Interleaved turns = refl
+
+-- nothing waits
 pub whole_none : (v : SenderView) → length v.queue ≡ 0 → whole_next v ≡ None
 whole_none v none = by_queue v.queue none
   where
@@ -86,7 +99,7 @@ whole_none v none = by_queue v.queue none
     by_queue [] is = refl
     by_queue (q ∷ qs) is = absurd (omega arith)
 
-pub whole_begun : (v : SenderView) (q : Queued) (count turn : ℕ) → get_or v.queue 0 q ≡ q → 0 < length v.queue → count ≡ length q.message.fragments → 0 < count → turn ≡ v.turn → IsBegun Plain v 0 count turn
+whole_begun : (v : SenderView) (q : Queued) (count turn : ℕ) → get_or v.queue 0 q ≡ q → 0 < length v.queue → count ≡ length q.message.fragments → 0 < count → turn ≡ v.turn → IsBegun Plain v 0 count turn
 whole_begun v q count turn read some all less same =
     let there : slice_get v.queue 0 ≡ Some q = slice_get-get_or v.queue 0 q some ∙ ap (λ (x : Queued). Some x) read in
     record {
@@ -103,12 +116,33 @@ whole_begun v q count turn read some all less same =
     split (x ∷ qs) is = let one : x ≡ q = cc in ap (λ (y : Queued). y ∷ qs) one
 
 -- what waits in front has fragments
-pub first_filled : (f : Format) (v : SenderView) (q : Queued) → IsReached f v → get_or v.queue 0 q ≡ q → 0 < length v.queue → 0 < length q.message.fragments
+first_filled : (f : Format) (v : SenderView) (q : Queued) → IsReached f v → get_or v.queue 0 q ≡ q → 0 < length v.queue → 0 < length q.message.fragments
 first_filled f v q h read some = by_queue v.queue (is_filled f v h) read some
   where
     by_queue : (qs : List Queued) → AllFilled v.streams qs → get_or qs 0 q ≡ q → 0 < length qs → 0 < length q.message.fragments
     by_queue [] filled here more = absurd (omega arith)
     by_queue (x ∷ qs) filled here more = subst (λ (y : Queued). 0 < length y.message.fragments) here filled.0.0
+
+-- as the code reads it: nothing waits
+pub none_waits : (f : Format) (s : Kept) (v : SenderView) (d : Stock) → Keeps f (stocked s d) v → takes_turns f ≡ false → length d.queue.items ≡ 0 → assigned f v ≡ None
+none_waits Interleaved s v d k turns none = absurd (cc)
+none_waits Plain s v d k turns none =
+    let long = length-map d.queue.items (queued_by s.fragment) in
+    let same = ap (λ (qs : List Queued). length qs) k.holds.queue in
+    whole_none v (omega (arith, long, same))
+
+-- or this one waits in front
+pub first_waits : (f : Format) (s : Kept) (v : SenderView) (d : Stock) (x : Arc MessageFields Global) (all count : ℕ) → Keeps f (stocked s d) v → takes_turns f ≡ false → 0 < length d.queue.items → x ≡ get_or d.queue.items 0 x
+    → all ≡ length (cut s.fragment x.value.bytes.items) → count ≡ max all 1 → IsBegun f v 0 count d.turn
+first_waits Interleaved s v d x all count k turns some read its most = absurd (cc)
+first_waits Plain s v d x all count k turns some read its most =
+    let q = queued_by s.fragment x in
+    let long = length-map d.queue.items (queued_by s.fragment) in
+    let same = ap (λ (qs : List Queued). length qs) k.holds.queue in
+    let here : get_or v.queue 0 q ≡ q = ap (λ (qs : List Queued). get_or qs 0 q) (sym k.holds.queue) ∙ queue_read s.fragment d.queue.items 0 x read in
+    let filled = first_filled Plain v q k.reached here (omega (arith, long, same)) in
+    let is : count ≡ length q.message.fragments = omega (arith, most, its, filled) in
+    whole_begun v q count d.turn here (omega (arith, long, same)) is (omega (arith, is, filled)) k.holds.turn
 
 -- ---- under I-DATA
 

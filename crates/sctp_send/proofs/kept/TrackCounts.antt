@@ -1,14 +1,13 @@
 -- A message takes its number on a stream: one more is counted there, and so much is left of it.
-use Rattle.std.proofs.Common.{◌≡◌, ℕ, zero, suc, ◌+◌, ◌%◌, ◌^◌, ◌<◌, List, [], ◌∷◌, length, map, set, get_or, Bool, false, Option, Some, None, refl, sym, ap, ◌∙◌, subst, arith}
-use Rattle.std.specs.Prelude.{is_some}
+use Rattle.std.proofs.Common.{◌≡◌, ℕ, zero, suc, ◌+◌, ◌-◌, ◌%◌, ◌^◌, ◌<◌, List, [], ◌∷◌, length, map, set, get_or, Option, Some, None, refl, sym, ap, ◌∙◌, subst, arith}
 use Rattle.sctp_values.specs.Meanings.{kind_meaning}
 use Rattle.sctp_values.specs.declared.kind.Kind.{Kind}
 use Rattle.sctp_values.specs.declared.kind.Kind.TheVariants.{Ordered, Unordered}
 use Rattle.sctp_send.specs.PartsKept.{changed_at}
 use Rattle.sctp_send.specs.SenderKept.{Rest, Track}
-use Rattle.sctp_send.specs.SenderFields.{counts_meaning, rests_meaning, track_meaning}
-use Rattle.sctp_send.specs.inner.Newcomers.{number_in, counted_in, rest_at, has_rest, track_of}
-use Rattle.sctp_send.specs.inner.Stocking.{counted_track, left_track}
+use Rattle.sctp_send.specs.SenderFields.{counts_meaning, latest_in, rests_meaning, track_meaning}
+use Rattle.sctp_send.specs.inner.Newcomers.{number_in, rest_at, has_rest, track_of}
+use Rattle.sctp_send.specs.inner.Stocking.{counted_track, left_track, rest_from}
 use Rattle.sctp_send.specs.inner.PartSeats.{ticket_left, tickets_left, IsStreamsOf}
 use Rattle.sctp_sequence.specs.TwoWays.{IsMapOf}
 use Rattle.sctp_send.specs.inner.Entering.{count_of, counted_to}
@@ -25,56 +24,42 @@ count_read size Ordered t = refl
 count_read size Unordered t = refl
 
 -- a message took its number on a stream, and so much of it is left
-one_counted : (size many : ℕ) (k : Kind) (t : TrackFields) (rest : Option RestFields) → many ≡ suc (count_of k t) → left_track (rests_meaning size (track_meaning size (counted_to k many t)) rest) (track_meaning size (counted_to k many t))
-    ≡ counted_track (kind_meaning k) (rests_meaning size (counted_in (kind_meaning k) (track_meaning size t)) rest) (track_meaning size t)
-one_counted size many Ordered t None is = rw is refl
-one_counted size many Ordered t (Some r) is = rw is refl
-one_counted size many Unordered t None is = rw is refl
-one_counted size many Unordered t (Some r) is = rw is refl
+one_counted : (size many : ℕ) (k : Kind) (t : TrackFields) (rest : Option Rest) → many ≡ suc (count_of k t) → left_track rest (track_meaning size (counted_to k many t)) ≡ counted_track (kind_meaning k) rest (track_meaning size t)
+one_counted size many Ordered t rest is = rw is refl
+one_counted size many Unordered t rest is = rw is refl
 
 -- the same among all streams
-pub counted_on : (size many stream : ℕ) (k : Kind) (ts : List TrackFields) (rest : Option RestFields) → stream < length ts → many ≡ suc (number_in (kind_meaning k) (track_of (map (track_meaning size) ts) stream))
-    → set (map (track_meaning size) (changed_at (counted_to k many) stream ts)) stream (left_track (rests_meaning size (track_of (map (track_meaning size) (changed_at (counted_to k many) stream ts)) stream) rest) (track_of (map (track_meaning size) (changed_at (counted_to k many) stream ts)) stream))
-    ≡ set (map (track_meaning size) ts) stream (counted_track (kind_meaning k) (rests_meaning size (counted_in (kind_meaning k) (track_of (map (track_meaning size) ts) stream)) rest) (track_of (map (track_meaning size) ts) stream))
+counted_on : (size many stream : ℕ) (k : Kind) (ts : List TrackFields) (rest : Option Rest) → stream < length ts → many ≡ suc (number_in (kind_meaning k) (track_of (map (track_meaning size) ts) stream))
+    → set (map (track_meaning size) (changed_at (counted_to k many) stream ts)) stream (left_track rest (track_of (map (track_meaning size) (changed_at (counted_to k many) stream ts)) stream))
+    ≡ set (map (track_meaning size) ts) stream (counted_track (kind_meaning k) rest (track_of (map (track_meaning size) ts) stream))
 counted_on size many stream k [] rest low is = absurd (omega arith)
 counted_on size many zero k (t ∷ ts) rest low is = ap (λ (x : Track). x ∷ map (track_meaning size) ts) (one_counted size many k t rest (is ∙ ap suc (count_read size k t)))
 counted_on size many (suc stream) k (t ∷ ts) rest low is = ap (λ (xs : List Track). track_meaning size t ∷ xs) (counted_on size many stream k ts rest (omega arith) is)
 
--- the same as the code has it, of a message that took its number there
-pub entered_tracks : (size n many : ℕ) (m x y : MessageFields) (ts us vs : List TrackFields) (rest : Option RestFields) → x ≡ m → y ≡ m → m.stream < length ts → us ≡ changed_at (counted_to y.kind many) x.stream ts
-    → many ≡ suc n → n ≡ number_in (kind_meaning m.kind) (track_of (map (track_meaning size) ts) m.stream)
-    → map (track_meaning size) vs ≡ set (map (track_meaning size) us) x.stream (left_track (rests_meaning size (track_of (map (track_meaning size) us) x.stream) rest) (track_of (map (track_meaning size) us) x.stream))
-    → map (track_meaning size) vs ≡ set (map (track_meaning size) ts) m.stream (counted_track (kind_meaning m.kind) (rests_meaning size (counted_in (kind_meaning m.kind) (track_of (map (track_meaning size) ts) m.stream)) rest) (track_of (map (track_meaning size) ts) m.stream))
-entered_tracks size n many m x y ts us vs rest one two low now next number left =
-    let stream : x.stream ≡ m.stream = ap (λ (z : MessageFields). z.stream) one in
-    let there : us ≡ changed_at (counted_to m.kind many) m.stream ts = now ∙ ap (λ (z : MessageFields). changed_at (counted_to z.kind many) x.stream ts) two ∙ ap (λ (j : ℕ). changed_at (counted_to m.kind many) j ts) stream in
-    left
-    ∙ ap (λ (j : ℕ). set (map (track_meaning size) us) j (left_track (rests_meaning size (track_of (map (track_meaning size) us) j) rest) (track_of (map (track_meaning size) us) j))) stream
-    ∙ ap (λ (ws : List TrackFields). set (map (track_meaning size) ws) m.stream (left_track (rests_meaning size (track_of (map (track_meaning size) ws) m.stream) rest) (track_of (map (track_meaning size) ws) m.stream))) there
-    ∙ counted_on size many m.stream m.kind ts rest low (next ∙ ap suc number)
+-- its number is the latest one there
+latest_on : (size many stream : ℕ) (k : Kind) (ts : List TrackFields) → stream < length ts → latest_in (kind_meaning k) (track_of (map (track_meaning size) (changed_at (counted_to k many) stream ts)) stream) ≡ many - 1
+latest_on size many stream k [] low = absurd (omega arith)
+latest_on size many zero Ordered (t ∷ ts) low = refl
+latest_on size many zero Unordered (t ∷ ts) low = refl
+latest_on size many (suc stream) k (t ∷ ts) low = latest_on size many stream k ts (omega arith)
 
--- there is nothing
-pub nothing : {A : Type 0} (o : Option A) (b : Bool) → b ≡ is_some o → b ≡ false → o ≡ None
-nothing None b is off = refl
-nothing (Some x) b is off = absurd (cc)
+-- the same of a message, of which so many fragments entered
+pub entered_tracks : (size n many count : ℕ) (m : MessageFields) (ts us : List TrackFields) (now : List Track) → m.stream < length ts → us ≡ changed_at (counted_to m.kind many) m.stream ts
+    → many ≡ suc n → n ≡ number_in (kind_meaning m.kind) (track_of (map (track_meaning size) ts) m.stream)
+    → now ≡ set (map (track_meaning size) us) m.stream (left_track (rest_from size m (latest_in (kind_meaning m.kind) (track_of (map (track_meaning size) us) m.stream)) count) (track_of (map (track_meaning size) us) m.stream))
+    → now ≡ set (map (track_meaning size) ts) m.stream (counted_track (kind_meaning m.kind) (rest_from size m n count) (track_of (map (track_meaning size) ts) m.stream))
+entered_tracks size n many count m ts us now low is next number left =
+    let ws = map (track_meaning size) (changed_at (counted_to m.kind many) m.stream ts) in
+    let latest : latest_in (kind_meaning m.kind) (track_of ws m.stream) ≡ n = latest_on size many m.stream m.kind ts low ∙ omega (arith, next) in
+    let here = subst (λ (xs : List TrackFields). now ≡ set (map (track_meaning size) xs) m.stream (left_track (rest_from size m (latest_in (kind_meaning m.kind) (track_of (map (track_meaning size) xs) m.stream)) count) (track_of (map (track_meaning size) xs) m.stream))) is left in
+    here ∙ ap (λ (k : ℕ). set ws m.stream (left_track (rest_from size m k count) (track_of ws m.stream))) latest
+    ∙ counted_on size many m.stream m.kind ts (rest_from size m n count) low (next ∙ ap suc number)
 
 -- what is left on a stream, as it was read
 pub rest_there : (size stream : ℕ) (ts : List TrackFields) (x : TrackFields) → stream < length ts → x ≡ get_or ts stream x → rest_at (map (track_meaning size) ts) stream ≡ (track_meaning size x).rest
 rest_there size stream [] x low read = absurd (omega arith)
 rest_there size zero (t ∷ ts) x low read = ap (λ (y : TrackFields). (track_meaning size y).rest) (sym read)
 rest_there size (suc stream) (t ∷ ts) x low read = rest_there size stream ts x (omega arith) read
-
--- there is nothing
-pub no_rest : (size : ℕ) (t : Track) (o : Option RestFields) → has_rest (rests_meaning size t o) ≡ false → o ≡ None
-no_rest size t None off = refl
-no_rest size t (Some r) off = absurd (cc)
-
--- nothing is left on a stream, as before
-pub left_none : (size stream : ℕ) (ts : List TrackFields) (rest : Option RestFields) → stream < length ts → rest ≡ None → ((t : TrackFields) → t ≡ get_or ts stream t → t.rest ≡ None)
-    → map (track_meaning size) ts ≡ set (map (track_meaning size) ts) stream (left_track (rests_meaning size (track_of (map (track_meaning size) ts) stream) rest) (track_of (map (track_meaning size) ts) stream))
-left_none size stream [] rest low none idle = absurd (omega arith)
-left_none size zero (t ∷ ts) rest low none idle = ap (λ (x : Track). x ∷ map (track_meaning size) ts) (rw none (ap (λ (o : Option RestFields). left_track (rests_meaning size (counts_meaning t) o) (track_meaning size t)) (idle t refl)))
-left_none size (suc stream) (t ∷ ts) rest low none idle = ap (λ (xs : List Track). track_meaning size t ∷ xs) (left_none size stream ts rest (omega arith) none idle)
 
 -- ---- what is left stays
 
@@ -100,13 +85,16 @@ tickets_stay many zero k (t ∷ ts) = ap (λ (o : Option RestFields). ticket_lef
 tickets_stay many (suc at) k (t ∷ ts) = ap (λ (os : List (Option ℕ)). ticket_left t.rest ∷ os) (tickets_stay many at k ts)
 
 -- and where nothing was, nothing is
-pub idle_stays : (many at : ℕ) (k : Kind) (ts us : List TrackFields) → us ≡ changed_at (counted_to k many) at ts → ((t : TrackFields) → t ≡ get_or ts at t → t.rest ≡ None) → (t : TrackFields) → t ≡ get_or us at t → t.rest ≡ None
-idle_stays many at k ts us is idle t read = by_list at ts idle (read ∙ ap (λ (xs : List TrackFields). get_or xs at t) is)
+pub idle_counted : (size many at stream : ℕ) (k : Kind) (ts : List TrackFields) → has_rest (rest_at (map (track_meaning size) (changed_at (counted_to k many) at ts)) stream) ≡ has_rest (rest_at (map (track_meaning size) ts) stream)
+idle_counted size many at stream k [] = refl
+idle_counted size many zero zero k (t ∷ ts) = rest_stays has_rest size many k t same
   where
-    by_list : (n : ℕ) (xs : List TrackFields) → ((y : TrackFields) → y ≡ get_or xs n y → y.rest ≡ None) → t ≡ get_or (changed_at (counted_to k many) n xs) n t → t.rest ≡ None
-    by_list n [] idle here = idle t refl
-    by_list zero (x ∷ xs) idle here = ap (λ (y : TrackFields). y.rest) here ∙ fields_stay many k x ∙ idle x refl
-    by_list (suc n) (x ∷ xs) idle here = by_list n xs idle here
+    same : (a b : Track) (o : Option RestFields) → has_rest (rests_meaning size a o) ≡ has_rest (rests_meaning size b o)
+    same a b None = refl
+    same a b (Some r) = refl
+idle_counted size many zero (suc stream) k (t ∷ ts) = refl
+idle_counted size many (suc at) zero k (t ∷ ts) = refl
+idle_counted size many (suc at) (suc stream) k (t ∷ ts) = idle_counted size many at stream k ts
 
 pub long_stays : (many at : ℕ) (k : Kind) (ts : List TrackFields) → length (changed_at (counted_to k many) at ts) ≡ length ts
 long_stays many at k [] = refl

@@ -1,31 +1,14 @@
--- What a fill counts of its retransmissions.
-use Rattle.std.specs.Prelude.{◌≡◌, ℕ, ◌+◌, ◌%◌, ◌^◌, nat_lt, Bool, if◌then◌else◌, List, count_by, Option, None, Some}
-use Rattle.sctp_model.specs.sender.Filling.{Wish}
-use Rattle.sctp_send.specs.FillAnswers.{is_timed, is_missed}
+-- What a fill counts of its chunks: whether each was sent before, and whether it was missed.
+use Rattle.std.specs.Prelude.{ℕ, ◌+◌, ◌%◌, ◌^◌, nat_lt, Bool, if◌then◌else◌}
 use Rattle.sctp_send.specs.declared.fill.asking.Going.{Going}
 use Rattle.sctp_send.specs.declared.fill.asking.Going.TheVariants.{Indexed, New}
-use Rattle.sctp_send.specs.declared.fill.sendings.Resent.{Resent}
+use Rattle.sctp_send.specs.declared.fill.sendings.Sendings.{Sendings}
 
--- one more, at this index
-abbrev pub resent_more : (index : ℕ) → Resent → Resent
-resent_more i r = if nat_lt i r.below then record r { missed = (r.missed + 1) % 2 ^ 32 } else record r { timed = (r.timed + 1) % 2 ^ 32 }
-
--- the same where it was sent before
-abbrev pub resent_if : (again : Bool) → (index : ℕ) → Resent → Resent
-resent_if again i r = if again then resent_more i r else r
+-- one more, at this index, which was sent before or not; all indexes below another were missed
+abbrev pub sent_more : (again : Bool) → (index missed : ℕ) → Sendings → Sendings
+sent_more again i n x = if again then (if nat_lt i n then record x { missed = (x.missed + 1) % 2 ^ 32 } else record x { timed = (x.timed + 1) % 2 ^ 32 }) else record x { first = (x.first + 1) % 2 ^ 32 }
 
 -- the same of a wish that goes, above CUM
-abbrev pub resent_going : Going → (cum : ℕ) → Resent → Resent
-resent_going (Indexed x) cum r = resent_if x.again ((cum + x.at + 1) % 2 ^ 64) r
-resent_going (New next) cum r = r
-
--- the same of the next wish: it counts if its chunk was sent before
-abbrev pub resent_by : Option Wish → Resent → Resent
-resent_by None r = r
-resent_by (Some w) r = resent_if (w.view.sent w.index) w.index r
-
--- The retransmissions among these wishes are counted.
-pub record IsResent (n : ℕ) (ws : List Wish) (r : Resent) : Type 0 where
-  pub below : r.below ≡ n
-  pub timed : r.timed ≡ count_by (is_timed n) ws
-  pub missed : r.missed ≡ count_by (is_missed n) ws
+abbrev pub sent_going : Going → (cum missed : ℕ) → Sendings → Sendings
+sent_going (Indexed x) cum n s = sent_more x.again ((cum + x.at + 1) % 2 ^ 64) n s
+sent_going (New next) cum n s = record s { first = (s.first + 1) % 2 ^ 32 }

@@ -1,24 +1,17 @@
 //! What takes an index next, found among what waits and what is in part (RFC 9260, 6.9; RFC 8260, 2.2.2 and 3.2).
 
-ghost use Rattle.std.specs.Prelude.{◌≡◌, ℕ, suc, ◌+◌, ◌<◌, ◌≤◌, ◌%◌, ◌^◌, true, None, Some, map, length, nat_le, IfSome, MatchOption};
-ghost use Rattle.sctp_model.specs.messages.Format.{Plain, Interleaved};
-ghost use Rattle.sctp_model.specs.numbers.Limits.{WINDOW};
+ghost use Rattle.std.specs.Prelude.{◌≡◌, ℕ, suc, ◌+◌, ◌<◌, ◌≤◌, ◌%◌, None, Some, map, length, IfSome, MatchOption};
+ghost use Rattle.sctp_model.specs.messages.Format.{Interleaved};
 ghost use Rattle.sctp_model.specs.sender.Assigning.{first_on};
 ghost use Rattle.sctp_model.specs.sender.SenderView.{SenderView};
 ghost use Rattle.sctp_send.specs.SenderKept.{Kept};
 ghost use Rattle.sctp_send.specs.SenderStands.{Keeps};
 ghost use Rattle.sctp_send.specs.SenderFields.{track_meaning, rest_meaning};
-ghost use Rattle.sctp_send.specs.inner.Walks.{total, one_if_rest};
 ghost use Rattle.sctp_send.specs.inner.Stocking.{stocked, NewAnswer, FirstTurnAnswer, IsNextWithin};
-ghost use Rattle.sctp_send.specs.inner.Newcomers.{rest_at, has_rest, one_if, track_of};
+ghost use Rattle.sctp_send.specs.inner.Newcomers.{rest_at, track_of};
 
-use crate::kept::message::fragments_of;
-use crate::kept::outstanding::Outstanding;
-use crate::kept::streams::Streams;
 use crate::kept::track::{Rest, Track};
 use crate::stock::Stock;
-use sctp_framing::Framing;
-use sctp_values::WINDOW;
 
 /// A message that takes its number: it stands at this place of the queue, so many of its fragments take their indexes, and this stream's turn
 /// is next then.
@@ -38,41 +31,9 @@ pub(crate) enum Next {
     Continues(u16),
 }
 
-/// What takes the next index: under DATA the message that has waited longest, whole; under I-DATA the streams take turns.
-#[inline(always)]
-pub(crate) fn next_new<F: Framing>(stock: &Stock, streams: u16, size: u16) -> Option<Next>
-    requires { 0 < size }
-    ensures next { (s : Kept) (v : SenderView) → s.streams ≡ streams → s.fragment ≡ size → Keeps F.format (stocked s stock.now) v → NewAnswer F.format v result }
-    ensures within { IsNextWithin stock.now streams result }
-{
-    if F::takes_turns() {
-        next_in_turn(stock, streams)
-    } else {
-        next_whole(stock, size)
-    }
-}
-
-/// The message that has waited longest, whole.
-#[inline(always)]
-fn next_whole(stock: &Stock, size: u16) -> Option<Next>
-    requires { 0 < size }
-    ensures next { (s : Kept) (v : SenderView) → s.fragment ≡ size → Keeps Plain (stocked s stock.now) v → NewAnswer Plain v result }
-    ensures within { (streams : ℕ) → IsNextWithin stock.now streams result }
-{
-    if stock.queue.len() == 0 {
-        return None;
-    }
-    let message = stock.queue.get(0);
-    Some(Next::Begins(Beginning {
-        place: 0,
-        count: fragments_of(size, &message.bytes).max(1),
-        turn: stock.turn,
-    }))
-}
-
 /// What the first stream in turn that has something to send does.
 #[inline(always)]
-fn next_in_turn(stock: &Stock, streams: u16) -> Option<Next>
+pub(crate) fn next_in_turn(stock: &Stock, streams: u16) -> Option<Next>
     ensures next { (s : Kept) (v : SenderView) → s.streams ≡ streams → Keeps Interleaved (stocked s stock.now) v → NewAnswer Interleaved v result }
     ensures within { IsNextWithin stock.now streams result }
 {
@@ -148,27 +109,4 @@ pub(crate) fn rest_of(tracks: &[Track], stream: u16) -> Option<&Rest>
         Some(track) => track.rest.as_ref(),
         None => None,
     }
-}
-
-/// So many indexes more keep within the window, where the stream then has a message in part or not.
-pub(crate) fn has_window(
-    entries: &Outstanding,
-    streams: &Streams,
-    stream: u16,
-    count: usize,
-    more: bool,
-) -> bool
-    requires { 0 < count }
-    ensures fits { (size : ℕ) → size ≡ streams.now.size → result ≡ nat_le (length entries.now.items + count + (total (λ t. one_if_rest t.rest) (map (track_meaning size) streams.now.items) % 2 ^ 32 + one_if more))
-        (WINDOW + one_if (has_rest (rest_at (map (track_meaning size) streams.now.items) stream))) }
-    ensures few { result ≡ true → count ≤ WINDOW + 1 }
-{
-    let window = WINDOW as usize;
-    let outstanding = entries.len();
-    if outstanding > window || count > window + 1 {
-        return false;
-    }
-    let parts = streams.in_part() as usize + usize::from(more);
-    let had = usize::from(streams.goes_on(stream));
-    outstanding + count + parts <= window + had
 }

@@ -1,45 +1,108 @@
-//! A message takes its number, or its next index: what becomes of the stock. All that this needs was taken before: memory for the entries and the
-//! ticket, and the owners of the message.
+//! A wish that goes: its chunk is put into the packet, and the stock keeps what it leaves (RFC 9260, 6.1 and 6.3.3; RFC 8260, 2.2). All memory was taken
+//! before: the packet's and that of tickets as the fill began, that of entries and owners when messages were queued. So nothing here can fail.
 
-ghost use Rattle.std.specs.Prelude.{◌≡◌, ℕ, ◌+◌, ◌-◌, ◌<◌, ◌%◌, ◌^◌, ◌∷◌, [], ◌++◌, true, None, map, length, slice_set, slice_index_or};
+ghost use Rattle.std.specs.Prelude.{◌≡◌, suc, ◌+◌, ◌<◌, ◌≤◌, ◌∷◌, [], Bool, true, Some, length, slice_index_or};
 ghost use Rattle.std.specs.Vec.{vec_len, vec_capacity};
+ghost use Rattle.sctp_model.specs.numbers.Limits.{GREATEST_FRAGMENT};
+ghost use Rattle.sctp_model.specs.numbers.Serial.{tsn};
 ghost use Rattle.sctp_model.specs.sender.SenderView.{SenderView};
-ghost use Rattle.sctp_values.specs.Meanings.{kind_meaning};
-ghost use Rattle.sctp_send.specs.SenderKept.{Track as KeptTrack};
-ghost use Rattle.sctp_send.specs.PartsKept.{changed_at};
-ghost use Rattle.sctp_send.specs.SenderFields.{latest_in, track_meaning, rests_meaning};
+ghost use Rattle.sctp_packet.specs.Draft.{with_chunks};
 ghost use Rattle.sctp_send.specs.SenderStands.{Keeps};
-ghost use Rattle.sctp_send.specs.inner.Asking.{CanBegin, CanGoOn, IsAsked};
-ghost use Rattle.sctp_send.specs.inner.Newcomers.{number_in, track_of, IsBegun, IsContinued};
-ghost use Rattle.sctp_send.specs.inner.Owning.{IsOwned, IsRestOwned};
-ghost use Rattle.sctp_send.specs.inner.Stocking.{bare, numbers_of, stocked, rest_from, left_track, IsPut, NothingStands};
-ghost use Rattle.sctp_send.specs.inner.Entering.{counted_to, IsSized};
-ghost use Rattle.sctp_send.specs.declared.kept.track.Track.{Track as TrackFields};
+ghost use Rattle.sctp_send.specs.ResetsKept.{base_of};
+ghost use Rattle.sctp_send.specs.inner.Asking.{CanBegin, CanGo, CanGoOn, GoesAnswer, IsAsked, IsNextPending};
+ghost use Rattle.sctp_send.specs.inner.Newcomers.{IsBegun, IsContinued};
+ghost use Rattle.sctp_send.specs.inner.Stocking.{bare, stocked, fragment_chunk, FitsInto, IsPut, NothingStands};
+ghost use Rattle.sctp_send.specs.inner.Entering.{IsSized};
+ghost use Rattle.sctp_send.specs.declared.kept.entry.Entry.{Entry as EntryFields};
 
-use crate::fill::assigning::{Beginning, stream_after};
-use crate::fill::pushing::{push_fragment, push_further};
+use crate::fill::asking::Going;
+use crate::fill::assigning::{Beginning, Next, stream_after};
+use crate::fill::others::{enter_others, push_fragment};
 use crate::kept::entry::{Content, Standing};
 use crate::kept::message::Message;
-use crate::kept::streams::Streams;
-use crate::kept::track::{Rest, Taken};
+use crate::kept::pieces::put_fragment;
+use crate::kept::track::Taken;
 use crate::kept::waiting::Waiting;
 use crate::stock::Stock;
 use crate::told::Told;
 use sctp_framing::Framing;
 use sctp_packet::PacketWriter;
-use sctp_values::{Kind, Ticket};
-use std::alloc::Global;
-use std::sync::Arc;
+use sctp_serial::tsn_of;
+use sctp_values::Ticket;
 
 impl Told {
-    /// The message at a place of the queue takes its number, and so many of its fragments their indexes: the first one's chunk is put.
+    /// Puts the chunk of a wish that goes: its entry goes out, or its message takes its number, or its next index.
     #[inline(always)]
-    pub(crate) fn begin<F: Framing>(
+    pub(crate) fn go<F: Framing>(&self, stock: &mut Stock, going: Going, packet: &mut PacketWriter)
+        requires sized { IsSized self.now.fragment stock.old }
+        requires can { CanGo F.format packet.old self.now stock.old going }
+        requires reserved { packet.old.space ≡ true }
+        requires told { vec_len stock.old.tickets < vec_capacity stock.old.tickets }
+        ensures put { (v : SenderView) → Keeps F.format (stocked (bare self.now) stock.old) v → GoesAnswer F.format v packet.old (Some going)
+            → IsPut F.format (bare self.now) v packet.old packet.new stock.old stock.new }
+        ensures sized { IsSized self.now.fragment stock.new }
+        ensures left { vec_capacity stock.old.tickets + vec_len stock.new.tickets ≤ vec_capacity stock.new.tickets + vec_len stock.old.tickets + 1 }
+        ensures reserved { packet.new.space ≡ true }
+    {
+        match going {
+            Going::Indexed(pending) => self.put_entry::<F>(stock, pending.at, packet),
+            Going::New(Next::Begins(next)) => self.begin::<F>(stock, next, packet),
+            Going::New(Next::Continues(stream)) => self.go_on::<F>(stock, stream, packet),
+        }
+    }
+
+    /// Puts the entry at this offset, which fits: it goes out.
+    #[inline(always)]
+    fn put_entry<F: Framing>(&self, stock: &mut Stock, at: usize, packet: &mut PacketWriter)
+        requires sized { IsSized self.now.fragment stock.old }
+        requires within { at < length stock.old.outstanding.items }
+        requires reserved { packet.old.space ≡ true }
+        requires fits { (x : EntryFields) → x ≡ slice_index_or stock.old.outstanding.items at x → FitsInto F.format packet.old self.now.fragment x.message.value x.content }
+        ensures put { (v : SenderView) → Keeps F.format (stocked (bare self.now) stock.old) v → (again : Bool) → IsNextPending F.format v at again → IsAsked F.format v packet.old true
+            → IsPut F.format (bare self.now) v packet.old packet.new stock.old stock.new }
+        ensures sized { IsSized self.now.fragment stock.new }
+        ensures tickets { stock.new.tickets ≡ stock.old.tickets }
+        ensures reserved { packet.new.space ≡ true }
+    {
+        let entry = stock.outstanding.get(at);
+        self.put_piece::<F>(&entry.message, entry.number, entry.content, at, packet);
+        stock.outstanding.send(at);
+    }
+
+    /// Puts the chunk of a message's entry, which fits, with the TSN of an offset. `number` is its message's number in the lane.
+    #[inline(always)]
+    fn put_piece<F: Framing>(
         &self,
-        stock: &mut Stock,
-        next: Beginning,
+        message: &Message,
+        number: u64,
+        content: Content,
+        at: usize,
         packet: &mut PacketWriter,
     )
+        requires some { 0 < self.now.fragment }
+        requires short { self.now.fragment ≤ GREATEST_FRAGMENT }
+        requires reserved { packet.old.space ≡ true }
+        requires fits { FitsInto F.format packet.old self.now.fragment message.now content }
+        ensures put { packet.new ≡ with_chunks packet.old (fragment_chunk F.format (base_of self.now.resets) self.now.fragment self.now.initial (suc (self.now.cum + at)) message.now number content ∷ []) }
+        ensures reserved { packet.new.space ≡ true }
+    {
+        let tsn = self.tsn_at(at);
+        let base = self.resets.base(message.stream, message.kind);
+        let since = number.saturating_sub(base);
+        put_fragment::<F>(message, since, content, self.fragment, tsn, packet);
+    }
+
+    /// The TSN of the entry at this offset.
+    fn tsn_at(&self, at: usize) -> u32
+        ensures { result ≡ tsn self.now.initial (suc (self.now.cum + at)) }
+    {
+        let index = self.cum.wrapping_add(at as u64).wrapping_add(1);
+        tsn_of(self.initial, index)
+    }
+
+    /// The message at a place of the queue takes its number, and so many of its fragments their indexes: the first one's chunk is put.
+    #[inline(always)]
+    fn begin<F: Framing>(&self, stock: &mut Stock, next: Beginning, packet: &mut PacketWriter)
         requires sized { IsSized self.now.fragment stock.old }
         requires can { CanBegin F.format packet.old self.now.fragment stock.old next }
         requires reserved { packet.old.space ≡ true }
@@ -54,29 +117,21 @@ impl Told {
         let Some(waiting) = stock.queue.remove(next.place) else {
             return;
         };
-        let Waiting {
-            message,
-            mut others,
-        } = waiting;
+        let Waiting { message, others } = waiting;
         let stream = message.stream;
-        tell(&mut stock.tickets, message.ticket);
-        let number = number_one(&mut stock.streams, stream, message.kind);
+        stock.tickets.push_reserved(Ticket(message.ticket));
+        let number = stock.streams.number_one(usize::from(stream), message.kind);
         let at = stock.outstanding.len();
         self.put_piece::<F>(&message, number, Content::Fragment(0), at, packet);
         push_fragment(&mut stock.outstanding, message, number, 0, Standing::Sent);
-        push_further(&mut stock.outstanding, &mut others, number, next.count);
-        let rest = rest_behind(others, next.count);
-        leave_rest(&mut stock.streams, stream, rest);
+        if !others.is_empty() {
+            enter_others(stock, others, stream, number, next.count);
+        }
         stock.turn = next.turn;
     }
 
     /// The message in part of a stream takes its next index: its chunk is put.
-    pub(crate) fn go_on<F: Framing>(
-        &self,
-        stock: &mut Stock,
-        stream: u16,
-        packet: &mut PacketWriter,
-    )
+    fn go_on<F: Framing>(&self, stock: &mut Stock, stream: u16, packet: &mut PacketWriter)
         requires sized { IsSized self.now.fragment stock.old }
         requires can { CanGoOn F.format packet.old self.now stock.old stream }
         requires reserved { packet.old.space ≡ true }
@@ -101,65 +156,4 @@ impl Told {
         push_fragment(&mut stock.outstanding, message, number, fragment, standing);
         stock.turn = stream_after(stream, self.streams);
     }
-}
-
-/// The next message of a kind takes its number on a stream.
-#[inline(always)]
-fn number_one(streams: &mut Streams, stream: u16, kind: Kind) -> u64
-    requires { stream < length streams.old.items }
-    ensures number { (size : ℕ) → result ≡ number_in (kind_meaning kind) (track_of (map (track_meaning size) streams.old.items) stream) }
-    ensures counted { streams.new ≡ record streams.old { items = changed_at (counted_to kind ((result + 1) % 2 ^ 64)) stream streams.old.items } }
-{
-    let at = usize::from(stream);
-    let track = &streams.tracks()[at];
-    let number = match kind {
-        Kind::Ordered => track.ordered,
-        Kind::Unordered => track.unordered,
-    };
-    streams.count_to(at, kind, number.wrapping_add(1));
-    number
-}
-
-/// What is left of a message of which so many fragments have an index, by the owners that are left: nothing, if there is none.
-#[inline(always)]
-fn rest_behind(owners: Vec<Arc<Message>>, count: usize) -> Option<Rest>
-    requires some { 0 < count }
-    requires few { count < 2 ^ 32 }
-    ensures owned { (size : ℕ) (m : Arc Message Global) → IsOwned size (count - 1) m owners.items → IsRestOwned size result }
-    ensures rest { (size : ℕ) (m : Arc Message Global) (t : KeptTrack) → IsOwned size (count - 1) m owners.items
-        → rests_meaning size t result ≡ rest_from size m.value (latest_in (kind_meaning m.value.kind) t) count }
-{
-    let mut others = owners;
-    let message = others.pop()?;
-    Some(Rest {
-        message,
-        fragment: count as u32,
-        others,
-    })
-}
-
-/// So much is left of the message that took the latest number on a stream, where nothing was.
-#[inline(always)]
-fn leave_rest(streams: &mut Streams, stream: u16, rest: Option<Rest>)
-    requires stream { stream < length streams.old.items }
-    requires idle { (t : TrackFields) → t ≡ slice_index_or streams.old.items stream t → t.rest ≡ None }
-    requires owned { IsRestOwned streams.old.size rest }
-    ensures size { streams.new.size ≡ streams.old.size }
-    ensures items { (size : ℕ) → map (track_meaning size) streams.new.items
-        ≡ slice_set (map (track_meaning size) streams.old.items) stream (left_track (rests_meaning size (track_of (map (track_meaning size) streams.old.items) stream) rest) (track_of (map (track_meaning size) streams.old.items) stream)) }
-{
-    if rest.is_some() {
-        let _idle = streams.leave(usize::from(stream), rest);
-    }
-}
-
-/// The message with this ticket took its number.
-#[inline(always)]
-fn tell(tickets: &mut Vec<Ticket>, ticket: u64)
-    requires { vec_len tickets.old < vec_capacity tickets.old }
-    ensures numbers { numbers_of tickets.new.items ≡ numbers_of tickets.old.items ++ ticket ∷ [] }
-    ensures one { vec_len tickets.new ≡ vec_len tickets.old + 1 }
-    ensures capacity { vec_capacity tickets.new ≡ vec_capacity tickets.old }
-{
-    tickets.push_reserved(Ticket(ticket));
 }

@@ -1,17 +1,16 @@
 //! What is kept of each stream, and what is counted of all: how many messages are sent in part, and the TSNs that they may take.
 
-ghost use Rattle.std.specs.Prelude.{◌≡◌, ℕ, ◌<◌, ◌≤◌, ◌%◌, ◌^◌, true, false, map, length, set, replicate, slice_index_or, IfOk, IfSome, IfNone};
+ghost use Rattle.std.specs.Prelude.{◌≡◌, ℕ, ◌+◌, ◌<◌, ◌≤◌, ◌%◌, ◌^◌, true, false, map, length, set, replicate, slice_index_or, IfOk, IfSome, IfNone};
 ghost use Rattle.sctp_send.specs.SenderFields.{track_meaning};
 ghost use Rattle.sctp_send.specs.inner.Walks.{total, one_if_rest, rest_owes, any_rest, GoesOnAt};
-ghost use Rattle.sctp_send.specs.inner.Newcomers.{IsNextPart, rest_at, has_rest};
+ghost use Rattle.sctp_send.specs.inner.Newcomers.{IsNextPart, number_in, rest_at, has_rest, track_of};
+ghost use Rattle.sctp_values.specs.Meanings.{kind_meaning};
 ghost use Rattle.sctp_send.specs.inner.Owning.{IsRestOwned};
 ghost use Rattle.sctp_send.specs.inner.Entering.{counted_to};
 ghost use Rattle.sctp_send.specs.PartsKept.{changed_at};
 
-use crate::kept::looking::{
-    are_past, goes_on_at, next_part_by_looking, stream_by_looking, ticket_of_track,
-};
-use crate::kept::track::{Rest, Track, owed_by_track};
+use crate::kept::looking::{are_past, next_part_by_looking, stream_by_looking, ticket_of_track};
+use crate::kept::track::{Rest, Track, fresh_tracks, owed_by_track};
 use sctp_sequence::TwoWayMap;
 use sctp_values::{Kind, NoMemory};
 use std::alloc::Global;
@@ -92,13 +91,14 @@ impl Streams {
         self.owed
     }
 
-    /// So many messages of a kind have a number on a stream. What is left on it stays.
+    /// The next message of a kind takes its number on a stream. What is left on it stays.
     #[inline(always)]
-    pub(crate) fn count_to(&mut self, at: usize, kind: Kind, many: u64)
+    pub(crate) fn number_one(&mut self, at: usize, kind: Kind) -> u64
         requires { at < length self.old.items }
-        ensures { self.new ≡ record self.old { items = changed_at (counted_to kind many) at self.old.items } }
+        ensures number { (size : ℕ) → result ≡ number_in (kind_meaning kind) (track_of (map (track_meaning size) self.old.items) at) }
+        ensures counted { self.new ≡ record self.old { items = changed_at (counted_to kind ((result + 1) % 2 ^ 64)) at self.old.items } }
     {
-        set_count(&mut self.tracks[at], kind, many);
+        take_number(&mut self.tracks[at], kind)
     }
 
     /// So much is left of the message in part of a stream. It answers how the stream was.
@@ -164,15 +164,17 @@ impl Streams {
         }
     }
 
-    /// A stream has a message in part. Where none has, no stream is looked at.
+    /// There is such a stream, and no message is in part on it.
     #[inline(always)]
-    pub(crate) fn goes_on(&self, stream: u16) -> bool
-        ensures { (size : ℕ) → result ≡ has_rest (rest_at (map (track_meaning size) self.now.items) stream) }
+    pub(crate) fn is_idle(&self, stream: u16) -> bool
+        ensures there { result ≡ true → stream < length self.now.items }
+        ensures idle { (size : ℕ) → result ≡ true → has_rest (rest_at (map (track_meaning size) self.now.items) stream) ≡ false }
+        ensures always { (size : ℕ) → stream < length self.now.items → has_rest (rest_at (map (track_meaning size) self.now.items) stream) ≡ false → result ≡ true }
     {
-        if self.parts == 0 {
-            return false;
+        match self.tracks.get(usize::from(stream)) {
+            Some(track) => track.rest.is_none(),
+            None => false,
         }
-        goes_on_at(&self.tracks, stream)
     }
 
     /// All messages in part have tickets behind this one.
@@ -207,32 +209,24 @@ impl Streams {
     }
 }
 
-/// So many messages of a kind have a number on a stream.
+/// The next message of a kind takes its number on a stream.
 #[inline(always)]
-fn set_count(track: &mut Track, kind: Kind, many: u64)
-    ensures { track.new ≡ counted_to kind many track.old }
+fn take_number(track: &mut Track, kind: Kind) -> u64
+    ensures number { (size : ℕ) → result ≡ number_in (kind_meaning kind) (track_meaning size track.old) }
+    ensures counted { track.new ≡ counted_to kind ((result + 1) % 2 ^ 64) track.old }
 {
     match kind {
-        Kind::Ordered => track.ordered = many,
-        Kind::Unordered => track.unordered = many,
+        Kind::Ordered => {
+            let number = track.ordered;
+            track.ordered = number.wrapping_add(1);
+            number
+        }
+        Kind::Unordered => {
+            let number = track.unordered;
+            track.unordered = number.wrapping_add(1);
+            number
+        }
     }
-}
-
-/// Streams that have no message with a number.
-fn fresh_tracks(alloc: Global, streams: u16) -> Result<Vec<Track>, NoMemory>
-    ensures { IfOk result (λ tracks. tracks.items ≡ replicate streams (record { ordered = 0; unordered = 0; rest = None })) }
-{
-    let mut tracks = Vec::new(alloc);
-    for _ in 0..streams {
-        tracks
-            .push(Track {
-                ordered: 0,
-                unordered: 0,
-                rest: None,
-            })
-            .map_err(|_| NoMemory)?;
-    }
-    Ok(tracks)
 }
 
 /// One where a stream has a message in part.

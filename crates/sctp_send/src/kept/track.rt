@@ -1,12 +1,13 @@
 //! What is kept of a stream, and what is left of its message in part.
 
-ghost use Rattle.std.specs.Prelude.{◌≡◌, ℕ, ◌<◌, ◌%◌, ◌^◌, option_map};
+ghost use Rattle.std.specs.Prelude.{◌≡◌, ℕ, ◌<◌, ◌%◌, ◌^◌, None, replicate, option_map, IfOk};
 ghost use Rattle.sctp_values.specs.Meanings.{kind_meaning};
 ghost use Rattle.sctp_send.specs.SenderFields.{latest, track_meaning, endings_meaning};
 ghost use Rattle.sctp_send.specs.inner.Walks.{rest_owes};
 
 use crate::kept::message::{Message, fragments_of, owed};
-use sctp_values::Kind;
+use sctp_values::{Kind, NoMemory};
+use std::alloc::Global;
 use std::sync::Arc;
 
 /// What is left of a message in part: the fragment that it takes next, and an owner of the message for each fragment behind that. Its number is the latest
@@ -39,6 +40,23 @@ pub(crate) struct Track {
 pub(crate) struct Ending {
     pub(crate) rest: Rest,
     pub(crate) number: u64,
+}
+
+/// Streams that have no message with a number.
+pub(crate) fn fresh_tracks(alloc: Global, streams: u16) -> Result<Vec<Track>, NoMemory>
+    ensures { IfOk result (λ tracks. tracks.items ≡ replicate streams (record { ordered = 0; unordered = 0; rest = None })) }
+{
+    let mut tracks = Vec::new(alloc);
+    for _ in 0..streams {
+        tracks
+            .push(Track {
+                ordered: 0,
+                unordered: 0,
+                rest: None,
+            })
+            .map_err(|_| NoMemory)?;
+    }
+    Ok(tracks)
 }
 
 /// The message in part of a stream, with its number.

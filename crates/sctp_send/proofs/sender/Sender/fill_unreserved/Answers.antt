@@ -16,7 +16,7 @@ returns-in-Some-clause-some g c = λ v stands.
     let f = g.F.Framing.format in
     let p = c.args.packet.now in
     let keeps = subst (λ (k : Kept). Keeps f k v) (sym c.self.view_is) stands in
-    let begun : Keeps f (stocked (bare c.self.inside.told) c.begin_anew.new.stock) v = rw (c.begin_anew.ensures.same, c.begin_anew.ensures.tickets) keeps in
+    let begun : Keeps f (stocked (bare c.self.inside.told) (record c.self.inside.parts { tickets = c.clear.new.self })) v = rw c.clear.ensures.items keeps in
     let asked = (c.in-Some.ensures.goes v p begun c.room-room.ensures.room).1 in
     record { wishes = []; view = v; follows = refl; chunks = sym (no_chunks p); refused = asked.0; next = asked.1 }
 
@@ -26,14 +26,14 @@ returns-clause-step g c = λ v stands.
     let f = g.F.Framing.format in
     let p = c.args.packet.now in
     let keeps = subst (λ (k : Kept). Keeps f k v) (sym c.self.view_is) stands in
-    let begun : Keeps f (stocked (bare c.self.inside.told) c.begin_anew.new.stock) v = rw (c.begin_anew.ensures.same, c.begin_anew.ensures.tickets) keeps in
+    let begun : Keeps f (stocked (bare c.self.inside.told) (record c.self.inside.parts { tickets = c.clear.new.self })) v = rw c.clear.ensures.items keeps in
     let none = c.in_default.ensures.goes v p begun c.room-room.ensures.room in
     record {
       wishes = [];
       view = v;
       fill = stopped_is_fill f v v (room_in p) [] refl none;
       chunks = sym (no_chunks p);
-      stands = rw (c.in_default.ensures.same, c.begin_anew.ensures.same) keeps;
+      stands = rw c.in_default.ensures.same keeps;
       tickets = rw c.new-tickets.ensures.items (sym (newly_self v));
     }
 
@@ -43,7 +43,7 @@ returns-clause-sendings g c = λ v missed stands.
     let f = g.F.Framing.format in
     let p = c.args.packet.now in
     let keeps = subst (λ (k : Kept). Keeps f k v) (sym c.self.view_is) stands in
-    let begun : Keeps f (stocked (bare c.self.inside.told) c.begin_anew.new.stock) v = rw (c.begin_anew.ensures.same, c.begin_anew.ensures.tickets) keeps in
+    let begun : Keeps f (stocked (bare c.self.inside.told) (record c.self.inside.parts { tickets = c.clear.new.self })) v = rw c.clear.ensures.items keeps in
     let none = c.in_default.ensures.goes v p begun c.room-room.ensures.room in
     let rest = stopped_is_fill f v v (room_in p) [] refl none in
     c.none-sendings.ensures ∙ ap (sendings_of missed) (one_fill f v v (fill f (room_in p) v).view (room_in p) [] (fill f (room_in p) v).wishes rest (fill_is_fill f (room_in p) v)).0

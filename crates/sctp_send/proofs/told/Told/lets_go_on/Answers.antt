@@ -1,11 +1,11 @@
-use Rattle.std.proofs.Common.{◌≡◌, ◌∙◌, suc, ◌+◌, ◌%◌, ◌^◌, List, length, map, Some, refl, sym, ap, arith}
+use Rattle.std.proofs.Common.{◌≡◌, ◌∙◌, suc, ◌+◌, ◌%◌, ◌^◌, List, length, map, Some, true, false, refl, sym, ap, arith}
 use Rattle.std.specs.Prelude.{nat_lt}
 use Rattle.sctp_send.specs.SenderFields.{number_left, rest_meaning, track_meaning}
-use Rattle.sctp_send.specs.inner.Newcomers.{rest_at, track_of}
+use Rattle.sctp_send.specs.inner.Newcomers.{has_rest, rest_at, track_of}
 use Rattle.sctp_send.specs.inner.Stocking.{bare}
 use Rattle.sctp_send.specs.declared.kept.message.Message.{Message as MessageFields}
 use Rattle.sctp_send.specs.declared.kept.track.Track.{Track as TrackFields}
-use Rattle.sctp_send.proofs.fill.NewMayLemmas.{more_read}
+use Rattle.sctp_send.proofs.fill.NewMayLemmas.{more_read, window_read}
 use Rattle.sctp_send.proofs.fill.ContinuedPut.{never_ended, continued_room, continued_few, continued_asked, continued_full}
 use Rattle.sctp_send.proofs.told.Told.lets_go_on.Goals as goal
 
@@ -38,7 +38,7 @@ returns-then-not-has_window-clause-asked g c = λ v p k room stands next.
     let more = more_read r.fragment s.fragment s.fragment c.fragments_of.result c.deref-2.result.now r.message.value.bytes.items few c.fragments_of.ensures refl
     (c.deref-2.ensures.value ∙ ap (λ (m : MessageFields). m.bytes.items) c.deref.ensures) in
     let left = nat_lt ((r.fragment + 1) % 2 ^ 32) c.fragments_of.result in
-    let window = sym (c.has_window.ensures.fits s.fragment (sym c.requires.sized.tracks)) ∙ c.if-not-has_window.true in
+    let window = window_read s d 1 c.args.stream left true c.has_window.result false (sym (ap has_rest its)) (c.has_window.ensures.fits s.fragment (sym c.requires.sized.tracks)) c.if-not-has_window.true in
     continued_full f s v d r.message.value (number_left t r) r.fragment c.args.stream k stands next its p left more window
 
 pub returns-clause-asked : goal.returns-clause-asked
@@ -53,6 +53,6 @@ returns-clause-asked g c = λ v p k room stands next.
     let more = more_read r.fragment s.fragment s.fragment c.fragments_of.result c.deref-2.result.now r.message.value.bytes.items few c.fragments_of.ensures refl
     (c.deref-2.ensures.value ∙ ap (λ (m : MessageFields). m.bytes.items) c.deref.ensures) in
     let left = nat_lt ((r.fragment + 1) % 2 ^ 32) c.fragments_of.result in
-    let window = sym (c.has_window.ensures.fits s.fragment (sym c.requires.sized.tracks)) ∙ c.if-not-has_window.false in
+    let window = window_read s d 1 c.args.stream left true c.has_window.result true (sym (ap has_rest its)) (c.has_window.ensures.fits s.fragment (sym c.requires.sized.tracks)) c.if-not-has_window.false in
     let on = rw c.deref-3.ensures at (c.is_let_in.ensures.asked v p (number_left t r) (suc (s.cum + length d.outstanding.items)) k room) in
     continued_asked f s v d r.message.value (number_left t r) r.fragment c.args.stream k stands next its p left c.is_let_in.result more window (sym on)
