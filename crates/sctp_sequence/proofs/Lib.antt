@@ -7,6 +7,6 @@ mod WriteLemmas
 mod RoomLemmas
 mod PointLemmas
 mod SearchLemmas
-pub mod PairLemmas
+mod PairLemmas
 mod TwoWayLemmas
 mod PageLemmas

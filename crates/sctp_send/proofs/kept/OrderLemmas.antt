@@ -1,12 +1,53 @@
 -- The order of entries by their tickets: the pair of each entry, the entry of each pair, and what it is as entries come and go.
-use Rattle.std.proofs.Common.{◌≡◌, ℕ, zero, suc, ◌+◌, ◌%◌, ◌^◌, ◌<◌, ◌≤◌, List, [], ◌∷◌, ◌++◌, length, get_or, Some, refl, sym, ◌∙◌, ap, subst, arith}
-use Rattle.std.specs.Prelude.{slice_get}
+use Rattle.std.proofs.Common.{◌≡◌, ℕ, zero, suc, ◌+◌, ◌%◌, ◌^◌, ◌<◌, ◌≤◌, List, [], ◌∷◌, ◌++◌, length, get_or, Some, inl, inr, refl, sym, ◌∙◌, ap, subst, arith}
+use Rattle.std.specs.Prelude.{slice_get, ◌==◌, ◌&&◌, if◌then◌else◌}
 use Rattle.std.specs.List.{Contains, sum_by}
-use Rattle.std.proofs.lemmas.List.Sums.{sum_by-append, sum_by-cons}
+use Rattle.std.proofs.lemmas.Bool.{cases_lt}
+use Rattle.std.proofs.lemmas.Bool.Decides.{nat_tests}
+use Rattle.std.proofs.lemmas.List.Sums.{sum_by-append, sum_by-cons, get_or-le-sum_by}
 use Rattle.sctp_sequence.specs.Pairs.{AreSame}
 use Rattle.sctp_sequence.specs.declared.pairs.Pair.{Pair}
-use Rattle.sctp_sequence.proofs.PairLemmas.{among, as_many, pair_with, without_first}
 use Rattle.sctp_send.specs.inner.TicketOrder.{offset_of, pairs_from, IsOrderOf}
+
+-- ---- what is among pairs, by what may be summed over them
+
+-- two numbers as a pair
+abbrev pub pair_with : ℕ → ℕ → Pair
+pair_with a b = record { first = a; second = b }
+
+-- one, where two numbers are those of a pair
+abbrev is_pair : Pair → Pair → ℕ
+is_pair p x = if (x.first == p.first) && (x.second == p.second) then 1 else 0
+
+same_pair : (p x : Pair) → 0 < is_pair p x → x ≡ p
+same_pair p x lt =
+    let first : x.first ≡ p.first = grind (arith, nat_tests, lt) in
+    let second : x.second ≡ p.second = grind (arith, nat_tests, lt) in
+    ap (λ (n : ℕ). pair_with n x.second) first ∙ ap (λ (n : ℕ). pair_with p.first n) second
+
+-- a pair that counts is there, where the sum is more than nothing
+counted_there : (p : Pair) (xs : List Pair) → 0 < sum_by (is_pair p) xs → Contains xs p
+counted_there p [] lt = absurd (omega arith)
+counted_there p (x ∷ xs) lt = elim (cases_lt 0 (is_pair p x)) [
+  | inl here ↦ (0, omega arith, same_pair p x here)
+  | inr none ↦ let sum = sum_by-cons (is_pair p) x xs in let rest = counted_there p xs (omega (arith, sum, none, lt)) in (suc rest.0, omega (arith, rest.1), rest.2)
+]
+
+-- what is among the ones is among the others
+pub among : (p : Pair) (xs ys : List Pair) → AreSame xs ys → Contains ys p → Contains xs p
+among p xs ys same there =
+    let own : is_pair p p ≡ 1 = grind (arith, nat_tests) in
+    let one : is_pair p (get_or ys there.0 p) ≡ 1 = ap (is_pair p) there.2 ∙ own in
+    let some = get_or-le-sum_by (is_pair p) ys there.0 p there.1 in
+    counted_there p xs (let all = same (is_pair p) in omega (arith, all, some, one))
+
+-- both lists are equally long
+pub as_many : (xs ys : List Pair) → AreSame xs ys → length xs ≡ length ys
+as_many xs ys same = sym (each_one xs) ∙ same (λ p. 1) ∙ each_one ys
+  where
+    each_one : (ps : List Pair) → sum_by (λ p. 1) ps ≡ length ps
+    each_one [] = refl
+    each_one (p ∷ ps) = let more = sum_by-cons (λ q. 1) p ps in let rest = each_one ps in omega (arith, more, rest)
 
 -- ---- entries and pairs
 
@@ -80,5 +121,11 @@ order_pushed ts first t second ps qs at more h = record {
 pub order_behind : (ts : List ℕ) (first t : ℕ) (ps qs : List Pair) → AreSame ps (pair_with t first ∷ qs) → IsOrderOf (t ∷ ts) first ps → IsOrderOf ts ((first + 1) % 2 ^ 64) qs
 order_behind ts first t ps qs gone h = record {
   small = omega arith;
-  same = without_first (pair_with t first) qs (pairs_from ((first + 1) % 2 ^ 64) ts) (λ f. sym (gone f) ∙ h.same f);
+  same = λ f.
+      let ts_pairs = pairs_from ((first + 1) % 2 ^ 64) ts in
+      let one = sum_by-cons f (pair_with t first) qs in
+      let two = sum_by-cons f (pair_with t first) ts_pairs in
+      let less = gone f in
+      let was = h.same f in
+      omega (arith, one, two, less, was);
 }

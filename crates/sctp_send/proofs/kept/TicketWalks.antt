@@ -7,7 +7,6 @@ use Rattle.std.proofs.lemmas.List.{get_or_default, length-map}
 use Rattle.std.proofs.lemmas.Option.{slice_get-map, slice_get_read}
 use Rattle.sctp_sequence.specs.Pairs.{IsRankFrom}
 use Rattle.sctp_sequence.specs.declared.pairs.Pair.{Pair}
-use Rattle.sctp_sequence.proofs.PairLemmas.{pair_with}
 use Rattle.sctp_send.specs.PartsKept.{changed_at}
 use Rattle.sctp_send.specs.OutstandingFields.{item_meaning}
 use Rattle.sctp_send.specs.inner.Changes.{unmarked, as_abandoned, all_abandoned}
@@ -23,7 +22,7 @@ use Rattle.sctp_send.specs.declared.kept.entry.Entry.{Entry as EntryFields}
 use Rattle.sctp_send.specs.inner.Stretching.{index_at, AreKnown}
 use Rattle.sctp_send.proofs.kept.ChangedLemmas.{count_changed}
 use Rattle.sctp_send.proofs.kept.KnownLemmas.{SayTheSame, SayNothing, known_changed}
-use Rattle.sctp_send.proofs.kept.OrderLemmas.{own_pair, own_ticket}
+use Rattle.sctp_send.proofs.kept.OrderLemmas.{own_pair, own_ticket, pair_with}
 
 -- ---- entries by offset
 
