@@ -13,13 +13,13 @@ ghost use Rattle.sctp_send.specs.inner.Newcomers.{IsBegun, one_if};
 ghost use Rattle.sctp_send.specs.inner.Stocking.{bare, stocked, FitsInto, NothingStands};
 ghost use Rattle.sctp_send.specs.inner.Entering.{IsSized};
 ghost use Rattle.sctp_send.specs.inner.Walks.{total, one_if_rest};
+ghost use Rattle.sctp_send.specs.inner.Wishing.{lets_flow};
 
 use crate::fill::assigning::{Beginning, Next};
 use crate::kept::entry::Content;
 use crate::kept::message::{Message, fragments_of};
 use crate::kept::outstanding::Outstanding;
 use crate::kept::pieces::{bytes_of, fits};
-use crate::kept::wishes::may_flow;
 use crate::stock::Stock;
 use crate::told::Told;
 use sctp_framing::Framing;
@@ -159,6 +159,13 @@ fn can_begin(stock: &Stock, stream: u16, count: usize, all: usize) -> bool
     ensures always { (size : ℕ) → IsEntrance size stock.now stream count all → result ≡ true }
 {
     count <= all && stock.streams.is_idle(stream) && stock.outstanding.has_room(count)
+}
+
+/// A first sending of so many bytes needs that nothing is in flight, or that the peer's window has room (RFC 9260, 6.1, rule A).
+fn may_flow(flying: u64, bytes: usize, rwnd: u32) -> bool
+    ensures { result ≡ lets_flow flying bytes rwnd }
+{
+    flying == 0 || flying.saturating_add(bytes as u64) <= u64::from(rwnd)
 }
 
 /// So many indexes more keep within the window, where the stream then has a message in part or not, and had one or none.

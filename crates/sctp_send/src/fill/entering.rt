@@ -4,7 +4,6 @@
 ghost use Rattle.std.specs.Prelude.{◌≡◌, suc, ◌+◌, ◌<◌, ◌≤◌, ◌∷◌, [], Bool, true, Some, length, slice_index_or};
 ghost use Rattle.std.specs.Vec.{vec_len, vec_capacity};
 ghost use Rattle.sctp_model.specs.numbers.Limits.{GREATEST_FRAGMENT};
-ghost use Rattle.sctp_model.specs.numbers.Serial.{tsn};
 ghost use Rattle.sctp_model.specs.sender.SenderView.{SenderView};
 ghost use Rattle.sctp_packet.specs.Draft.{with_chunks};
 ghost use Rattle.sctp_send.specs.SenderStands.{Keeps};
@@ -86,18 +85,11 @@ impl Told {
         ensures put { packet.new ≡ with_chunks packet.old (fragment_chunk F.format (base_of self.now.resets) self.now.fragment self.now.initial (suc (self.now.cum + at)) message.now number content ∷ []) }
         ensures reserved { packet.new.space ≡ true }
     {
-        let tsn = self.tsn_at(at);
+        let index = self.cum.wrapping_add(at as u64).wrapping_add(1);
+        let tsn = tsn_of(self.initial, index);
         let base = self.resets.base(message.stream, message.kind);
         let since = number.saturating_sub(base);
         put_fragment::<F>(message, since, content, self.fragment, tsn, packet);
-    }
-
-    /// The TSN of the entry at this offset.
-    fn tsn_at(&self, at: usize) -> u32
-        ensures { result ≡ tsn self.now.initial (suc (self.now.cum + at)) }
-    {
-        let index = self.cum.wrapping_add(at as u64).wrapping_add(1);
-        tsn_of(self.initial, index)
     }
 
     /// The message at a place of the queue takes its number, and so many of its fragments their indexes: the first one's chunk is put.

@@ -1,8 +1,8 @@
-//! Wishes: what is to go out next, among what has an index; and whether it may flow (RFC 9260, 6.1 and 6.3.3).
+//! Wishes: what is to go out next, among what has an index (RFC 9260, 6.1 and 6.3.3).
 
 ghost use Rattle.std.specs.Prelude.{◌≡◌, ℕ, ◌<◌};
 ghost use Rattle.sctp_send.specs.OutstandingFields.{item_meaning};
-ghost use Rattle.sctp_send.specs.inner.Wishing.{is_item_marked, is_item_unsent, item_weight, lets_flow};
+ghost use Rattle.sctp_send.specs.inner.Wishing.{is_item_marked, is_item_unsent, item_weight};
 ghost use Rattle.sctp_send.specs.inner.Marking.{IsCapped, is_spent};
 ghost use Rattle.sctp_send.specs.inner.Walks.{is_item_unsettled};
 
@@ -54,11 +54,4 @@ pub(crate) fn is_spent(entry: &Entry, partial: bool) -> bool
         Some(limit) => limit <= entry.repeats,
         None => false,
     }
-}
-
-/// A first sending of so many bytes needs that nothing is in flight, or that the peer's window has room (RFC 9260, 6.1, rule A).
-pub(crate) fn may_flow(flying: u64, bytes: usize, rwnd: u32) -> bool
-    ensures { result ≡ lets_flow flying bytes rwnd }
-{
-    flying == 0 || flying.saturating_add(bytes as u64) <= u64::from(rwnd)
 }

@@ -1,4 +1,5 @@
-use Rattle.std.proofs.Common.{◌≡◌, suc, ◌+◌, ◌-◌, [], ◌∷◌, ap, ◌∙◌}
+use Rattle.std.proofs.Common.{◌≡◌, suc, ◌+◌, ◌-◌, [], ◌∷◌, ap, ◌∙◌, arith}
+use Rattle.sctp_model.specs.numbers.Serial.{tsn}
 use Rattle.sctp_model.specs.wire.Chunk.{ChunkMeaning}
 use Rattle.sctp_packet.specs.Draft.{with_chunks}
 use Rattle.sctp_send.specs.OutstandingFields.{lane_meaning}
@@ -13,5 +14,6 @@ returns-clause-put g c =
     let i = suc (h.cum + c.args.at) in
     let m = c.args.message.now in
     let since : c.saturating_sub-since.result ≡ c.args.number - base_of h.resets (lane_meaning m) = c.saturating_sub-since.ensures ∙ ap (λ n. c.args.number - n) c.base-base.ensures in
-    c.put_fragment.ensures.after h.initial i c.tsn_at-tsn.ensures
+    let at_is : c.tsn_of-tsn.result ≡ tsn h.initial i = omega (arith, c.tsn_of-tsn.ensures) in
+    c.put_fragment.ensures.after h.initial i at_is
     ∙ ap (λ (x : ChunkMeaning). with_chunks c.args.packet.now (x ∷ [])) (fragment_based f (base_of h.resets) h.fragment h.initial i m c.args.number c.saturating_sub-since.result c.args.content since)
