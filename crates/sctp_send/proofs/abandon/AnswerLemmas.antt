@@ -1,5 +1,5 @@
 -- What `abandon` answers, from what a sender keeps.
-use Rattle.std.proofs.Common.{◌≡◌, ℕ, suc, ◌-◌, ◌<◌, ◌≤◌, ◌⊎◌, inl, inr, List, length, Bool, true, false, Option, Some, None, refl, sym, ap, ◌∙◌, arith, get_or}
+use Rattle.std.proofs.Common.{subst, ◌≡◌, ℕ, suc, ◌-◌, ◌<◌, ◌≤◌, ◌⊎◌, inl, inr, List, length, Bool, true, false, Option, Some, None, refl, sym, ap, ◌∙◌, arith, get_or}
 use Rattle.std.specs.Prelude.{nat_lt, nat_le, not, ◌&&◌, if◌then◌else◌}
 use Rattle.std.specs.Option.{option_map_or}
 use Rattle.std.proofs.lemmas.Bool.Decides.{nat_tests}
@@ -75,10 +75,11 @@ abandoned_may v t g = grind (arith, g.kept.named, g.partial, g.kept.kept, g.unco
 -- ---- by the byte of fate
 
 -- the fate that was read is that of the ticket
-pub fate_read : (f : Format) (s : Kept) (v : SenderView) (t : ℕ) (x y : Fate) → Keeps f s v → 0 < t → t ≤ length s.fates → x ≡ get_or s.fates (t - 1) x → x ≡ y → fate_here v t ≡ y
-fate_read f s v t x y k some le read is =
+pub fate_read : {f : Format} {s k : Kept} {x y : Fate} (v : SenderView) (t : ℕ) → s ≡ k → Keeps f k v → 0 < t → t ≤ length s.fates → x ≡ get_or s.fates (t - 1) x → x ≡ y → fate_here v t ≡ y
+fate_read {f = f} {s = s} {x = x} v t same stands some le read is =
+    let keeps = subst (λ (k : Kept). Keeps f k v) (sym same) stands in
     let here : suc (t - 1) ≡ t = omega arith in
-    sym (fate_at f s v (t - 1) x k (omega arith) ∙ ap (fate_here v) here) ∙ sym read ∙ is
+    sym (fate_at f s v (t - 1) x keeps (omega arith) ∙ ap (fate_here v) here) ∙ sym read ∙ is
 
 -- what has no number, and doesn't wait, stays as it is
 nothing_done : (v : SenderView) (t : ℕ) → waits t v.queue ≡ false → name_of v t ≡ None → abandon_after v t ≡ v
@@ -116,7 +117,7 @@ AnsweredBy v t Numbered = Unit {0}
 AnsweredBy v t Withdrawn = IsAnswered v t gone.Withdrawn
 AnsweredBy v t WasAbandoned = IsAnswered v t gone.Abandoned
 
-pub answered_by : (f : Format) (s : Kept) (v : SenderView) (t : ℕ) → Keeps f s v → 0 < t → t ≤ length s.fates → AnsweredBy v t (fate_here v t)
+answered_by : (f : Format) (s : Kept) (v : SenderView) (t : ℕ) → Keeps f s v → 0 < t → t ≤ length s.fates → AnsweredBy v t (fate_here v t)
 answered_by f s v t k low high = by_wait (waits t v.queue) refl
   where
     given : (nat_lt 0 t && nat_le t v.tickets) ≡ true
@@ -136,3 +137,8 @@ answered_by f s v t k low high = by_wait (waits t v.queue) refl
     by_wait : (b : Bool) → waits t v.queue ≡ b → AnsweredBy v t (if b then StillQueued else fate_named v (name_of v t))
     by_wait true on = (rw ((is_ticketed f v k.reached).waiting t on).2 (rw given refl), on)
     by_wait false off = by_name off (name_of v t) refl
+
+-- by the fate that was read
+pub answered_read : {f : Format} {s k : Kept} {x y : Fate} (v : SenderView) (t : ℕ) → s ≡ k → Keeps f k v → 0 < t → t ≤ length s.fates → x ≡ get_or s.fates (t - 1) x → x ≡ y → AnsweredBy v t y
+answered_read {f = f} {s = s} v t same stands some le read is =
+    subst (AnsweredBy v t) (fate_read v t same stands some le read is) (answered_by f s v t (subst (λ (k : Kept). Keeps f k v) (sym same) stands) some le)
