@@ -5,11 +5,10 @@ use Rattle.std.specs.Option.{option_map_or}
 use Rattle.std.proofs.lemmas.Bool.{and_parts, false_from_ne_true}
 use Rattle.std.proofs.lemmas.Bool.Decides.{nat_tests}
 use Rattle.sctp_model.specs.messages.Format.{Format, Lane, same_lane}
-use Rattle.sctp_model.specs.messages.Plan.{Message, Entry, End, Plan, entry_at}
-use Rattle.sctp_model.specs.sender.Words.{when, first_there, some_passes}
-use Rattle.sctp_model.specs.sender.Assigning.{with_entry}
+use Rattle.sctp_model.specs.messages.Plan.{Message, Entry, Plan, entry_at}
+use Rattle.sctp_model.specs.sender.Words.{when, first_there}
 use Rattle.sctp_model.specs.sender.SenderView.{SenderView}
-use Rattle.sctp_model.specs.sender.Entries.{entry_lane, entry_number, entry_message, is_of, is_in_part, is_of_abandoned}
+use Rattle.sctp_model.specs.sender.Entries.{entry_lane, entry_number, entry_message, is_of, is_of_abandoned}
 use Rattle.sctp_model.specs.sender.Abandoning as gone
 use Rattle.sctp_model.specs.sender.Abandoning.{Name, waits, without, name_of, has_ticket, is_covered, is_abandoned, ended, with_abandoned, abandon_named, abandon_answer, abandon_after}
 use Rattle.sctp_model.specs.sender.Reached.{IsReached}
@@ -19,14 +18,12 @@ use Rattle.sctp_model.proofs.sender.AbandonCases.{lanes_same, same_lane-self, gi
 use Rattle.sctp_model.proofs.sender.NameLaws.{same_message}
 use Rattle.sctp_model.proofs.sender.GivenLaws.{names_given, others_given}
 use Rattle.sctp_send.specs.SenderKept.{Item, Kept}
-use Rattle.sctp_send.specs.OutstandingFields.{was_sent, is_marked, item_meaning}
-use Rattle.sctp_send.specs.inner.Changes.{unmarked, as_abandoned, all_abandoned}
+use Rattle.sctp_send.specs.OutstandingFields.{item_meaning}
+use Rattle.sctp_send.specs.inner.Changes.{as_abandoned, all_abandoned}
 use Rattle.sctp_send.specs.SenderStands.{item_here, items_from, table, fate_here, fate_named, Keeps}
 use Rattle.sctp_send.specs.inner.Walks.{is_numbered_fate}
 use Rattle.sctp_send.specs.declared.kept.message.Fate.{Fate}
 use Rattle.sctp_send.specs.declared.kept.message.Fate.TheVariants.{Queued as StillQueued, Numbered, Abandoned as WasAbandoned}
-use Rattle.sctp_send.specs.declared.kept.entry.Standing.{Standing}
-use Rattle.sctp_send.specs.declared.kept.entry.Standing.TheVariants.{Unsent, Sent, Marked}
 use Rattle.sctp_send.specs.declared.kept.entry.Entry.{Entry as EntryFields}
 use Rattle.sctp_send.proofs.TableLemmas.{table-set}
 

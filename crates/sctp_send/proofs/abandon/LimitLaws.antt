@@ -3,11 +3,11 @@ use Rattle.std.proofs.Common.{◌≡◌, ℕ, zero, suc, ◌<◌, ◌≤◌, Lis
 use Rattle.std.specs.Prelude.{not, ◌&&◌, ◌==◌, if◌then◌else◌, nat_lt, fold, slice_get, option_map, option_and_then, unwrap_or}
 use Rattle.std.proofs.lemmas.Bool.{and_parts, cases_lt}
 use Rattle.std.proofs.lemmas.Bool.Decides.{nat_tests}
-use Rattle.sctp_model.specs.messages.Format.{Format, Lane, same_lane}
+use Rattle.sctp_model.specs.messages.Format.{Format, Lane}
 use Rattle.sctp_model.specs.messages.Plan.{Message, Entry, End, Plan, entry_at, message_at}
 use Rattle.sctp_model.specs.sender.SenderView.{SenderView}
 use Rattle.sctp_model.specs.sender.Words.{some_passes, count_up}
-use Rattle.sctp_model.specs.sender.Entries.{entry_lane, entry_number, entry_message, is_wanted, is_of_abandoned, is_unsettled, passes_at}
+use Rattle.sctp_model.specs.sender.Entries.{entry_lane, entry_number, entry_message, is_of_abandoned, is_unsettled, passes_at}
 use Rattle.sctp_model.specs.sender.Abandoning.{Name, name_at, name_of, has_ticket, is_abandoned, with_abandoned, abandon_after, is_used_up, is_worn, is_worn_at, ticket_at, wear_one, worn}
 use Rattle.sctp_model.specs.sender.Readers.{abandoned}
 use Rattle.sctp_model.specs.sender.Reached.{IsReached, Abandons}

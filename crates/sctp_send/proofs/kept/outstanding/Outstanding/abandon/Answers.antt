@@ -1,4 +1,4 @@
-use Rattle.std.proofs.Common.{◌≡◌, ◌+◌, ◌<◌, ◌^◌, ℕ, List, length, refl, sym, ◌∙◌, ap, subst, arith}
+use Rattle.std.proofs.Common.{◌+◌, ◌<◌, List, length, refl, sym, ◌∙◌, ap, subst, arith}
 use Rattle.sctp_sequence.specs.Pairs.{IsRankFrom}
 use Rattle.sctp_send.specs.declared.kept.by_ticket.ByTicket.{ByTicket}
 use Rattle.sctp_send.specs.declared.kept.entry.Entry.{Entry as EntryFields}

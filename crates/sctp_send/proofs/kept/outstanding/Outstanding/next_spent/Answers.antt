@@ -5,7 +5,7 @@ use Rattle.sctp_send.specs.inner.Wearing.{SaysSpent, NextSpentAnswer}
 use Rattle.sctp_send.specs.inner.TicketOrder.{ticket_of}
 use Rattle.sctp_send.specs.declared.kept.entry.Entry.{Entry as EntryFields}
 use Rattle.sctp_send.specs.declared.kept.message.Message.{Message as MessageFields}
-use Rattle.sctp_send.proofs.kept.TicketWalks.{all_passed, one_passed, pair_ticket, pair_within, no_pair, pair_at}
+use Rattle.sctp_send.proofs.kept.TicketWalks.{all_passed, one_passed, pair_ticket, pair_within, no_pair}
 use Rattle.sctp_send.proofs.kept.outstanding.Outstanding.next_spent.Goals as goal
 
 pub loop-rank-init : goal.loop-rank-init
