@@ -189,8 +189,7 @@ impl Outstanding {
         ensures { self.new ≡ record self.old { items = self.old.items ++ entry ∷ [] } }
     {
         let others = self.entries.len();
-        self.counts.enter(&entry, self.size);
-        self.counts.reach(others, &entry);
+        self.counts.add(others, &entry, self.size);
         forget_stretch(&mut self.stretches, self.by_ticket.index(others));
         self.by_ticket.push(entry.message.ticket, others);
         self.entries.push_back_reserved(entry);
