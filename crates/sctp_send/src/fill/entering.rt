@@ -17,7 +17,7 @@ ghost use Rattle.sctp_send.specs.declared.kept.entry.Entry.{Entry as EntryFields
 use crate::fill::asking::Going;
 use crate::fill::assigning::{Beginning, Next, stream_after};
 use crate::fill::others::{enter_others, push_fragment};
-use crate::kept::entry::{Content, Standing};
+use crate::kept::entry::{Content, Entry, Standing};
 use crate::kept::message::Message;
 use crate::kept::pieces::put_fragment;
 use crate::kept::track::Taken;
@@ -115,7 +115,15 @@ impl Told {
         let number = stock.streams.number_one(usize::from(stream), message.kind);
         let at = stock.outstanding.len();
         self.put_piece::<F>(&message, number, Content::Fragment(0), at, packet);
-        push_fragment(&mut stock.outstanding, message, number, 0, Standing::Sent);
+        stock.outstanding.put(Entry {
+            message,
+            number,
+            content: Content::Fragment(0),
+            standing: Standing::Sent,
+            covered: false,
+            abandoned: false,
+            repeats: 0,
+        });
         if !others.is_empty() {
             enter_others(stock, others, stream, number, next.count);
         }

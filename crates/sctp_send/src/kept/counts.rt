@@ -10,7 +10,8 @@ ghost use Rattle.sctp_send.specs.inner.Counting.{entered, left, lowered, furthes
 ghost use Rattle.sctp_send.specs.inner.Walks.{abandoned_items};
 ghost use Rattle.sctp_send.specs.inner.Newcomers.{one_if};
 
-use crate::kept::entry::{Entry, State};
+use crate::kept::entry::{Entry, Standing, State};
+use crate::kept::pieces::bytes_of;
 use crate::kept::wishes::{is_first_sending, is_repeat, is_unsettled, weight};
 use std::collections::VecDeque;
 
@@ -62,16 +63,30 @@ impl Counts {
         self.unsettled = self.unsettled.wrapping_sub(one_if(is_unsettled(entry)));
     }
 
-    /// What comes at an offset, behind all others, may have to go out; where it hasn't, a cursor there passes it, and where it is abandoned,
-    /// the count in front does.
+    /// An entry comes at an offset, behind all others, and counts: it may have to go out; where it hasn't, a cursor there passes it, and where it
+    /// is abandoned, the count in front does.
     #[inline(always)]
-    pub(crate) fn reach(&mut self, at: usize, entry: &Entry)
-        requires { at < 0xffff_ffff_ffff_ffff }
-        ensures { (size : ℕ) → self.new ≡ reached at (item_meaning size entry.now) self.old }
+    pub(crate) fn add(&mut self, at: usize, entry: &Entry, size: u16)
+        requires some { 0 < size }
+        requires below { at < 0xffff_ffff_ffff_ffff }
+        ensures { self.new ≡ reached at (item_meaning size entry.now) (entered (item_meaning size entry.now) self.old) }
     {
-        self.marked = furthest(self.marked, at, is_repeat(entry));
-        self.unsent = furthest(self.unsent, at, is_first_sending(entry));
-        self.front = furthest(self.front, at, !entry.abandoned);
+        if entry.standing != Standing::Sent || entry.covered || entry.abandoned {
+            self.enter(entry, size);
+            self.marked = furthest(self.marked, at, is_repeat(entry));
+            self.unsent = furthest(self.unsent, at, is_first_sending(entry));
+            self.front = furthest(self.front, at, !entry.abandoned);
+            return;
+        }
+        let bytes = bytes_of(&entry.message, entry.content, size);
+        self.flight = self.flight.wrapping_add(bytes.len() as u64);
+        self.unsettled = self.unsettled.wrapping_add(1);
+        if self.marked == at {
+            self.marked = at + 1;
+        }
+        if self.unsent == at {
+            self.unsent = at + 1;
+        }
     }
 
     /// What stands at an offset may have to go out.

@@ -126,8 +126,12 @@ impl Fates {
         ensures ended { self.new.ended ≡ self.old.ended }
         ensures abandoned { self.new.abandoned ≡ self.old.abandoned }
     {
-        if at >= self.ended {
-            set_at(&mut self.recent, at - self.ended, fate);
+        if at < self.ended {
+            return;
+        }
+        let place = at - self.ended;
+        if place < self.recent.len() {
+            self.recent[place] = fate;
         }
     }
 
@@ -194,14 +198,5 @@ impl Fates {
             drop_front(&mut self.recent);
             self.ended += BLOCK;
         }
-    }
-}
-
-/// The n-th fate, where there is one, is this.
-fn set_at(fates: &mut Vec<Fate>, at: usize, fate: Fate)
-    ensures { fates.new.items ≡ set fates.old.items at fate }
-{
-    if at < fates.len() {
-        fates[at] = fate;
     }
 }

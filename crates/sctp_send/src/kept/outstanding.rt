@@ -1,11 +1,11 @@
 //! The outstanding entries, those above the cumulative TSN acknowledged (CUM), with counts of them, so that no call has to look at all.
 
-ghost use Rattle.std.specs.Prelude.{◌≡◌, ℕ, ◌+◌, ◌*◌, ◌-◌, ◌<◌, ◌≤◌, ◌%◌, ◌^◌, ◌++◌, ◌∷◌, [], drop, true, false, map, length, slice_index_or, OnOk, OnErr};
+ghost use Rattle.std.specs.Prelude.{◌≡◌, ℕ, ◌+◌, ◌*◌, ◌-◌, ◌<◌, ◌≤◌, ◌%◌, ◌^◌, ◌++◌, ◌∷◌, [], None, drop, true, false, map, length, slice_index_or, OnOk, OnErr};
 ghost use Rattle.sctp_send.specs.OutstandingFields.{item_meaning};
 ghost use Rattle.sctp_send.specs.PartsKept.{changed};
 ghost use Rattle.sctp_send.specs.inner.Changes.{stood};
 ghost use Rattle.sctp_send.specs.inner.Walks.{abandoned_items, any_unsettled};
-ghost use Rattle.sctp_send.specs.inner.Wishing.{item_flight};
+ghost use Rattle.sctp_send.specs.inner.Wishing.{first_offset, is_item_marked, is_item_unsent, item_flight};
 
 use crate::kept::by_ticket::ByTicket;
 use crate::kept::counts::{Counts, front_behind, stand_one};
@@ -96,6 +96,16 @@ impl Outstanding {
         ensures { result ≡ any_unsettled (map (item_meaning self.now.size) self.now.items) }
     {
         self.counts.unsettled > 0
+    }
+
+    /// No entry waits to be repeated, and none is to go out for the first time. It asks
+    /// the cursors alone, so that it may answer false where this is so.
+    #[inline(always)]
+    pub(crate) fn is_all_out(&self) -> bool
+        ensures marked { result ≡ true → first_offset is_item_marked (map (item_meaning self.now.size) self.now.items) ≡ None }
+        ensures unsent { result ≡ true → first_offset is_item_unsent (map (item_meaning self.now.size) self.now.items) ≡ None }
+    {
+        self.counts.marked >= self.entries.len() && self.counts.unsent >= self.entries.len()
     }
 
     /// How many of the first entries are abandoned.
@@ -189,8 +199,7 @@ impl Outstanding {
         ensures { self.new ≡ record self.old { items = self.old.items ++ entry ∷ [] } }
     {
         let others = self.entries.len();
-        self.counts.enter(&entry, self.size);
-        self.counts.reach(others, &entry);
+        self.counts.add(others, &entry, self.size);
         forget_stretch(&mut self.stretches, self.by_ticket.index(others));
         self.by_ticket.push(entry.message.ticket, others);
         self.entries.push_back_reserved(entry);

@@ -1,6 +1,6 @@
 //! Of the entries above CUM, the next one to go out.
 
-ghost use Rattle.std.specs.Prelude.{◌≡◌, ℕ, ◌<◌, ◌≤◌, true, Some, None, map, take, length, IfSome};
+ghost use Rattle.std.specs.Prelude.{◌≡◌, ℕ, ◌<◌, ◌≤◌, Some, None, map, take, length, IfSome};
 ghost use Rattle.sctp_send.specs.OutstandingFields.{item_meaning};
 ghost use Rattle.sctp_send.specs.inner.Wishing.{first_offset, is_item_marked, is_item_unsent, is_item_wanted};
 
@@ -10,16 +10,6 @@ use crate::kept::wishes::{is_first_sending, is_repeat};
 use std::collections::VecDeque;
 
 impl Outstanding {
-    /// No entry waits to be repeated, and none is to go out for the first time. It asks
-    /// the cursors alone, so that it may answer false where this is so.
-    #[inline(always)]
-    pub(crate) fn is_all_out(&self) -> bool
-        ensures marked { result ≡ true → first_offset is_item_marked (map (item_meaning self.now.size) self.now.items) ≡ None }
-        ensures unsent { result ≡ true → first_offset is_item_unsent (map (item_meaning self.now.size) self.now.items) ≡ None }
-    {
-        self.counts.marked >= self.entries.len() && self.counts.unsent >= self.entries.len()
-    }
-
     /// The first entry that waits to be repeated.
     pub(crate) fn first_marked(&mut self) -> Option<usize>
         ensures same { self.new ≡ self.old }

@@ -98,7 +98,19 @@ impl Streams {
         ensures number { (size : ℕ) → result ≡ number_in (kind_meaning kind) (track_of (map (track_meaning size) self.old.items) at) }
         ensures counted { self.new ≡ record self.old { items = changed_at (counted_to kind ((result + 1) % 2 ^ 64)) at self.old.items } }
     {
-        take_number(&mut self.tracks[at], kind)
+        let track = &mut self.tracks[at];
+        match kind {
+            Kind::Ordered => {
+                let number = track.ordered;
+                track.ordered = number.wrapping_add(1);
+                number
+            }
+            Kind::Unordered => {
+                let number = track.unordered;
+                track.unordered = number.wrapping_add(1);
+                number
+            }
+        }
     }
 
     /// So much is left of the message in part of a stream. It answers how the stream was.
@@ -205,26 +217,6 @@ impl Streams {
         match self.lists.key_with(ticket) {
             Some(stream) => Some(stream as usize),
             None => None,
-        }
-    }
-}
-
-/// The next message of a kind takes its number on a stream.
-#[inline(always)]
-fn take_number(track: &mut Track, kind: Kind) -> u64
-    ensures number { (size : ℕ) → result ≡ number_in (kind_meaning kind) (track_meaning size track.old) }
-    ensures counted { track.new ≡ counted_to kind ((result + 1) % 2 ^ 64) track.old }
-{
-    match kind {
-        Kind::Ordered => {
-            let number = track.ordered;
-            track.ordered = number.wrapping_add(1);
-            number
-        }
-        Kind::Unordered => {
-            let number = track.unordered;
-            track.unordered = number.wrapping_add(1);
-            number
         }
     }
 }

@@ -57,7 +57,7 @@ put_piece-requires-clause-fits g c =
 
 -- what the stock was, once the first fragment entered
 abbrev first : (g : Over) → goal.Joined-drop g → Stock
-first g c = record c.args.stock.now { outstanding = c.push_fragment.new.outstanding; queue = c.remove.new.self; streams = c.number_one-number.new.self; tickets = c.push_reserved.new.self }
+first g c = record c.args.stock.now { outstanding = c.put.new.self; queue = c.remove.new.self; streams = c.number_one-number.new.self; tickets = c.push_reserved.new.self }
 
 -- the others entered, where there are any
 entered : (g : Over) (c : goal.Joined-drop g) → HaveEntered c.args.self.now.fragment c.in-Some.waiting.message.value c.in-Some.waiting.message.value.stream c.number_one-number.result c.args.next.count (first g c) c.if-not-is_empty.stock
@@ -110,15 +110,15 @@ returns-clause-put g c = λ v keeps stands next asked.
     ap (λ (d : Stock). numbers_of d.tickets.items) all.same ∙ ap numbers_of c.push_reserved.ensures.items ∙ map-append (λ (t : Ticket). t.0) old.tickets.items _
     ∙ ap (λ (y : MessageFields). numbers_of old.tickets.items ++ y.ticket ∷ []) c.deref-2.ensures in
     let e = fragment_entry x n 0 Sent in
-    let first_in : map (item_meaning size) c.push_fragment.new.outstanding.items ≡ map (item_meaning size) old.outstanding.items ++ begun_items (lane_meaning x.value) n (message_meaning size x.value) 1 =
-    ap (λ (w : OutstandingKept). map (item_meaning size) w.items) c.push_fragment.ensures ∙ map-append (item_meaning size) old.outstanding.items (e ∷ []) in
+    let first_in : map (item_meaning size) c.put.new.self.items ≡ map (item_meaning size) old.outstanding.items ++ begun_items (lane_meaning x.value) n (message_meaning size x.value) 1 =
+    ap (λ (w : OutstandingKept). map (item_meaning size) w.items) c.put.ensures ∙ map-append (item_meaning size) old.outstanding.items (e ∷ []) in
     let items = all.items (map (item_meaning size) old.outstanding.items) first_in in
     let waits : map (queued_by size) c.if-not-is_empty.stock.queue.items ≡ without_place place (map (queued_by size) old.queue.items) =
     ap (λ (d : Stock). map (queued_by size) d.queue.items) all.same ∙ ap (λ (w : QueueKept). map (queued_by size) w.items) (c.remove.ensures.some low) ∙ taken_out size place old.queue.items in
     let counted : c.number_one-number.new.self.items ≡ changed_at (counted_to x.value.kind many) x.value.stream old.streams.items =
     rw (c.from.ensures, c.deref.ensures, c.deref-3.ensures) at (ap (λ (w : StreamsKept). w.items) c.number_one-number.ensures.counted) in
     let streams = entered_tracks size n many count x.value old.streams.items c.number_one-number.new.self.items _ (c.requires.can.enters x read).there counted (omega (arith, few)) number all.tracks in
-    let space = all.room.capacity ∙ ap (λ (w : OutstandingKept). w.capacity) c.push_fragment.ensures in
+    let space = all.room.capacity ∙ ap (λ (w : OutstandingKept). w.capacity) c.put.ensures in
     let d : Stock = record c.if-not-is_empty.stock { turn = turn } in
     let put = c.put_piece.ensures.put ∙ ap (λ (m : MessageFields). with_chunks p (fragment_chunk f (base_of s.resets) size s.initial (suc (s.cum + c.len-at.result)) m n (Fragment 0) ∷ [])) c.deref-4.ensures in
     begun_put f s v old x.value place count turn n keeps stands next mine number p c.put_piece.new.packet d c.len-at.result asked c.len-at.ensures
@@ -130,7 +130,7 @@ returns-clause-sized g c =
     record {
       some = c.requires.sized.some;
       short = c.requires.sized.short;
-      window = all.room.size ∙ ap (λ (w : OutstandingKept). w.size) c.push_fragment.ensures ∙ c.requires.sized.window;
+      window = all.room.size ∙ ap (λ (w : OutstandingKept). w.size) c.put.ensures ∙ c.requires.sized.window;
       queue = ap (λ (d : Stock). d.queue.size) all.same ∙ ap (λ (w : QueueKept). w.size) (c.remove.ensures.some c.in-Some.ensures.message.0) ∙ c.requires.sized.queue;
       tracks = all.sized ∙ ap (λ (w : StreamsKept). w.size) c.number_one-number.ensures.counted ∙ c.requires.sized.tracks;
     }

@@ -37,7 +37,7 @@ invariant_of-self c =
     let more : tickets_of (es ++ e ∷ []) ≡ tickets_of es ++ ticket_of e ∷ [] = map-append ticket_of es (e ∷ []) in
     let order = subst (λ (t : ℕ). IsOrderOf (tickets_of es ++ t ∷ []) c.push.new.self.first c.push.new.self.pairs.items) ticket (c.push.ensures.order (tickets_of es) (long ∙ sym (length-map es ticket_of)) h.order) in
     record {
-      counted = rw (items, c.reach.ensures s.size, long, c.enter.ensures) (counts_pushed s.size es e s.counts h.counted);
+      counted = rw (items, c.add.ensures, long) (counts_pushed s.size es e s.counts h.counted);
       order = subst (λ (ts : List ℕ). IsOrderOf ts c.push.new.self.first c.push.new.self.pairs.items) (sym (ap tickets_of items ∙ more)) order;
       within = let n = ap (λ (xs : List EntryFields). length xs) items in let m = length-append es (e ∷ []) in omega (arith, n, m, lt);
       here = let le = h.here in omega (arith, le, c.push_back_reserved.ensures.capacity);

@@ -1,21 +1,32 @@
-use Rattle.std.proofs.Common.{List, sym, ap, ◌∙◌, ◌+◌, ◌%◌, ◌^◌, subst}
-use Rattle.sctp_send.specs.PartsKept.{StreamsKept, changed_at}
-use Rattle.sctp_send.specs.inner.PartSeats.{IsStreamsOf}
+use Rattle.std.proofs.Common.{refl, ◌+◌, ◌%◌, ◌^◌}
+use Rattle.sctp_values.specs.declared.kind.Kind.TheVariants.{Ordered, Unordered}
 use Rattle.sctp_send.specs.inner.Entering.{counted_to}
-use Rattle.sctp_send.specs.declared.kept.track.Track.{Track as TrackFields}
 use Rattle.sctp_send.proofs.kept.TrackCounts.{streams_counted, set_changed}
+use Rattle.sctp_send.proofs.kept.streams.Streams.number_one.Goals.{in-Ordered, in-Unordered}
 use Rattle.sctp_send.proofs.kept.streams.Streams.number_one.Goals as goal
 
 pub invariant_of-self : goal.invariant_of-self
 invariant_of-self c =
     let w = c.self.inside in
-    let many = (c.take_number.result + 1) % 2 ^ 64 in
-    let is = set_changed (counted_to c.args.kind many) c.args.at w.tracks.items c.index_mut.result.now c.take_number.new.track c.index_mut.ensures.value c.take_number.ensures.counted in
-    subst (λ (ts : List TrackFields). IsStreamsOf w.size ts w.parts w.owed w.lists) (sym is) (streams_counted w.size many c.args.at w.parts w.owed c.args.kind w.tracks.items w.lists c.self.invariant)
+    let x = c.index_mut-track.result.now in
+    let read = c.index_mut-track.ensures.value in
+    elim c.match-kind.branch [
+      | in-Ordered v ↦
+          rw (v.self-inside-is, set_changed (counted_to Ordered ((x.ordered + 1) % 2 ^ 64)) c.args.at w.tracks.items x _ read refl)
+          (streams_counted w.size _ c.args.at w.parts w.owed Ordered w.tracks.items w.lists c.self.invariant)
+      | in-Unordered v ↦
+          rw (v.self-inside-is, set_changed (counted_to Unordered ((x.unordered + 1) % 2 ^ 64)) c.args.at w.tracks.items x _ read refl)
+          (streams_counted w.size _ c.args.at w.parts w.owed Unordered w.tracks.items w.lists c.self.invariant)
+    ]
 
 pub returns-clause-counted : goal.returns-clause-counted
 returns-clause-counted c =
-    let w = c.self.inside in
-    let many = (c.take_number.result + 1) % 2 ^ 64 in
-    let is = set_changed (counted_to c.args.kind many) c.args.at w.tracks.items c.index_mut.result.now c.take_number.new.track c.index_mut.ensures.value c.take_number.ensures.counted in
-    ap (λ (ts : List TrackFields). let r : StreamsKept = record { size = w.size; items = ts } in r) is ∙ ap (λ (k : StreamsKept). record k { items = changed_at (counted_to c.args.kind many) c.args.at k.items }) c.self.view_is
+    let ts = c.self.inside.tracks.items in
+    let x = c.index_mut-track.result.now in
+    let read = c.index_mut-track.ensures.value in
+    elim c.match-kind.branch [
+      | in-Ordered v ↦
+          rw (v.self-inside-is, v.result-is, v.in-Ordered.is, ← c.self.view_is, set_changed (counted_to Ordered ((x.ordered + 1) % 2 ^ 64)) c.args.at ts x _ read refl) refl
+      | in-Unordered v ↦
+          rw (v.self-inside-is, v.result-is, v.in-Unordered.is, ← c.self.view_is, set_changed (counted_to Unordered ((x.unordered + 1) % 2 ^ 64)) c.args.at ts x _ read refl) refl
+    ]
