@@ -185,11 +185,3 @@ pub(crate) fn bytes_of(message: &Message) -> u64
 {
     message.bytes.len() as u64
 }
-
-/// What a message that waits owes.
-pub(crate) fn owed_by_message(message: &Message, size: u16) -> u64
-    requires { 0 < size }
-    ensures { result ≡ owed_for (length (message_meaning size message.now).fragments) % 2 ^ 64 }
-{
-    owed(fragments_of(size, &message.bytes))
-}
