@@ -13,7 +13,8 @@ ghost use Rattle.sctp_send.specs.inner.Seating.{seat_of, AreLower, NextOnAnswer}
 ghost use Rattle.sctp_sequence.specs.Pairs.{AreSame};
 ghost use Rattle.sctp_sequence.specs.declared.pairs.Pair.{Pair};
 
-use crate::kept::message::{Message, bytes_of, fragments_of, owed};
+use crate::kept::message::{Message, bytes_of};
+use crate::kept::pieces::{fragments_of, owed};
 use crate::kept::seats::{
     Found, add_seat, first_from, is_in_front, make_place, make_room, next_by_looking,
     next_by_seats, seat_of,
