@@ -37,6 +37,7 @@ pub mod resets;
 pub mod run_room;
 pub mod searching;
 pub mod seats;
+pub mod shells;
 pub mod streams;
 pub mod stretches;
 pub mod taking;

@@ -13,8 +13,10 @@ ghost use Rattle.sctp_send.specs.declared.queueing.SendFault.TheVariants.{NoMemo
 ghost use Rattle.sctp_send.specs.SenderStands.{StandsFor};
 ghost use Rattle.sctp_send.specs.SenderAnswers.{QueueAnswer, queue_after, lane_for, refused_with};
 
-use crate::kept::message::{Fate, Message, buffer_of, fragments_of, in_shell, owed};
+use crate::kept::message::{Fate, Message};
+use crate::kept::pieces::{fragments_of, owed};
 use crate::kept::queue::Queue;
+use crate::kept::shells::{buffer_of, in_shell};
 use crate::queueing::owing::reserve_message;
 use crate::sender::Sender;
 use sctp_framing::Framing;

@@ -8,10 +8,10 @@ ghost use Rattle.sctp_send.specs.SenderStands.{StandsFor};
 
 use crate::kept::dues::Dues;
 use crate::kept::fates::Fates;
-use crate::kept::message::MOST_SHELLS;
 use crate::kept::outstanding::Outstanding;
 use crate::kept::queue::Queue;
 use crate::kept::resets::OutgoingResets;
+use crate::kept::shells::MOST_SHELLS;
 use crate::kept::streams::Streams;
 use crate::stock::Stock;
 use crate::told::Told;

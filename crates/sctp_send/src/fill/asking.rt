@@ -17,9 +17,9 @@ ghost use Rattle.sctp_send.specs.inner.Wishing.{lets_flow};
 
 use crate::fill::assigning::{Beginning, Next};
 use crate::kept::entry::Content;
-use crate::kept::message::{Message, fragments_of};
+use crate::kept::message::Message;
 use crate::kept::outstanding::Outstanding;
-use crate::kept::pieces::{bytes_of, fits};
+use crate::kept::pieces::{bytes_of, fits, fragments_of};
 use crate::stock::Stock;
 use crate::told::Told;
 use sctp_framing::Framing;

@@ -1,22 +1,25 @@
-//! A wish that goes: its chunk is put into the packet, and the stock keeps what it leaves (RFC 9260, 6.1 and 6.3.3; RFC 8260, 2.2). All memory was taken
-//! before: the packet's and that of tickets as the fill began, that of entries and owners when messages were queued. So nothing here can fail.
+//! All chunks of a packet, one after the other, and how many of them are sent for the first time, and how many again. The chunk of a wish that goes is put
+//! into the packet, and the stock keeps what it leaves (RFC 9260, 6.1 and 6.3.3; RFC 8260, 2.2). All memory was taken before: the packet's and that of
+//! tickets as the fill began, that of entries and owners when messages were queued. So nothing here can fail.
 
-ghost use Rattle.std.specs.Prelude.{◌≡◌, suc, ◌+◌, ◌<◌, ◌≤◌, ◌∷◌, [], Bool, true, Some, length, slice_index_or};
+ghost use Rattle.std.specs.Prelude.{◌≡◌, suc, ◌+◌, ◌*◌, ◌^◌, ◌<◌, ◌≤◌, ◌∷◌, [], Bool, true, Some, length, slice_index_or};
 ghost use Rattle.std.specs.Vec.{vec_len, vec_capacity};
 ghost use Rattle.sctp_model.specs.numbers.Limits.{GREATEST_FRAGMENT};
 ghost use Rattle.sctp_model.specs.sender.SenderView.{SenderView};
-ghost use Rattle.sctp_packet.specs.Draft.{with_chunks};
+ghost use Rattle.sctp_packet.specs.Draft.{room_in, with_chunks};
 ghost use Rattle.sctp_send.specs.SenderStands.{Keeps};
 ghost use Rattle.sctp_send.specs.ResetsKept.{base_of};
 ghost use Rattle.sctp_send.specs.inner.Asking.{CanBegin, CanGo, CanGoOn, GoesAnswer, IsAsked, IsNextPending};
 ghost use Rattle.sctp_send.specs.inner.Newcomers.{IsBegun, IsContinued};
-ghost use Rattle.sctp_send.specs.inner.Stocking.{bare, stocked, fragment_chunk, FitsInto, IsPut, NothingStands};
+ghost use Rattle.sctp_send.specs.inner.Stocking.{bare, stocked, fragment_chunk, AllPut, FitsInto, IsPut, NothingStands};
 ghost use Rattle.sctp_send.specs.inner.Entering.{IsSized};
+ghost use Rattle.sctp_send.specs.inner.Sending.{sent_going};
 ghost use Rattle.sctp_send.specs.declared.kept.entry.Entry.{Entry as EntryFields};
 
 use crate::fill::asking::Going;
 use crate::fill::assigning::{Beginning, Next, stream_after};
 use crate::fill::others::{enter_others, push_fragment};
+use crate::fill::sendings::Sendings;
 use crate::kept::entry::{Content, Entry, Standing};
 use crate::kept::message::Message;
 use crate::kept::pieces::put_fragment;
@@ -155,5 +158,68 @@ impl Told {
         let standing = Standing::Sent;
         push_fragment(&mut stock.outstanding, message, number, fragment, standing);
         stock.turn = stream_after(stream, self.streams);
+    }
+}
+
+impl Sendings {
+    /// No chunk went in.
+    pub(crate) fn none() -> Sendings
+        ensures { result ≡ record { first = 0; timed = 0; missed = 0 } }
+    {
+        Sendings {
+            first: 0,
+            timed: 0,
+            missed: 0,
+        }
+    }
+
+    /// A wish goes, above this cumulative TSN acknowledged (CUM): one more chunk. All indexes below `missed` were missed.
+    #[inline(always)]
+    fn count(&mut self, going: Going, cum: u64, missed: u64)
+        ensures { self.new ≡ sent_going going cum missed self.old }
+    {
+        match going {
+            Going::Indexed(pending) if pending.again => {
+                let index = cum.wrapping_add(pending.at as u64).wrapping_add(1);
+                if index < missed {
+                    self.missed = self.missed.wrapping_add(1);
+                } else {
+                    self.timed = self.timed.wrapping_add(1);
+                }
+            }
+            _ => self.first = self.first.wrapping_add(1),
+        }
+    }
+}
+
+impl Told {
+    /// Puts the next chunk to be sent, until none may go, at most so many, and counts them; all indexes below `missed` were missed.
+    pub(crate) fn put_all<F: Framing>(
+        &self,
+        stock: &mut Stock,
+        most: usize,
+        missed: u64,
+        packet: &mut PacketWriter,
+    ) -> Sendings
+        requires fresh { stock.old.tickets.items ≡ [] }
+        requires sized { IsSized self.now.fragment stock.old }
+        requires reserved { packet.old.space ≡ true }
+        requires few { most < 2 ^ 16 }
+        requires more { room_in packet.old < 16 * most }
+        requires told { most ≤ vec_capacity stock.old.tickets }
+        ensures all { (v : SenderView) → Keeps F.format (stocked (bare self.now) stock.old) v
+            → AllPut F.format (bare self.now) v packet.old packet.new stock.new missed result }
+        ensures sized { IsSized self.now.fragment stock.new }
+        ensures reserved { packet.new.space ≡ true }
+    {
+        let mut sendings = Sendings::none();
+        for turn in 0..most {
+            let Some(going) = self.next_going::<F>(stock, packet.room()) else {
+                return sendings;
+            };
+            sendings.count(going, self.cum, missed);
+            self.go::<F>(stock, going, packet);
+        }
+        sendings
     }
 }

@@ -13,7 +13,7 @@ ghost use Rattle.sctp_send.specs.inner.Entering.{IsSized};
 use crate::fill::asking::{Going, has_window};
 use crate::fill::assigning::{Next, next_in_turn, rest_of};
 use crate::kept::entry::Content;
-use crate::kept::message::fragments_of;
+use crate::kept::pieces::fragments_of;
 use crate::stock::Stock;
 use crate::told::Told;
 use sctp_framing::Framing;

@@ -1,20 +1,45 @@
-//! A fragment's bytes and its chunk (RFC 9260, 3.3.1 and 6.9; RFC 8260, 2.1).
+//! The fragments of a message, their bytes and chunks (RFC 9260, 3.3.1 and 6.9; RFC 8260, 2.1).
 
-ghost use Rattle.std.specs.Prelude.{◌≡◌, ℕ, ◌<◌, ◌≤◌, ◌^◌, ◌∷◌, [], length, Option, Some, true};
+ghost use Rattle.std.specs.Prelude.{◌≡◌, ℕ, ◌<◌, ◌≤◌, ◌%◌, ◌^◌, ◌∷◌, [], length, Option, Some, true};
 ghost use Rattle.sctp_model.specs.messages.Format.{Lane};
 ghost use Rattle.sctp_model.specs.messages.Plan.{Message as Said, Entry};
 ghost use Rattle.sctp_model.specs.numbers.Limits.{GREATEST_FRAGMENT};
 ghost use Rattle.sctp_model.specs.numbers.Serial as serial;
 ghost use Rattle.sctp_model.specs.sender.Entries.{entry_fragment, bytes_in};
+ghost use Rattle.sctp_model.specs.sender.Queueing.{cut, owed_for};
 ghost use Rattle.sctp_packet.specs.Draft.{Draft, room_in, has_room, with_chunks};
 ghost use Rattle.sctp_send.specs.OutstandingFields.{message_meaning, entry_meaning, no_base};
 ghost use Rattle.sctp_send.specs.inner.Stocking.{fragment_chunk, said_chunk, FitsInto};
 
 use crate::kept::entry::Content;
-use crate::kept::message::{Message, fragments_of};
+use crate::kept::message::Message;
 use sctp_framing::Framing;
 use sctp_packet::PacketWriter;
 use sctp_wire::{Piece, padded};
+
+/// How many fragments of this size so many bytes make. Where they fit into one, nothing is divided for that.
+#[inline(always)]
+pub(crate) fn fragments_of(size: u16, bytes: &[u8]) -> usize
+    requires { 0 < size }
+    ensures { result ≡ length (cut size bytes.now) }
+{
+    let most = usize::from(size);
+    if bytes.len() <= most {
+        return bytes.len().min(1);
+    }
+    bytes.len().div_ceil(most)
+}
+
+/// What a message owes with so many unassigned fragments: their TSNs, and one for an end mark.
+pub(crate) fn owed(count: usize) -> u64
+    ensures { result ≡ owed_for count % 2 ^ 64 }
+{
+    if count == 0 {
+        0
+    } else {
+        (count as u64).wrapping_add(1)
+    }
+}
 
 /// The bytes of a fragment: a range of its message's. An end mark has none.
 pub(crate) fn bytes_of(message: &Message, content: Content, size: u16) -> &[u8]

@@ -1,18 +1,23 @@
 //! The messages that wait for their numbers, the first to come in front, and what is counted of them.
 
-ghost use Rattle.std.specs.Prelude.{◌≡◌, ℕ, ◌+◌, ◌<◌, ◌≤◌, ◌%◌, ◌^◌, ◌++◌, ◌∷◌, [], true, false, map, length, remove, slice_index_or, OnOk, OnErr, IfSome, IfNone};
+ghost use Rattle.std.specs.Prelude.{◌≡◌, ℕ, ◌+◌, ◌<◌, ◌≤◌, ◌↔◌, ◌%◌, ◌^◌, ◌++◌, ◌∷◌, [], List, true, false, map, length, remove, slice_index_or, IsSome, OnSome, OnOk, OnErr, IfSome, IfNone};
+ghost use Rattle.std.specs.List.{Contains};
+ghost use Rattle.std.specs.VecDeque.{deque_len};
 ghost use Rattle.sctp_model.specs.numbers.Limits.{LONGEST_MESSAGE};
 ghost use Rattle.sctp_model.specs.sender.Queueing.{owed_by_queue};
 ghost use Rattle.sctp_model.specs.sender.Abandoning.{waits};
 ghost use Rattle.sctp_send.specs.SenderFields.{queued_by};
 ghost use Rattle.sctp_send.specs.Waiting.{waiting_bytes};
 ghost use Rattle.sctp_send.specs.inner.Owning.{IsOwned};
-ghost use Rattle.sctp_send.specs.inner.Seating.{AreLower, NextOnAnswer};
+ghost use Rattle.sctp_send.specs.inner.Seating.{seat_of, AreLower, NextOnAnswer};
+ghost use Rattle.sctp_sequence.specs.Pairs.{AreSame};
+ghost use Rattle.sctp_sequence.specs.declared.pairs.Pair.{Pair};
 
-use crate::kept::message::{Message, bytes_of, fragments_of, owed, owed_by_message};
+use crate::kept::message::{Message, bytes_of};
+use crate::kept::pieces::{fragments_of, owed};
 use crate::kept::seats::{
-    Found, add_seat, first_from, free_seat, is_in_front, make_place, make_room, next_by_looking,
-    next_by_seats, remove_at, seat_of,
+    Found, add_seat, first_from, is_in_front, make_place, make_room, next_by_looking,
+    next_by_seats, seat_of,
 };
 use crate::kept::waiting::{Waiting, take_others};
 use sctp_sequence::Pairs;
@@ -143,11 +148,13 @@ impl Queue {
     {
         let waiting = remove_at(&mut self.messages, place)?;
         let message: &Message = &waiting.message;
-        let owed = owed_by_message(message, self.size);
+        let bytes: &[u8] = &message.bytes;
+        let owed = owed(fragments_of(self.size, bytes));
         self.owed = self.owed.wrapping_sub(owed);
-        self.bytes = self.bytes.wrapping_sub(bytes_of(message));
-        let seat = seat_of(&waiting.message);
-        free_seat(&mut self.seats, self.is_seated, seat);
+        self.bytes = self.bytes.wrapping_sub(bytes.len() as u64);
+        if self.is_seated {
+            free_seat(&mut self.seats, &waiting.message);
+        }
         Some(waiting)
     }
 
@@ -193,4 +200,37 @@ impl Queue {
         }
         next_by_looking(&self.messages, from, below)
     }
+}
+
+/// The message at a place goes, where there is one. The first one moves no other.
+#[inline(always)]
+fn remove_at(messages: &mut VecDeque<Waiting>, place: usize) -> Option<Waiting>
+    ensures value { IfSome result (λ w. w ≡ slice_index_or messages.old.items place w) }
+    ensures items { OnSome result (messages.new.items ≡ remove messages.old.items place) }
+    ensures variant { IsSome result ↔ (place < deque_len messages.old) }
+    ensures unchanged { IfNone result (messages.new ≡ messages.old) }
+{
+    if place > 0 || messages.is_empty() {
+        return remove_among(messages, place);
+    }
+    messages.pop_front()
+}
+
+/// Removes the message at a place other than the front. A function of its own, so that the first one is removed cheaply.
+#[inline(never)]
+fn remove_among(messages: &mut VecDeque<Waiting>, place: usize) -> Option<Waiting>
+    ensures value { IfSome result (λ w. w ≡ slice_index_or messages.old.items place w) }
+    ensures items { OnSome result (messages.new.items ≡ remove messages.old.items place) }
+    ensures variant { IsSome result ↔ (place < deque_len messages.old) }
+    ensures unchanged { IfNone result (messages.new ≡ messages.old) }
+{
+    messages.remove(place)
+}
+
+/// The seat of a message is free again. A function of its own, since most associations keep no seats.
+#[inline(never)]
+fn free_seat(seats: &mut Pairs, message: &Arc<Message>)
+    ensures { (ps : List Pair) → AreSame seats.old.items ps → Contains ps (seat_of message.now) → AreSame seats.old.items (seat_of message.now ∷ seats.new.items) }
+{
+    let _was_there = seats.remove(seat_of(message));
 }

@@ -1,7 +1,6 @@
 //! Where a message that waits stands: by its ticket among the others, and by its stream.
 
-ghost use Rattle.std.specs.Prelude.{◌≡◌, ℕ, ◌<◌, ◌≤◌, ◌↔◌, ◌∷◌, true, List, nat_lt, map, length, remove, slice_index_or, IfSome, IfNone, OnSome, IsSome, OnOk};
-ghost use Rattle.std.specs.List.{Contains};
+ghost use Rattle.std.specs.Prelude.{◌≡◌, ℕ, ◌<◌, ◌≤◌, ◌∷◌, true, nat_lt, map, length, slice_index_or, IfSome, IfNone, OnOk};
 ghost use Rattle.std.specs.VecDeque.{deque_capacity, deque_len};
 ghost use Rattle.sctp_send.specs.SenderFields.{queued_by};
 ghost use Rattle.sctp_send.specs.inner.Newcomers.{FirstOnAnswer, IsFirstOn};
@@ -110,41 +109,6 @@ pub(crate) fn add_seat(seats: &mut Pairs, is_seated: bool, seat: Pair)
     if is_seated {
         seats.insert_reserved(seat);
     }
-}
-
-/// A seat is free again, where the seats are kept.
-#[inline(always)]
-pub(crate) fn free_seat(seats: &mut Pairs, is_seated: bool, seat: Pair)
-    ensures { (ps : List Pair) → is_seated ≡ true → AreSame seats.old.items ps → Contains ps seat → AreSame seats.old.items (seat ∷ seats.new.items) }
-{
-    if is_seated {
-        let _was_there = seats.remove(seat);
-    }
-}
-
-/// The message at a place goes, where there is one. The first one moves no other.
-#[inline(always)]
-pub(crate) fn remove_at(messages: &mut VecDeque<Waiting>, place: usize) -> Option<Waiting>
-    ensures value { IfSome result (λ w. w ≡ slice_index_or messages.old.items place w) }
-    ensures items { OnSome result (messages.new.items ≡ remove messages.old.items place) }
-    ensures variant { IsSome result ↔ (place < deque_len messages.old) }
-    ensures unchanged { IfNone result (messages.new ≡ messages.old) }
-{
-    if place > 0 || messages.is_empty() {
-        return remove_among(messages, place);
-    }
-    messages.pop_front()
-}
-
-/// Removes the message at a place other than the front. A function of its own, so that the first one is removed cheaply.
-#[inline(never)]
-fn remove_among(messages: &mut VecDeque<Waiting>, place: usize) -> Option<Waiting>
-    ensures value { IfSome result (λ w. w ≡ slice_index_or messages.old.items place w) }
-    ensures items { OnSome result (messages.new.items ≡ remove messages.old.items place) }
-    ensures variant { IsSome result ↔ (place < deque_len messages.old) }
-    ensures unchanged { IfNone result (messages.new ≡ messages.old) }
-{
-    messages.remove(place)
 }
 
 /// The place of the message that has waited longest on a stream.

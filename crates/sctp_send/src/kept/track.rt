@@ -5,7 +5,8 @@ ghost use Rattle.sctp_values.specs.Meanings.{kind_meaning};
 ghost use Rattle.sctp_send.specs.SenderFields.{latest, track_meaning, endings_meaning};
 ghost use Rattle.sctp_send.specs.inner.Walks.{rest_owes};
 
-use crate::kept::message::{Message, fragments_of, owed};
+use crate::kept::message::Message;
+use crate::kept::pieces::{fragments_of, owed};
 use sctp_values::{Kind, NoMemory};
 use std::alloc::Global;
 use std::sync::Arc;

@@ -12,8 +12,9 @@ ghost use Rattle.sctp_send.specs.inner.Acknowledging.{block_fault};
 
 use crate::kept::counts::Counts;
 use crate::kept::entry::{CoveredRun, Entry, RUNS};
-use crate::kept::message::{Message, keep_shell};
+use crate::kept::message::Message;
 use crate::kept::outstanding::Outstanding;
+use crate::kept::shells::keep_shell;
 use sctp_wire::Blocks;
 use std::alloc::Global;
 use std::collections::VecDeque;

@@ -1,27 +1,32 @@
-use Rattle.std.proofs.Common.{◌≡◌, ◌<◌, ◌%◌, ◌^◌, refl, arith, deque_len}
-use Rattle.sctp_send.specs.inner.Seating.{bytes_of, owed_by}
+use Rattle.std.proofs.Common.{◌≡◌, ◌∙◌, ◌<◌, ◌%◌, ◌^◌, length, refl, arith, deque_len}
+use Rattle.sctp_send.specs.inner.Seating.{owed_by}
 use Rattle.sctp_send.specs.declared.kept.waiting.Waiting.{Waiting}
 use Rattle.sctp_send.proofs.kept.SeatedLemmas.{mapped_removed, queue_removed}
 use Rattle.sctp_send.proofs.kept.queue.Queue.remove.Goals as goal
+use Rattle.sctp_send.proofs.kept.queue.Queue.remove.Goals.{then-self, else-self}
 
-pub invariant_of-self-2 : goal.invariant_of-self-2
-invariant_of-self-2 c =
+pub invariant_of-self-then-self : goal.invariant_of-self-then-self
+invariant_of-self-then-self c =
     let w = c.self.inside in
     let y = c.in_ok-waiting.waiting in
     let there : c.args.place < deque_len w.messages = c.in_ok-waiting.ensures.variant.0 refl in
-    let owes : c.owed_by_message-owed.result ≡ owed_by w.size y.message % 2 ^ 64 = rw (← c.deref-message.ensures) c.owed_by_message-owed.ensures in
-    let has : c.bytes_of.result ≡ bytes_of y.message = rw (← c.deref-message.ensures) c.bytes_of.ensures in
+    let owes : c.owed-owed.result ≡ owed_by w.size y.message % 2 ^ 64 = rw (← c.deref-message.ensures, ← c.deref-bytes.ensures.value, ← c.fragments_of.ensures) c.owed-owed.ensures in
     rw c.in_ok-waiting.ensures.items
-    (queue_removed w.size w.owed c.owed_by_message-owed.result w.bytes c.bytes_of.result w.last c.args.place w.rises w.is_seated w.messages.items y w.seats.items c.free_seat.new.seats.items c.self.invariant (omega (arith, there)) c.in_ok-waiting.ensures.value
-    owes has (omega (arith, c.bytes_of.type_inv)) (rw c.seat_of-seat.ensures at c.free_seat.ensures))
+    (queue_removed w.size w.owed c.owed-owed.result w.bytes (length c.deref-bytes.result.now) w.last c.args.place w.rises w.is_seated w.messages.items y w.seats.items c.free_seat.new.seats.items c.self.invariant (omega (arith, there)) c.in_ok-waiting.ensures.value
+    owes (rw (c.deref-bytes.ensures.value, c.deref-message.ensures) refl) (omega (arith, c.deref-bytes.ensures.len, c.deref-bytes.type_inv)) (λ ps _. c.free_seat.ensures ps))
 
-pub returns-clause-owned : goal.returns-clause-owned
-returns-clause-owned c =
+pub invariant_of-self-else-self : goal.invariant_of-self-else-self
+invariant_of-self-else-self c =
+    let w = c.self.inside in
     let y = c.in_ok-waiting.waiting in
-    let there : c.args.place < deque_len c.self.inside.messages = c.in_ok-waiting.ensures.variant.0 refl in
-    let own = c.self.invariant.owned c.args.place y (omega (arith, there)) in
-    rw (← c.self.view_is, c.in_ok-waiting.ensures.value) own
+    let there : c.args.place < deque_len w.messages = c.in_ok-waiting.ensures.variant.0 refl in
+    let owes : c.owed-owed.result ≡ owed_by w.size y.message % 2 ^ 64 = rw (← c.deref-message.ensures, ← c.deref-bytes.ensures.value, ← c.fragments_of.ensures) c.owed-owed.ensures in
+    rw c.in_ok-waiting.ensures.items
+    (queue_removed w.size w.owed c.owed-owed.result w.bytes (length c.deref-bytes.result.now) w.last c.args.place w.rises w.is_seated w.messages.items y w.seats.items w.seats.items c.self.invariant (omega (arith, there)) c.in_ok-waiting.ensures.value
+    owes (rw (c.deref-bytes.ensures.value, c.deref-message.ensures) refl) (omega (arith, c.deref-bytes.ensures.len, c.deref-bytes.type_inv)) (λ ps on. absurd (cc (on, c.if-self.false))))
 
 pub returns-clause-some : goal.returns-clause-some
-returns-clause-some c = λ lt.
-    rw (← c.self.view_is, c.in_ok-waiting.ensures.items, mapped_removed (λ (z : Waiting). z.message) c.self.inside.messages.items c.args.place) refl
+returns-clause-some c = λ lt. elim c.if-self.branch [
+  | then-self b ↦ b.self-is ∙ rw (← c.self.view_is, c.in_ok-waiting.ensures.items, mapped_removed (λ (z : Waiting). z.message) c.self.inside.messages.items c.args.place) refl
+  | else-self b ↦ b.self-is ∙ rw (← c.self.view_is, c.in_ok-waiting.ensures.items, mapped_removed (λ (z : Waiting). z.message) c.self.inside.messages.items c.args.place) refl
+]

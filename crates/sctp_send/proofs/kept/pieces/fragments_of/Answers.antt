@@ -1,7 +1,7 @@
 use Rattle.std.proofs.Common.{ℕ, ◌∙◌, ap, length, arith}
 use Rattle.std.specs.Int.{div_ceil}
 use Rattle.sctp_send.proofs.QueueLemmas.{count_is, few_are}
-use Rattle.sctp_send.proofs.kept.message.fragments_of.Goals as goal
+use Rattle.sctp_send.proofs.kept.pieces.fragments_of.Goals as goal
 
 pub returns-then-bytes-most : goal.returns-then-bytes-most
 returns-then-bytes-most c = c.min.ensures ∙ few_are c.args.size c.args.bytes.now c.requires (omega (arith, c.if-bytes-most.true, c.from-most.ensures))
