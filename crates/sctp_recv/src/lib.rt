@@ -80,6 +80,7 @@ mod resets;
 mod restart;
 mod runs;
 mod sack;
+mod sacking;
 mod seen;
 mod stream;
 mod trimming;

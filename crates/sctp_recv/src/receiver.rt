@@ -1,18 +1,16 @@
 //! The receiver of an association (RFC 9260, 6.2 and 6.6; RFC 3758, 3.6; RFC 8260, 2.2 and 2.3).
 
-ghost use Rattle.std.specs.Prelude.{◌≡◌, ℕ, ◌<◌, ◌≤◌, ◌-◌, ◌^◌, false, IfOk, MatchOption, option_map, is_some, slice_get, List, Option, None, Some, length};
-ghost use Rattle.sctp_model.specs.wire.Chunk.{BlockMeaning, Sack};
+ghost use Rattle.std.specs.Prelude.{◌≡◌, ℕ, ◌<◌, ◌≤◌, ◌-◌, false, IfOk, MatchOption, option_map, is_some, slice_get, List, Option, None, Some, length};
+ghost use Rattle.sctp_model.specs.wire.Chunk.{BlockMeaning};
 ghost use Rattle.sctp_model.specs.numbers.Limits.{RUN_LIMIT};
 ghost use Rattle.sctp_model.specs.numbers.Serial.{tsn};
 ghost use Rattle.sctp_model.specs.messages.Format.{Unordered, is_numbered};
 ghost use Rattle.sctp_model.specs.receiver.ReceiverView.{ReceiverView, IsCumulative, fresh_receiver, held_bytes};
-ghost use Rattle.sctp_model.specs.receiver.SackMade.{AreAllRuns, IsSack, sack_sent, TakeLeaves};
+ghost use Rattle.sctp_model.specs.receiver.SackMade.{AreAllRuns, sack_sent, TakeLeaves};
 ghost use Rattle.sctp_model.specs.end.Arriving.{TellsGap};
-ghost use Rattle.sctp_wire.specs.Layouts.{Fits};
 ghost use Rattle.sctp_recv.specs.HandedOf.{handed_of};
 ghost use Rattle.sctp_recv.specs.Readable.{ReadableAnswer, NextReadableAnswer};
 ghost use Rattle.sctp_recv.specs.Requests.{reset_there};
-ghost use Rattle.sctp_recv.specs.SackOf.{lists_meaning, plain_meaning, TellsLists};
 ghost use Rattle.sctp_recv.specs.StandsFor.{StandsFor};
 
 use crate::duplicates::Duplicates;
@@ -21,7 +19,6 @@ use crate::message::Message;
 use crate::places::Lows;
 use crate::ready::{Ready, show_change};
 use crate::resets::{Resets, count_off};
-use crate::sack::{PlainSack, SackLists};
 use crate::seen::Seen;
 use crate::stream::{Stream, fresh_streams, take_first};
 use sctp_chains::Spare;
@@ -160,51 +157,6 @@ impl<F: Framing> Receiver<F> {
         match self.readable(from) {
             Some(stream) => Some(stream),
             None => Some(lowest),
-        }
-    }
-
-    /// The SACK to be sent now. Nothing changes.
-    ///
-    /// # Errors
-    /// Allocation failed.
-    pub fn sack(&self) -> Result<SackLists, NoMemory>
-        ensures sack { (v : ReceiverView) → StandsFor F.format self.now v → IfOk result (λ s. IsSack v (lists_meaning s)) }
-        ensures fits { IfOk result (λ s. Fits (Sack (lists_meaning s))) }
-    {
-        let mut blocks = Vec::new(self.alloc);
-        self.seen.put_blocks(&mut blocks)?;
-        let mut duplicates = Vec::new(self.alloc);
-        self.duplicates.put(&mut duplicates)?;
-        let words = self.sack_words();
-        Ok(SackLists {
-            cumulative: words.cumulative,
-            rwnd: words.rwnd,
-            blocks,
-            duplicates,
-        })
-    }
-
-    /// The SACK to be sent now, if it has neither gap ack blocks nor duplicates: None if and only if it has. Nothing changes, and nothing is allocated.
-    #[inline(always)]
-    pub fn plain_sack(&self) -> Option<PlainSack>
-        ensures { (v : ReceiverView) → StandsFor F.format self.now v → MatchOption result (TellsLists v) (λ s. IsSack v (plain_meaning s)) }
-    {
-        if self.seen.has_runs() || self.duplicates.has_some() {
-            return None;
-        }
-        Some(self.sack_words())
-    }
-
-    /// The cumulative TSN and the space left, as a SACK tells them.
-    #[inline(always)]
-    fn sack_words(&self) -> PlainSack
-        ensures cumulative { result.cumulative ≡ tsn self.now.initial self.now.seen.kept.cumulative }
-        ensures rwnd { result.rwnd ≡ self.now.buffer - self.now.held }
-        ensures fits { (result.cumulative < 2 ^ 32) × (result.rwnd < 2 ^ 32) }
-    {
-        PlainSack {
-            cumulative: tsn_of(self.initial, self.seen.cumulative()),
-            rwnd: self.buffer.saturating_sub(self.held),
         }
     }
 
