@@ -84,6 +84,7 @@ impl<F: Framing> Chains<F> {
     }
 
     /// Whether this fragment of this message is kept already under I-DATA; false under DATA, whose fragments are known by their TSNs.
+    #[inline(always)]
     pub fn is_held(&self, piece: &Piece<'_>, number: Option<u64>) -> bool
         ensures { (i : ℕ) (l : Lane) (kept : Kept) → StandsFor F.format self.now l kept → IsOf F.format l (counted i (piece_meaning piece.now) number)
             → result ≡ is_repeated F.format kept (counted i (piece_meaning piece.now) number) }

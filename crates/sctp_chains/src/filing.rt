@@ -27,6 +27,7 @@ pub(crate) fn place(chains: &Sequence<Chain>, rank: u128) -> usize
 }
 
 /// The chain before a position, if the fragment continues it.
+#[inline(always)]
 fn linked_before(chains: &Sequence<Chain>, at: usize, part: &Part) -> Option<usize>
     ensures { at ≤ length chains.now.items → IsLinkBefore (map chain_of chains.now.items) at (one_of part.now) result }
 {

@@ -50,6 +50,7 @@ impl Parts {
     ///
     /// # Errors
     /// Allocation failed, and nothing changed.
+    #[inline(always)]
     pub(crate) fn reserve(&mut self, more: usize) -> Result<(), NoMemory>
         ensures same { parts_in self.new ≡ parts_in self.old }
         ensures room { OnOk result (HasRoom self.new more) }

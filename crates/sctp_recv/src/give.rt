@@ -95,6 +95,7 @@ fn make_one(waiting: &mut VecDeque<Message>) -> Result<(), NoMemory>
 
 /// Delivers the complete messages from the next number on, all ordered numbers below `floor` being skipped; what is below the
 /// next number then is dropped. It returns the bytes delivered.
+#[inline(always)]
 pub(crate) fn give_ordered<F: Framing>(inbound: &mut Inbound<F>, stream: u16, floor: u64) -> u32
     ensures { (kept : Kept) → lane.StandsFor F.format inbound.old.ordered (ordered_lane stream) kept → AreCounted kept → HasRoom inbound.old 0
         → GivesDue F.format stream floor kept inbound.old inbound.new result }

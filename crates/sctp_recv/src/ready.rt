@@ -40,6 +40,7 @@ impl Ready {
     }
 
     /// Sets or clears the bit of a stream. A stream that doesn't exist has none.
+    #[inline(always)]
     pub(crate) fn mark(&mut self, stream: u16, on: bool)
         ensures size { length self.new.words.items ≡ length self.old.words.items }
         ensures here { stream < length self.old.words.items * 64 → bit_in self.new.words.items stream ≡ (if on then 1 else 0) }

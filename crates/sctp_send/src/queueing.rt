@@ -115,6 +115,7 @@ impl<F: Framing> Sender<F> {
     }
 
     /// Queues a message, or refuses it. The space for its ticket, and for all entries that it may take, is reserved before anything changes.
+    #[inline(always)]
     fn accept(
         &mut self,
         stream: u16,
@@ -165,6 +166,7 @@ impl<F: Framing> Sender<F> {
     }
 
     /// The first reason for which a message with these bytes is refused on a stream, whatever memory there is.
+    #[inline(always)]
     fn refusal(&self, stream: u16, bytes: &[u8]) -> Option<SendFault>
         ensures none { (v : SenderView) → StandsFor F.format self.now v → IfNone result (refusal v stream bytes.now ≡ None) }
         ensures some { (v : SenderView) → StandsFor F.format self.now v → IfSome result (λ fault. refused_with (refusal v stream bytes.now) fault) }

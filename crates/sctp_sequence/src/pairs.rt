@@ -127,12 +127,23 @@ impl Pairs {
         ensures items { AreSame self.new.items (pair ∷ self.old.items) }
         ensures capacity { self.old.capacity ≤ self.new.capacity }
     {
-        let rank = self.rank_of(key_of(pair));
-        if rank == self.pairs.len() {
+        if self.are_lower(key_of(pair)) {
             self.pairs.push_back_reserved(pair);
             return;
         }
         let _inserted = self.insert(pair);
+    }
+
+    /// All pairs are lower than what has this key.
+    #[inline(always)]
+    fn are_lower(&self, sought: u128) -> bool
+        ensures { result ≡ true → IsRank sought self.now.items (length self.now.items) }
+    {
+        let len = self.pairs.len();
+        if len == 0 || key_of(self.pairs[len - 1]) < sought {
+            return true;
+        }
+        false
     }
 
     /// Removes a pair, and returns whether it was there. The first one is looked at before others, since it is the one mostly.
@@ -204,7 +215,7 @@ impl Pairs {
         if len == 0 || sought <= key_of(self.pairs[0]) {
             return 0;
         }
-        if key_of(self.pairs[len - 1]) < sought {
+        if self.are_lower(sought) {
             return len;
         }
         self.rank_among(sought)

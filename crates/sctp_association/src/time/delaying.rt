@@ -62,6 +62,7 @@ impl Machine {
     }
 
     /// A SACK is due, or delayed if it may be (RFC 9260, 6.2).
+    #[inline(always)]
     fn owe_sack(&mut self, at_once: bool, stage: Stage)
         ensures { (v : EndView) (n : Notes) → n.at_once ≡ at_once → MachineStands self.old v
             → MachineStands self.new (if is_at_once n (stage_meaning stage) v then acknowledges (stage_meaning stage) v else delays v) }

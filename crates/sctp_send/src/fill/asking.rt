@@ -57,8 +57,8 @@ impl Told {
         self.next_pending::<F>(stock, room)
     }
 
-    /// `next_going`, where an entry may be to go out. It is not inlined, so that the test before it is small.
-    #[inline(never)]
+    /// `next_going`, where an entry may be to go out.
+    #[inline(always)]
     fn next_pending<F: Framing>(&self, stock: &mut Stock, room: usize) -> Option<Going>
         requires { IsSized self.now.fragment stock.old }
         ensures goes { (v : SenderView) (p : PacketDraft) → Keeps F.format (stocked (bare self.now) stock.old) v → room ≡ room_in p → GoesAnswer F.format v p result }

@@ -17,6 +17,7 @@ use sctp_framing::Framing;
 #[tactic(auto, unfolding(crate::specs::SenderStands::StandsFor))]
 impl<F: Framing> Sender<F> {
     /// From time to time the first block of tickets ends, if nothing is kept of it but their fates.
+    #[inline(always)]
     pub(crate) fn end_tickets(&mut self)
         ensures { (v : SenderView) → StandsFor F.format self.old v → StandsFor F.format self.new v }
     {

@@ -34,6 +34,7 @@ pub(crate) fn cover(outstanding: &mut Outstanding, blocks: &Blocks<'_>)
 }
 
 /// Removes the first `passed` entries, which are acknowledged cumulatively. The memory of their messages is kept for further messages.
+#[inline(always)]
 pub(crate) fn forget(
     outstanding: &mut Outstanding,
     shells: &mut Vec<Arc<Message>>,
