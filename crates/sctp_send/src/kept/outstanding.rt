@@ -1,9 +1,11 @@
 //! The outstanding entries, those above the cumulative TSN acknowledged (CUM), with counts of them, so that no call has to look at all.
 
-ghost use Rattle.std.specs.Prelude.{◌≡◌, ℕ, ◌+◌, ◌*◌, ◌-◌, ◌<◌, ◌≤◌, ◌%◌, ◌^◌, ◌++◌, ◌∷◌, [], None, drop, true, false, map, length, slice_index_or, OnOk, OnErr};
+ghost use Rattle.std.specs.Prelude.{◌≡◌, ℕ, ◌+◌, ◌*◌, ◌-◌, ◌<◌, ◌≤◌, ◌%◌, ◌^◌, ◌++◌, ◌∷◌, [], None, Some, drop, true, false, map, length, slice_get, slice_index_or, OnOk, OnErr};
 ghost use Rattle.sctp_send.specs.OutstandingFields.{item_meaning};
 ghost use Rattle.sctp_send.specs.PartsKept.{changed};
+ghost use Rattle.sctp_send.specs.declared.kept.stretches.Stretch.{Stretch};
 ghost use Rattle.sctp_send.specs.inner.Changes.{stood};
+ghost use Rattle.sctp_send.specs.inner.Stretching.{index_at, slot_at};
 ghost use Rattle.sctp_send.specs.inner.Walks.{abandoned_items, any_unsettled};
 ghost use Rattle.sctp_send.specs.inner.Wishing.{first_offset, is_item_marked, is_item_unsent, item_flight};
 
@@ -200,7 +202,7 @@ impl Outstanding {
     {
         let others = self.entries.len();
         self.counts.add(others, &entry, self.size);
-        forget_stretch(&mut self.stretches, self.by_ticket.index(others));
+        forget_added(&mut self.stretches, &self.by_ticket, others);
         self.by_ticket.push(entry.message.ticket, others);
         self.entries.push_back_reserved(entry);
     }
@@ -228,5 +230,16 @@ impl Outstanding {
     {
         forget_stretch(&mut self.stretches, self.by_ticket.index(at));
         stand_one(&mut self.entries, &mut self.counts, self.size, at, state);
+    }
+}
+
+/// Forgets the stretch to which an entry at this offset is added. If there are no slots that costs one test.
+#[inline(always)]
+fn forget_added(stretches: &mut Vec<Stretch>, by_ticket: &ByTicket, at: usize)
+    ensures here { (s : Stretch) → slice_get stretches.new.items (slot_at (index_at by_ticket.now.first at)) ≡ Some s → s.is_known ≡ false }
+    ensures others { (k : ℕ) → (k ≡ slot_at (index_at by_ticket.now.first at) → ⊥) → slice_get stretches.new.items k ≡ slice_get stretches.old.items k }
+{
+    if !stretches.is_empty() {
+        forget_stretch(stretches, by_ticket.index(at));
     }
 }

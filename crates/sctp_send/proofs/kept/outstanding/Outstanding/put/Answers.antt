@@ -43,11 +43,12 @@ invariant_of-self c =
       here = let le = h.here in omega (arith, le, c.push_back_reserved.ensures.capacity);
       there = let le = h.there in omega (arith, le, c.push.ensures.capacity);
       known =
-          let here = c.index.ensures ∙ ap (index_at s.by_ticket.first) long in
-          subst (λ (xs : List EntryFields). AreKnown s.size c.push.new.self.first c.forget_stretch.new.stretches.items xs) (sym items)
-          (subst (λ (n : ℕ). AreKnown s.size n c.forget_stretch.new.stretches.items (es ++ e ∷ [])) (sym c.push.ensures.first)
-          (known_pushed s.size s.by_ticket.first s.stretches.items c.forget_stretch.new.stretches.items es e
-          (subst (λ (i : ℕ). SayTheSame i c.forget_stretch.new.stretches.items s.stretches.items) here c.forget_stretch.ensures.others)
-          (subst (λ (i : ℕ). SayNothing i c.forget_stretch.new.stretches.items) here c.forget_stretch.ensures.here)
+          let here = ap (index_at s.by_ticket.first) long in
+          let now = c.forget_added.new.stretches.items in
+          subst (λ (xs : List EntryFields). AreKnown s.size c.push.new.self.first now xs) (sym items)
+          (subst (λ (n : ℕ). AreKnown s.size n now (es ++ e ∷ [])) (sym c.push.ensures.first)
+          (known_pushed s.size s.by_ticket.first s.stretches.items now es e
+          (subst (λ (i : ℕ). SayTheSame i now s.stretches.items) here c.forget_added.ensures.others)
+          (subst (λ (i : ℕ). SayNothing i now) here c.forget_added.ensures.here)
           h.known));
     }
