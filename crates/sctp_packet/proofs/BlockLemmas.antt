@@ -1,16 +1,21 @@
 -- A block of a run: its bytes and what folding moves to them, read and written in a part of a buffer.
 use Rattle.std.proofs.Common.{◌≡◌, ℕ, ◌+◌, ◌-◌, ◌<◌, ◌≤◌, ◌++◌, inl, inr, List, bit_xor, length, take, drop, refl, sym, ap, ◌∙◌, arith}
 use Rattle.std.specs.Prelude.{slice_index}
-use borrow.Rule.Slice.PartMut.{put_mid}
 use Rattle.std.proofs.lemmas.Bool.{cases_lt}
-use Rattle.std.proofs.lemmas.List.{get_or-append_right, get_or_append_left, get_or-drop, get_or-take}
-use Rattle.std.proofs.lemmas.Slice.{between-put_mid}
+use Rattle.std.proofs.lemmas.List.{get_or-append_right, get_or_append_left, get_or-drop, get_or-take, get_or_past, length-take}
 use Rattle.sctp_packet.specs.Folding.{byte_of, reaching}
 use Rattle.sctp_packet.proofs.RoomLemmas.{byte_sum}
 
 -- a byte of a part
 pub part_byte : (xs : List ℕ) (a n k : ℕ) → k < n → slice_index (take n (drop a xs)) k ≡ slice_index xs (a + k)
 part_byte xs a n k few = get_or-take n (drop a xs) k 0 few ∙ get_or-drop a xs k 0
+
+pub part_small : (xs : List ℕ) (a n k : ℕ) → ((j : ℕ) → slice_index xs j < 256) → slice_index (take n (drop a xs)) k < 256
+part_small xs a n k small =
+    elim (cases_lt k n) [
+      | inl low ↦ omega (arith, part_byte xs a n k low, small (a + k))
+      | inr high ↦ omega (arith, get_or_past (take n (drop a xs)) k 0 (omega (arith, length-take n (drop a xs), high)))
+    ]
 
 -- what reaches a place is the same wherever the bytes before it stand
 reaching_moved : (xs ws : List ℕ) (p q : ℕ) → ((d : ℕ) → 65 ≤ d → d ≤ 209 → slice_index ws (p - d) ≡ slice_index xs (q - d)) → reaching ws p ≡ reaching xs q
@@ -72,9 +77,3 @@ joined_behind front block behind room n j long whole same high =
     get_or-append_right front (block ++ drop 32 behind) n j 0 long (omega (arith, high))
     ∙ (get_or-append_right block (drop 32 behind) 32 (j - n) 0 whole (omega (arith, high))
     ∙ (get_or-drop 32 behind (j - n - 32) 0 ∙ (same (32 + (j - n - 32)) ∙ ap (slice_index room) count)))
-
--- in a part
-pub written_here : (a n k : ℕ) (xs ys : List ℕ) → a + 32 ≤ length xs → length ys ≡ 32 → k < 32 → slice_index (put_mid a n xs ys) (a + k) ≡ slice_index ys k
-written_here a n k xs ys within whole few =
-    let count : length ys ≡ a + 32 - a = omega (arith, whole) in
-    sym (part_byte (put_mid a n xs ys) a (a + 32 - a) k (omega (arith, few))) ∙ ap (λ (l : List ℕ). slice_index l k) (between-put_mid a n xs ys (a + 32) (omega (arith, within)) count)

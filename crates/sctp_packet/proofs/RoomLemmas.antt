@@ -1,5 +1,5 @@
 -- A buffer in which a run of bytes is folded, a block at a time.
-use Rattle.std.proofs.Common.{◌≡◌, ℕ, zero, suc, replicate, ◌+◌, ◌-◌, ◌*◌, ◌/◌, ◌%◌, ◌^◌, ◌<◌, ◌≤◌, inl, inr, List, length, bit_xor, refl, sym, ap, ◌∙◌, arith}
+use Rattle.std.proofs.Common.{◌≡◌, ℕ, zero, suc, replicate, ◌+◌, ◌-◌, ◌*◌, ◌/◌, ◌%◌, ◌^◌, ◌<◌, ◌≤◌, inl, inr, List, length, bit_xor, refl, sym, ap, ◌∙◌, subst, arith}
 use Rattle.std.specs.Prelude.{slice_index, take, drop, [], ◌++◌}
 use Rattle.std.proofs.lemmas.Grind.{common_steps}
 use borrow.Rule.Slice.PartMut.{put_mid, mid_of, post_of}
@@ -9,7 +9,7 @@ use Rattle.std.proofs.lemmas.Bool.{cases_lt}
 use Rattle.std.specs.Int.Bits.{xor_zero_r}
 use Rattle.std.proofs.lemmas.Nat.{xor_mod, xor_shr, pow_pos, shr-shr}
 use Rattle.std.proofs.Math.Nat.{div-eq_of_lt}
-use Rattle.sctp_packet.specs.Folding.{FRONT, byte_of, mixed_byte, reaching, IsFolded, IsLeft}
+use Rattle.sctp_packet.specs.Folding.{FRONT, byte_of, mixed_byte, reaching, IsFolded}
 
 -- a byte of a sum is the sum of the bytes
 pub byte_sum : (a b k : ℕ) → byte_of (bit_xor a b) k ≡ bit_xor (byte_of a k) (byte_of b k)
@@ -66,20 +66,21 @@ folded_none register bytes xs empty = record { before = λ j low. empty j; each 
 pub reaching_none : (xs : List ℕ) (p : ℕ) → ((j : ℕ) → slice_index xs j ≡ 0) → reaching xs p ≡ 0
 reaching_none xs p empty = rw (empty (p - 65), empty (p - 155), empty (p - 170), empty (p - 195), empty (p - 209)) refl
 
--- one block more is left
-pub left_more : (bytes room xs ys : List ℕ) (k n : ℕ) → IsLeft bytes room k n xs → ((j : ℕ) → j < n → slice_index ys j ≡ slice_index xs j) →
-    ((i : ℕ) → i < 32 → slice_index ys (n + i) ≡ bit_xor (slice_index bytes (k + n + i)) (reaching room (FRONT + k + n + i))) → IsLeft bytes room k (n + 32) ys
-left_more bytes room xs ys k n l before here i lt =
-    elim (cases_lt i n) [
-      | inl old ↦ before i old ∙ l i old
-      | inr new ↦ block (i - n) (omega (arith, new)) (omega (arith, lt))
+-- one block more is left, before those that are written
+pub left_more : (bytes room xs ys : List ℕ) (at end : ℕ) → ((i : ℕ) → at + 32 ≤ i → i < end → slice_index xs (FRONT + i) ≡ bit_xor (slice_index bytes i) (reaching room (FRONT + i))) →
+    ((j : ℕ) → j < FRONT + (at + 32) → slice_index xs j ≡ slice_index room j) → ((k : ℕ) → k < 32 → slice_index ys (FRONT + at + k) ≡ bit_xor (slice_index bytes (at + k)) (reaching xs (FRONT + at + k))) →
+    ((j : ℕ) → FRONT + at + 32 ≤ j → slice_index ys j ≡ slice_index xs j) → (i : ℕ) → at ≤ i → i < end → slice_index ys (FRONT + i) ≡ bit_xor (slice_index bytes i) (reaching room (FRONT + i))
+left_more bytes room xs ys at end later before here behind i high low =
+    elim (cases_lt i (at + 32)) [
+      | inl new ↦ block (i - at) (omega (arith, high)) (omega (arith, high, new))
+      | inr old ↦ behind (FRONT + i) (omega (arith, old)) ∙ later i old low
     ]
   where
-    block : (j : ℕ) → i ≡ n + j → j < 32 → slice_index ys i ≡ bit_xor (slice_index bytes (k + i)) (reaching room (FRONT + (k + i)))
-    block j is few =
-        let first : k + n + j ≡ k + i = omega (arith, is) in
-        let second : FRONT + k + n + j ≡ FRONT + (k + i) = omega (arith, is) in
-        ap (slice_index ys) is ∙ (here j few ∙ rw (first, second) refl)
+    block : (k : ℕ) → at + k ≡ i → k < 32 → slice_index ys (FRONT + i) ≡ bit_xor (slice_index bytes i) (reaching room (FRONT + i))
+    block k is few =
+        let place : FRONT + at + k ≡ FRONT + i = omega (arith, is) in
+        let same = reaching_same room xs (FRONT + (at + 32)) (FRONT + i) before (omega arith) (omega (arith, is, few)) in
+        subst (λ (p : ℕ). slice_index ys p ≡ bit_xor (slice_index bytes i) (reaching xs p)) place (subst (λ (n : ℕ). slice_index ys (FRONT + at + k) ≡ bit_xor (slice_index bytes n) (reaching xs (FRONT + at + k))) is (here k few)) ∙ ap (bit_xor (slice_index bytes i)) same
 
 -- behind n bytes that are written nothing changes
 behind_written : (n a j : ℕ) (xs ws : List ℕ) → length ws ≡ n → a + n ≤ length xs → a + n ≤ j →

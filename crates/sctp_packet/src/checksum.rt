@@ -7,7 +7,7 @@ ghost use Rattle.sctp_packet.specs.PacketBytes.{IsChecked, without_sum};
 ghost use Rattle.sctp_packet.specs.Register.{register_after};
 ghost use Rattle.sctp_packet.specs.Tables.{steps, IsEntry};
 
-use crate::folding::{BLOCK, LEFT, MOST, ROOM, fold, leave};
+use crate::folding::{BLOCK, FRONT, LEFT, MOST, ROOM, fold, leave};
 use crate::tables::TABLES;
 use byteorder::{ByteOrder, LittleEndian};
 
@@ -95,9 +95,8 @@ fn after_long(register: u32, bytes: &[u8]) -> u32
     let ends = bytes.len() - LEFT;
     let mut room = [0; ROOM];
     fold(register, bytes, ends, &mut room);
-    let mut left = [0; LEFT];
-    leave(bytes, &room, ends, &mut left);
-    after_short(0, &left)
+    leave(bytes, ends, &mut room);
+    after_short(0, &room[FRONT + ends..FRONT + ends + LEFT])
 }
 
 /// The register after the bytes, 32 at a time as long as there are that many.

@@ -1,6 +1,6 @@
 //! Folding of long runs of bytes, before the tables of the checksum take what is left of them: a byte that is folded needs no table.
 
-ghost use Rattle.std.specs.Prelude.{◌≡◌, ℕ, ◌+◌, ◌-◌, ◌*◌, ◌/◌, ◌%◌, ◌^◌, ◌<◌, ◌≤◌, bit_xor, length, slice_index};
+ghost use Rattle.std.specs.Prelude.{◌≡◌, ℕ, ◌+◌, ◌-◌, ◌*◌, ◌/◌, ◌%◌, ◌^◌, ◌<◌, ◌≤◌, bit_xor, drop, length, slice_index};
 ghost use Rattle.sctp_packet.specs.Folding.{byte_of, reaching, IsFolded, IsLeft};
 
 use byteorder::{ByteOrder, LittleEndian};
@@ -8,7 +8,7 @@ use byteorder::{ByteOrder, LittleEndian};
 /// The bytes that are folded at once: four words, none of which is added to another.
 pub(crate) const BLOCK: usize = 32;
 /// The zeros before the run in the buffer: 209, the farthest that a byte is moved, rounded up to whole words.
-const FRONT: usize = 216;
+pub(crate) const FRONT: usize = 216;
 /// The bytes that are left of a folded run: whole blocks.
 pub(crate) const LEFT: usize = 224;
 /// The bytes of a word.
@@ -85,33 +85,18 @@ fn fold_block(bytes: &[u8], at: usize, room: &mut [u8])
     set_block(&bytes[at..at + BLOCK], &before[at..], &mut behind[..BLOCK]);
 }
 
-/// Writes what folding leaves of the run, its last 224 bytes, to `left`, a block at a time.
-pub(crate) fn leave(bytes: &[u8], room: &[u8], ends: usize, left: &mut [u8])
+/// Writes what folding leaves of the run, its last 224 bytes, after the folded ones. The last block is the first, so that each is written from
+/// the folded bytes and the zeros after them alone.
+pub(crate) fn leave(bytes: &[u8], ends: usize, room: &mut [u8])
     requires within { ends + 224 ≤ length bytes.now }
-    requires room { 216 + ends + 224 ≤ length room.now }
-    requires left { length left.old ≡ 224 }
-    ensures length { length left.new ≡ 224 }
-    ensures bytes { (j : ℕ) → slice_index left.new j < 256 }
-    ensures left { IsLeft bytes.now room.now ends 224 left.new }
+    requires room { 216 + ends + 224 ≤ length room.old }
+    ensures length { length room.new ≡ length room.old }
+    ensures bytes { (j : ℕ) → slice_index room.new j < 256 }
+    ensures left { IsLeft bytes.now room.old ends 224 (drop (216 + ends) room.new) }
 {
     for turn in 0..LEFT / BLOCK {
-        leave_block(bytes, room, ends + BLOCK * turn, BLOCK * turn, left);
+        fold_block(bytes, ends + LEFT - BLOCK * (turn + 1), room);
     }
-}
-
-/// Writes what folding leaves of the block at `from` of the run to `left`, at `at`.
-#[inline(always)]
-fn leave_block(bytes: &[u8], room: &[u8], from: usize, at: usize, left: &mut [u8])
-    requires bytes { from + 32 ≤ length bytes.now }
-    requires room { 216 + from ≤ length room.now }
-    requires left { at + 32 ≤ length left.old }
-    ensures length { length left.new ≡ length left.old }
-    ensures here { (k : ℕ) → k < 32 → slice_index left.new (at + k)
-        ≡ bit_xor (slice_index bytes.now (from + k)) (reaching room.now (216 + from + k)) }
-    ensures before { (j : ℕ) → j < at → slice_index left.new j ≡ slice_index left.old j }
-{
-    let (taken, before) = (&bytes[from..from + BLOCK], &room[from..from + FRONT]);
-    set_block(taken, before, &mut left[at..at + BLOCK]);
 }
 
 /// Writes a block: its bytes, with what folding moves to each from the bytes before the block. The lengths of the slices are known, and all words
