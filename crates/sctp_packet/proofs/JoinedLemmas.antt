@@ -1,5 +1,5 @@
 -- Bytes as a function of their place, joined to one number, the lowest first: sums, bytes that are moved on, and the fold of a long run of bytes.
-use Rattle.std.proofs.Common.{◌≡◌, ℕ, zero, suc, ◌+◌, ◌-◌, ◌*◌, ◌/◌, ◌%◌, ◌^◌, ◌<◌, ◌≤◌, List, bit_xor, refl, sym, ap, ◌∙◌, arith}
+use Rattle.std.proofs.Common.{◌≡◌, ℕ, zero, suc, ◌+◌, ◌-◌, ◌*◌, ◌/◌, ◌%◌, ◌^◌, ◌<◌, ◌≤◌, List, [], ◌∷◌, bit_xor, refl, sym, ap, ◌∙◌, arith}
 use Rattle.std.specs.Prelude.{slice_index}
 use Rattle.std.specs.Int.Bits.{xor_zero_l}
 use Rattle.std.proofs.lemmas.Nat.{xor_block, xor_lt, pow-add, shr-shr}
@@ -7,7 +7,7 @@ use Rattle.byteorder.specs.Endian.{little_from}
 use Rattle.sctp_packet.specs.Tables.{steps}
 use Rattle.sctp_packet.specs.Folding.{byte_of}
 use Rattle.sctp_packet.proofs.StepLemmas.{steps_sum}
-use Rattle.sctp_packet.proofs.FoldLemmas.{spread, spread_goes, steps_over}
+use Rattle.sctp_packet.proofs.FoldLemmas.{spread, AreWithin, vanishing, spread_goes, steps_over}
 
 -- the number of the first n bytes
 abbrev pub joined : ℕ → (ℕ → ℕ) → ℕ
@@ -19,6 +19,16 @@ abbrev pub moved : ℕ → (ℕ → ℕ) → ℕ → ℕ
 moved zero f i = f i
 moved (suc d) f zero = 0
 moved (suc d) f (suc i) = moved d f i
+
+pub moved_low : (d i : ℕ) (f : ℕ → ℕ) → i < d → moved d f i ≡ 0
+moved_low zero i f low = absurd (omega (arith, low))
+moved_low (suc d) zero f low = refl
+moved_low (suc d) (suc i) f low = moved_low d i f (omega (arith, low))
+
+pub moved_high : (d i : ℕ) (f : ℕ → ℕ) → d ≤ i → moved d f i ≡ f (i - d)
+moved_high zero i f high = ap f (omega arith)
+moved_high (suc d) zero f high = absurd (omega (arith, high))
+moved_high (suc d) (suc i) f high = moved_high d i f (omega (arith, high)) ∙ ap f (omega arith)
 
 -- all are bytes
 abbrev pub AreBytes : (ℕ → ℕ) → Type 0
@@ -95,65 +105,47 @@ joined_bytes (suc n) a small =
 
 -- ---- the fold
 
--- what falls on a place: the bytes there, and those 65, 155, 170, 195 and 209 places before
-abbrev pub fallen : (ℕ → ℕ) → ℕ → ℕ
-fallen f i = bit_xor (bit_xor (bit_xor (bit_xor (bit_xor (f i) (moved 65 f i)) (moved 155 f i)) (moved 170 f i)) (moved 195 f i)) (moved 209 f i)
+-- what falls on a place: the byte there, and those before it by each of some distances
+abbrev pub fallen : List ℕ → (ℕ → ℕ) → ℕ → ℕ
+fallen [] f i = f i
+fallen (d ∷ ds) f i = bit_xor (fallen ds f i) (moved d f i)
 
 pub moved_bytes : (d : ℕ) (f : ℕ → ℕ) → AreBytes f → AreBytes (moved d f)
 moved_bytes zero f a i = a i
 moved_bytes (suc d) f a zero = omega arith
 moved_bytes (suc d) f a (suc i) = moved_bytes d f a i
 
-sum_bytes : (f g : ℕ → ℕ) → AreBytes f → AreBytes g → AreBytes (λ i. bit_xor (f i) (g i))
-sum_bytes f g a b i = xor_lt 8 (f i) (g i) (a i) (b i)
+pub fallen_bytes : (ds : List ℕ) (f : ℕ → ℕ) → AreBytes f → AreBytes (fallen ds f)
+fallen_bytes [] f a i = a i
+fallen_bytes (d ∷ ds) f a i = xor_lt 8 (fallen ds f i) (moved d f i) (fallen_bytes ds f a i) (moved_bytes d f a i)
 
--- of so many bytes that end before the last 209
+-- of so many bytes that end before the last ones, as far as they are moved
 joined_moved_to : (d k n : ℕ) (f : ℕ → ℕ) → k + d ≤ n → ((i : ℕ) → k ≤ i → f i ≡ 0) → joined n (moved d f) ≡ joined k f * 2 ^ (8 * d)
 joined_moved_to d k n f le none =
     let count : n ≡ d + (n - d) = omega (arith, le) in
     ap (λ (m : ℕ). joined m (moved d f)) count ∙ (joined_moved d (n - d) f ∙ ap (λ (x : ℕ). x * 2 ^ (8 * d)) (joined_cut k (n - d) f (omega (arith, le)) none))
 
-pub joined_fallen : (k n : ℕ) (f : ℕ → ℕ) → AreBytes f → k + 209 ≤ n → ((i : ℕ) → k ≤ i → f i ≡ 0) → joined n (fallen f) ≡ spread (joined k f)
-joined_fallen k n f a le none =
-    let b65 = moved_bytes 65 f a in
-    let b155 = moved_bytes 155 f a in
-    let b170 = moved_bytes 170 f a in
-    let b195 = moved_bytes 195 f a in
-    let b209 = moved_bytes 209 f a in
-    let s1 = sum_bytes f (moved 65 f) a b65 in
-    let s2 = sum_bytes _ (moved 155 f) s1 b155 in
-    let s3 = sum_bytes _ (moved 170 f) s2 b170 in
-    let s4 = sum_bytes _ (moved 195 f) s3 b195 in
-    joined_sum n _ (moved 209 f) s4 b209
-    ∙ rw (
-      joined_sum n _ (moved 195 f) s3 b195,
-      joined_sum n _ (moved 170 f) s2 b170,
-      joined_sum n _ (moved 155 f) s1 b155,
-      joined_sum n f (moved 65 f) a b65,
-      joined_cut k n f (omega (arith, le)) none,
-      joined_moved_to 65 k n f (omega (arith, le)) none,
-      joined_moved_to 155 k n f (omega (arith, le)) none,
-      joined_moved_to 170 k n f (omega (arith, le)) none,
-      joined_moved_to 195 k n f (omega (arith, le)) none,
-      joined_moved_to 209 k n f le none,
-    ) refl
+joined_fallen : (top : ℕ) (ds : List ℕ) → AreWithin top ds → (k n : ℕ) (f : ℕ → ℕ) → AreBytes f → k + top ≤ n → ((i : ℕ) → k ≤ i → f i ≡ 0) → joined n (fallen ds f) ≡ spread ds (joined k f)
+joined_fallen top [] within k n f a le none = joined_cut k n f (omega (arith, le)) none
+joined_fallen top (d ∷ ds) within k n f a le none =
+    joined_sum n (fallen ds f) (moved d f) (fallen_bytes ds f a) (moved_bytes d f a)
+    ∙ rw (joined_fallen top ds within.1 k n f a le none, joined_moved_to d k n f (omega (arith, le, within.0)) none) refl
 
 -- Bytes that are what falls on each place from the first k, with a tail behind these, leave what the tail leaves.
-pub folded_steps : (k n : ℕ) (m f t : ℕ → ℕ) → AreBytes f → AreBytes t → 209 ≤ n → ((i : ℕ) → k ≤ i → f i ≡ 0) →
-    ((i : ℕ) → i < k + n → m i ≡ bit_xor (fallen f i) (moved k t i)) → steps (8 * (k + n)) (joined (k + n) m) ≡ steps (8 * n) (joined n t)
-folded_steps k n m f t a b long none made =
-    let fa : AreBytes (fallen f) = sum_bytes _ (moved 209 f) (sum_bytes _ (moved 195 f) (sum_bytes _ (moved 170 f) (sum_bytes _ (moved 155 f) (sum_bytes f (moved 65 f) a (moved_bytes 65 f a)) (moved_bytes 155 f a)) (moved_bytes 170 f a)) (moved_bytes 195 f a)) (moved_bytes 209 f a) in
-    let whole : joined (k + n) m ≡ bit_xor (spread (joined k f)) (joined n t * 2 ^ (8 * k)) =
-    joined_same (k + n) m (λ i. bit_xor (fallen f i) (moved k t i)) made
-    ∙ (joined_sum (k + n) (fallen f) (moved k t) fa (moved_bytes k t b)
-    ∙ rw (joined_fallen k (k + n) f a (omega (arith, long)) none, joined_moved k n t) refl) in
-    let over : steps (8 * (k + n)) (spread (joined k f)) ≡ 0 =
-    let count : 8 * (k + n) ≡ 1672 + (8 * k + (8 * n - 1672)) = omega (arith, long) in
-    ap (λ (j : ℕ). steps j (spread (joined k f))) count ∙ spread_goes (8 * k) (8 * n - 1672) (joined k f) (wider k (joined k f) (joined_fits k f a)) in
+pub folded_steps : (top : ℕ) (ds : List ℕ) → vanishing top ds (2 ^ 31) ≡ 0 → AreWithin top ds → (k n : ℕ) (m f t : ℕ → ℕ) → AreBytes f → AreBytes t → top ≤ n → ((i : ℕ) → k ≤ i → f i ≡ 0) →
+    ((i : ℕ) → i < k + n → m i ≡ bit_xor (fallen ds f i) (moved k t i)) → steps (8 * (k + n)) (joined (k + n) m) ≡ steps (8 * n) (joined n t)
+folded_steps top ds highest within k n m f t a b long none made =
+    let whole : joined (k + n) m ≡ bit_xor (spread ds (joined k f)) (joined n t * 2 ^ (8 * k)) =
+    joined_same (k + n) m (λ i. bit_xor (fallen ds f i) (moved k t i)) made
+    ∙ (joined_sum (k + n) (fallen ds f) (moved k t) (fallen_bytes ds f a) (moved_bytes k t b)
+    ∙ rw (joined_fallen top ds within k (k + n) f a (omega (arith, long)) none, joined_moved k n t) refl) in
+    let over : steps (8 * (k + n)) (spread ds (joined k f)) ≡ 0 =
+    let count : 8 * (k + n) ≡ 8 * top + (8 * k + (8 * n - 8 * top)) = omega (arith, long) in
+    ap (λ (j : ℕ). steps j (spread ds (joined k f))) count ∙ spread_goes top ds highest within (8 * k) (8 * n - 8 * top) (joined k f) (wider k (joined k f) (joined_fits k f a)) in
     let last : steps (8 * (k + n)) (joined n t * 2 ^ (8 * k)) ≡ steps (8 * n) (joined n t) =
     let count : 8 * (k + n) ≡ 8 * k + 8 * n = omega arith in
     ap (λ (j : ℕ). steps j (joined n t * 2 ^ (8 * k))) count ∙ steps_over (8 * k) (8 * n) (joined n t) in
-    ap (steps (8 * (k + n))) whole ∙ (steps_sum (8 * (k + n)) (spread (joined k f)) (joined n t * 2 ^ (8 * k)) ∙ (rw (over, last) refl ∙ xor_zero_l (steps (8 * n) (joined n t))))
+    ap (steps (8 * (k + n))) whole ∙ (steps_sum (8 * (k + n)) (spread ds (joined k f)) (joined n t * 2 ^ (8 * k)) ∙ (rw (over, last) refl ∙ xor_zero_l (steps (8 * n) (joined n t))))
   where
     wider : (j x : ℕ) → x < 2 ^ (8 * j) → x < 2 ^ (32 + 8 * j)
     wider j x small = let both : 2 ^ (32 + 8 * j) ≡ 2 ^ 32 * 2 ^ (8 * j) = pow-add 2 32 (8 * j) in omega (arith, both, small)

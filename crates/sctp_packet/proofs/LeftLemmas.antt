@@ -1,5 +1,5 @@
 -- What is left of a run that was folded leaves 0 what the run leaves the register.
-use Rattle.std.proofs.Common.{◌≡◌, ℕ, zero, suc, ◌+◌, ◌-◌, ◌*◌, ◌^◌, ◌<◌, ◌≤◌, inl, inr, List, length, drop, bit_xor, refl, sym, ap, ◌∙◌, arith}
+use Rattle.std.proofs.Common.{◌≡◌, ℕ, ◌+◌, ◌-◌, ◌*◌, ◌^◌, ◌<◌, ◌≤◌, inl, inr, List, length, drop, bit_xor, refl, sym, ap, ◌∙◌, arith}
 use Rattle.std.specs.Prelude.{slice_index}
 use Rattle.std.specs.Int.Bits.{xor_assoc, xor_self, xor_zero_r, xor_zero_l}
 use Rattle.std.proofs.lemmas.Bool.{cases_lt}
@@ -11,20 +11,11 @@ use Rattle.sctp_packet.specs.Register.{register_after}
 use Rattle.sctp_packet.specs.Tables.{steps}
 use Rattle.sctp_packet.specs.Folding.{FRONT, byte_of, mixed_byte, reaching, IsFolded, IsLeft}
 use Rattle.sctp_packet.proofs.StepBits.{run_bits}
-use Rattle.sctp_packet.proofs.JoinedLemmas.{joined, moved, fallen, joined_same, joined_sum, joined_list, joined_bytes, folded_steps}
+use Rattle.sctp_packet.proofs.FoldLemmas.{FAR, far_vanishes, far_within}
+use Rattle.sctp_packet.proofs.JoinedLemmas.{joined, moved, moved_low, moved_high, fallen, joined_same, joined_sum, joined_list, joined_bytes, folded_steps}
 use Rattle.sctp_packet.proofs.RoomLemmas.{high_byte}
 
 -- ---- a place, and what reaches it
-
-moved_low : (d i : ℕ) (f : ℕ → ℕ) → i < d → moved d f i ≡ 0
-moved_low zero i f low = absurd (omega (arith, low))
-moved_low (suc d) zero f low = refl
-moved_low (suc d) (suc i) f low = moved_low d i f (omega (arith, low))
-
-moved_high : (d i : ℕ) (f : ℕ → ℕ) → d ≤ i → moved d f i ≡ f (i - d)
-moved_high zero i f high = ap f (omega arith)
-moved_high (suc d) zero f high = absurd (omega (arith, high))
-moved_high (suc d) (suc i) f high = moved_high d i f (omega (arith, high)) ∙ ap f (omega arith)
 
 -- the bytes behind the zeros in front
 abbrev placed : List ℕ → ℕ → ℕ
@@ -44,7 +35,7 @@ regrouped x a b c d e =
     ∙ (ap (λ (n : ℕ). bit_xor (bit_xor n d) e) (xor_assoc x (bit_xor a b) c)
     ∙ (ap (λ (n : ℕ). bit_xor n e) (xor_assoc x (bit_xor (bit_xor a b) c) d) ∙ xor_assoc x (bit_xor (bit_xor (bit_xor a b) c) d) e))
 
-fallen_is : (room : List ℕ) (i : ℕ) → ((j : ℕ) → j < FRONT → slice_index room j ≡ 0) → fallen (placed room) i ≡ bit_xor (placed room i) (reaching room (FRONT + i))
+fallen_is : (room : List ℕ) (i : ℕ) → ((j : ℕ) → j < FRONT → slice_index room j ≡ 0) → fallen FAR (placed room) i ≡ bit_xor (placed room i) (reaching room (FRONT + i))
 fallen_is room i before =
     rw (moved_placed 65 i room (omega arith) before, moved_placed 155 i room (omega arith) before, moved_placed 170 i room (omega arith) before, moved_placed 195 i room (omega arith) before, moved_placed 209 i room (omega arith) before)
     (regrouped (placed room i) (slice_index room (FRONT + i - 65)) (slice_index room (FRONT + i - 155)) (slice_index room (FRONT + i - 170)) (slice_index room (FRONT + i - 195)) (slice_index room (FRONT + i - 209)))
@@ -55,25 +46,25 @@ twice : (m r : ℕ) → bit_xor (bit_xor (bit_xor m r) r) 0 ≡ m
 twice m r = xor_zero_r (bit_xor (bit_xor m r) r) ∙ (xor_assoc m r r ∙ (ap (bit_xor m) (xor_self r) ∙ xor_zero_r m))
 
 module _ (register : ℕ) (bytes room left : List ℕ) (k n : ℕ) (small : register < 2 ^ 32) (some : 4 ≤ k) (folded : IsFolded register bytes k room) (rest : IsLeft bytes room k n left) where
-  in_place : (i : ℕ) → i < k → mixed_byte register bytes i ≡ bit_xor (fallen (placed room) i) (moved k (slice_index left) i)
+  in_place : (i : ℕ) → i < k → mixed_byte register bytes i ≡ bit_xor (fallen FAR (placed room) i) (moved k (slice_index left) i)
   in_place i low =
       let r = reaching room (FRONT + i) in
-      let here : fallen (placed room) i ≡ bit_xor (bit_xor (mixed_byte register bytes i) r) r = fallen_is room i folded.before ∙ ap (λ (x : ℕ). bit_xor x r) (folded.each i low) in
+      let here : fallen FAR (placed room) i ≡ bit_xor (bit_xor (mixed_byte register bytes i) r) r = fallen_is room i folded.before ∙ ap (λ (x : ℕ). bit_xor x r) (folded.each i low) in
       sym (rw (here, moved_low k i (slice_index left) low) (twice (mixed_byte register bytes i) r))
 
-  is_left : (i : ℕ) → k ≤ i → i < k + n → mixed_byte register bytes i ≡ bit_xor (fallen (placed room) i) (moved k (slice_index left) i)
+  is_left : (i : ℕ) → k ≤ i → i < k + n → mixed_byte register bytes i ≡ bit_xor (fallen FAR (placed room) i) (moved k (slice_index left) i)
   is_left i high within =
       let r = reaching room (FRONT + i) in
       let b = slice_index bytes i in
       let back : k + (i - k) ≡ i = omega (arith, high) in
       let plain : mixed_byte register bytes i ≡ b = ap (bit_xor b) (high_byte register i small (omega (arith, high, some))) ∙ xor_zero_r b in
-      let none : fallen (placed room) i ≡ r = fallen_is room i folded.before ∙ (ap (λ (x : ℕ). bit_xor x r) (folded.behind (FRONT + i) (omega (arith, high))) ∙ xor_zero_l r) in
+      let none : fallen FAR (placed room) i ≡ r = fallen_is room i folded.before ∙ (ap (λ (x : ℕ). bit_xor x r) (folded.behind (FRONT + i) (omega (arith, high))) ∙ xor_zero_l r) in
       let left_here : moved k (slice_index left) i ≡ bit_xor b r =
       moved_high k i (slice_index left) high ∙ (rest (i - k) (omega (arith, high, within)) ∙ rw back refl) in
       let turn : bit_xor r (bit_xor b r) ≡ b = ap (bit_xor r) (xor_comm b r) ∙ (sym (xor_assoc r r b) ∙ (ap (λ (x : ℕ). bit_xor x b) (xor_self r) ∙ xor_zero_l b)) in
       plain ∙ sym (rw (none, left_here) turn)
 
-  made : (i : ℕ) → i < k + n → mixed_byte register bytes i ≡ bit_xor (fallen (placed room) i) (moved k (slice_index left) i)
+  made : (i : ℕ) → i < k + n → mixed_byte register bytes i ≡ bit_xor (fallen FAR (placed room) i) (moved k (slice_index left) i)
   made i within =
       elim (cases_lt i k) [
         | inl low ↦ in_place i low
@@ -103,6 +94,6 @@ module _ (register : ℕ) (bytes room left : List ℕ) (k n : ℕ) (small : regi
       let places : joined n (slice_index left) ≡ little_number n left = joined_same n (slice_index left) (λ j. slice_index left (0 + j)) (λ j lt. ap (slice_index left) (omega arith)) ∙ joined_list n 0 left in
       let same : steps (8 * (k + n)) (bit_xor register (little_number (k + n) bytes)) ≡ steps (8 * n) (bit_xor 0 (little_number n left)) =
       ap (steps (8 * (k + n))) (sym (all_mixed ranged))
-      ∙ (folded_steps k n (mixed_byte register bytes) (placed room) (slice_index left) (λ i. room_ranged (FRONT + i)) left_ranged long (λ i high. folded.behind (FRONT + i) (omega (arith, high))) made
+      ∙ (folded_steps 209 FAR far_vanishes far_within k n (mixed_byte register bytes) (placed room) (slice_index left) (λ i. room_ranged (FRONT + i)) left_ranged long (λ i high. folded.behind (FRONT + i) (omega (arith, high))) made
       ∙ ap (steps (8 * n)) (places ∙ sym (xor_zero_l (little_number n left)))) in
       sym (run_bits 0 left n left_ranged (omega arith) these) ∙ (ap (bits 32) (sym same) ∙ run_bits register bytes (k + n) ranged small all)

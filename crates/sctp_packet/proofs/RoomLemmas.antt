@@ -1,5 +1,5 @@
 -- A buffer in which a run of bytes is folded, a block at a time.
-use Rattle.std.proofs.Common.{◌≡◌, ℕ, zero, suc, replicate, ◌+◌, ◌-◌, ◌*◌, ◌/◌, ◌%◌, ◌^◌, ◌<◌, ◌≤◌, inl, inr, List, length, bit_xor, refl, sym, ap, ◌∙◌, subst, arith}
+use Rattle.std.proofs.Common.{◌≡◌, ℕ, zero, suc, replicate, ◌+◌, ◌-◌, ◌*◌, ◌/◌, ◌%◌, ◌^◌, ◌<◌, ◌≤◌, inl, inr, List, length, bit_xor, refl, sym, ap, ◌∙◌, arith}
 use Rattle.std.specs.Prelude.{slice_index, take, drop, [], ◌++◌}
 use Rattle.std.proofs.lemmas.Grind.{common_steps}
 use borrow.Rule.Slice.PartMut.{put_mid, mid_of, post_of}
@@ -80,7 +80,7 @@ left_more bytes room xs ys at end later before here behind i high low =
     block k is few =
         let place : FRONT + at + k ≡ FRONT + i = omega (arith, is) in
         let same = reaching_same room xs (FRONT + (at + 32)) (FRONT + i) before (omega arith) (omega (arith, is, few)) in
-        subst (λ (p : ℕ). slice_index ys p ≡ bit_xor (slice_index bytes i) (reaching xs p)) place (subst (λ (n : ℕ). slice_index ys (FRONT + at + k) ≡ bit_xor (slice_index bytes n) (reaching xs (FRONT + at + k))) is (here k few)) ∙ ap (bit_xor (slice_index bytes i)) same
+        (rw (place, is) at (here k few)) ∙ ap (bit_xor (slice_index bytes i)) same
 
 -- behind n bytes that are written nothing changes
 behind_written : (n a j : ℕ) (xs ws : List ℕ) → length ws ≡ n → a + n ≤ length xs → a + n ≤ j →
