@@ -41,12 +41,11 @@ pub(crate) fn fold(register: u32, bytes: &[u8], ends: usize, room: &mut [u8])
 {
     fold_alone(register, bytes, room);
     fold_near(bytes, room);
-    for turn in NEAR / PAIR..ends / PAIR {
-        fold_block(bytes, PAIR * turn, 0, room);
-        fold_block(bytes, PAIR * turn + BLOCK, 0, room);
-    }
-    if ends % PAIR != 0 {
-        fold_block(bytes, ends - BLOCK, 0, room);
+    fold_odd(bytes, ends, room);
+    let start = NEAR + ends % PAIR;
+    for turn in 0..(ends - start) / PAIR {
+        fold_block(bytes, start + PAIR * turn, 0, room);
+        fold_block(bytes, start + PAIR * turn + BLOCK, 0, room);
     }
 }
 
@@ -77,6 +76,21 @@ fn fold_near(bytes: &[u8], room: &mut [u8])
         let at = FRONT + WORD * place;
         let near = word(room, at - 65);
         put(room, at, word(bytes, WORD * place) ^ near);
+    }
+}
+
+/// Folds the block after these, if the run's blocks are odd.
+#[inline(always)]
+fn fold_odd(bytes: &[u8], ends: usize, room: &mut [u8])
+    requires blocks { ends % 32 ≡ 0 }
+    requires some { 128 ≤ ends }
+    requires bytes { ends ≤ length bytes.now }
+    requires room { 216 + ends ≤ length room.old }
+    ensures length { length room.new ≡ length room.old }
+    ensures folded { (r : ℕ) → r < 2 ^ 32 → IsFolded r bytes.now 128 room.old → IsFolded r bytes.now (128 + ends % 64) room.new }
+{
+    if ends % PAIR != 0 {
+        fold_block(bytes, NEAR, 0, room);
     }
 }
 
