@@ -1,10 +1,9 @@
 -- A block of a run: its bytes and what folding moves to them, read and written in a part of a buffer.
-use Rattle.std.proofs.Common.{◌≡◌, ℕ, ◌+◌, ◌-◌, ◌<◌, ◌≤◌, ◌++◌, inl, inr, List, bit_xor, length, take, drop, refl, sym, ap, ◌∙◌, arith}
+use Rattle.std.proofs.Common.{◌≡◌, ℕ, ◌+◌, ◌-◌, ◌<◌, ◌≤◌, ◌++◌, inl, inr, List, bit_xor, length, take, drop, refl, ap, ◌∙◌, arith}
 use Rattle.std.specs.Prelude.{slice_index}
 use Rattle.std.proofs.lemmas.Bool.{cases_lt}
 use Rattle.std.proofs.lemmas.List.{get_or-append_right, get_or_append_left, get_or-drop, get_or-take, get_or_past, length-take}
-use Rattle.sctp_packet.specs.Folding.{byte_of, reaching}
-use Rattle.sctp_packet.proofs.RoomLemmas.{byte_sum}
+use Rattle.sctp_packet.specs.Folding.{reaching}
 
 -- a byte of a part
 pub part_byte : (xs : List ℕ) (a n k : ℕ) → k < n → slice_index (take n (drop a xs)) k ≡ slice_index xs (a + k)
@@ -28,32 +27,13 @@ part_reaching xs ws a k few same =
     reaching_moved xs ws (216 + k) (216 + a + k) (λ d far near.
     same (216 + k - d) (omega (arith, few, far)) ∙ ap (slice_index xs) (let e : a + (216 + k - d) ≡ 216 + a + k - d = omega (arith, near) in e))
 
--- four words in a row are a block
-pub four_words : (zs : List ℕ) (f : ℕ → ℕ) → ((j : ℕ) → j < 8 → slice_index zs (0 + j) ≡ f (0 + j)) → ((j : ℕ) → j < 8 → slice_index zs (8 + j) ≡ f (8 + j)) →
-    ((j : ℕ) → j < 8 → slice_index zs (16 + j) ≡ f (16 + j)) → ((j : ℕ) → j < 8 → slice_index zs (24 + j) ≡ f (24 + j)) → (k : ℕ) → k < 32 → slice_index zs k ≡ f k
-four_words zs f first second third fourth k few =
-    elim (cases_lt k 8) [
-      | inl low ↦ at 0 first (omega arith) (omega (arith, low))
-      | inr beyond_8 ↦ elim (cases_lt k 16) [
-        | inl low ↦ at 8 second beyond_8 (omega (arith, low))
-        | inr beyond_16 ↦ elim (cases_lt k 24) [
-          | inl low ↦ at 16 third beyond_16 (omega (arith, low))
-          | inr beyond_24 ↦ at 24 fourth beyond_24 (omega (arith, few))
-        ]
-      ]
+-- two parts in a row are a block
+pub two_parts : (zs : List ℕ) (f : ℕ → ℕ) → ((j : ℕ) → j < 16 → slice_index zs (0 + j) ≡ f (0 + j)) → ((j : ℕ) → j < 16 → slice_index zs (16 + j) ≡ f (16 + j)) → (k : ℕ) → k < 32 → slice_index zs k ≡ f k
+two_parts zs f first second k few =
+    elim (cases_lt k 16) [
+      | inl low ↦ let start : 0 + k ≡ k = omega arith in rw start at (first k low)
+      | inr high ↦ let back : 16 + (k - 16) ≡ k = omega (arith, high) in rw back at (second (k - 16) (omega (arith, high, few)))
     ]
-  where
-    at : (n : ℕ) → ((j : ℕ) → j < 8 → slice_index zs (n + j) ≡ f (n + j)) → n ≤ k → k < n + 8 → slice_index zs k ≡ f k
-    at n word high low =
-        let back : n + (k - n) ≡ k = omega (arith, high) in
-        ap (slice_index zs) (sym back) ∙ (word (k - n) (omega (arith, high, low)) ∙ ap f back)
-
--- a byte of a word of it
-pub word_byte : (bytes room : List ℕ) (word reached n m j : ℕ) → m ≡ 216 + n → byte_of word j ≡ slice_index bytes (n + j) → byte_of reached j ≡ reaching room (m + j) →
-    byte_of (bit_xor word reached) j ≡ bit_xor (slice_index bytes (n + j)) (reaching room (216 + (n + j)))
-word_byte bytes room word reached n m j is w r =
-    let at : m + j ≡ 216 + (n + j) = omega (arith, is) in
-    byte_sum word reached j ∙ (rw (w, r) refl ∙ ap (λ (p : ℕ). bit_xor (slice_index bytes (n + j)) (reaching room p)) at)
 
 -- so a block of a part is that of the whole
 pub block_of : (bytes room taken before : List ℕ) (at k : ℕ) → k < 32 → ((j : ℕ) → j < 32 → slice_index taken j ≡ slice_index bytes (at + j)) → ((j : ℕ) → j < 216 → slice_index before j ≡ slice_index room (at + j)) →

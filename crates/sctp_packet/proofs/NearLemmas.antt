@@ -36,18 +36,6 @@ pub record AreAdded (ds xs ys : List ℕ) : Type 0 where
 pub none_added : (xs : List ℕ) → AreAdded [] xs xs
 none_added xs = record { size = refl; front = λ i few. refl; each = λ i. refl }
 
--- two words are added
-pub two_words : (xs ys : List ℕ) (at : ℕ) → ((k : ℕ) → k < 8 → slice_index ys (at + k) ≡ bit_xor (slice_index xs (at + k)) (slice_index xs (0 + k))) →
-    ((k : ℕ) → k < 8 → slice_index ys (at + 8 + k) ≡ bit_xor (slice_index xs (at + 8 + k)) (slice_index xs (8 + k))) → (k : ℕ) → k < 16 → slice_index ys (at + k) ≡ bit_xor (slice_index xs (at + k)) (slice_index xs k)
-two_words xs ys at first second k few =
-    elim (cases_lt k 8) [
-      | inl low ↦ let start : 0 + k ≡ k = omega arith in rw start at (first k low)
-      | inr high ↦
-          let back : 8 + (k - 8) ≡ k = omega (arith, high) in
-          let place : at + 8 + (k - 8) ≡ at + k = omega (arith, high) in
-          rw (back, place) at (second (k - 8) (omega (arith, high, few)))
-    ]
-
 -- one distance more
 pub one_added : (d : ℕ) (ds xs ys zs : List ℕ) → 16 ≤ d → AreAdded ds xs ys → length zs ≡ length ys → ((j : ℕ) → j < d → slice_index zs j ≡ slice_index ys j) →
     ((k : ℕ) → k < 16 → slice_index zs (d + k) ≡ bit_xor (slice_index ys (d + k)) (slice_index ys k)) → ((j : ℕ) → d + 16 ≤ j → slice_index zs j ≡ slice_index ys j) → AreAdded (d ∷ ds) xs zs

@@ -59,6 +59,13 @@ folded_more register bytes xs ys n m most f before here behind = record {
         ap (slice_index ys) (sym at) ∙ (h ∙ (ap (λ (j : ℕ). bit_xor (mixed_byte register bytes j) (reaching xs (FRONT + n + k))) (sym is)
         ∙ (ap (λ (j : ℕ). bit_xor (mixed_byte register bytes i) (reaching xs j)) at ∙ ap (bit_xor (mixed_byte register bytes i)) (sym same))))
 
+-- a block more, behind the bytes that the register reaches
+pub folded_block : (register : ℕ) (bytes xs ys : List ℕ) (n : ℕ) → register < 2 ^ 32 → 4 ≤ n → IsFolded register bytes n xs → ((j : ℕ) → j < FRONT + n → slice_index ys j ≡ slice_index xs j) →
+    ((k : ℕ) → k < 32 → slice_index ys (FRONT + n + k) ≡ bit_xor (slice_index bytes (n + k)) (reaching xs (FRONT + n + k))) →
+    ((j : ℕ) → FRONT + n + 32 ≤ j → slice_index ys j ≡ slice_index xs j) → IsFolded register bytes (n + 32) ys
+folded_block register bytes xs ys n small some f before here behind =
+    folded_more register bytes xs ys n 32 (omega arith) f before (λ k few. here k few ∙ ap (λ (b : ℕ). bit_xor b (reaching xs (FRONT + n + k))) (sym (mixed_plain register bytes (n + k) small (omega (arith, some))))) behind
+
 -- nothing reaches the first block
 pub folded_none : (register : ℕ) (bytes xs : List ℕ) → ((j : ℕ) → slice_index xs j ≡ 0) → IsFolded register bytes 0 xs
 folded_none register bytes xs empty = record { before = λ j low. empty j; each = λ i lt. absurd (omega (arith, lt)); behind = λ j high. empty j }

@@ -5,10 +5,14 @@ ghost use Rattle.sctp_packet.specs.Checksum.{bits, divisor, message_bits};
 ghost use Rattle.sctp_packet.specs.Folding.{byte_of, reaching, IsFolded, IsLeft};
 ghost use Rattle.sctp_packet.specs.Register.{register_after};
 
+use crate::lanes::{LANES, lanes, put_lanes, sum};
 use byteorder::{ByteOrder, LittleEndian};
+use std::simd::u8x16;
 
-/// The bytes that are folded at once: four words, none of which is added to another.
+/// The bytes that are folded at once: none is added to another.
 pub(crate) const BLOCK: usize = 32;
+/// The bytes of two blocks.
+const PAIR: usize = 64;
 /// The zeros before the run in the buffer: 209, the farthest that a byte is moved, rounded up to whole words.
 pub(crate) const FRONT: usize = 216;
 /// The bytes that are left of a folded run: whole blocks.
@@ -24,7 +28,7 @@ pub(crate) const MOST: usize = 1_536;
 /// The buffer for a run and the zeros before it.
 pub(crate) const ROOM: usize = 1_752;
 
-/// Folds the run's bytes before `ends`, a block at a time, into a buffer of zeros.
+/// Folds the run's bytes before `ends`, two blocks in a turn, into a buffer of zeros.
 pub(crate) fn fold(register: u32, bytes: &[u8], ends: usize, room: &mut [u8])
     requires blocks { ends % 32 ≡ 0 }
     requires some { 128 ≤ ends }
@@ -37,8 +41,11 @@ pub(crate) fn fold(register: u32, bytes: &[u8], ends: usize, room: &mut [u8])
 {
     fold_alone(register, bytes, room);
     fold_near(bytes, room);
-    for turn in NEAR / BLOCK..ends / BLOCK {
-        fold_block(bytes, BLOCK * turn, room);
+    fold_odd(bytes, ends, room);
+    let start = NEAR + ends % PAIR;
+    for turn in 0..(ends - start) / PAIR {
+        fold_block(bytes, start + PAIR * turn, 0, room);
+        fold_block(bytes, start + PAIR * turn + BLOCK, 0, room);
     }
 }
 
@@ -72,11 +79,28 @@ fn fold_near(bytes: &[u8], room: &mut [u8])
     }
 }
 
-/// Folds the block at a place.
+/// Folds the block after these, if the run's blocks are odd.
 #[inline(always)]
-fn fold_block(bytes: &[u8], at: usize, room: &mut [u8])
+fn fold_odd(bytes: &[u8], ends: usize, room: &mut [u8])
+    requires blocks { ends % 32 ≡ 0 }
+    requires some { 128 ≤ ends }
+    requires bytes { ends ≤ length bytes.now }
+    requires room { 216 + ends ≤ length room.old }
+    ensures length { length room.new ≡ length room.old }
+    ensures folded { (r : ℕ) → r < 2 ^ 32 → IsFolded r bytes.now 128 room.old → IsFolded r bytes.now (128 + ends % 64) room.new }
+{
+    if ends % PAIR != 0 {
+        fold_block(bytes, NEAR, 0, room);
+    }
+}
+
+/// Folds the block at a place that so many zeros are before.
+#[inline(always)]
+fn fold_block(bytes: &[u8], at: usize, zeros: usize, room: &mut [u8])
     requires bytes { at + 32 ≤ length bytes.now }
     requires room { 216 + at + 32 ≤ length room.old }
+    requires few { zeros ≤ 216 }
+    requires zeros { (j : ℕ) → 216 + at ≤ j + zeros → j < 216 + at → slice_index room.old j ≡ 0 }
     ensures length { length room.new ≡ length room.old }
     ensures here { (k : ℕ) → k < 32 → slice_index room.new (216 + at + k)
         ≡ bit_xor (slice_index bytes.now (at + k)) (reaching room.old (216 + at + k)) }
@@ -84,7 +108,12 @@ fn fold_block(bytes: &[u8], at: usize, room: &mut [u8])
     ensures behind { (j : ℕ) → 216 + at + 32 ≤ j → slice_index room.new j ≡ slice_index room.old j }
 {
     let (before, behind) = room.split_at_mut(FRONT + at);
-    set_block(&bytes[at..at + BLOCK], &before[at..], &mut behind[..BLOCK]);
+    set_block(
+        &bytes[at..at + BLOCK],
+        &before[at..],
+        zeros,
+        &mut behind[..BLOCK],
+    );
 }
 
 /// Writes what folding leaves of the run, its last 224 bytes, after the folded ones. The last block is the first, so that each is written from
@@ -92,33 +121,36 @@ fn fold_block(bytes: &[u8], at: usize, room: &mut [u8])
 pub(crate) fn leave(bytes: &[u8], ends: usize, room: &mut [u8])
     requires within { ends + 224 ≤ length bytes.now }
     requires room { 216 + ends + 224 ≤ length room.old }
+    requires empty { (j : ℕ) → 216 + ends ≤ j → slice_index room.old j ≡ 0 }
     ensures length { length room.new ≡ length room.old }
     ensures bytes { (j : ℕ) → slice_index room.new j < 256 }
     ensures left { IsLeft bytes.now room.old ends 224 (drop (216 + ends) room.new) }
 {
     for turn in 0..LEFT / BLOCK {
-        fold_block(bytes, ends + LEFT - BLOCK * (turn + 1), room);
+        let from = LEFT - BLOCK * (turn + 1);
+        fold_block(bytes, ends + from, from, room);
     }
 }
 
-/// Writes a block: its bytes, with what folding moves to each from the bytes before the block. The lengths of the slices are known, and all words
-/// are read before one is written, so that a compiler can take two at a time.
+/// Writes a block: its bytes, with what folding moves to each from the bytes before the block, of which the last are so many zeros. All are
+/// read before one is written.
 #[inline(always)]
-fn set_block(bytes: &[u8], before: &[u8], block: &mut [u8])
+fn set_block(bytes: &[u8], before: &[u8], zeros: usize, block: &mut [u8])
     requires bytes { length bytes.now ≡ 32 }
     requires before { length before.now ≡ 216 }
+    requires few { zeros ≤ 216 }
+    requires zeros { (j : ℕ) → 216 ≤ j + zeros → j < 216 → slice_index before.now j ≡ 0 }
     requires block { length block.old ≡ 32 }
     ensures length { length block.new ≡ 32 }
     ensures set { (k : ℕ) → k < 32 → slice_index block.new k ≡ bit_xor (slice_index bytes.now k) (reaching before.now (216 + k)) }
 {
-    let first = word(bytes, 0) ^ reaching(before, FRONT);
-    let second = word(bytes, 8) ^ reaching(before, FRONT + 8);
-    let third = word(bytes, 16) ^ reaching(before, FRONT + 16);
-    let fourth = word(bytes, 24) ^ reaching(before, FRONT + 24);
-    put(block, 0, first);
-    put(block, 8, second);
-    put(block, 16, third);
-    put(block, 24, fourth);
+    let first = sum(lanes(bytes, 0), reaching(before, FRONT, zeros));
+    let second = sum(
+        lanes(bytes, LANES),
+        reaching(before, FRONT + LANES, zeros + LANES),
+    );
+    put_lanes(block, 0, first);
+    put_lanes(block, LANES, second);
 }
 
 /// Adds the first sixteen bytes to those 21, 47, 60, 65, 70, 94 and 98 bytes further on. The bytes after the sixteen then leave the register 0
@@ -149,24 +181,38 @@ fn add_front(left: &mut [u8], at: usize)
     ensures before { (j : ℕ) → j < at → slice_index left.new j ≡ slice_index left.old j }
     ensures behind { (j : ℕ) → at + 16 ≤ j → slice_index left.new j ≡ slice_index left.old j }
 {
-    let first = word(left, at) ^ word(left, 0);
-    let second = word(left, at + WORD) ^ word(left, WORD);
-    put(left, at, first);
-    put(left, at + WORD, second);
+    let added = sum(lanes(left, at), lanes(left, 0));
+    put_lanes(left, at, added);
 }
 
-/// What folding moves to the eight bytes at a position from those before them.
+/// What folding moves to the sixteen bytes at a position from those before them, of which the last are so many zeros.
 #[inline(always)]
-fn reaching(room: &[u8], at: usize) -> u64
+fn reaching(room: &[u8], at: usize, zeros: usize) -> u8x16
     requires far { 209 ≤ at }
-    requires within { at ≤ length room.now + 57 }
-    ensures { (k : ℕ) → k < 8 → byte_of result k ≡ reaching room.now (at + k) }
+    requires within { at ≤ length room.now + 49 }
+    requires zeros { (j : ℕ) → at ≤ j + zeros → j < length room.now → slice_index room.now j ≡ 0 }
+    ensures { (k : ℕ) → k < 16 → slice_index result k ≡ reaching room.now (at + k) }
 {
-    word(room, at - 65)
-        ^ word(room, at - 155)
-        ^ word(room, at - 170)
-        ^ word(room, at - 195)
-        ^ word(room, at - 209)
+    let first = reached(u8x16::splat(0), room, at, 65, zeros);
+    let second = reached(first, room, at, 155, zeros);
+    let third = reached(second, room, at, 170, zeros);
+    let fourth = reached(third, room, at, 195, zeros);
+    reached(fourth, room, at, 209, zeros)
+}
+
+/// A sum with the sixteen bytes so far before a position. Zeros aren't read.
+#[inline(always)]
+fn reached(others: u8x16, room: &[u8], at: usize, far: usize, zeros: usize) -> u8x16
+    requires far { 65 ≤ far }
+    requires before { far ≤ at }
+    requires within { at ≤ length room.now + 49 }
+    requires zeros { (j : ℕ) → at ≤ j + zeros → j < length room.now → slice_index room.now j ≡ 0 }
+    ensures { (k : ℕ) → k < 16 → slice_index result k ≡ bit_xor (slice_index others k) (slice_index room.now (at + k - far)) }
+{
+    if far <= zeros {
+        return others;
+    }
+    sum(others, lanes(room, at - far))
 }
 
 /// The eight bytes at a position as one number, the lowest first.

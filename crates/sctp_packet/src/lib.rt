@@ -55,6 +55,7 @@
 mod checksum;
 mod fault;
 mod folding;
+mod lanes;
 mod laws;
 mod read;
 mod reserved;

@@ -10,6 +10,9 @@ use Rattle.sctp_packet.proofs.checksum.after_long.Goals as goal
 pub fold-requires-clause-empty : goal.fold-requires-clause-empty
 fold-requires-clause-empty c = λ j. empty_room 1752 j
 
+pub leave-requires-clause-empty : goal.leave-requires-clause-empty
+leave-requires-clause-empty c = c.fold.ensures.folded.behind
+
 pub returns : goal.returns
 returns c =
     let bytes = c.args.bytes.now in

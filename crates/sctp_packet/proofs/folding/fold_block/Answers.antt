@@ -12,6 +12,13 @@ pub set_block-requires-clause-block : goal.set_block-requires-clause-block
 set_block-requires-clause-block c =
     length-take-le 32 c.split_at_mut-before.result.1.now (omega (arith, c.split_at_mut-before.ensures.back_len, c.requires.room))
 
+pub set_block-requires-clause-zeros : goal.set_block-requires-clause-zeros
+set_block-requires-clause-zeros c = λ j high low.
+    let at = c.args.at in
+    let front = c.split_at_mut-before.result.0.now in
+    let split = c.split_at_mut-before.ensures in
+    part_byte front at (length front - at) j (omega (arith, low, split.front_len)) ∙ (split.by_index.0 (at + j) 0 (omega (arith, low)) ∙ c.requires.zeros (at + j) (omega (arith, high)) (omega (arith, low)))
+
 pub returns-clause-here : goal.returns-clause-here
 returns-clause-here c = λ k few.
     let at = c.args.at in

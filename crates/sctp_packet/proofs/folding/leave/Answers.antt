@@ -11,8 +11,8 @@ loop-turn-init c = (refl, λ i high low. absurd (omega (arith, high, low)), λ j
 pub loop-turn-preserved : goal.loop-turn-preserved
 loop-turn-preserved c =
     let turn = c.loop-turn.turn in
-    let at = c.args.ends + 224 - 32 * (turn + 1) in
-    let more : c.args.ends + 224 - 32 * turn ≡ at + 32 = omega (arith, c.loop-turn-test.true) in
+    let at = c.args.ends + (224 - 32 * (turn + 1)) in
+    let more : c.args.ends + (224 - 32 * turn) ≡ at + 32 = omega (arith, c.loop-turn-test.true) in
     let kept = c.loop-turn.invariant in
     let block = c.fold_block.ensures in (
       block.length ∙ kept.0,
@@ -20,6 +20,9 @@ loop-turn-preserved c =
       λ j low. block.before j low ∙ kept.2 j (omega (arith, low, more)),
       λ j. omega (arith, c.type_inv.room j),
     )
+
+pub fold_block-requires-clause-zeros : goal.fold_block-requires-clause-zeros
+fold_block-requires-clause-zeros c = λ j high low. c.loop-turn.invariant.2 j (omega (arith, low, c.loop-turn-test.true)) ∙ c.requires.empty j (omega (arith, high))
 
 pub returns-clause-left : goal.returns-clause-left
 returns-clause-left c = λ i few.

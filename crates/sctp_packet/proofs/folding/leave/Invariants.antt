@@ -7,6 +7,6 @@ use Rattle.sctp_packet.proofs.folding.leave.Given as goal
 abbrev pub invariant-loop-turn : goal.invariant-loop-turn
 invariant-loop-turn l =
     (length l.room ≡ length l.fn.room)
-    × ((i : ℕ) → l.ends + 224 - 32 * l.turn ≤ i → i < l.ends + 224 → slice_index l.room (FRONT + i) ≡ bit_xor (slice_index l.bytes i) (reaching l.fn.room (FRONT + i)))
-    × ((j : ℕ) → j < FRONT + (l.ends + 224 - 32 * l.turn) → slice_index l.room j ≡ slice_index l.fn.room j)
+    × ((i : ℕ) → l.ends + (224 - 32 * l.turn) ≤ i → i < l.ends + 224 → slice_index l.room (FRONT + i) ≡ bit_xor (slice_index l.bytes i) (reaching l.fn.room (FRONT + i)))
+    × ((j : ℕ) → j < FRONT + (l.ends + (224 - 32 * l.turn)) → slice_index l.room j ≡ slice_index l.fn.room j)
     × ((j : ℕ) → slice_index l.room j < 256)
