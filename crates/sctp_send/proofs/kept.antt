@@ -18,6 +18,7 @@ pub mod SeatedLemmas
 pub mod TrackCounts
 pub mod OrderLemmas
 pub mod TicketWalks
+pub mod HeadLemmas
 pub mod PartStreams
 pub mod FateLemmas
 pub mod GivenUpLemmas

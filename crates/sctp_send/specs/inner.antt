@@ -14,6 +14,7 @@ pub mod Seating
 pub mod Entering
 pub mod Lanes
 pub mod TicketOrder
+pub mod TicketHeads
 pub mod PartSeats
 pub mod FateBlocks
 pub mod Stretching

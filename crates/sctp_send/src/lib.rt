@@ -61,7 +61,7 @@
 //! `on_timeout` and `wear` all that is outstanding, `on_missed` and `wear_between` what is of their range, `next_at_limit` the outstanding entries of
 //! higher tickets up to the one that it finds; `expire` and `next_late` the tickets whose deadlines have passed; `weigh` what the SACK does but for what is
 //! no longer acknowledged, each entry once, `first_missed` its range, `room_of_repeats` the entries from the first marked one on, `last_sent` the
-//! entries after it, which were never sent, `queued_bytes_on` the queue; other readers are constant, `abandon` and `acknowledged` a binary search and the
+//! entries after it, which were never sent, `queued_bytes_on` the queue; other readers are constant, `abandon` and `acknowledged` two binary searches and the
 //! message's own entries. The first `reset` makes a table of all streams; each costs a binary search among the streams that wait for their reset, a move of
 //! those with higher numbers, and the entries after the last one of its stream; `on_response` the streams that wait, if it ends the request;
 //! `may_ask` and `ask` the streams that wait, each a look at the entry noted for it and, if that is gone, its search in the queue and a walk over the entries
@@ -70,7 +70,7 @@
 //! takes 32 bytes with the count of its retransmissions, which ends at 65,535, as limits do.
 //!
 //! The files of `src` form a path on which each imports only what is before it: `last_forward`, `message`, `resets`, `sendings`; `blocks`, `by_ticket`,
-//! `dues`, `entry`, `seats`, `shells`; `fates`, `pieces`; `queue`, `told`, `track`, `wishes`; `counts`, `looking`, `queued_on`; `streams`, `stretches`;
+//! `dues`, `entry`, `seats`, `shells`; `fates`, `heads`, `pieces`; `queue`, `told`, `track`, `wishes`; `counts`, `looking`, `queued_on`; `streams`, `stretches`;
 //! `outstanding`; `by_message`, `entries`, `flying`, `giving_back`, `going_out`, `lanes`, `marking`, `repeats`, `run_room`, `searching`, `stock`, `table`, `tally`, `telling`,
 //! `weight`; `assigning`, `covered`, `others`, `restarting`, `sender`, `still`, `waking`; `answering`, `asking`, `at_limit`, `last`, `laws`, `owing`, `pace`,
 //! `readers`, `resetting`, `sack`, `wear`, `weighing`; `abandon`, `entering`, `keeping`, `moments`, `passing`, `queueing`, `turning`;

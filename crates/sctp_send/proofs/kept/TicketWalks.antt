@@ -1,17 +1,17 @@
 -- Walks over entries in the order of their tickets: what holds of the entries of the pairs passed, and of all.
-use Rattle.std.proofs.Common.{◌≡◌, ℕ, zero, suc, ◌+◌, ◌^◌, ◌<◌, ◌≤◌, ◌⊎◌, Bool, true, false, List, [], ◌∷◌, length, get_or, map, option_map, Some, inl, inr, refl, sym, ◌∙◌, ap, subst, arith}
+use Rattle.std.proofs.Common.{◌≡◌, ℕ, zero, suc, ◌+◌, ◌<◌, ◌⊎◌, Bool, true, false, List, [], ◌∷◌, length, get_or, map, option_map, Some, inl, inr, refl, sym, ◌∙◌, ap, subst, arith}
 use Rattle.std.specs.Prelude.{◌==◌, ◌||◌, slice_get}
 use Rattle.std.proofs.lemmas.Bool.Decides.{nat_tests}
-use Rattle.std.proofs.lemmas.Bool.{cases_lt}
-use Rattle.std.proofs.lemmas.List.{get_or_default, length-map}
-use Rattle.std.proofs.lemmas.Option.{slice_get-map, slice_get_read}
-use Rattle.sctp_sequence.specs.Pairs.{IsRankFrom}
+use Rattle.std.proofs.lemmas.Bool.{cases_lt, cases_eq}
+use Rattle.std.proofs.lemmas.Option.{slice_get-map, slice_get_read, slice_get_within}
 use Rattle.sctp_sequence.specs.declared.pairs.Pair.{Pair}
 use Rattle.sctp_send.specs.PartsKept.{changed_at}
 use Rattle.sctp_send.specs.OutstandingFields.{item_meaning}
 use Rattle.sctp_send.specs.inner.Changes.{unmarked, as_abandoned, all_abandoned}
 use Rattle.sctp_send.specs.inner.Walks.{any_uncovered, is_item_uncovered}
-use Rattle.sctp_send.specs.inner.TicketOrder.{offset_of, IsOrderOf, IsInOrder, ticket_of, tickets_of}
+use Rattle.sctp_send.specs.inner.TicketOrder.{IsOrderOf, IsInOrder, ticket_of, tickets_of}
+use Rattle.sctp_send.specs.inner.TicketHeads.{IsOwn, offset_in}
+use Rattle.sctp_send.specs.declared.kept.heads.Own.{Own}
 use Rattle.sctp_send.specs.inner.Counting.{IsCounted}
 use Rattle.sctp_send.specs.declared.kept.by_ticket.ByTicket.{ByTicket}
 use Rattle.sctp_send.specs.declared.kept.counts.Counts.{Counts}
@@ -22,14 +22,8 @@ use Rattle.sctp_send.specs.declared.kept.entry.Entry.{Entry as EntryFields}
 use Rattle.sctp_send.specs.inner.Stretching.{index_at, AreKnown}
 use Rattle.sctp_send.proofs.kept.ChangedLemmas.{count_changed}
 use Rattle.sctp_send.proofs.kept.KnownLemmas.{SayTheSame, SayNothing, known_changed}
-use Rattle.sctp_send.proofs.kept.OrderLemmas.{own_pair, own_ticket, pair_with}
 
 -- ---- entries by offset
-
-get_long : {A : Type 0} (xs : List A) (n : ℕ) (x : A) → slice_get xs n ≡ Some x → n < length xs
-get_long [] n x is = absurd (cc)
-get_long (y ∷ xs) zero x is = omega arith
-get_long (y ∷ xs) (suc n) x is = let lt = get_long xs n x is in omega (arith, lt)
 
 -- the ticket at an offset is that of the entry there
 read_ticket : (es : List EntryFields) (n t : ℕ) → slice_get (tickets_of es) n ≡ Some t → (e : EntryFields) × (slice_get es n ≡ Some e) × (ticket_of e ≡ t)
@@ -37,81 +31,53 @@ read_ticket [] n t read = absurd (cc)
 read_ticket (e ∷ es) zero t read = (e, refl, cc)
 read_ticket (e ∷ es) (suc n) t read = read_ticket es n t read
 
--- a pair of no entry
-pub no_pair : Pair
-no_pair = pair_with 0 0
+pub ticket_read : (es : List EntryFields) (n : ℕ) (e : EntryFields) → slice_get es n ≡ Some e → slice_get (tickets_of es) n ≡ Some (ticket_of e)
+ticket_read es n e read = slice_get-map ticket_of es n ∙ ap (option_map ticket_of) read
 
--- the pair at a rank
-abbrev pub pair_at : (ps : List Pair) → ℕ → Pair
-pair_at ps k = get_or ps k no_pair
+-- an entry that is read has the ticket at its offset
+pub same_entry : (es : List EntryFields) (n t : ℕ) (x : EntryFields) → slice_get (tickets_of es) n ≡ Some t → x ≡ get_or es n x → (slice_get es n ≡ Some x) × (ticket_of x ≡ t)
+same_entry es n t x there read =
+    let mine = read_ticket es n t there in
+    let is = slice_get_read es (length es) n x refl (slice_get_within es n mine.0 mine.1) read in
+    let same : x ≡ mine.0 = let both = sym is ∙ mine.1 in cc in
+    (is, ap ticket_of same ∙ mine.2)
 
--- From one rank on up to another they are passed: of each entry that one of these pairs leads to, a property holds.
-abbrev pub WerePassed : List EntryFields → (first : ℕ) → List Pair → (EntryFields → Type 0) → (from upto : ℕ) → Type 0
-WerePassed es first ps P i j = (k : ℕ) (e : EntryFields) → i ≤ k → k < j → slice_get es (offset_of first (pair_at ps k)) ≡ Some e → P e
+pub ticket_within : (es : List EntryFields) (n t : ℕ) → slice_get (tickets_of es) n ≡ Some t → n < length es
+ticket_within es n t there = let mine = read_ticket es n t there in slice_get_within es n mine.0 mine.1
 
-module _ (es : List EntryFields) (first : ℕ) (ps : List Pair) (few : length es < 2 ^ 64) (order : IsOrderOf (tickets_of es) first ps) where
-  -- the entry of a pair, which has its ticket
-  pub entry_at : (k : ℕ) → k < length ps → (e : EntryFields) × (slice_get es (offset_of first (pair_at ps k)) ≡ Some e) × (ticket_of e ≡ (pair_at ps k).first)
-  entry_at k lt =
-      let long = length-map es ticket_of in
-      read_ticket es (offset_of first (pair_at ps k)) (pair_at ps k).first (own_ticket (tickets_of es) first ps (pair_at ps k) (omega (arith, long, few)) order (k, lt, get_or_default ps k (pair_at ps k) no_pair lt))
+-- ---- a message's entries
 
-  -- its offset lies in the window
-  pub pair_within : (k n : ℕ) → k < length ps → n ≡ offset_of first (pair_at ps k) → n < length es
-  pair_within k n lt at = let mine = entry_at k lt in let within = get_long es (offset_of first (pair_at ps k)) mine.0 mine.1 in omega (arith, at, within)
+-- the offset of one of them lies within, and what is read there is of the message
+pub own_within : {t first : ℕ} {ps : List Pair} {o : Own} (es : List EntryFields) (k n : ℕ) → IsOwn t (tickets_of es) first ps o → k < o.many → n ≡ offset_in first ps o k → n < length es
+own_within {t} es k n own lt at = ticket_within es n t (ap (slice_get (tickets_of es)) at ∙ own.right k lt)
 
-  -- and what is read there is the entry
-  pub pair_read : (k n : ℕ) (x : EntryFields) → k < length ps → n ≡ offset_of first (pair_at ps k) → x ≡ get_or es n x → slice_get es (offset_of first (pair_at ps k)) ≡ Some x
-  pair_read k n x lt at read = subst (λ (m : ℕ). slice_get es m ≡ Some x) at (slice_get_read es (length es) n x refl (pair_within k n lt at) read)
+pub own_entry : {t first : ℕ} {ps : List Pair} {o : Own} (es : List EntryFields) (k n : ℕ) (x : EntryFields) → IsOwn t (tickets_of es) first ps o → k < o.many → n ≡ offset_in first ps o k → x ≡ get_or es n x
+    → (slice_get es (offset_in first ps o k) ≡ Some x) × (ticket_of x ≡ t)
+own_entry {t} es k n x own lt at read = let mine = same_entry es n t x (ap (slice_get (tickets_of es)) at ∙ own.right k lt) read in (ap (slice_get es) (sym at) ∙ mine.0, mine.1)
 
-  pub pair_ticket : (k n : ℕ) (x : EntryFields) → k < length ps → n ≡ offset_of first (pair_at ps k) → x ≡ get_or es n x → ticket_of x ≡ (pair_at ps k).first
-  pair_ticket k n x lt at read =
-      let mine = entry_at k lt in
-      let same : x ≡ mine.0 = let both = sym (pair_read k n x lt at read) ∙ mine.1 in cc in
-      ap ticket_of same ∙ mine.2
+-- Of so many of them a property holds.
+abbrev pub WerePassed : List EntryFields → (first : ℕ) → List Pair → Own → (EntryFields → Type 0) → (upto : ℕ) → Type 0
+WerePassed es first ps o P j = (k : ℕ) (e : EntryFields) → k < j → slice_get es (offset_in first ps o k) ≡ Some e → P e
 
-  -- it is that of the message whose ranks these are
-  pub ranked_ticket : (t i j k n : ℕ) (x : EntryFields) → IsRankFrom t ps i → IsRankFrom (t + 1) ps j → i ≤ k → k < j → n ≡ offset_of first (pair_at ps k) → x ≡ get_or es n x → ticket_of x ≡ t
-  ranked_ticket t i j k n x from above low upto at read =
-      let within = above.within in
-      let lt : k < length ps = omega (arith, within, upto) in
-      let mine = pair_ticket k n x lt at read in
-      let least = from.higher k no_pair low lt in
-      let most = above.lower k no_pair upto in
-      omega (arith, mine, least, most)
+-- one more
+pub one_passed : (es : List EntryFields) (first : ℕ) (ps : List Pair) (o : Own) (P : EntryFields → Type 0) (j : ℕ) (x : EntryFields) → slice_get es (offset_in first ps o j) ≡ Some x → P x → WerePassed es first ps o P j → WerePassed es first ps o P (j + 1)
+one_passed es first ps o P j x read holds passed k e upto here = elim (cases_lt k j) [
+  | inl early ↦ passed k e early here
+  | inr late ↦
+      let last : k ≡ j = omega (arith, late, upto) in
+      let same : x ≡ e = let both = sym read ∙ ap (λ (m : ℕ). slice_get es (offset_in first ps o m)) (sym last) ∙ here in cc in
+      subst P same holds
+]
 
-  -- one more
-  pub one_passed : (P : EntryFields → Type 0) (i j n : ℕ) (x : EntryFields) → j < length ps → n ≡ offset_of first (pair_at ps j) → x ≡ get_or es n x → P x → WerePassed es first ps P i j → WerePassed es first ps P i (j + 1)
-  one_passed P i j n x lt at read holds passed k e low upto here = elim (cases_lt k j) [
-    | inl early ↦ passed k e low early here
-    | inr late ↦
-        let last : k ≡ j = omega (arith, late, upto) in
-        let same : x ≡ e = let both = sym (pair_read j n x lt at read) ∙ ap (λ (m : ℕ). slice_get es (offset_of first (pair_at ps m))) (sym last) ∙ here in cc in
-        subst P same holds
-  ]
-
-  -- with those whose pairs lie before and behind, all entries are
-  pub all_passed : (P : EntryFields → Type 0) (i j : ℕ) → WerePassed es first ps P i j → ((k : ℕ) (e : EntryFields) → k < length ps → (k < i) ⊎ (j ≤ k) → ticket_of e ≡ (pair_at ps k).first → P e)
-      → (n : ℕ) (e : EntryFields) → slice_get es n ≡ Some e → P e
-  all_passed P i j passed others n e read =
-      let lt = get_long es n e read in
-      let mine = own_pair (tickets_of es) first ps n (ticket_of e) (omega (arith, lt, few)) order (slice_get-map ticket_of es n ∙ ap (option_map ticket_of) read) in
-      let k = mine.1.0 in
-      let k_lt = mine.1.1 in
-      let is : pair_at ps k ≡ mine.0 = get_or_default ps k no_pair mine.0 k_lt ∙ mine.1.2 in
-      let here = subst (λ (m : ℕ). slice_get es m ≡ Some e) (sym (ap (offset_of first) is ∙ mine.2)) read in
-      let ticket : ticket_of e ≡ (pair_at ps k).first = sym (ap (λ (p : Pair). p.first) is ∙ mine.3) in
-      elim (cases_lt k i) [
-        | inl before ↦ others k e k_lt (inl before) ticket
-        | inr from ↦ elim (cases_lt k j) [ inl upto ↦ passed k e from upto here | inr behind ↦ others k e k_lt (inr behind) ticket ]
-      ]
-
-  -- with those of a ticket, all are of which nothing is asked if they are of another one
-  pub own_passed : (P : EntryFields → Type 0) (t i j : ℕ) → IsRankFrom t ps i → IsRankFrom (t + 1) ps j → ((e : EntryFields) → (ticket_of e ≡ t → ⊥) → P e) → WerePassed es first ps P i j → (n : ℕ) (e : EntryFields) → slice_get es n ≡ Some e → P e
-  own_passed P t i j from above holds passed = all_passed P i j passed (λ k e lt outside ticket. elim outside [
-    | inl before ↦ let low = from.lower k no_pair before in holds e (λ same. omega (arith, ticket, low, same))
-    | inr behind ↦ let high = above.higher k no_pair behind lt in holds e (λ same. omega (arith, ticket, high, same))
-  ])
+-- of all entries it holds then, if nothing is asked of others
+pub own_passed : (es : List EntryFields) (first : ℕ) (ps : List Pair) (o : Own) (P : EntryFields → Type 0) (t : ℕ) → IsOwn t (tickets_of es) first ps o → ((e : EntryFields) → (ticket_of e ≡ t → ⊥) → P e) → WerePassed es first ps o P o.many
+    → (n : ℕ) (e : EntryFields) → slice_get es n ≡ Some e → P e
+own_passed es first ps o P t own others passed n e read = elim (cases_eq (ticket_of e) t) [
+  | inl mine ↦
+      let k = own.all n (ticket_read es n e read ∙ ap Some mine) in
+      passed k.0 e k.1 (ap (slice_get es) k.2 ∙ read)
+  | inr other ↦ others e other
+]
 
 -- ---- covered or not
 
@@ -177,13 +143,13 @@ abbrev pub IsAbandonedAlready : ℕ → EntryFields → Type 0
 IsAbandonedAlready t e = as_abandoned t e ≡ e
 
 -- what was abandoned stays so, and one entry more is
-pub abandoned_more : (t first : ℕ) (ps : List Pair) (es : List EntryFields) (i j n : ℕ) → n ≡ offset_of first (pair_at ps j) → WerePassed es first ps (IsAbandonedAlready t) i j
-    → WerePassed (changed_at (as_abandoned t) n es) first ps (IsAbandonedAlready t) i (j + 1)
-abandoned_more t first ps es i j n at passed k e low upto read = elim (changed_read (as_abandoned t) n (offset_of first (pair_at ps k)) es e read) [
+pub abandoned_more : (t first : ℕ) (ps : List Pair) (o : Own) (es : List EntryFields) (j n : ℕ) → n ≡ offset_in first ps o j → WerePassed es first ps o (IsAbandonedAlready t) j
+    → WerePassed (changed_at (as_abandoned t) n es) first ps o (IsAbandonedAlready t) (j + 1)
+abandoned_more t first ps o es j n at passed k e upto read = elim (changed_read (as_abandoned t) n (offset_in first ps o k) es e read) [
   | inr new ↦ subst (IsAbandonedAlready t) (sym new.1) (abandoned_twice t new.0)
   | inl same ↦ elim (cases_lt k j) [
-    | inl early ↦ passed k e low early same.1
-    | inr late ↦ absurd (let last : k ≡ j = omega (arith, late, upto) in same.0 (ap (λ (m : ℕ). offset_of first (pair_at ps m)) last ∙ sym at))
+    | inl early ↦ passed k e early same.1
+    | inr late ↦ absurd (let last : k ≡ j = omega (arith, late, upto) in same.0 (ap (λ (m : ℕ). offset_in first ps o m) last ∙ sym at))
   ]
 ]
 
@@ -205,7 +171,7 @@ entry_changed {size} {capacity} {kept} {room} {i} {es} {now} {c} {d} {o} {ss} {r
     let long : length now ≡ length es = ap (λ (xs : List EntryFields). length xs) items ∙ count_changed f at es in
     record {
       counted = counted;
-      order = subst (λ (ts : List ℕ). IsOrderOf ts o.first o.pairs.items) (sym (ap tickets_of items ∙ changed_tickets f stays at es)) h.order;
+      order = subst (λ (ts : List ℕ). IsOrderOf ts o) (sym (ap tickets_of items ∙ changed_tickets f stays at es)) h.order;
       within = let le = h.within in omega (arith, long, le);
       here = let le = h.here in omega (arith, same, le);
       there = h.there;

@@ -34,10 +34,9 @@ impl Outstanding {
         ensures uncovered { (size : ℕ) → IfSome result (λ until. any_uncovered ticket (map (item_meaning size) self.now.items) ≡ true) }
         ensures none { (size : ℕ) → IfNone result (any_uncovered ticket (map (item_meaning size) self.now.items) ≡ false) }
     {
-        let start = self.by_ticket.pairs.rank_from(ticket);
-        let end = self.by_ticket.pairs.rank_above(ticket);
-        for rank in start..end {
-            let entry = &self.entries[self.by_ticket.offset(rank)];
+        let own = self.by_ticket.own(&self.entries, ticket);
+        for at in 0..own.many {
+            let entry = &self.entries[self.by_ticket.own_offset(own, at)];
             if !entry.covered {
                 return Some(entry.message.until);
             }
@@ -49,12 +48,14 @@ impl Outstanding {
     pub(crate) fn next_spent(&self, last: u64, partial: bool) -> Option<u64>
         ensures { NextSpentAnswer partial last self.now.items result }
     {
-        let start = self.by_ticket.pairs.rank_above(last);
-        for rank in start..self.by_ticket.pairs.len() {
-            let entry = &self.entries[self.by_ticket.offset(rank)];
+        let mut heads = self.by_ticket.heads_above(&self.entries, last);
+        for _passed in heads.front + heads.rank..self.entries.len() {
+            let step = self.by_ticket.lower(&self.entries, heads);
+            let entry = &self.entries[step.offset];
             if is_at_limit(entry, partial) {
                 return Some(entry.message.ticket);
             }
+            heads = step.heads;
         }
         None
     }
@@ -63,7 +64,8 @@ impl Outstanding {
     pub(crate) fn is_past(&self, last: u64) -> bool
         ensures { (size t : ℕ) → result ≡ true → t ≤ last → any_item t (map (item_meaning size) self.now.items) ≡ false }
     {
-        self.by_ticket.pairs.rank_above(last) == 0
+        let heads = self.by_ticket.heads_above(&self.entries, last);
+        heads.front + heads.rank == 0
     }
 
     /// Each entry of the message with this ticket is abandoned.
@@ -71,10 +73,9 @@ impl Outstanding {
         ensures items { self.new.items ≡ all_abandoned ticket self.old.items }
         ensures kept { IsSameRoom self.old self.new }
     {
-        let start = self.by_ticket.pairs.rank_from(ticket);
-        let end = self.by_ticket.pairs.rank_above(ticket);
-        for rank in start..end {
-            let at = self.by_ticket.offset(rank);
+        let own = self.by_ticket.own(&self.entries, ticket);
+        for rank in 0..own.many {
+            let at = self.by_ticket.own_offset(own, rank);
             forget_stretch(&mut self.stretches, self.by_ticket.index(at));
             abandon_one(&mut self.entries, &mut self.counts, self.size, at, ticket);
         }

@@ -212,7 +212,8 @@ impl Outstanding {
         ensures { self.new ≡ record self.old { items = drop 1 self.old.items } }
     {
         if let Some(entry) = self.entries.pop_front() {
-            self.by_ticket.pop_front(entry.message.ticket);
+            self.by_ticket
+                .pop_front(entry.message.ticket, self.entries.len());
             self.counts.leave(&entry, self.size);
             self.counts.marked = self.counts.marked.saturating_sub(1);
             self.counts.unsent = self.counts.unsent.saturating_sub(1);

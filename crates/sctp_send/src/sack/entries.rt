@@ -62,7 +62,7 @@ impl Outstanding {
         ensures { self.new ≡ record self.old { items = [] } }
     {
         keep_shells(&mut self.entries, shells, alloc);
-        self.by_ticket.pairs.clear();
+        self.by_ticket.clear();
         self.counts = Counts::none();
     }
 }

@@ -1,7 +1,8 @@
 use Rattle.std.proofs.Common.{◌≡◌}
 use Rattle.std.specs.VecDeque.{deque_capacity}
 use Rattle.sctp_send.specs.inner.Changes.{all_abandoned}
-use Rattle.sctp_send.specs.inner.TicketOrder.{IsInOrder}
+use Rattle.sctp_send.specs.inner.TicketHeads.{IsOwn}
+use Rattle.sctp_send.specs.inner.TicketOrder.{IsInOrder, tickets_of}
 use Rattle.sctp_send.proofs.kept.TicketWalks.{WerePassed, IsAbandonedAlready}
 use Rattle.sctp_send.proofs.kept.outstanding.Outstanding.abandon.Given as goal
 
@@ -13,7 +14,7 @@ invariant-loop-rank l =
       kept : IsInOrder s.size s.entries.items (deque_capacity s.entries) s.counts s.by_ticket s.room s.stretches.items;
       size : s.size ≡ t.size;
       room : s.room ≡ t.room;
-      order : s.by_ticket ≡ t.by_ticket;
+      own : IsOwn l.ticket (tickets_of s.entries.items) s.by_ticket.first s.by_ticket.pairs.items l.own;
       abandoned : all_abandoned l.ticket s.entries.items ≡ all_abandoned l.ticket t.entries.items;
-      fixed : WerePassed s.entries.items s.by_ticket.first s.by_ticket.pairs.items (IsAbandonedAlready l.ticket) l.start l.rank;
+      fixed : WerePassed s.entries.items s.by_ticket.first s.by_ticket.pairs.items l.own (IsAbandonedAlready l.ticket) l.rank;
     }

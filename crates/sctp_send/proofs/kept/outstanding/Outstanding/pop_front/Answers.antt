@@ -1,10 +1,11 @@
 use Rattle.std.proofs.Common.{◌≡◌, ◌∷◌, ℕ, suc, List, length, sym, subst, ap, ◌∙◌, arith}
+use Rattle.std.proofs.lemmas.List.{length-map}
 use Rattle.sctp_send.specs.OutstandingFields.{item_meaning}
 use Rattle.sctp_send.specs.declared.kept.counts.Counts.{Counts}
 use Rattle.sctp_send.specs.declared.kept.message.Message.{Message as MessageFields}
 use Rattle.sctp_send.specs.declared.kept.entry.Entry.{Entry as EntryFields}
 use Rattle.sctp_send.specs.inner.Counting.{IsCounted}
-use Rattle.sctp_send.specs.inner.TicketOrder.{IsOrderOf, tickets_of}
+use Rattle.sctp_send.specs.inner.TicketOrder.{IsOrderOf, ticket_of, tickets_of}
 use Rattle.sctp_send.proofs.kept.CountLemmas.{counts_behind}
 use Rattle.sctp_send.specs.inner.Stretching.{AreKnown}
 use Rattle.sctp_send.proofs.kept.KnownLemmas.{known_behind}
@@ -21,11 +22,11 @@ invariant_of-self c =
     let before : c.leave.new.self.front ≡ s.counts.front = ap (λ (n : Counts). n.front) c.leave.ensures in
     let front = c.front_behind-self-inside.ensures s.size (item_meaning s.size c.in-Some.entry) (before ∙ counted.front) in
     let ticket = ap (λ (m : MessageFields). m.ticket) c.deref.ensures in
-    let order = subst (λ (es : List EntryFields). IsOrderOf (tickets_of es) o.first o.pairs.items) items h.order in
+    let order = subst (λ (es : List EntryFields). IsOrderOf (tickets_of es) o) items h.order in
     record {
       counted = rw (c.saturating_sub-self-inside.ensures, c.saturating_sub-self-inside-in-Some.ensures, c.leave.ensures)
           (counts_behind s.size c.in-Some.entry rest s.counts c.front_behind-self-inside.result counted front);
-      order = c.pop_front-in-Some.ensures.order (tickets_of rest) (subst (λ (t : ℕ). IsOrderOf (t ∷ tickets_of rest) o.first o.pairs.items) (sym ticket) order);
+      order = c.pop_front-in-Some.ensures.order (tickets_of rest) (c.len.ensures ∙ c.pop_front.new.self.ok.0 ∙ sym (length-map rest ticket_of)) (subst (λ (t : ℕ). IsOrderOf (t ∷ tickets_of rest) o) (sym ticket) order);
       within =
           let long : length s.entries.items ≡ suc (length rest) = ap (λ (es : List EntryFields). length es) items in
           let le = h.within in

@@ -5,7 +5,6 @@ use Rattle.sctp_send.specs.inner.TicketOrder.{IsOrderOf, ticket_of, tickets_of}
 use Rattle.sctp_send.specs.declared.kept.message.Message.{Message as MessageFields}
 use Rattle.sctp_send.specs.declared.kept.entry.Entry.{Entry as EntryFields}
 use Rattle.sctp_send.proofs.kept.CountLemmas.{counts_pushed}
-use Rattle.sctp_send.proofs.kept.OrderLemmas.{long_order}
 use Rattle.sctp_send.specs.inner.Stretching.{index_at, AreKnown}
 use Rattle.sctp_send.proofs.kept.KnownLemmas.{SayTheSame, SayNothing, known_pushed}
 use Rattle.sctp_send.proofs.kept.outstanding.Outstanding.put.Goals as goal
@@ -15,7 +14,8 @@ push-requires c =
     let s = c.self.inside in
     let h = c.self.invariant in
     let lt = subst (λ (w : OutstandingKept). length w.items < w.capacity) (sym c.self.view_is) c.requires in
-    omega (arith, lt, h.there, long_order (tickets_of s.entries.items) s.by_ticket.first s.by_ticket.pairs.items h.order, length-map s.entries.items ticket_of)
+    let whole = h.order.whole in
+    omega (arith, lt, h.there, whole, length-map s.entries.items ticket_of)
 
 pub push_back_reserved-requires : goal.push_back_reserved-requires
 push_back_reserved-requires c =
@@ -35,10 +35,10 @@ invariant_of-self c =
     let long : c.len-others.result ≡ length es = c.len-others.ensures ∙ s.entries.ok.0 in
     let ticket = ap (λ (m : MessageFields). m.ticket) c.deref.ensures in
     let more : tickets_of (es ++ e ∷ []) ≡ tickets_of es ++ ticket_of e ∷ [] = map-append ticket_of es (e ∷ []) in
-    let order = subst (λ (t : ℕ). IsOrderOf (tickets_of es ++ t ∷ []) c.push.new.self.first c.push.new.self.pairs.items) ticket (c.push.ensures.order (tickets_of es) (long ∙ sym (length-map es ticket_of)) h.order) in
+    let order = subst (λ (t : ℕ). IsOrderOf (tickets_of es ++ t ∷ []) c.push.new.self) ticket (c.push.ensures.order (tickets_of es) (long ∙ sym (length-map es ticket_of)) h.order) in
     record {
       counted = rw (items, c.add.ensures, long) (counts_pushed s.size es e s.counts h.counted);
-      order = subst (λ (ts : List ℕ). IsOrderOf ts c.push.new.self.first c.push.new.self.pairs.items) (sym (ap tickets_of items ∙ more)) order;
+      order = subst (λ (ts : List ℕ). IsOrderOf ts c.push.new.self) (sym (ap tickets_of items ∙ more)) order;
       within = let n = ap (λ (xs : List EntryFields). length xs) items in let m = length-append es (e ∷ []) in omega (arith, n, m, lt);
       here = let le = h.here in omega (arith, le, c.push_back_reserved.ensures.capacity);
       there = let le = h.there in omega (arith, le, c.push.ensures.capacity);

@@ -68,7 +68,7 @@ invariant_of-self c =
     let long : length c.turn_stretch.new.entries.items ≡ length es = ap (λ (xs : List EntryFields). length xs) items ∙ length-run_changed (told b) at 64 es in
     record {
       counted = c.turn_stretch.ensures.counted;
-      order = subst (λ (ts : List ℕ). IsOrderOf ts first s.by_ticket.pairs.items) (sym (ap tickets_of items ∙ same_tickets (told b) at 64 es (same_ticket b))) h.order;
+      order = subst (λ (ts : List ℕ). IsOrderOf ts s.by_ticket) (sym (ap tickets_of items ∙ same_tickets (told b) at 64 es (same_ticket b))) h.order;
       within = let le = h.within in omega (arith, long, le);
       here = let le = h.here in omega (arith, c.turn_stretch.ensures.capacity, le);
       there = h.there;

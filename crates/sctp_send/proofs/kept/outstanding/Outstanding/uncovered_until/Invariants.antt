@@ -4,7 +4,7 @@ use Rattle.sctp_send.specs.inner.Walks.{is_item_uncovered}
 use Rattle.sctp_send.proofs.kept.TicketWalks.{WerePassed}
 use Rattle.sctp_send.proofs.kept.outstanding.Outstanding.uncovered_until.Given as goal
 
-abbrev pub invariant-loop-rank : goal.invariant-loop-rank
-invariant-loop-rank l =
+abbrev pub invariant-loop-at : goal.invariant-loop-at
+invariant-loop-at l =
     let s = l.self-inside in
-    (size : ℕ) → WerePassed s.entries.items s.by_ticket.first s.by_ticket.pairs.items (λ e. is_item_uncovered l.ticket (item_meaning size e) ≡ false) l.start l.rank
+    (size : ℕ) → WerePassed s.entries.items s.by_ticket.first s.by_ticket.pairs.items l.own (λ e. is_item_uncovered l.ticket (item_meaning size e) ≡ false) l.at
