@@ -1,5 +1,5 @@
 -- The first sixteen bytes of a run, added a few distances further on and dropped, leave the register 0 as the run does.
-use Rattle.std.proofs.Common.{◌≡◌, ℕ, ◌+◌, ◌-◌, ◌*◌, ◌<◌, ◌≤◌, inl, inr, List, [], ◌∷◌, length, take, drop, bit_xor, refl, sym, ap, ◌∙◌, arith}
+use Rattle.std.proofs.Common.{◌≡◌, ℕ, ◌+◌, ◌-◌, ◌*◌, ◌^◌, ◌<◌, ◌≤◌, inl, inr, List, [], ◌∷◌, length, take, drop, bit_xor, refl, sym, ap, ◌∙◌, arith}
 use Rattle.std.specs.Prelude.{slice_index}
 use Rattle.std.specs.Int.Bits.{xor_assoc, xor_self, xor_zero_r, xor_zero_l}
 use Rattle.std.proofs.lemmas.Bool.{cases_lt}
@@ -10,7 +10,7 @@ use Rattle.sctp_packet.specs.Checksum.{bits, divisor, message_bits}
 use Rattle.sctp_packet.specs.Register.{register_after}
 use Rattle.sctp_packet.specs.Tables.{steps}
 use Rattle.sctp_packet.proofs.StepBits.{run_bits}
-use Rattle.sctp_packet.proofs.FoldLemmas.{NEAR, near_vanishes, near_within}
+use Rattle.sctp_packet.proofs.FoldLemmas.{AreWithin, vanishing}
 use Rattle.sctp_packet.proofs.JoinedLemmas.{joined, moved, moved_low, moved_high, fallen, joined_same, joined_list, moved_bytes, fallen_bytes, folded_steps}
 
 -- the first sixteen bytes, and zeros
@@ -90,9 +90,9 @@ module _ (ds xs ys : List ℕ) (is : AreAdded ds xs ys) where
       ]
 
 -- so the register goes on behind them
-pub added_goes_on : (xs ys : List ℕ) → AreAdded NEAR xs ys → 114 ≤ length xs → ((j : ℕ) → slice_index ys j < 256) →
+pub added_goes_on : (top : ℕ) (ds : List ℕ) → vanishing top ds (2 ^ 31) ≡ 0 → AreWithin top ds → (xs ys : List ℕ) → AreAdded ds xs ys → 16 + top ≤ length xs → ((j : ℕ) → slice_index ys j < 256) →
     register_after (drop 1 divisor) (bits 32 0) (message_bits (drop 16 ys)) ≡ register_after (drop 1 divisor) (bits 32 0) (message_bits xs)
-added_goes_on xs ys is long ranged =
+added_goes_on top ds vanish within xs ys is long ranged =
     let n = length xs - 16 in
     let count : 16 + n ≡ length xs = omega (arith, long) in
     let rest : length (drop 16 ys) ≡ n = length-drop 16 ys ∙ ap (λ (k : ℕ). k - 16) is.size in
@@ -103,10 +103,10 @@ added_goes_on xs ys is long ranged =
     ] in
     let rest_ranged : (j : ℕ) → slice_index (drop 16 ys) j < 256 = λ j. omega (arith, get_or-drop 16 ys j 0, ranged (16 + j)) in
     let all_ranged : (j : ℕ) → slice_index xs j < 256 = λ j.
-    let fits = xor_lt 8 (fallen NEAR (front xs) j) (moved 16 (slice_index (drop 16 ys)) j) (fallen_bytes NEAR (front xs) front_ranged j) (moved_bytes 16 (slice_index (drop 16 ys)) rest_ranged j) in
-    omega (arith, made NEAR xs ys is j, fits) in
+    let fits = xor_lt 8 (fallen ds (front xs) j) (moved 16 (slice_index (drop 16 ys)) j) (fallen_bytes ds (front xs) front_ranged j) (moved_bytes 16 (slice_index (drop 16 ys)) rest_ranged j) in
+    omega (arith, made ds xs ys is j, fits) in
     let same : steps (8 * (16 + n)) (joined (16 + n) (slice_index xs)) ≡ steps (8 * n) (joined n (slice_index (drop 16 ys))) =
-    folded_steps 98 NEAR near_vanishes near_within 16 n (slice_index xs) (front xs) (slice_index (drop 16 ys)) front_ranged rest_ranged (omega (arith, long)) (front_past xs) (λ i low. made NEAR xs ys is i) in
+    folded_steps top ds vanish within 16 n (slice_index xs) (front xs) (slice_index (drop 16 ys)) front_ranged rest_ranged (omega (arith, long)) (front_past xs) (λ i low. made ds xs ys is i) in
     number (drop 16 ys) n rest rest_ranged ∙ (ap (bits 32) (sym same) ∙ sym (number xs (16 + n) (sym count) all_ranged))
   where
     number : (zs : List ℕ) (m : ℕ) → length zs ≡ m → ((j : ℕ) → slice_index zs j < 256) →

@@ -7,7 +7,8 @@ ghost use Rattle.sctp_packet.specs.PacketBytes.{IsChecked, without_sum};
 ghost use Rattle.sctp_packet.specs.Register.{register_after};
 ghost use Rattle.sctp_packet.specs.Tables.{steps, IsEntry};
 
-use crate::folding::{BLOCK, FRONT, LEFT, MOST, ROOM, fold, leave, push_front};
+use crate::folding::{BLOCK, FRONT, LEFT, MOST, ROOM, fold, leave};
+use crate::pushing::shorten;
 use crate::tables::TABLES;
 use byteorder::{ByteOrder, LittleEndian};
 
@@ -21,8 +22,6 @@ const PLACES: usize = 16;
 const TURN: usize = 32;
 /// The bytes that it takes at once if fewer than `PLACES` are left.
 const HALF: usize = 8;
-/// The fewest bytes of what folding leaves of which the first sixteen are added to others.
-const PUSHED: usize = 128;
 /// The shortest run that is folded: for a shorter one folding costs more than it saves.
 const LONG: usize = 384;
 
@@ -98,20 +97,7 @@ fn after_long(register: u32, bytes: &[u8]) -> u32
     let mut room = [0; ROOM];
     fold(register, bytes, ends, &mut room);
     leave(bytes, ends, &mut room);
-    after_left(&mut room[FRONT + ends..FRONT + ends + LEFT])
-}
-
-/// The register after what folding leaves, from 0: as long as there are 128 bytes, the first sixteen are added to others.
-#[inline(always)]
-fn after_left(left: &mut [u8]) -> u32
-    ensures { bits 32 result ≡ register_after (drop 1 divisor) (bits 32 0) (message_bits left.old) }
-{
-    let mut rest = left;
-    while rest.len() >= PUSHED {
-        push_front(rest);
-        rest = &mut rest[PLACES..];
-    }
-    after_short(0, rest)
+    after_short(0, shorten(&mut room[FRONT + ends..FRONT + ends + LEFT]))
 }
 
 /// The register after the bytes, 32 at a time as long as there are that many.

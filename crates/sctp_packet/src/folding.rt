@@ -1,9 +1,7 @@
 //! Folding of long runs of bytes, before the tables of the checksum take what is left of them: a byte that is folded needs no table.
 
 ghost use Rattle.std.specs.Prelude.{◌≡◌, ℕ, ◌+◌, ◌-◌, ◌*◌, ◌/◌, ◌%◌, ◌^◌, ◌<◌, ◌≤◌, bit_xor, drop, length, slice_index};
-ghost use Rattle.sctp_packet.specs.Checksum.{bits, divisor, message_bits};
 ghost use Rattle.sctp_packet.specs.Folding.{byte_of, reaching, IsFolded, IsLeft};
-ghost use Rattle.sctp_packet.specs.Register.{register_after};
 
 use crate::lanes::{LANES, lanes, put_lanes, sum};
 use byteorder::{ByteOrder, LittleEndian};
@@ -151,38 +149,6 @@ fn set_block(bytes: &[u8], before: &[u8], zeros: usize, block: &mut [u8])
     );
     put_lanes(block, 0, first);
     put_lanes(block, LANES, second);
-}
-
-/// Adds the first sixteen bytes to those 21, 47, 60, 65, 70, 94 and 98 bytes further on. The bytes after the sixteen then leave the register 0
-/// as all did.
-#[inline(always)]
-pub(crate) fn push_front(left: &mut [u8])
-    requires { 114 ≤ length left.old }
-    ensures length { length left.new ≡ length left.old }
-    ensures same { register_after (drop 1 divisor) (bits 32 0) (message_bits (drop 16 left.new))
-        ≡ register_after (drop 1 divisor) (bits 32 0) (message_bits left.old) }
-{
-    add_front(left, 21);
-    add_front(left, 47);
-    add_front(left, 60);
-    add_front(left, 65);
-    add_front(left, 70);
-    add_front(left, 94);
-    add_front(left, 98);
-}
-
-/// Adds the first sixteen bytes to those at a position.
-#[inline(always)]
-fn add_front(left: &mut [u8], at: usize)
-    requires after { 16 ≤ at }
-    requires within { at + 16 ≤ length left.old }
-    ensures length { length left.new ≡ length left.old }
-    ensures here { (k : ℕ) → k < 16 → slice_index left.new (at + k) ≡ bit_xor (slice_index left.old (at + k)) (slice_index left.old k) }
-    ensures before { (j : ℕ) → j < at → slice_index left.new j ≡ slice_index left.old j }
-    ensures behind { (j : ℕ) → at + 16 ≤ j → slice_index left.new j ≡ slice_index left.old j }
-{
-    let added = sum(lanes(left, at), lanes(left, 0));
-    put_lanes(left, at, added);
 }
 
 /// What folding moves to the sixteen bytes at a position from those before them, of which the last are so many zeros.

@@ -1,7 +1,7 @@
 use Rattle.std.proofs.Common.{◌≡◌, drop, length}
 use Rattle.sctp_packet.specs.Checksum.{bits, divisor, message_bits}
 use Rattle.sctp_packet.specs.Register.{register_after}
-use Rattle.sctp_packet.proofs.checksum.after_left.Given as goal
+use Rattle.sctp_packet.proofs.pushing.shorten.Given as goal
 
 abbrev pub invariant-loop-rest : goal.invariant-loop-rest
 invariant-loop-rest l = register_after (drop 1 divisor) (bits 32 0) (message_bits l.rest) ≡ register_after (drop 1 divisor) (bits 32 0) (message_bits l.fn.left)

@@ -1,6 +1,7 @@
 use Rattle.std.proofs.Common.{arith}
+use Rattle.sctp_packet.proofs.FoldLemmas.{SEVEN, seven_vanish, seven_within}
 use Rattle.sctp_packet.proofs.NearLemmas.{none_added, one_added, added_goes_on}
-use Rattle.sctp_packet.proofs.folding.push_front.Goals as goal
+use Rattle.sctp_packet.proofs.pushing.push_seven.Goals as goal
 
 pub returns-clause-same : goal.returns-clause-same
 returns-clause-same c =
@@ -12,4 +13,4 @@ returns-clause-same c =
     let fifth = one_added 70 _ old c.add_front-4.new.left c.add_front-5.new.left (omega arith) fourth c.add_front-5.ensures.length c.add_front-5.ensures.before c.add_front-5.ensures.here c.add_front-5.ensures.behind in
     let sixth = one_added 94 _ old c.add_front-5.new.left c.add_front-6.new.left (omega arith) fifth c.add_front-6.ensures.length c.add_front-6.ensures.before c.add_front-6.ensures.here c.add_front-6.ensures.behind in
     let seventh = one_added 98 _ old c.add_front-6.new.left c.add_front-7.new.left (omega arith) sixth c.add_front-7.ensures.length c.add_front-7.ensures.before c.add_front-7.ensures.here c.add_front-7.ensures.behind in
-    added_goes_on old c.add_front-7.new.left seventh c.requires (λ j. omega (arith, c.type_inv.left j))
+    added_goes_on 98 SEVEN seven_vanish seven_within old c.add_front-7.new.left seventh c.requires (λ j. omega (arith, c.type_inv.left j))

@@ -1,5 +1,5 @@
 use Rattle.std.proofs.Common.{◌≡◌, ◌+◌, refl, arith, ◌∙◌}
-use Rattle.sctp_packet.proofs.folding.add_front.Goals as goal
+use Rattle.sctp_packet.proofs.pushing.add_front.Goals as goal
 
 pub returns-clause-here : goal.returns-clause-here
 returns-clause-here c = λ k few.
