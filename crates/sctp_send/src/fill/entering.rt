@@ -2,12 +2,13 @@
 //! into the packet, and the stock keeps what it leaves (RFC 9260, 6.1 and 6.3.3; RFC 8260, 2.2). All memory was taken before: the packet's and that of
 //! tickets as the fill began, that of entries and owners when messages were queued. So nothing here can fail.
 
-ghost use Rattle.std.specs.Prelude.{◌≡◌, suc, ◌+◌, ◌*◌, ◌^◌, ◌<◌, ◌≤◌, ◌∷◌, [], Bool, true, Some, length, slice_index_or};
+ghost use Rattle.std.specs.Prelude.{◌≡◌, suc, ◌+◌, ◌-◌, ◌*◌, ◌^◌, ◌<◌, ◌≤◌, ◌∷◌, [], Bool, true, Some, length, slice_index_or};
 ghost use Rattle.std.specs.Vec.{vec_len, vec_capacity};
 ghost use Rattle.sctp_model.specs.numbers.Limits.{GREATEST_FRAGMENT};
 ghost use Rattle.sctp_model.specs.sender.SenderView.{SenderView};
 ghost use Rattle.sctp_packet.specs.Draft.{room_in, with_chunks};
 ghost use Rattle.sctp_send.specs.SenderStands.{Keeps};
+ghost use Rattle.sctp_send.specs.OutstandingFields.{lane_meaning};
 ghost use Rattle.sctp_send.specs.ResetsKept.{base_of};
 ghost use Rattle.sctp_send.specs.inner.Asking.{CanBegin, CanGo, CanGoOn, GoesAnswer, IsAsked, IsNextPending};
 ghost use Rattle.sctp_send.specs.inner.Newcomers.{IsBegun, IsContinued};
@@ -23,6 +24,7 @@ use crate::fill::sendings::Sendings;
 use crate::kept::entry::{Content, Entry, Standing};
 use crate::kept::message::Message;
 use crate::kept::pieces::put_fragment;
+use crate::kept::resets::base_at;
 use crate::kept::track::Taken;
 use crate::kept::waiting::Waiting;
 use crate::stock::Stock;
@@ -90,9 +92,22 @@ impl Told {
     {
         let index = self.cum.wrapping_add(at as u64).wrapping_add(1);
         let tsn = tsn_of(self.initial, index);
-        let base = self.resets.base(message.stream, message.kind);
-        let since = number.saturating_sub(base);
+        let since = self.since_reset(message, number);
         put_fragment::<F>(message, since, content, self.fragment, tsn, packet);
+    }
+
+    /// A message's number in the lane, counted from the last reset of its stream (RFC 6525, 5.2.2); mostly there was none.
+    #[inline(always)]
+    fn since_reset(&self, message: &Message, number: u64) -> u64
+        ensures { result ≡ number - base_of self.now.resets (lane_meaning message.now) }
+    {
+        match &self.resets.table {
+            Some(table) => {
+                let base = base_at(&table.streams, message.stream, message.kind);
+                number.saturating_sub(base)
+            }
+            None => number,
+        }
     }
 
     /// The message at a place of the queue takes its number, and so many of its fragments their indexes: the first one's chunk is put.

@@ -148,7 +148,7 @@ impl OutgoingResets {
 }
 
 /// The number of a stream and a kind that is 0 on the wire, when there is a table.
-fn base_at(streams: &[StreamReset], stream: u16, kind: Kind) -> u64
+pub(crate) fn base_at(streams: &[StreamReset], stream: u16, kind: Kind) -> u64
     ensures { result ≡ base_in streams.now (lane_of stream kind) }
 {
     match streams.get(usize::from(stream)) {

@@ -13,7 +13,7 @@ returns-clause-put g c =
     let h = c.args.self.now in
     let i = suc (h.cum + c.args.at) in
     let m = c.args.message.now in
-    let since : c.saturating_sub-since.result ≡ c.args.number - base_of h.resets (lane_meaning m) = c.saturating_sub-since.ensures ∙ ap (λ n. c.args.number - n) c.base-base.ensures in
+    let since : c.since_reset-since.result ≡ c.args.number - base_of h.resets (lane_meaning m) = c.since_reset-since.ensures in
     let at_is : c.tsn_of-tsn.result ≡ tsn h.initial i = omega (arith, c.tsn_of-tsn.ensures) in
     c.put_fragment.ensures.after h.initial i at_is
-    ∙ ap (λ (x : ChunkMeaning). with_chunks c.args.packet.now (x ∷ [])) (fragment_based f (base_of h.resets) h.fragment h.initial i m c.args.number c.saturating_sub-since.result c.args.content since)
+    ∙ ap (λ (x : ChunkMeaning). with_chunks c.args.packet.now (x ∷ [])) (fragment_based f (base_of h.resets) h.fragment h.initial i m c.args.number c.since_reset-since.result c.args.content since)
