@@ -16,6 +16,7 @@ pub mod TakenLemmas
 pub mod SeatLemmas
 pub mod SeatedLemmas
 pub mod TrackCounts
+pub mod PairLemmas
 pub mod OrderLemmas
 pub mod TicketWalks
 pub mod HeadLemmas

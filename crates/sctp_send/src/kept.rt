@@ -9,10 +9,11 @@
 //! | `Streams` (`IsStreamsOf`, `IsCountedOf`) | the numbers of each stream, and its message in part (a track); under I-DATA the tickets of the messages in part, by stream and by ticket (`TwoWayMap` of sctp_sequence). Under DATA no message is ever in part, and nothing is listed | how many messages are in part; the TSNs that they may take |
 //! | `Dues` (`PagedNumbers` of sctp_sequence) | of each ticket a time before which its message is not late; 8 bytes a ticket from the first message with a lifetime on, and before it only how many tickets there are | the least time of 64 tickets in a row, and the least of all |
 //!
-//! Words: a *place* is where a message is in the queue, counted from 0; a *rank* is how many are before one in an ordered list; an *offset* is where an
-//! entry is, counted from CUM + 1; the *content* of an index is a fragment or an end mark; an entry's *pair*, if it has one, is its ticket and index, a *seat* a message's
-//! stream and ticket, a *track* one stream's numbers and its message in part; a *stretch* is 64 entries in a row, and a *slot* is where what is known of
-//! them is kept; a *shell* is the memory of a message that is gone, without its bytes; a *wish* is what is to be sent next.
+//! Words: a *place* is where a message is in the queue, counted from 0; a *rank* is how many are before one in an ordered list; an *offset* is where
+//! an entry is, counted from CUM + 1; the *content* of an index is a fragment or an end mark; an entry's *pair*, if it has one, is its ticket and
+//! index, a *seat* a message's stream and ticket, a *track* one stream's numbers and its message in part; a *stretch* is 64 entries in a row, and a
+//! *slot* is where what is known of them is kept; a *shell* is the memory of a message that is gone, without its bytes; a *wish* is what is to be
+//! sent next.
 //!
 //! A message's bytes are freed when CUM passes its last index. Its shell, the memory without the bytes, is kept, 64 of them at most, for messages to
 //! come; no view knows of them. An order by tickets costs nothing as long as tickets rise with indexes, as they do unless streams take turns.

@@ -29,7 +29,7 @@ pub record IsOwn (ticket : ℕ) (ts : List ℕ) (first : ℕ) (ps : List Pair) (
 
 -- ---- a walk by ticket
 
--- A walk stands within the entries, and the pairs rise by ticket.
+-- A walk is within the entries, and the pairs rise by ticket.
 pub record AreHeads (ts : List ℕ) (ps : List Pair) (h : Heads) : Type 0 where
   pub front : h.front + length ps ≤ length ts
   pub rank : h.rank ≤ length ps

@@ -22,11 +22,12 @@ pub(crate) struct Step {
     pub(crate) heads: Heads,
 }
 
-/// The entries of a message: `many` of them, the first `front` of which have no pairs and are side by side.
+/// The entries of a message: `many` of them, the first `front` of which have no pairs and are side by side from the offset `from` on; the pairs of the
+/// others are side by side from a rank on.
 #[derive(Clone, Copy)]
 pub(crate) struct Own {
-    front: usize,
     from: usize,
+    front: usize,
     rank: usize,
     pub(crate) many: usize,
 }
@@ -94,8 +95,8 @@ impl ByTicket {
         let rank = self.pairs.rank_from(ticket);
         let paired = self.pairs.rank_above(ticket).saturating_sub(rank);
         Own {
-            front,
             from,
+            front,
             rank,
             many: front + paired,
         }
@@ -127,7 +128,7 @@ fn ticket_at(entries: &VecDeque<Entry>, at: usize) -> u64
 }
 
 /// How many of the first entries, so many of which rise by ticket, have a lower ticket than this. The first one is looked at before others, since mostly
-/// no ticket is lower than its own.
+/// none is lower.
 fn front_below(entries: &VecDeque<Entry>, many: usize, ticket: u128) -> usize
     requires within { many ≤ length entries.now.items }
     requires rising { AreRisingTo many (tickets_of entries.now.items) }
