@@ -154,20 +154,18 @@ impl Outstanding {
         ensures capacity { self.old.capacity ≤ self.new.capacity }
         ensures room { OnOk result (length self.new.items + more ≤ self.new.capacity) }
     {
+        self.reserve_runs()?;
         let wide = grown(self.room, self.entries.len(), more);
         self.entries.reserve_exact(wide).map_err(|_| NoMemory)?;
+        // Each entry to come may get a pair, and those that have none get none later.
+        let unpaired = self.entries.len() - self.by_ticket.pairs.len();
         self.by_ticket
             .pairs
-            .reserve_exact(wide)
+            .reserve_exact(unpaired.saturating_add(wide))
             .map_err(|_| NoMemory)?;
-        self.reserve_runs()?;
-        self.keep_stretches();
         self.room = self.entries.capacity().min(self.by_ticket.pairs.capacity());
-        if self.has_room(more) {
-            Ok(())
-        } else {
-            Err(NoMemory)
-        }
+        self.keep_stretches();
+        Ok(())
     }
 
     /// Allocates the slots of stretches, if many entries are outstanding.
