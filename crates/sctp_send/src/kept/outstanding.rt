@@ -157,7 +157,7 @@ impl Outstanding {
         self.reserve_runs()?;
         let wide = grown(self.room, self.entries.len(), more);
         self.entries.reserve_exact(wide).map_err(|_| NoMemory)?;
-        // Each entry to come may get a pair, and those that have none get none later.
+        // `room` counts entries, so those without a pair count beside the pairs.
         let unpaired = self.entries.len() - self.by_ticket.pairs.len();
         self.by_ticket
             .pairs
