@@ -47,7 +47,7 @@ pub(crate) struct Ending {
 pub(crate) fn fresh_tracks(alloc: Global, streams: u16) -> Result<Vec<Track>, NoMemory>
     ensures { IfOk result (λ tracks. tracks.items ≡ replicate streams (record { ordered = 0; unordered = 0; rest = None })) }
 {
-    let mut tracks = Vec::new(alloc);
+    let mut tracks = Vec::with_capacity(alloc, usize::from(streams)).map_err(|_| NoMemory)?;
     for _ in 0..streams {
         tracks
             .push(Track {
