@@ -39,8 +39,8 @@ say "channels: misuse, buffers, two ends in one program"
 "$cc" "${flags[@]}" -o "$at/kept" tests/c/kept.c "$prefix/lib/libsctp_endpoint.a"
 for row in "10000000 19 1 65536" "1024 1024 1 32768" "32767 32767 1 65536" "1024 1024 10000 32768"; do
     read -r many at_once associations most <<< "$row"
-    read -r stayed trimmed <<< "$("$at/kept" "$many" "$at_once" "$associations")"
-    say "$many messages that are over, $at_once at once, in each of $associations associations: $stayed bytes more at both ends, after trim $trimmed; $most wanted at most"
+    read -r stayed trimmed idle <<< "$("$at/kept" "$many" "$at_once" "$associations")"
+    say "$many messages that are over, $at_once at once, in each of $associations associations: $stayed bytes more than $idle at both ends, after trim $trimmed; $most wanted at most"
     [ "$trimmed" -le "$most" ]
 done
 "$cc" "${flags[@]}" -o "$at/buffer" tests/c/buffer.c "${static[@]}"

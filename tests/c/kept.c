@@ -1,12 +1,14 @@
-/* What stays of messages that are over: kept MANY [AT ONCE [ASSOCIATIONS]]. In each association, one after the other (1), MANY messages of a byte are sent,
- * acknowledged and taken, 19 at a time or so many at once. Then it prints how many bytes both ends of an association hold more than before its first message:
- * as they are, and after sctp_endpoint_trim at both. The allocator is the program's own, which counts, so no libsctp_endpoint_malloc.a is linked. */
+/* What stays of messages that are over: kept MANY [AT ONCE [ASSOCIATIONS [STREAMS]]]. In each association, one after the other (1), of so many streams (64),
+ * MANY messages of a byte are sent, acknowledged and taken, 19 at a time or so many at once. Then it prints how many bytes both ends of an association hold
+ * more than before its first message, as they are and after sctp_endpoint_trim at both, and how many they held before it. The allocator is the program's own,
+ * which counts, so no libsctp_endpoint_malloc.a is linked. */
 #include "sctp_endpoint.h"
 #include <stdio.h>
 #include <stdlib.h>
 #include <string.h>
 
-enum { AT_A_TIME = 19, QUEUE = 1024, HEAD = 16, MOST = 10000 }; /* messages, and how many wait at most; bytes before a block, which hold its size; associations */
+/* messages, and how many wait at most; bytes before a block, which hold its size; associations; streams */
+enum { AT_A_TIME = 19, QUEUE = 1024, HEAD = 16, MOST = 10000, STREAMS = 64 };
 
 struct sctp_endpoint_block rattle_alloc(size_t size, size_t alignment);
 struct sctp_endpoint_block rattle_realloc(void *at, size_t old_size, size_t size, size_t alignment);
@@ -67,9 +69,10 @@ static long turn(struct sctp_endpoint *ends, long many) {
     return taken;
 }
 
-static bool opened(struct sctp_endpoint *ends) {
+static bool opened(struct sctp_endpoint *ends, long streams) {
     static const struct sctp_endpoint_draw draws[2] = { { 7, 100, 0 }, { 9, 500, 0 } };
     struct sctp_endpoint_config config = SCTP_ENDPOINT_CONFIG(5000, 5001);
+    config.outbound = config.inbound = (uint16_t)streams;
     if (sctp_endpoint_opened(&ends[0], &config, &draws[0], &draws[1])) return false;
     config.own_port = 5001, config.peer_port = 5000;
     return sctp_endpoint_opened(&ends[1], &config, &draws[1], &draws[0]) == SCTP_EP_OK;
@@ -77,9 +80,10 @@ static bool opened(struct sctp_endpoint *ends) {
 
 int main(int argc, char **argv) {
     long many = argc > 1 ? atol(argv[1]) : 0, at_once = argc > 2 ? atol(argv[2]) : AT_A_TIME, count = argc > 3 ? atol(argv[3]) : 1, stayed = 0;
-    if (count < 1 || count > MOST) return 1;
+    long streams = argc > 4 ? atol(argv[4]) : STREAMS;
+    if (count < 1 || count > MOST || streams < 1 || streams > UINT16_MAX) return 1;
     for (long i = 0; i < count; i++)
-        if (!opened(associations[i])) return 1;
+        if (!opened(associations[i], streams)) return 1;
     long idle = held;
     for (long i = 0; i < count; i++) {
         long before = held, taken = 0;
@@ -91,7 +95,7 @@ int main(int argc, char **argv) {
         stayed += held - before;
         if (sctp_endpoint_trim(&associations[i][0]) || sctp_endpoint_trim(&associations[i][1])) return 1;
     }
-    printf("%ld %ld\n", stayed / count, (held - idle) / count);
+    printf("%ld %ld %ld\n", stayed / count, (held - idle) / count, idle / count);
     for (long i = 0; i < count; i++) sctp_endpoint_free(&associations[i][0]), sctp_endpoint_free(&associations[i][1]);
     return held != 0;
 }
