@@ -61,13 +61,13 @@
 //! `on_timeout` and `wear` all that is outstanding, `on_missed` and `wear_between` what is of their range, `next_at_limit` the outstanding entries of
 //! higher tickets up to the one that it finds; `expire` and `next_late` the tickets whose deadlines have passed; `weigh` what the SACK does but for what is
 //! no longer acknowledged, each entry once, `first_missed` its range, `room_of_repeats` the entries from the first marked one on, `last_sent` the
-//! entries after it, which were never sent, `queued_bytes_on` the queue; other readers are constant, `abandon` and `acknowledged` two binary searches and the
-//! message's own entries. The first `reset` makes a table of all streams; each costs a binary search among the streams that wait for their reset, a move of
-//! those with higher numbers, and the entries after the last one of its stream; `on_response` the streams that wait, if it ends the request;
-//! `may_ask` and `ask` the streams that wait, each a look at the entry noted for it and, if that is gone, its search in the queue and a walk over the entries
-//! up to its first one, and nothing if there are none; without a reset no table is kept, and a message costs one test more. What is kept for that is in
-//! `kept`, and each part's counts are its invariant: an entry
-//! takes 32 bytes with the count of its retransmissions, which ends at 65,535, as limits do.
+//! entries after it, which were never sent, `queued_bytes_on` the queue; other readers are constant, `abandon` and `acknowledged` the message's own
+//! entries and a search for them, by a look at three of them if tickets rise by one from entry to entry, otherwise binary. The first `reset` makes a
+//! table of all streams; each costs a binary search among the streams that wait for their reset, a move of those with higher numbers, and the entries
+//! after the last one of its stream; `on_response` the streams that wait, if it ends the request; `may_ask` and `ask` the streams that wait, each a
+//! look at the entry noted for it and, if that is gone, its search in the queue and a walk over the entries up to its first one, and nothing if there
+//! are none; without a reset no table is kept, and a message costs one test more. What is kept for that is in `kept`, and each part's counts are its
+//! invariant: an entry takes 32 bytes with the count of its retransmissions, which ends at 65,535, as limits do.
 //!
 //! The files of `src` form a path on which each imports only what is before it: `last_forward`, `message`, `resets`, `sendings`; `blocks`, `by_ticket`,
 //! `dues`, `entry`, `seats`, `shells`; `fates`, `heads`, `pieces`; `queue`, `told`, `track`, `wishes`; `counts`, `looking`, `queued_on`; `streams`,

@@ -9,7 +9,7 @@ use Rattle.sctp_sequence.specs.Pairs.{IsRankFrom, first_of}
 use Rattle.sctp_sequence.specs.declared.pairs.Pair.{Pair}
 use Rattle.sctp_send.specs.declared.kept.by_ticket.ByTicket.{ByTicket}
 use Rattle.sctp_send.specs.declared.kept.heads.Heads.{Heads}
-use Rattle.sctp_send.specs.declared.kept.heads.Own.{Own}
+use Rattle.sctp_send.specs.declared.kept.heads.OwnEntries.{OwnEntries}
 use Rattle.sctp_send.specs.inner.TicketOrder.{no_pair, pair_at, offset_at, AreRisingTo, IsOrderOf}
 use Rattle.sctp_send.specs.inner.TicketHeads.{AreHeads, AreAbove, IsFrontLower, IsLower, IsPassed, IsRankTo, IsOwn, offset_in}
 use Rattle.sctp_send.proofs.kept.OrderLemmas.{pair_ticket, entry_pair}
@@ -39,29 +39,25 @@ lowered ticket many ts low high middle u from lt there above rising h = record {
   higher = λ n t le upto read. let up = rising middle n u t le upto there read in omega (arith, up, above);
 }
 
--- it is that of the same ticket among as many
-pub ranked : (ts : List ℕ) (rank sought ticket many unpaired : ℕ) → sought ≡ ticket → many ≡ unpaired → IsRankTo sought many ts rank → IsRankTo ticket unpaired ts rank
-ranked ts rank sought ticket many unpaired one two h = subst (λ (n : ℕ). IsRankTo ticket n ts rank) two (subst (λ (t : ℕ). IsRankTo t many ts rank) one h)
-
 -- ---- those of a message
 
-pub own_in_front : (first : ℕ) (ps : List Pair) (o : Own) (k : ℕ) → k < o.front → offset_in first ps o k ≡ o.from + k
+pub own_in_front : (first : ℕ) (ps : List Pair) (o : OwnEntries) (k : ℕ) → k < o.front → offset_in first ps o k ≡ o.from + k
 own_in_front first ps o k lt = grind (arith, nat_tests)
 
-pub own_behind : (first : ℕ) (ps : List Pair) (o : Own) (k : ℕ) → o.front ≤ k → offset_in first ps o k ≡ offset_at first ps (o.rank + (k - o.front))
+pub own_behind : (first : ℕ) (ps : List Pair) (o : OwnEntries) (k : ℕ) → o.front ≤ k → offset_in first ps o k ≡ offset_at first ps (o.rank + (k - o.front))
 own_behind first ps o k le = grind (arith, nat_tests)
 
 module _ (ts : List ℕ) (o : ByTicket) (few : length ts < 2 ^ 64) (h : IsOrderOf ts o) where
-  pub are_own : (ticket from until rank above : ℕ) → IsRankTo ticket h.unpaired ts from → IsRankTo (ticket + 1) h.unpaired ts until → IsRankFrom ticket o.pairs.items rank → IsRankFrom (ticket + 1) o.pairs.items above
-      → IsOwn ticket ts o.first o.pairs.items (record { front = until - from; from = from; rank = rank; many = (until - from) + (above - rank) })
-  are_own ticket from until rank above is_from is_until is_rank is_above =
+  pub are_own : (ticket from front rank above : ℕ) → IsRankTo ticket h.unpaired ts from → IsRankTo (ticket + 1) h.unpaired ts (from + front) → IsRankFrom ticket o.pairs.items rank → IsRankFrom (ticket + 1) o.pairs.items above
+      → IsOwn ticket ts o.first o.pairs.items (record { front = front; from = from; rank = rank; many = front + (above - rank) })
+  are_own ticket from front rank above is_from is_upto is_rank is_above =
       let whole = h.whole in
       let from_within = is_from.within in
-      let until_within = is_until.within in
+      let front_within = is_upto.within in
       let rank_within = is_rank.within in
       let above_within = is_above.within in
       record {
-        within = omega (arith, whole, from_within, until_within);
+        within = omega (arith, whole, from_within, front_within);
         ranks = omega (arith, rank_within, above_within);
         right = right;
         all = all;
@@ -70,36 +66,36 @@ module _ (ts : List ℕ) (o : ByTicket) (few : length ts < 2 ^ 64) (h : IsOrderO
       ps : List Pair
       ps = o.pairs.items
 
-      own : Own
-      own = record { front = until - from; from = from; rank = rank; many = (until - from) + (above - rank) }
+      own : OwnEntries
+      own = record { front = front; from = from; rank = rank; many = front + (above - rank) }
 
       right : (k : ℕ) → k < own.many → slice_get ts (offset_in o.first ps own k) ≡ Some ticket
-      right k lt = elim (cases_lt k (until - from)) [
-        | inl front ↦
-            let at = own_in_front o.first ps own k front in
+      right k lt = elim (cases_lt k front) [
+        | inl inside ↦
+            let at = own_in_front o.first ps own k inside in
             let whole = h.whole in
-            let to = is_until.within in
-            let there = slice_get-get_or ts (from + k) 0 (omega (arith, front, to, whole)) in
-            let least = is_from.higher (from + k) (get_or ts (from + k) 0) (omega arith) (omega (arith, front, to)) there in
-            let most = is_until.lower (from + k) (get_or ts (from + k) 0) (omega (arith, front)) there in
+            let to = is_upto.within in
+            let there = slice_get-get_or ts (from + k) 0 (omega (arith, inside, to, whole)) in
+            let least = is_from.higher (from + k) (get_or ts (from + k) 0) (omega arith) (omega (arith, inside, to)) there in
+            let most = is_upto.lower (from + k) (get_or ts (from + k) 0) (omega (arith, inside)) there in
             let same : get_or ts (from + k) 0 ≡ ticket = omega (arith, least, most) in
             ap (slice_get ts) at ∙ there ∙ ap Some same
         | inr behind ↦
             let at = own_behind o.first ps own k behind in
             let to = is_above.within in
-            let upto : rank + (k - (until - from)) < above = omega (arith, lt, behind) in
-            let there = pair_ticket ts o few h (rank + (k - (until - from))) (omega (arith, upto, to)) in
-            let least = is_rank.higher (rank + (k - (until - from))) no_pair (omega arith) (omega (arith, upto, to)) in
-            let most = is_above.lower (rank + (k - (until - from))) no_pair upto in
-            let same : (pair_at ps (rank + (k - (until - from)))).first ≡ ticket = omega (arith, least, most) in
+            let upto : rank + (k - front) < above = omega (arith, lt, behind) in
+            let there = pair_ticket ts o few h (rank + (k - front)) (omega (arith, upto, to)) in
+            let least = is_rank.higher (rank + (k - front)) no_pair (omega arith) (omega (arith, upto, to)) in
+            let most = is_above.lower (rank + (k - front)) no_pair upto in
+            let same : (pair_at ps (rank + (k - front))).first ≡ ticket = omega (arith, least, most) in
             ap (slice_get ts) at ∙ there ∙ ap Some same
       ]
 
       all : (n : ℕ) → slice_get ts n ≡ Some ticket → (k : ℕ) × (k < own.many) × (offset_in o.first ps own k ≡ n)
       all n read = elim (cases_lt n h.unpaired) [
-        | inl front ↦
+        | inl inside ↦
             let low : from ≤ n = elim (cases_lt n from) [ inl lt ↦ absurd (let less = is_from.lower n ticket lt read in omega (arith, less)) | inr le ↦ le ] in
-            let high : n < until = elim (cases_lt n until) [ inl lt ↦ lt | inr le ↦ absurd (let more = is_until.higher n ticket le front read in omega (arith, more)) ] in
+            let high : n < from + front = elim (cases_lt n (from + front)) [ inl lt ↦ lt | inr le ↦ absurd (let more = is_upto.higher n ticket le inside read in omega (arith, more)) ] in
             (n - from, omega (arith, low, high), own_in_front o.first ps own (n - from) (omega (arith, low, high)) ∙ omega (arith, low))
         | inr behind ↦
             let mine = entry_pair ts o few h n ticket read behind in
@@ -107,9 +103,19 @@ module _ (ts : List ℕ) (o : ByTicket) (few : length ts < 2 ^ 64) (h : IsOrderO
             let first = mine.3 in
             let low : rank ≤ k = elim (cases_lt k rank) [ inl lt ↦ absurd (let less = is_rank.lower k no_pair lt in omega (arith, less, first)) | inr le ↦ le ] in
             let high : k < above = elim (cases_lt k above) [ inl lt ↦ lt | inr le ↦ absurd (let more = is_above.higher k no_pair le mine.1 in omega (arith, more, first)) ] in
-            let back : rank + ((until - from) + (k - rank) - (until - from)) ≡ k = omega (arith, low) in
-            ((until - from) + (k - rank), omega (arith, low, high), own_behind o.first ps own ((until - from) + (k - rank)) (omega arith) ∙ ap (offset_at o.first ps) back ∙ mine.2)
+            let back : rank + (front + (k - rank) - front) ≡ k = omega (arith, low) in
+            (front + (k - rank), omega (arith, low, high), own_behind o.first ps own (front + (k - rank)) (omega arith) ∙ ap (offset_at o.first ps) back ∙ mine.2)
       ]
+
+  -- where no entry has a pair
+  pub are_own_alone : (ticket from front : ℕ) → length o.pairs.items ≡ 0 → IsRankTo ticket h.unpaired ts from → IsRankTo (ticket + 1) h.unpaired ts (from + front)
+      → IsOwn ticket ts o.first o.pairs.items (record { front = front; from = from; rank = 0; many = front })
+  are_own_alone ticket from front none is_from is_upto =
+      let plain : front + (0 - 0) ≡ front = omega arith in
+      subst (λ (n : ℕ). IsOwn ticket ts o.first o.pairs.items (record { front = front; from = from; rank = 0; many = n })) plain (are_own ticket from front 0 0 is_from is_upto (no_rank ticket) (no_rank (ticket + 1)))
+    where
+      no_rank : (sought : ℕ) → IsRankFrom sought o.pairs.items 0
+      no_rank sought = record { within = omega arith; lower = λ k d lt. absurd (omega (arith, lt)); higher = λ k d le lt. absurd (omega (arith, lt, none)) }
 
   -- ---- a walk by ticket
 

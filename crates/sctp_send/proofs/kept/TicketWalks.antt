@@ -11,7 +11,7 @@ use Rattle.sctp_send.specs.inner.Changes.{unmarked, as_abandoned, all_abandoned}
 use Rattle.sctp_send.specs.inner.Walks.{any_uncovered, is_item_uncovered}
 use Rattle.sctp_send.specs.inner.TicketOrder.{IsOrderOf, IsInOrder, ticket_of, tickets_of}
 use Rattle.sctp_send.specs.inner.TicketHeads.{IsOwn, offset_in}
-use Rattle.sctp_send.specs.declared.kept.heads.Own.{Own}
+use Rattle.sctp_send.specs.declared.kept.heads.OwnEntries.{OwnEntries}
 use Rattle.sctp_send.specs.inner.Counting.{IsCounted}
 use Rattle.sctp_send.specs.declared.kept.by_ticket.ByTicket.{ByTicket}
 use Rattle.sctp_send.specs.declared.kept.counts.Counts.{Counts}
@@ -48,19 +48,19 @@ ticket_within es n t there = let mine = read_ticket es n t there in slice_get_wi
 -- ---- a message's entries
 
 -- the offset of one of them lies within, and what is read there is of the message
-pub own_within : {t first : ℕ} {ps : List Pair} {o : Own} (es : List EntryFields) (k n : ℕ) → IsOwn t (tickets_of es) first ps o → k < o.many → n ≡ offset_in first ps o k → n < length es
+pub own_within : {t first : ℕ} {ps : List Pair} {o : OwnEntries} (es : List EntryFields) (k n : ℕ) → IsOwn t (tickets_of es) first ps o → k < o.many → n ≡ offset_in first ps o k → n < length es
 own_within {t} es k n own lt at = ticket_within es n t (ap (slice_get (tickets_of es)) at ∙ own.right k lt)
 
-pub own_entry : {t first : ℕ} {ps : List Pair} {o : Own} (es : List EntryFields) (k n : ℕ) (x : EntryFields) → IsOwn t (tickets_of es) first ps o → k < o.many → n ≡ offset_in first ps o k → x ≡ get_or es n x
+pub own_entry : {t first : ℕ} {ps : List Pair} {o : OwnEntries} (es : List EntryFields) (k n : ℕ) (x : EntryFields) → IsOwn t (tickets_of es) first ps o → k < o.many → n ≡ offset_in first ps o k → x ≡ get_or es n x
     → (slice_get es (offset_in first ps o k) ≡ Some x) × (ticket_of x ≡ t)
 own_entry {t} es k n x own lt at read = let mine = same_entry es n t x (ap (slice_get (tickets_of es)) at ∙ own.right k lt) read in (ap (slice_get es) (sym at) ∙ mine.0, mine.1)
 
 -- Of so many of them a property holds.
-abbrev pub WerePassed : List EntryFields → (first : ℕ) → List Pair → Own → (EntryFields → Type 0) → (upto : ℕ) → Type 0
+abbrev pub WerePassed : List EntryFields → (first : ℕ) → List Pair → OwnEntries → (EntryFields → Type 0) → (upto : ℕ) → Type 0
 WerePassed es first ps o P j = (k : ℕ) (e : EntryFields) → k < j → slice_get es (offset_in first ps o k) ≡ Some e → P e
 
 -- one more
-pub one_passed : (es : List EntryFields) (first : ℕ) (ps : List Pair) (o : Own) (P : EntryFields → Type 0) (j : ℕ) (x : EntryFields) → slice_get es (offset_in first ps o j) ≡ Some x → P x → WerePassed es first ps o P j → WerePassed es first ps o P (j + 1)
+pub one_passed : (es : List EntryFields) (first : ℕ) (ps : List Pair) (o : OwnEntries) (P : EntryFields → Type 0) (j : ℕ) (x : EntryFields) → slice_get es (offset_in first ps o j) ≡ Some x → P x → WerePassed es first ps o P j → WerePassed es first ps o P (j + 1)
 one_passed es first ps o P j x read holds passed k e upto here = elim (cases_lt k j) [
   | inl early ↦ passed k e early here
   | inr late ↦
@@ -70,7 +70,7 @@ one_passed es first ps o P j x read holds passed k e upto here = elim (cases_lt 
 ]
 
 -- of all entries it holds then, if nothing is asked of others
-pub own_passed : (es : List EntryFields) (first : ℕ) (ps : List Pair) (o : Own) (P : EntryFields → Type 0) (t : ℕ) → IsOwn t (tickets_of es) first ps o → ((e : EntryFields) → (ticket_of e ≡ t → ⊥) → P e) → WerePassed es first ps o P o.many
+pub own_passed : (es : List EntryFields) (first : ℕ) (ps : List Pair) (o : OwnEntries) (P : EntryFields → Type 0) (t : ℕ) → IsOwn t (tickets_of es) first ps o → ((e : EntryFields) → (ticket_of e ≡ t → ⊥) → P e) → WerePassed es first ps o P o.many
     → (n : ℕ) (e : EntryFields) → slice_get es n ≡ Some e → P e
 own_passed es first ps o P t own others passed n e read = elim (cases_eq (ticket_of e) t) [
   | inl mine ↦
@@ -143,7 +143,7 @@ abbrev pub IsAbandonedAlready : ℕ → EntryFields → Type 0
 IsAbandonedAlready t e = as_abandoned t e ≡ e
 
 -- what was abandoned stays so, and one entry more is
-pub abandoned_more : (t first : ℕ) (ps : List Pair) (o : Own) (es : List EntryFields) (j n : ℕ) → n ≡ offset_in first ps o j → WerePassed es first ps o (IsAbandonedAlready t) j
+pub abandoned_more : (t first : ℕ) (ps : List Pair) (o : OwnEntries) (es : List EntryFields) (j n : ℕ) → n ≡ offset_in first ps o j → WerePassed es first ps o (IsAbandonedAlready t) j
     → WerePassed (changed_at (as_abandoned t) n es) first ps o (IsAbandonedAlready t) (j + 1)
 abandoned_more t first ps o es j n at passed k e upto read = elim (changed_read (as_abandoned t) n (offset_in first ps o k) es e read) [
   | inr new ↦ subst (IsAbandonedAlready t) (sym new.1) (abandoned_twice t new.0)

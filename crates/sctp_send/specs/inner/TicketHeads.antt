@@ -4,7 +4,7 @@ use Rattle.std.specs.List.Sorted.{IsNonDecreasingBy}
 use Rattle.sctp_sequence.specs.Pairs.{first_of}
 use Rattle.sctp_sequence.specs.declared.pairs.Pair.{Pair}
 use Rattle.sctp_send.specs.declared.kept.heads.Heads.{Heads}
-use Rattle.sctp_send.specs.declared.kept.heads.Own.{Own}
+use Rattle.sctp_send.specs.declared.kept.heads.OwnEntries.{OwnEntries}
 use Rattle.sctp_send.specs.declared.kept.heads.Step.{Step}
 use Rattle.sctp_send.specs.inner.TicketOrder.{pair_at, offset_at}
 
@@ -17,11 +17,11 @@ pub record IsRankTo (ticket many : ℕ) (ts : List ℕ) (rank : ℕ) : Type 0 wh
 -- ---- a message's entries
 
 -- the offset of one of them
-abbrev pub offset_in : (first : ℕ) → List Pair → Own → ℕ → ℕ
+abbrev pub offset_in : (first : ℕ) → List Pair → OwnEntries → ℕ → ℕ
 offset_in first ps o k = if nat_lt k o.front then o.from + k else offset_at first ps (o.rank + (k - o.front))
 
 -- They are the entries of this ticket.
-pub record IsOwn (ticket : ℕ) (ts : List ℕ) (first : ℕ) (ps : List Pair) (o : Own) : Type 0 where
+pub record IsOwn (ticket : ℕ) (ts : List ℕ) (first : ℕ) (ps : List Pair) (o : OwnEntries) : Type 0 where
   pub within : o.from + o.front + length ps ≤ length ts
   pub ranks : o.rank + o.many ≤ o.front + length ps
   pub right : (k : ℕ) → k < o.many → slice_get ts (offset_in first ps o k) ≡ Some ticket
