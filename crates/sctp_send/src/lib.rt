@@ -71,10 +71,10 @@
 //!
 //! The files of `src` form a path on which each imports only what is before it: `last_forward`, `message`, `resets`, `sendings`; `blocks`, `by_ticket`,
 //! `dues`, `entry`, `seats`, `shells`; `fates`, `heads`, `pieces`; `queue`, `told`, `track`, `wishes`; `counts`, `looking`, `queued_on`; `streams`,
-//! `stretches`; `outstanding`; `by_message`, `entries`, `flying`, `giving_back`, `going_out`, `lanes`, `marking`, `repeats`, `run_room`, `searching`,
-//! `stock`, `table`, `tally`, `telling`, `weight`; `assigning`, `covered`, `others`, `restarting`, `sender`, `still`, `waking`; `answering`, `asking`,
-//! `at_limit`, `last`, `laws`, `owing`, `pace`, `readers`, `resetting`, `sack`, `wear`, `weighing`; `abandon`, `entering`, `keeping`, `moments`,
-//! `passing`, `queueing`, `turning`; `expire`, `fill`, `forward`.
+//! `stretches`; `acknowledging`, `outstanding`; `by_message`, `entries`, `flying`, `giving_back`, `going_out`, `lanes`, `marking`, `repeats`,
+//! `run_room`, `searching`, `stock`, `table`, `tally`, `telling`, `weight`; `assigning`, `covered`, `others`, `restarting`, `sender`, `still`,
+//! `waking`; `answering`, `asking`, `at_limit`, `last`, `laws`, `owing`, `pace`, `readers`, `resetting`, `sack`, `wear`, `weighing`; `abandon`,
+//! `entering`, `keeping`, `moments`, `passing`, `queueing`, `turning`; `expire`, `fill`, `forward`.
 //!
 //! What a body may still get away with: nothing that a caller can see but costs, how much memory is kept, and the texts of `Debug` and of faults. Only
 //! tested: `crates/sctp_call_rows` compares each answer and each packet's bytes at the limits (docs/CALLS.md).

@@ -1,13 +1,14 @@
 //! SACKs and SHUTDOWNs from the peer, and the expiry of the data timer (RFC 9260, 6.2.1, 6.3.3 and 9.2).
 //!
 //! `on_sack` keeps the runs of entries that the last SACK acknowledged by gap blocks, at most 368, as many blocks as a packet of 1,500 bytes has. Their
-//! memory is reserved with that for the first entry, so that no SACK allocates, and a sender that had no message has none (`run_room`). It sets only the
-//! entries that change: it costs its blocks, the old runs, what CUM passes, and what is newly acknowledged or no longer so, whole stretches of 64 entries
-//! at once if they are alike (`stretches`), else each entry once. If CUM passes all entries, nothing is counted of any as they go (`clear`); if
-//! nothing was acknowledged by blocks and no block is in the SACK, no entry is looked at for that. Both lists of runs are in order (`AreInOrder`), so
-//! one pass goes over both, and a run that ends before the next block isn't looked at again (`HasPassed`). A SACK with more blocks, which no packet of
-//! 1,500 bytes holds, goes over all that is outstanding (`cover`), and so does the next one.
+//! memory is reserved with that for the first entry, so that no SACK allocates, and a sender that had no message has none (`run_room`). It sets only
+//! the entries that change: it costs its blocks, the old runs, what CUM passes, and what is newly acknowledged or no longer so, whole stretches of 64
+//! entries at once if they are alike, after a look at those that aren't known (`stretches`), else each entry once. If CUM passes all entries, nothing
+//! is counted of any as they go (`clear`); if nothing was acknowledged by blocks and no block is in the SACK, no entry is looked at for that. Both
+//! lists of runs are in order (`AreInOrder`), so one pass goes over both, and a run that ends before the next block isn't looked at again
+//! (`HasPassed`). A SACK with more blocks, which no packet of 1,500 bytes holds, goes over all that is outstanding (`cover`), and so does the next one.
 
+pub mod acknowledging;
 pub mod covered;
 pub mod entries;
 pub mod marking;

@@ -94,3 +94,33 @@ known_turned size first at b c bytes plain ss now new es few there starts same h
             ]
           ]
     ]
+
+-- a stretch is looked at, and what is seen is so
+pub known_looked : (size first at : ℕ) (ss now : List Stretch) (new : Stretch) (es : List EntryFields) → length es ≤ 32768 → at + 64 ≤ length es → index_at first at % 64 ≡ 0 → SayTheSame (index_at first at) now ss
+    → ((s : Stretch) → slice_get now (slot_at (index_at first at)) ≡ Some s → s ≡ new) → (new.is_known ≡ true → AreAlike size new.covered new.bytes new.plain at 64 es) → AreKnown size first ss es → AreKnown size first now es
+known_looked size first at ss now new es few there starts same here alike h n s within begins read known =
+    elim (cases_eq (slot_at (index_at first n)) (slot_at (index_at first at))) [
+      | inl is ↦
+          let one = one_there first n at (length es) few within there begins starts is in
+          let said : s ≡ new = here s (ap (slice_get now) (sym is) ∙ read) in
+          rw (one, said) (alike (ap (λ (r : Stretch). r.is_known) (sym said) ∙ known))
+      | inr ne ↦ h n s within begins (sym (same (slot_at (index_at first n)) ne) ∙ read) known
+    ]
+
+-- some of a stretch are told, of which nothing is said
+pub known_part : (size first at many : ℕ) (c : Bool) (ss now : List Stretch) (es : List EntryFields) → index_at first at % 64 + many ≤ 64 → SayTheSame (index_at first at) now ss → SayNothing (index_at first at) now → AreKnown size first ss es
+    → AreKnown size first now (told_run c at many es)
+known_part size first at many c ss now es inside same none h n s within begins read known =
+    let long = length-run_changed (told c) at many es in
+    let other = λ (is : slot_at (index_at first n) ≡ slot_at (index_at first at)). not_there (index_at first at) (index_at first n) now s none is read known in
+    let before = h n s (omega (arith, within, long)) begins (sym (same (slot_at (index_at first n)) other) ∙ read) known in
+    elim (cases_lt n at) [
+      | inl lt ↦ elim (cases_lt at (n + 64)) [
+        | inl near ↦ absurd (other (omega (arith, lt, near, begins)))
+        | inr past ↦ alike_back size s.covered (told c) s.bytes s.plain n 64 at many es past before
+      ]
+      | inr ge ↦ elim (cases_lt n (at + many)) [
+        | inl near ↦ absurd (other (omega (arith, ge, near, begins, inside)))
+        | inr past ↦ alike_front size s.covered (told c) s.bytes s.plain n 64 at many es past before
+      ]
+    ]

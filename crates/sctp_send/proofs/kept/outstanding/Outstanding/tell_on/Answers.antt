@@ -1,36 +1,18 @@
-use Rattle.std.proofs.Common.{◌≤◌, List, length, ap, sym, ◌∙◌, subst, arith}
+use Rattle.std.proofs.Common.{◌+◌, ◌≤◌, List, ap, ◌∙◌, arith}
 use Rattle.sctp_send.specs.PartsKept.{OutstandingKept}
-use Rattle.sctp_send.specs.inner.Changes.{told_where, is_between}
+use Rattle.sctp_send.specs.inner.Stretching.{told_run}
 use Rattle.sctp_send.specs.declared.kept.entry.Entry.{Entry as EntryFields}
 use Rattle.sctp_send.proofs.kept.StretchLemmas.{run_where}
 use Rattle.sctp_send.proofs.kept.outstanding.Outstanding.tell_on.Goals as goal
-
-pub stretch_end-end-requires : goal.stretch_end-end-requires
-stretch_end-end-requires c =
-    let same = c.tell_known.ensures.same c.if-tell_known.false in
-    record {
-      order = c.requires.order;
-      within = subst (λ (k : OutstandingKept). c.args.to ≤ length k.items) (sym same) c.requires.within;
-    }
-
-pub tell_each-requires : goal.tell_each-requires
-tell_each-requires c =
-    let same = c.tell_known.ensures.same c.if-tell_known.false in
-    let end = c.stretch_end-end.result in
-    record {
-      order = omega (arith, c.stretch_end-end.ensures.further);
-      within = subst (λ (k : OutstandingKept). end ≤ length k.items) (sym same) (omega (arith, c.stretch_end-end.ensures.upto, c.requires.within));
-    }
+use Rattle.sctp_send.proofs.kept.outstanding.Outstanding.tell_on.Goals.{then-tell_known-via-then-tell_known, then-tell_known-via-else-tell_known+then-tell_looked}
 
 pub returns-then-tell_known-clause-told : goal.returns-then-tell_known-clause-told
 returns-then-tell_known-clause-told c =
     let w = c.args.self.now in
-    let on = c.if-tell_known.true in
-    let le = c.tell_known.ensures.upto on in
-    c.tell_known.ensures.told on ∙ ap (λ (es : List EntryFields). record w { items = es }) (run_where c.args.covered c.args.at 64 w.items (omega (arith, le, c.requires.within)))
-
-pub returns-clause-told : goal.returns-clause-told
-returns-clause-told c =
-    let end = c.stretch_end-end.result in
-    c.learn.ensures ∙ c.tell_each.ensures
-    ∙ ap (λ (k : OutstandingKept). record k { items = told_where c.args.covered (is_between c.args.at end) 1 k.items }) (c.tell_known.ensures.same c.if-tell_known.false)
+    let by_index = λ (le : c.args.at + 64 ≤ c.args.to). ap (λ (es : List EntryFields). record w { items = es }) (run_where c.args.covered c.args.at 64 w.items (omega (arith, le, c.requires.within))) in
+    elim c.then-tell_known.branch [
+      | then-tell_known-via-then-tell_known b ↦ b.self-is ∙ c.tell_known.ensures.told b.if-tell_known.true ∙ by_index (c.tell_known.ensures.upto b.if-tell_known.true)
+      | then-tell_known-via-else-tell_known+then-tell_looked b ↦
+          let same = c.tell_known.ensures.same b.if-tell_known.false in
+          b.self-is ∙ b.tell_looked.ensures.told b.if-tell_looked.true ∙ ap (λ (k : OutstandingKept). record k { items = told_run c.args.covered c.args.at 64 k.items }) same ∙ by_index (b.tell_looked.ensures.upto b.if-tell_looked.true)
+    ]

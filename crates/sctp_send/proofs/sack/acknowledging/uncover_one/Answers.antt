@@ -8,7 +8,7 @@ use Rattle.sctp_send.specs.declared.kept.counts.Counts.{Counts}
 use Rattle.sctp_send.proofs.kept.TurnedLemmas.{plain_lowered}
 use Rattle.sctp_send.proofs.kept.CountLemmas.{counts_uncovered}
 use Rattle.sctp_send.proofs.kept.ChangedLemmas.{changed_set}
-use Rattle.sctp_send.proofs.sack.telling.uncover_one.Goals as goal
+use Rattle.sctp_send.proofs.sack.acknowledging.uncover_one.Goals as goal
 
 pub returns-clause-items : goal.returns-clause-items
 returns-clause-items c =

@@ -7,7 +7,7 @@ use Rattle.sctp_send.specs.declared.kept.entry.Entry.{Entry as EntryFields}
 use Rattle.sctp_send.specs.declared.kept.entry.Standing.{Standing}
 use Rattle.sctp_send.proofs.kept.CountLemmas.{counts_covered}
 use Rattle.sctp_send.proofs.kept.ChangedLemmas.{changed_set}
-use Rattle.sctp_send.proofs.sack.telling.cover_one.Goals as goal
+use Rattle.sctp_send.proofs.sack.acknowledging.cover_one.Goals as goal
 
 pub leave_plain-requires : goal.leave_plain-requires
 leave_plain-requires c =
