@@ -51,7 +51,8 @@ class Forwards(scripts.Maker):
         self.give_up(self.pick((0.5, 0.9, 1)))
 
     def messages(self, count):
-        streams, kinds, fragment = self.outbound('A'), self.pick(('o', 'u', 'ou')), self.pair.configs['A'].fragment
+        # an endpoint may be configured without a stream to send on; then it opens no association
+        streams, kinds, fragment = max(1, self.outbound('A')), self.pick(('o', 'u', 'ou')), self.pair.configs['A'].fragment
         for _ in range(count):
             until = '-' if self.chance(0.8) else self.pair.clock + self.pick((0, 1, 500, 5000))
             size = self.pick((1, 1, 1, fragment, 2 * fragment + 1))
