@@ -6,6 +6,7 @@ ghost use Rattle.sctp_model.specs.end.EndView.{EndView};
 ghost use Rattle.sctp_endpoint.specs.Handled.{IsRead, IsAnsweredWithin};
 ghost use Rattle.sctp_endpoint.specs.Transmitted.{TellsFew};
 ghost use Rattle.sctp_channels.specs.Streams.{Table};
+ghost use Rattle.sctp_channels.specs.Events.{all_noted};
 ghost use Rattle.sctp_channels.specs.Packets.{Hears, Transmit};
 ghost use Rattle.sctp_channels.specs.ChannelsStand.{ChannelsStand};
 
@@ -24,9 +25,27 @@ impl Channels {
         ensures step { (v : EndView) (x : Table) (o : Option meaning.Packet) → ChannelsStand self.old v x → IsRead bytes.now o → Hears v x now draw o result self.new }
         ensures within { (v : EndView) (x : Table) → ChannelsStand self.old v x → IfOk result (λ verdict. IsAnsweredWithin v.configuration.limit verdict) }
     {
-        let verdict = self.endpoint.handle_packet(now, bytes, draw);
-        self.note_resets();
-        verdict
+        let heard = self.endpoint.handle_packet(now, bytes, draw);
+        self.noted(heard)
+    }
+
+    /// Notes each reset of the peer that wasn't reported, and returns what was said of the packet. `Taken` has a way of its own, so that nothing of a
+    /// verdict has to be kept meanwhile.
+    #[inline(always)]
+    fn noted(&mut self, heard: Result<Verdict, NoMemory>) -> Result<Verdict, NoMemory>
+        ensures same { result ≡ heard }
+        ensures noted { (v : EndView) (x : Table) → ChannelsStand self.old v x → ChannelsStand self.new (all_noted v x).view (all_noted v x).table }
+    {
+        match heard {
+            Ok(Verdict::Taken) => {
+                self.note_resets();
+                Ok(Verdict::Taken)
+            }
+            heard => {
+                self.note_resets();
+                heard
+            }
+        }
     }
 
     /// The next packet to send at the time `now`, as `Endpoint::poll_transmit` returns it. What is due of the channels is queued before: each

@@ -5,6 +5,8 @@ ghost use Rattle.sctp_model.specs.end.EndView.{EndView};
 ghost use Rattle.sctp_model.specs.numbers.Limits.{LAST_MOMENT};
 ghost use Rattle.sctp_dcep.specs.Meanings.{content_meaning};
 ghost use Rattle.sctp_channels.specs.declared.stream.Due.TheVariants.{Acknowledgement};
+ghost use Rattle.sctp_association.specs.CallAnswers.{call_with};
+ghost use Rattle.sctp_send.specs.SenderAnswers.{lane_for};
 ghost use Rattle.sctp_channels.specs.Streams.{Table, stream_at};
 ghost use Rattle.sctp_channels.specs.Calling.{ack_call, content_call, until_by, limit_by};
 ghost use Rattle.sctp_channels.specs.Answers.{Sends};
@@ -16,6 +18,14 @@ use crate::fault::SendFault;
 use crate::stream::{ChannelType, Due, Stream};
 use sctp_dcep::{ACKNOWLEDGEMENT, Content, DCEP};
 use sctp_endpoint::{Refused, SendFault as Fault, Ticket};
+
+/// What a message is sent with beside its bytes: the stream, whether it is delivered in order, and the payload protocol identifier.
+#[derive(Clone, Copy)]
+pub(crate) struct Head {
+    pub(crate) stream: u16,
+    pub(crate) ordered: bool,
+    pub(crate) payload_id: u32,
+}
 
 #[tactic(auto, unfolding(crate::specs::ChannelsStand::ChannelsStand, crate::specs::ChannelsStand::endpoint_of, crate::specs::ChannelsStand::table_of))]
 impl Channels {
@@ -115,7 +125,8 @@ impl Channels {
         }
     }
 
-    /// Queues a message on the channel of a stream.
+    /// Queues a message on the channel of a stream. One on a reliable channel goes a way of its own, on which neither the time nor the channel's parameter is
+    /// kept over the copy of its bytes.
     ///
     /// # Errors
     /// The endpoint refuses it, or an allocation failed: nothing changed.
@@ -129,11 +140,67 @@ impl Channels {
     ) -> Result<Ticket, Refused>
         ensures { (v : EndView) (x : Table) → ChannelsStand self.old v x → SendsOn v x (content_call stream kept now (content_meaning content.entry)) result self.new }
     {
-        let Ok(bytes) = self.endpoint.copy_bytes(self.alloc, content.user_data()) else {
+        let head = Head {
+            stream,
+            ordered: kept.goes_ordered(),
+            payload_id: content.payload_id(),
+        };
+        let bytes = content.user_data();
+        match kept.kind {
+            ChannelType::Reliable | ChannelType::ReliableUnordered => {
+                self.send_reliable(head, bytes)
+            }
+            ChannelType::Rexmit
+            | ChannelType::RexmitUnordered
+            | ChannelType::Timed
+            | ChannelType::TimedUnordered => self.send_limited(now, kept, head, bytes),
+        }
+    }
+
+    /// Queues a message of these bytes, without an end of its lifetime or a limit of retransmissions.
+    ///
+    /// # Errors
+    /// The endpoint refuses it, or an allocation failed: nothing changed.
+    #[inline(always)]
+    fn send_reliable(&mut self, head: Head, bytes: &[u8]) -> Result<Ticket, Refused>
+        ensures { (v : EndView) (x : Table) → ChannelsStand self.old v x
+            → SendsOn v x (call_with (lane_for head.stream head.ordered) head.payload_id bytes.now None None) result self.new }
+    {
+        let Ok(bytes) = self.endpoint.copy_bytes(self.alloc, bytes) else {
             return Err(Refused::Fault(Fault::NoMemory));
         };
-        let ordered = kept.goes_ordered();
-        let payload_id = content.payload_id();
+        let Head {
+            stream,
+            ordered,
+            payload_id,
+        } = head;
+        self.endpoint.send(stream, ordered, payload_id, bytes, None)
+    }
+
+    /// Queues a message of these bytes, with the end of its lifetime or the limit of its retransmissions by the channel of which this is kept. It is not
+    /// inlined, so that the code for reliable channels is small.
+    ///
+    /// # Errors
+    /// The endpoint refuses it, or an allocation failed: nothing changed.
+    #[inline(never)]
+    fn send_limited(
+        &mut self,
+        now: u64,
+        kept: Stream,
+        head: Head,
+        bytes: &[u8],
+    ) -> Result<Ticket, Refused>
+        ensures { (v : EndView) (x : Table) → ChannelsStand self.old v x
+            → SendsOn v x (call_with (lane_for head.stream head.ordered) head.payload_id bytes.now (until_by kept.kind kept.parameter now) (limit_by kept.kind kept.parameter)) result self.new }
+    {
+        let Ok(bytes) = self.endpoint.copy_bytes(self.alloc, bytes) else {
+            return Err(Refused::Fault(Fault::NoMemory));
+        };
+        let Head {
+            stream,
+            ordered,
+            payload_id,
+        } = head;
         let until = until_by(kept.kind, kept.parameter, now);
         match limit_by(kept.kind, kept.parameter) {
             None => self

@@ -5,4 +5,6 @@ use Rattle.sctp_channels.proofs.channels.Channels.handle_packet.Goals as goal
 pub returns-clause-step : goal.returns-clause-step
 unfolding ChannelsStand endpoint_of table_of
 returns-clause-step c = λ v x o stands reads.
-    hears_as v x _ _ o c.handle_packet-verdict.result _ _ (c.handle_packet-verdict.ensures.step v o stands.0 reads) (λ t there. c.note_resets.ensures t x (there, stands.1))
+    let heard = hears_as v x c.args.now c.args.draw o c.handle_packet-heard.result c.handle_packet-heard.new.self c.noted.new.self (c.handle_packet-heard.ensures.step v o stands.0 reads)
+    (λ t there. c.noted.ensures.noted t x (there, stands.1)) in
+    rw (← c.noted.ensures.same) at heard
