@@ -4,7 +4,8 @@ in bindings/rust/src/raw.rs, Python in bindings/python/sctp_endpoint.py and sctp
 
 Names, order and types of the fields of each struct and of the parameters of each call are the same in all four (but for those of the Rust and
 Python bindings that these don't use), and so are the numbers: those of src/codes.rs by their constants, those of states, ends, fates, reasons and
-events by the definitions that the contracts cite. Each fault is printed, and the status is 1. With a file's name, a C program is written to it whose
+events by the definitions that the contracts cite. The crates that SECURITY.md names as sources of the library are those that sctp_c stands on by
+crates.txt. Each fault is printed, and the status is 1. With a file's name, a C program is written to it whose
 compilation fails unless sizes and offsets are those of the code, by the rules of `repr(C)`."""
 
 import re
@@ -176,6 +177,19 @@ def compare_channel_numbers(numbers):
     same('any stream, in code and header', [stream], re.findall(r'^#define SCTP_CH_ANY_STREAM (\d+)', text('include/sctp_channels.h'), re.M))
 
 
+# ---- the sources of the library
+
+def compare_sources():
+    """The crates that SECURITY.md names are sctp_c and all that it stands on; of the toolchain's standard library the page has no names."""
+    stands = {name.split()[0]: others.split() for name, _, others in (line.partition(':') for line in text('crates.txt').splitlines()) if others.strip()}
+    below = {'sctp_c'}
+    while more := {low for name in below for low in stands.get(name, [])} - below:
+        below |= more
+    section = re.search(r'^## Which sources a C caller reaches$(.*?)(?=^## |\Z)', text('SECURITY.md'), re.S | re.M)[1]
+    same('crates of the C library, by crates.txt and in SECURITY.md', sorted(below - {'core', 'std_alloc', 'std_heap'}),
+         sorted(set(re.findall(r'`(?:crates/)?(\w+)`', section))))
+
+
 # ---- sizes and offsets
 
 def checks(structs):
@@ -199,6 +213,7 @@ compare_rust(structs, calls)
 compare_python(structs, calls, 'sctp_endpoint')
 compare_python(structs, calls, 'sctp_channels')
 compare_numbers()
+compare_sources()
 if len(sys.argv) > 1:
     Path(sys.argv[1]).write_text(checks(structs))
 for fault in faults:
