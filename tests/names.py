@@ -16,12 +16,16 @@ numbers, signs, and what is in quotes.
 A block ```sh is commands. A block ```rust is, piece by piece, in the file that the line above it names, `..` alone between two pieces. Of
 other blocks and of the text the names of crates, the pages and the links are looked up.
 
+Figures of tests/figures.txt are on each page what they are on their owner (tests/figures.py).
+
 Beside the names, or alone with --words: the words of tests/words.txt, which pages, the header for C and public comments don't use, are looked
 for in all of these."""
 
 import os
 import re
 import sys
+
+import figures
 
 SHELL = {'[', 'cat', 'diff', 'do', 'done', 'echo', 'export', 'for', 'git', 'printf', 'read', 'sed', 'while'}
 TOOLS = {'cargo', 'cc', 'chromium', 'gdb', 'jq', 'ldconfig', 'nproc', 'python3', 'rt', 'tar', 'text2pcap', 'tshark', 'valgrind', 'wireshark'}
@@ -30,10 +34,11 @@ RT = {'all', 'check', 'ci', 'doc', 'expand', 'fmt', 'lemma', 'lib', 'must-fail',
 ALLOWED = {'kit', 'logic', 'malloc_consolidate'}
 STD = {'Arc', 'Box', 'Option', 'Result', 'String', 'Vec', 'VecDeque'}
 MOST_EXCEPTIONS = 60
-ENDINGS = ('.antt', '.c', '.calls', '.edit', '.h', '.md', '.py', '.rattle', '.rt', '.script', '.sh', '.txt')
+ENDINGS = ('.antt', '.c', '.calls', '.edit', '.h', '.md', '.py', '.rattle', '.rs', '.rt', '.script', '.sh', '.toml', '.txt')
 OF_A_CRATE = ('src/', 'specs/', 'proofs/', 'must-fail/', 'wrong-bodies.txt')
-REMARK = {'.rt': r'//.*', '.rattle': r'//.*', '.c': r'//.*', '.h': r'//.*', '.antt': r'--.*', '.py': r'(?m)^\s*#.*', '.sh': r'(?m)^\s*#.*'}
-NO_SOURCE = ('tests/names.py', 'tests/names.sh', 'tests/words.txt')
+REMARK = {'.rt': r'//.*', '.rs': r'//.*', '.rattle': r'//.*', '.c': r'//.*', '.h': r'//.*', '.antt': r'--.*', '.py': r'(?m)^\s*#.*', '.sh': r'(?m)^\s*#.*'}
+NO_SOURCE = ('tests/names.py', 'tests/names.sh', 'tests/words.txt', 'tests/figures.txt')
+NO_SOURCES = ('.git', 'out', 'target', '__pycache__')
 
 WORD = re.compile(r'[A-Za-z_][A-Za-z0-9_]*')
 PATH = re.compile(r'[A-Za-z0-9_./*-]+')
@@ -50,7 +55,7 @@ class Tree:
     def __init__(self):
         self.pages, self.folders, self.made, self.code, self.said = [], set(), set(), {}, set()
         for folder, below, names in os.walk('.'):
-            below[:] = sorted(name for name in below if name not in ('.git', 'out', '__pycache__'))
+            below[:] = sorted(name for name in below if name not in NO_SOURCES)
             self.folders.add(os.path.relpath(folder))
             for name in sorted(names):
                 self.add(os.path.normpath(os.path.join(folder, name)))
@@ -292,7 +297,7 @@ def private_words(pages):
 
 def tree_files(top):
     for folder, below, names in os.walk(top):
-        below[:] = [name for name in below if name not in ('.git', 'out', '__pycache__')]
+        below[:] = [name for name in below if name not in NO_SOURCES]
         yield from (os.path.join(folder, name) for name in names)
 
 
@@ -305,6 +310,8 @@ def main(words):
     if words[:1] != ['--words']:
         pages = words or tree.pages
         found = [fault for page in pages for fault in Page(tree, page).look()]
+        if not words:
+            found += figures.differing(text_of('tests/figures.txt'), text_of)
         print(*found, f'{len(pages)} pages, {len(found)} faults', sep='\n')
         faults += found
     return 1 if faults else 0

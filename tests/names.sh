@@ -1,7 +1,7 @@
 #!/usr/bin/env bash
 # Looks up in the tree what the pages name: each name, path and command in backticks, and each block of Rust. Prints each fault as
 # `FILE:LINE: what` and ends with 1 if there is one, else with 0. It takes some seconds:
-#   tests/names.sh               all pages, and the words of tests/words.txt in pages, header and public comments
+#   tests/names.sh               all pages, the figures of tests/figures.txt, and the words of tests/words.txt in pages, header and public comments
 #   tests/names.sh README.md ..  these alone
 #   tests/names.sh --words       these words alone
 # tests/names.py has the rules.
