@@ -1,0 +1,120 @@
+//! Imports and paths: roots that are modules now, laws that went, and the prelude.
+
+use crate::erase::Place;
+use crate::refusal::Unknown;
+use crate::rows::Row;
+use crate::source::Source;
+
+/// The names that the shim's prelude has.
+const PRELUDE: [&str; 8] = ["Vec", "String", "Box", "HostRuntime", "Print", "Eprint", "Input", "Alloc"];
+
+/// What the root of a path is now.
+fn root(place: &Place<'_>, word: &str) -> Option<(Row, String)> {
+    if word == "std" {
+        Some((Row::StdPath, "crate::rattle_std".to_string()))
+    } else if word == "crate" {
+        Some((Row::CratePath, format!("crate::{}", place.crate_name)))
+    } else if place.crates.contains(word) {
+        Some((Row::CratePath, format!("crate::{word}")))
+    } else if place.libraries.contains(word) {
+        Some((Row::LibraryPath, format!("crate::{word}")))
+    } else {
+        None
+    }
+}
+
+/// A word that may be a path's root.
+pub(crate) fn path(source: &mut Source<'_>, at: usize, place: &Place<'_>) -> Result<usize, Unknown> {
+    let follows = at > 0 && (source.word(at - 1) == "." || at > 1 && source.is_path(at - 2));
+    if source.is_path(at + 1) && !follows {
+        if let Some((row, new)) = root(place, source.word(at)) {
+            source.replace(row, source.start(at), source.end(at), new);
+        }
+    }
+    Ok(at + 1)
+}
+
+/// An import: returns the token behind its semicolon.
+pub(crate) fn use_item(source: &mut Source<'_>, at: usize, place: &Place<'_>) -> Result<usize, Unknown> {
+    let end = source.first_of(at, &[";"])?;
+    let first = source.word(at + 1);
+    if first == "thiserror" {
+        source.cut(Row::Derived, item_start(source, at), end);
+        return Ok(end + 1);
+    }
+    if !kept_names(source, at, end, place)? {
+        return Ok(end + 1);
+    }
+    if source.is_path(at + 2) {
+        if let Some((row, new)) = root(place, first) {
+            source.replace(row, source.start(at + 1), source.end(at + 1), new);
+        }
+    }
+    Ok(end + 1)
+}
+
+/// The first token of the item whose keyword stands at `at`.
+pub(crate) fn item_start(source: &Source<'_>, at: usize) -> usize {
+    let mut first = at;
+    loop {
+        first = match () {
+            () if source.are_before(first, &["pub"]) => first - 1,
+            () if first >= 4 && source.are(first - 4, &["pub", "("]) && source.word(first - 1) == ")" => first - 4,
+            () if source.are_before(first, &["unsafe"]) || source.are_before(first, &["const"]) => first - 1,
+            () if source.are_before(first, &["extern", "\"C\""]) => first - 2,
+            () => return first,
+        };
+    }
+}
+
+/// Takes laws and `Model` from an import; whether anything of it is left.
+fn kept_names(source: &mut Source<'_>, at: usize, end: usize, place: &Place<'_>) -> Result<bool, Unknown> {
+    let of_std = source.word(at + 1) == "std";
+    let goes = |word: &str| if of_std && word == "Model" { Some(Row::UseModel) } else { place.laws.has(word).then_some(Row::LawUse) };
+    let leaves: Vec<usize> = (at + 1..end).filter(|place| source.is_word(*place) && [",", "}", ";"].contains(&source.word(place + 1))).collect();
+    let gone: Vec<(usize, Row)> = leaves.iter().filter_map(|place| goes(source.word(*place)).map(|row| (*place, row))).collect();
+    if gone.is_empty() {
+        return Ok(true);
+    }
+    if (at + 1..end).any(|place| source.word(place) == "as") && gone.len() != leaves.len() {
+        let renamed = gone.iter().any(|(place, _)| source.word(place - 1) == "as");
+        if renamed {
+            return Err(source.unknown(at, "a law that is imported by another name has no row"));
+        }
+    }
+    if gone.len() == leaves.len() {
+        source.cut(gone[0].1, item_start(source, at), end);
+        return Ok(false);
+    }
+    for (place, row) in gone {
+        let last = if source.word(place + 1) == "," { place + 1 } else { place };
+        let first = if last == place && source.word(place - 1) == "," { place - 1 } else { place };
+        source.cut(row, first, last);
+    }
+    Ok(true)
+}
+
+/// The prelude's import, in a file that needs it.
+pub(crate) fn prelude(source: &mut Source<'_>) -> Result<(), Unknown> {
+    let needs = (0..source.len()).any(|at| source.is_word(at) && PRELUDE.contains(&source.word(at)) && !(at > 1 && source.is_path(at - 2)));
+    let collects = source.edits.iter().any(|edit| edit.row == Row::Collect);
+    if !needs && !collects {
+        return Ok(());
+    }
+    let first = match (0..source.len()).find(|at| source.word(*at) == "use") {
+        Some(at) => item_start(source, at),
+        None => first_item(source)?,
+    };
+    let at = source.with_lead(source.start(first));
+    source.insert(Row::Prelude, at, "use crate::rattle_std::prelude::*;\n");
+    Ok(())
+}
+
+/// The first token behind the inner attributes.
+fn first_item(source: &Source<'_>) -> Result<usize, Unknown> {
+    let mut at = 0;
+    while source.are(at, &["#", "!"]) {
+        at = source.closing(at + 2)? + 1;
+    }
+    Ok(at)
+}

@@ -1,0 +1,7 @@
+//! The program `sctp-look`.
+
+use std::process::ExitCode;
+
+fn main() -> ExitCode {
+    sidorghu_programs::look()
+}
