@@ -135,25 +135,3 @@ far_vanishes = refl
 
 pub far_within : AreWithin 209 FAR
 far_within = (omega arith, (omega arith, (omega arith, (omega arith, (omega arith, omega arith)))))
-
--- of x^98 + x^77 + x^51 + x^38 + x^33 + x^28 + x^4 + 1
-abbrev pub SEVEN : List ℕ
-SEVEN = 98 ∷ 94 ∷ 70 ∷ 65 ∷ 60 ∷ 47 ∷ 21 ∷ []
-
-pub seven_vanish : vanishing 98 SEVEN (2 ^ 31) ≡ 0
-unfolding step steps
-seven_vanish = refl
-
-pub seven_within : AreWithin 98 SEVEN
-seven_within = (omega arith, (omega arith, (omega arith, (omega arith, (omega arith, (omega arith, (omega arith, omega arith)))))))
-
--- of x^62 + x^43 + x^22 + x^19 + x^17 + x^16 + x^14 + x^10 + x^8 + 1
-abbrev pub NINE : List ℕ
-NINE = 62 ∷ 54 ∷ 52 ∷ 48 ∷ 46 ∷ 45 ∷ 43 ∷ 40 ∷ 19 ∷ []
-
-pub nine_vanish : vanishing 62 NINE (2 ^ 31) ≡ 0
-unfolding step steps
-nine_vanish = refl
-
-pub nine_within : AreWithin 62 NINE
-nine_within = (omega arith, (omega arith, (omega arith, (omega arith, (omega arith, (omega arith, (omega arith, (omega arith, (omega arith, omega arith)))))))))

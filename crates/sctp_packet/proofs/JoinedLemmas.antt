@@ -110,12 +110,12 @@ abbrev pub fallen : List ℕ → (ℕ → ℕ) → ℕ → ℕ
 fallen [] f i = f i
 fallen (d ∷ ds) f i = bit_xor (fallen ds f i) (moved d f i)
 
-pub moved_bytes : (d : ℕ) (f : ℕ → ℕ) → AreBytes f → AreBytes (moved d f)
+moved_bytes : (d : ℕ) (f : ℕ → ℕ) → AreBytes f → AreBytes (moved d f)
 moved_bytes zero f a i = a i
 moved_bytes (suc d) f a zero = omega arith
 moved_bytes (suc d) f a (suc i) = moved_bytes d f a i
 
-pub fallen_bytes : (ds : List ℕ) (f : ℕ → ℕ) → AreBytes f → AreBytes (fallen ds f)
+fallen_bytes : (ds : List ℕ) (f : ℕ → ℕ) → AreBytes f → AreBytes (fallen ds f)
 fallen_bytes [] f a i = a i
 fallen_bytes (d ∷ ds) f a i = xor_lt 8 (fallen ds f i) (moved d f i) (fallen_bytes ds f a i) (moved_bytes d f a i)
 

@@ -17,5 +17,4 @@ pub mod RoomLemmas
 pub mod StartLemmas
 pub mod BlockLemmas
 pub mod LeftLemmas
-pub mod NearLemmas
 pub mod StepBits

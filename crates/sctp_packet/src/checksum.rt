@@ -8,7 +8,6 @@ ghost use Rattle.sctp_packet.specs.Register.{register_after};
 ghost use Rattle.sctp_packet.specs.Tables.{steps, IsEntry};
 
 use crate::folding::{BLOCK, FRONT, LEFT, MOST, ROOM, fold, leave};
-use crate::pushing::shorten;
 use crate::tables::TABLES;
 use byteorder::{ByteOrder, LittleEndian};
 
@@ -97,7 +96,7 @@ fn after_long(register: u32, bytes: &[u8]) -> u32
     let mut room = [0; ROOM];
     fold(register, bytes, ends, &mut room);
     leave(bytes, ends, &mut room);
-    after_short(0, shorten(&mut room[FRONT + ends..FRONT + ends + LEFT]))
+    after_short(0, &room[FRONT + ends..FRONT + ends + LEFT])
 }
 
 /// The register after the bytes, 32 at a time as long as there are that many.

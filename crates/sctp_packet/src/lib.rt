@@ -37,17 +37,13 @@
 //! eight bytes followed by four zeros, whatever its checksum field contains (`after_header`), and then what follows it.
 //!
 //! A run of 384 bytes or more is folded first: x^209 + x^144 + x^54 + x^39 + x^14 + 1 is a multiple of the polynomial, and so is its eighth
-//! power, which moves whole bytes; so a byte may be removed if it is added 65, 155, 170, 195 and 209 bytes further on, and 224 bytes are left. A
-//! block of 32 bytes is folded at once, since no byte of it reaches another. Nothing reaches the first 64 bytes, and one byte each of the next
-//! 64.
-//!
-//! Of the 224 bytes the first 112 are removed, sixteen at a time, by the multiple x^98 + x^77 + x^51 + x^38 + x^33 + x^28 + x^4 + 1: they are
-//! added 21, 47, 60, 65, 70, 94 and 98 bytes further on. The next 48 are removed by the multiple
-//! x^62 + x^43 + x^22 + x^19 + x^17 + x^16 + x^14 + x^10 + x^8 + 1. The tables take the last 64.
+//! power, which moves whole bytes; so a byte may be removed if it is added 65, 155, 170, 195 and 209 bytes further on, and 224 bytes are left,
+//! which the tables take. A block of 32 bytes is folded at once, since no byte of it reaches another. Nothing reaches the first 64 bytes, and
+//! one byte each of the next 64.
 //!
 //! The proof: `proofs/StepLemmas` (the register is linear, so that eight bytes leave what each leaves alone), `TableLemmas` (all 4,096
 //! numbers of the tables are computed once, and each is the remainder of long division), `EightLemmas`, `StepBits` (numbers and bits),
-//! `FoldLemmas`, `JoinedLemmas`, `RoomLemmas`, `StartLemmas`, `BlockLemmas`, `LeftLemmas`, `NearLemmas` (folding leaves the register as it was),
+//! `FoldLemmas`, `JoinedLemmas`, `RoomLemmas`, `StartLemmas`, `BlockLemmas`, `LeftLemmas` (folding leaves the register as it was),
 //! `RegisterLemmas`, `DivisionLaws` and `ChecksumLaws` (the register is the remainder, and there is no other).
 //!
 //! # What a body may still get away with
@@ -60,7 +56,6 @@ mod fault;
 mod folding;
 mod lanes;
 mod laws;
-mod pushing;
 mod read;
 mod reserved;
 mod sacks;

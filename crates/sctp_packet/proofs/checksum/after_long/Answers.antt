@@ -25,4 +25,4 @@ returns c =
     let is_left : IsLeft bytes folded ends 224 left = λ i few. get_or-take (216 + ends + 224 - (216 + ends)) behind i 0 (omega (arith, few)) ∙ c.leave.ensures.left i few in
     let whole : length left ≡ 224 = length-take-le (216 + ends + 224 - (216 + ends)) behind (omega (arith, length-drop (216 + ends) c.leave.new.room, c.leave.ensures.length, c.fold.ensures.room, c.requires.few, c.requires.long)) ∙ count in
     c.after_short.ensures
-    ∙ (c.shorten.ensures ∙ left_goes_on c.args.register bytes folded left ends 224 (omega arith) (omega (arith, c.requires.long)) c.fold.ensures.folded is_left (omega arith) (omega (arith, c.requires.long)) whole ranged c.fold.ensures.bytes (λ j. part_small c.leave.new.room (216 + ends) (216 + ends + 224 - (216 + ends)) j c.leave.ensures.bytes))
+    ∙ left_goes_on c.args.register bytes folded left ends 224 (omega arith) (omega (arith, c.requires.long)) c.fold.ensures.folded is_left (omega arith) (omega (arith, c.requires.long)) whole ranged c.fold.ensures.bytes (λ j. part_small c.leave.new.room (216 + ends) (216 + ends + 224 - (216 + ends)) j c.leave.ensures.bytes)
