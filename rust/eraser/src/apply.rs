@@ -9,7 +9,7 @@ use crate::tokens::tokens;
 pub(crate) fn apply(mut source: Source<'_>) -> Result<(String, Counts), Unknown> {
     let mut counts = Counts::default();
     let (mut out, mut at) = (String::with_capacity(source.text.len()), 0);
-    source.edits.sort_by_key(|edit| (edit.start, edit.start != edit.end, usize::MAX - edit.end));
+    source.edits.sort_by_key(|edit| (edit.start, edit.row != Row::Prelude, edit.start != edit.end, usize::MAX - edit.end));
     for edit in &source.edits {
         if edit.start < at {
             inside(edit, at)?;
@@ -63,8 +63,8 @@ fn gap(space: &str, before: Option<char>, next: &str) -> String {
     let indent = &space[space.rfind('\n').map_or(0, |at| at + 1)..];
     let most = match before {
         None => 0,
-        Some('{') => 1,
-        Some(_) if next == "}" => 1,
+        Some('{' | '(' | '[') => 1,
+        Some(_) if ["}", ")", "]"].contains(&next) => 1,
         Some(_) => 2,
     };
     format!("{}{indent}", "\n".repeat(lines.min(most)))
@@ -75,10 +75,10 @@ pub(crate) fn cut_proofs(source: &mut Source<'_>) {
     use crate::tokens::Ghost;
     for proof in source.tokens.proofs.clone() {
         match proof.ghost {
-            Ghost::Use => source.replace(Row::GhostUse, proof.start, proof.end, ""),
+            Ghost::Use => source.remove(Row::GhostUse, proof.start, proof.end),
             Ghost::Member => {
                 let start = source.with_lead(proof.start);
-                source.replace(Row::GhostMember, start, proof.end, "");
+                source.remove(Row::GhostMember, start, proof.end);
             }
             Ghost::Clause => {
                 source.replace(Row::Clause, proof.start, proof.end, "");

@@ -42,11 +42,12 @@ fn derive(source: &mut Source<'_>, at: usize, end: usize, names: &[&str]) -> Res
         return Err(source.unknown(at, format!("derive({other}) has no row")));
     }
     let kept: Vec<&str> = names.iter().copied().filter(|name| SAME.contains(name)).collect();
-    let new = if kept.is_empty() { String::new() } else { format!("#[derive({})]", kept.join(", ")) };
     let has_error = names.contains(&"Error");
-    if kept.len() != names.len() {
-        let row = if names.contains(&"Drop") { Row::DeriveDrop } else { Row::Derived };
-        source.replace(row, source.start(at), source.end(end), new);
+    let row = if names.contains(&"Drop") { Row::DeriveDrop } else { Row::Derived };
+    if kept.is_empty() {
+        source.cut(row, at, end);
+    } else if kept.len() != names.len() {
+        source.replace(row, source.start(at), source.end(end), format!("#[derive({})]", kept.join(", ")));
     }
     if has_error {
         errors::write_out(source, end + 1)?;

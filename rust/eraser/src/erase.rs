@@ -2,7 +2,7 @@
 
 use crate::apply::{apply, cut_proofs};
 use crate::attributes::attribute;
-use crate::functions::function;
+use crate::functions::{emptied, function};
 use crate::laws::{Laws, is_item, is_of_trait};
 use crate::paths::{path, prelude, use_item};
 use crate::refusal::{Refusal, Unknown};
@@ -59,6 +59,7 @@ fn erased(text: &str, place: &Place<'_>) -> Result<(String, Counts), Unknown> {
             _ => token(&mut source, at, place)?,
         };
     }
+    emptied(&mut source)?;
     prelude(&mut source)?;
     crate::comments::comments(&mut source, place.laws);
     apply(source)
@@ -81,7 +82,7 @@ fn model(source: &mut Source<'_>, at: usize) -> Result<usize, Unknown> {
         return Err(source.unknown(brace + 1, "an `impl Model` with code in it has no row"));
     }
     let start = source.with_lead(source.start(at));
-    source.replace(Row::Model, start, source.end(end), "");
+    source.remove(Row::Model, start, source.end(end));
     Ok(end + 1)
 }
 
@@ -135,8 +136,8 @@ fn collect(source: &mut Source<'_>, at: usize) -> Result<usize, Unknown> {
 fn bound(source: &mut Source<'_>, at: usize) -> Result<usize, Unknown> {
     let (before, after) = (source.word(at - 1), source.word(at + 1));
     match (before, after) {
-        (":", "+") => source.cut(Row::BoundDrop, at, at + 1),
-        ("+", _) => source.cut(Row::BoundDrop, at - 1, at),
+        (":", "+") => source.replace(Row::BoundDrop, source.start(at), source.start(at + 2), ""),
+        ("+", _) => source.replace(Row::BoundDrop, source.end(at - 2), source.end(at), ""),
         (":", "," | ">" | "{") => alone(source, at)?,
         _ => return Err(source.unknown(at, "`Drop` here has no row")),
     }

@@ -1,6 +1,6 @@
 //! Functions: laws go; heads that Rust writes in another way are changed.
 
-use crate::laws::Head;
+use crate::laws::{Head, is_item, is_of_trait};
 use crate::paths::item_start;
 use crate::refusal::Unknown;
 use crate::rows::Row;
@@ -35,7 +35,7 @@ fn law(source: &mut Source<'_>, at: usize, head: &Head) -> Result<usize, Unknown
         return Err(source.unknown(at, "a law with `unsafe` has no row"));
     }
     let start = source.with_lead(source.start(item_start(source, at)));
-    source.replace(Row::Law, start, source.end(end), "");
+    source.remove(Row::Law, start, source.end(end));
     Ok(end + 1)
 }
 
@@ -80,13 +80,15 @@ fn c_head(source: &mut Source<'_>, head: &Head) -> Result<(), Unknown> {
         let end = parameter_end(source, at, head.close)?;
         let words: Vec<&str> = (at + 2..end).map(|place| source.word(place)).collect();
         let name = source.word(at);
+        let space = &source.text[source.end(at - 1)..source.start(at)];
+        let space = if space.contains('\n') { "\n    " } else { " " };
         match words.as_slice() {
             ["&", "[", item, "]"] => {
-                source.replace(Row::CSlice, source.start(at), source.end(end - 1), format!("{name}: *const {item}, {name}_length: usize"));
+                source.replace(Row::CSlice, source.start(at), source.end(end - 1), format!("{name}: *const {item},{space}{name}_length: usize"));
                 lines += &format!("\n    let {name} = unsafe {{ crate::rattle_std::ffi::slice({name}, {name}_length) }};");
             }
             ["&", "mut", "[", item, "]"] => {
-                source.replace(Row::CSlice, source.start(at), source.end(end - 1), format!("{name}: *mut {item}, {name}_length: usize"));
+                source.replace(Row::CSlice, source.start(at), source.end(end - 1), format!("{name}: *mut {item},{space}{name}_length: usize"));
                 lines += &format!("\n    let {name} = unsafe {{ crate::rattle_std::ffi::slice_mut({name}, {name}_length) }};");
             }
             ["Global"] => {
@@ -114,4 +116,22 @@ fn parameter_end(source: &Source<'_>, at: usize, close: usize) -> Result<usize, 
         place = if ["(", "["].contains(&source.word(place)) { source.closing(place)? + 1 } else { place + 1 };
     }
     Ok(place)
+}
+
+/// Takes an impl away whose members were all laws. The impl of a trait stays.
+pub(crate) fn emptied(source: &mut Source<'_>) -> Result<(), Unknown> {
+    let gone: Vec<(usize, usize)> = source.edits.iter().filter(|edit| edit.row == Row::Law).map(|edit| (edit.start, edit.end)).collect();
+    for at in 0..source.len() {
+        if source.word(at) != "impl" || !is_item(source, at) {
+            continue;
+        }
+        let brace = source.first_of(at, &["{"])?;
+        let end = source.closing(brace)?;
+        let is_gone = |place: usize| gone.iter().any(|(from, to)| (*from..*to).contains(&source.start(place)));
+        if end > brace + 1 && !is_of_trait(source, at, brace) && (brace + 1..end).all(is_gone) {
+            let start = source.with_lead(source.start(at));
+            source.remove(Row::EmptyImpl, start, source.end(end));
+        }
+    }
+    Ok(())
 }

@@ -49,16 +49,16 @@ fn ghost_item(text: &str, token: Token) -> Result<(Ghost, usize), Unknown> {
     if &text[name.start..name.end] == "use" {
         return ghost_use(text, name.end).map(|end| (Ghost::Use, end));
     }
-    let mut at = skip(text, name.end);
-    if text[at..].starts_with(':') {
-        at = skip(text, term(text, skip(text, at + 1))?);
-    }
-    if text[at..].starts_with('=') {
-        at = skip(text, term(text, skip(text, at + 1))?);
+    let (mut at, mut end) = (skip(text, name.end), name.end);
+    for sign in [':', '='] {
+        if text[at..].starts_with(sign) {
+            end = term(text, skip(text, at + 1))?;
+            at = skip(text, end);
+        }
     }
     match text.as_bytes().get(at) {
         Some(b';' | b',') => Ok((Ghost::Member, at + 1)),
-        Some(b'}') => Ok((Ghost::Member, at)),
+        Some(b'}') => Ok((Ghost::Member, end)),
         _ => Err(Unknown::new(token.start, "a ghost form that isn't an import, a field or a member has no row")),
     }
 }

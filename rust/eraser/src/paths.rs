@@ -71,27 +71,70 @@ pub(crate) fn item_start(source: &Source<'_>, at: usize) -> usize {
 fn kept_names(source: &mut Source<'_>, at: usize, end: usize, place: &Place<'_>) -> Result<bool, Unknown> {
     let of_std = source.word(at + 1) == "std";
     let goes = |word: &str| if of_std && word == "Model" { Some(Row::UseModel) } else { place.laws.has(word).then_some(Row::LawUse) };
+    if let Some(renamed) = (at + 1..end).find(|place| source.word(place + 1) == "as" && goes(source.word(*place)).is_some()) {
+        return Err(source.unknown(renamed, "a law that is imported by another name has no row"));
+    }
     let leaves: Vec<usize> = (at + 1..end).filter(|place| source.is_word(*place) && [",", "}", ";"].contains(&source.word(place + 1))).collect();
     let gone: Vec<(usize, Row)> = leaves.iter().filter_map(|place| goes(source.word(*place)).map(|row| (*place, row))).collect();
     if gone.is_empty() {
         return Ok(true);
     }
-    if (at + 1..end).any(|place| source.word(place) == "as") && gone.len() != leaves.len() {
-        let renamed = gone.iter().any(|(place, _)| source.word(place - 1) == "as");
-        if renamed {
-            return Err(source.unknown(at, "a law that is imported by another name has no row"));
-        }
-    }
     if gone.len() == leaves.len() {
         source.cut(gone[0].1, item_start(source, at), end);
         return Ok(false);
     }
-    for (place, row) in gone {
-        let last = if source.word(place + 1) == "," { place + 1 } else { place };
-        let first = if last == place && source.word(place - 1) == "," { place - 1 } else { place };
-        source.cut(row, first, last);
+    for (place, row) in &gone {
+        let gone: Vec<usize> = gone.iter().map(|(place, _)| *place).collect();
+        without(source, *place, *row, &gone)?;
     }
     Ok(true)
+}
+
+/// Writes the braces around a leaf of an import without the leaves that are gone.
+fn without(source: &mut Source<'_>, place: usize, row: Row, gone: &[usize]) -> Result<(), Unknown> {
+    let is_brace = |at: &usize| ["{", "}"].contains(&source.word(*at));
+    let open = (0..place).rev().find(is_brace).unwrap_or(0);
+    let close = (place..source.len()).find(is_brace).unwrap_or(0);
+    if source.word(open) != "{" || source.word(close) != "}" {
+        return Err(source.unknown(place, "this form of an import of a law has no row"));
+    }
+    let (from, to) = (source.start(open), source.end(close));
+    if source.edits.iter().any(|edit| edit.start == from) {
+        source.insert(row, to, "");
+        return Ok(());
+    }
+    let mut kept = Vec::new();
+    let mut at = open + 1;
+    while at < close {
+        let end = (at..close).find(|place| source.word(*place) == ",").unwrap_or(close);
+        if !(at..end).any(|place| gone.contains(&place)) {
+            kept.push(&source.text[source.start(at)..source.end(end - 1)]);
+        }
+        at = end + 1;
+    }
+    let new = match kept.as_slice() {
+        [one] if !one.contains(' ') && *one != "self" => one.to_string(),
+        _ => braced(&kept),
+    };
+    source.replace(row, from, to, new);
+    Ok(())
+}
+
+/// Names in braces: in one line, or in lines of at most 100 columns.
+fn braced(names: &[&str]) -> String {
+    let line = names.join(", ");
+    if line.len() < 70 {
+        return format!("{{{line}}}");
+    }
+    let (mut out, mut column) = (String::from("{\n   "), 3);
+    for name in names {
+        if column + name.len() + 2 > 100 {
+            (out, column) = (out + "\n   ", 3);
+        }
+        out += &format!(" {name},");
+        column += name.len() + 2;
+    }
+    out + "\n}"
 }
 
 /// The prelude's import, in a file that needs it.
@@ -106,7 +149,9 @@ pub(crate) fn prelude(source: &mut Source<'_>) -> Result<(), Unknown> {
         None => first_item(source)?,
     };
     let at = source.with_lead(source.start(first));
-    source.insert(Row::Prelude, at, "use crate::rattle_std::prelude::*;\n");
+    let has_imports = (0..source.len()).any(|at| source.word(at) == "use");
+    let space = if has_imports { "\n" } else { "\n\n" };
+    source.insert(Row::Prelude, at, format!("use crate::rattle_std::prelude::*;{space}"));
     Ok(())
 }
 

@@ -16,6 +16,7 @@ pub enum Row {
     LawCall,
     LawUse,
     LawComment,
+    EmptyImpl,
     StdPath,
     CratePath,
     LibraryPath,
@@ -30,6 +31,7 @@ pub enum Row {
     Test,
     Example,
     Link,
+    Table,
     Space,
 }
 
@@ -49,7 +51,7 @@ const fn entry(row: Row, name: &'static str, what: &'static str, why: &'static s
 }
 
 /// All rows, in the order of `Row`.
-pub const ROWS: [Entry; 27] = [
+pub const ROWS: [Entry; 29] = [
     entry(Row::GhostUse, "ghost use", "an import of the proof's language goes", "it names terms for clauses alone; no code is made of it"),
     entry(Row::Clause, "clause", "`requires`, `ensures`, `ensures*` with name and term go", "a clause is proved before the build; no code is made of it"),
     entry(Row::GhostMember, "ghost member", "a ghost field or a ghost member of a trait or impl goes, with its comments", "it has no size and no value when the program runs"),
@@ -62,6 +64,7 @@ pub const ROWS: [Entry; 27] = [
     entry(Row::LawCall, "call of a law", "a statement that calls a law on names goes", "such a function does nothing, and a name that is read changes nothing"),
     entry(Row::LawUse, "import of a law", "a law's name goes from an import", "the law isn't there any more, and nothing calls it"),
     entry(Row::LawComment, "comment of a law", "a comment that begins `// law` goes", "it says why a law is called"),
+    entry(Row::EmptyImpl, "impl of laws", "an `impl` of a type that had laws alone goes", "nothing is left in it"),
     entry(Row::StdPath, "std", "the path root `std` is `crate::rattle_std`", "its functions keep what the contracts of Rattle's std promise, allocation failure too; each is tested for it"),
     entry(Row::CratePath, "crate", "`crate::` is `crate::NAME::`, and another crate's name is `crate::` and that name", "each crate is a module; the path names the same item"),
     entry(Row::LibraryPath, "library", "byteorder, arrayvec, sha2 and the like are modules: `crate::NAME`", "by hand, and tested as rattle_std is"),
@@ -76,6 +79,7 @@ pub const ROWS: [Entry; 27] = [
     entry(Row::Test, "test", "a test makes the process's handle, which it takes in Rattle", "the handle has no size"),
     entry(Row::Example, "example", "an example of a comment is marked `ignore`", "it is written for Rattle; comments don't run"),
     entry(Row::Link, "link", "a comment's link to a law is its name alone", "the law isn't there any more"),
+    entry(Row::Table, "table of clauses", "a table of a comment whose first line names laws, clauses, contracts, promises or definitions goes", "it says which clause promises what, and clauses went; comments don't run"),
     entry(Row::Space, "space", "white space that is left where something went is closed up", "white space outside of strings means nothing"),
 ];
 

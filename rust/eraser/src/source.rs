@@ -2,7 +2,7 @@
 
 use crate::refusal::Unknown;
 use crate::rows::Row;
-use crate::tokens::{Kind, Token, Tokens, tokens};
+use crate::tokens::{Kind, Token, Tokens, line_end, tokens};
 
 /// A change of the text: bytes that go, and what comes in their place.
 #[derive(Clone, Debug, PartialEq, Eq)]
@@ -143,7 +143,19 @@ impl<'a> Source<'a> {
 
     /// Tokens that go.
     pub(crate) fn cut(&mut self, row: Row, first: usize, last: usize) {
-        self.replace(row, self.start(first), self.end(last), "");
+        self.remove(row, self.start(first), self.end(last));
+    }
+
+    /// Bytes that go; with them their lines, if nothing else stands in these.
+    pub(crate) fn remove(&mut self, row: Row, start: usize, end: usize) {
+        let line = self.text[..start].rfind('\n').map_or(0, |at| at + 1);
+        let behind = line_end(self.text, end);
+        let is_whole = self.text[line..start].trim().is_empty() && self.text[end..behind].trim().is_empty();
+        if is_whole {
+            self.replace(row, line, (behind + 1).min(self.text.len()), "");
+        } else {
+            self.replace(row, start, end, "");
+        }
     }
 
     /// The start of the comments and attributes in the lines right before this byte, if nothing but white space is before it in its line.
