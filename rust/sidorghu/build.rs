@@ -1,5 +1,6 @@
-//! Erases the proved sources up to the data channels.
+//! Erases the proved sources up to the data channels, or up to the endpoint.
 
 fn main() {
-    sidorghu_eraser::build(&["sctp_channels"]);
+    let channels = std::env::var_os("CARGO_FEATURE_CHANNELS").is_some();
+    sidorghu_eraser::build(&[if channels { "sctp_channels" } else { "sctp_endpoint" }]);
 }
