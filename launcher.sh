@@ -1,5 +1,6 @@
 # What sctp-trace, sctp-end and sctp-look share; each sources it, with its own folder in $root.
 # launches NAME CRATE ROW   which program it is; the row of crates/sctp_rows with its usage text
+# answer_help WORDS..       prints the usage and exits, if they ask for help
 # run_program WORDS..       runs it, as `rt run` proved and built it, if it is that of the sources as they are; else it returns
 # refuse_odd WORDS..        exits if a word isn't UTF-8, since `rt try` takes no such word
 # run_sources WORDS..       runs the sources by `rt try`, which proves nothing, and exits with their status
@@ -98,6 +99,20 @@ said_in_row() {
 # The usage text of the program.
 forms() {
     said_in_row "$forms_row" 1 | sed -n '/^usage:/,$p'
+}
+
+# A request for help is `--help` or `-h` anywhere, or `help` alone. It is answered on standard output, with status 0, whether anything is
+# built or not; where the rows can't be read the program answers it, as a wrong word.
+answer_help() {
+    case "$#:$* " in
+        1:help\ ) ;;
+        *\ --help\ * | *\ -h\ * | *:--help\ * | *:-h\ *) ;;
+        *) return ;;
+    esac
+    usage=$(forms)
+    [ -n "$usage" ] || return
+    printf '%s\n' "$usage" || exit 3
+    exit 0
 }
 
 refuse_odd() {

@@ -92,10 +92,21 @@ END
     so "$launched: wrong words, $row: status 1, and just that row's text" [ $? = 0 ]
 }
 
-# The rows of this program whose words are wrong.
+# A request for help is answered by the forms of this row, on standard output; nothing is run, whatever is built.
+helped() {
+    sed -n "/^= $1\$/,/^status 1\$/s/^! \{0,1\}//p" $rows | sed -n '/^usage:/,$p' >"$room/forms"
+    for word in --help -h help; do
+        order "asked for help by $word" 0 /dev/null $word
+        writes "$room/forms"
+        says_nothing
+        by_none
+    done
+}
+
+# The rows of this program whose words are wrong, but for help.
 wrong_rows() {
     awk -v program="$launched" '/^= /{name = substr($0, 3); said = 0} /^\$ /{mine = $2 == program} /^! /{said = 1}
-        /^status 1$/{if (mine && said) print name}' $rows
+        /^status 1$/{if (mine && said && name !~ /^help/) print name}' $rows
 }
 
 # Each of these rows; before a build those that the launcher knows without running the sources.
@@ -174,6 +185,7 @@ unbuilt() {
     order 'nothing built, wrong words' 1 /dev/null packet
     by_none
     all_wrong unbuilt
+    helped 'no command'
     not_utf8 'nothing built'
     order 'much output, nothing built' 3 "$room/many" run
     says 'the limit on each'
@@ -183,6 +195,7 @@ unbuilt() {
     look_orders 'nothing built'
     by_sources
     wrong_row 'no width at all'
+    helped 'no width at all'
     not_utf8 'nothing built'
     of sctp-end sctp_end_main
     mkfifo "$room/silent" && exec 9<>"$room/silent"
@@ -190,6 +203,7 @@ unbuilt() {
     by_none
     says "(cd .*$main && rt run -- $end <stdin) proves and builds the program"
     order 'nothing built, wrong words' 3 /dev/null peer
+    helped 'wrong words: no words'
     exec 9>&-
 }
 

@@ -1,11 +1,11 @@
-//! The programs over the proved sources without their proof. Each function here is a program's `main`.
+//! The programs of this repository, compiled from the erased sources: each is the `main` of its crate in `crates/`.
+//!
+//! The three programs for users answer a request for help themselves, on standard output. Every other word, line and status is the proved
+//! program's.
 #![no_std]
 
 extern crate alloc;
 extern crate std;
-
-use rattle_std::runtime::HostRuntime;
-use std::process::{ExitCode, Termination};
 
 #[path = "../../shim/anyhow.rs"]
 mod anyhow;
@@ -19,7 +19,7 @@ mod clap;
 mod hex;
 #[path = "../../shim/itoa.rs"]
 mod itoa;
-#[allow(dead_code, unused_imports, unused_macros)]
+#[allow(dead_code, unused_imports, unused_macros)] // the shim has what any of the crates needs
 #[path = "../../shim/mod.rs"]
 mod rattle_std;
 #[path = "../../shim/sha2.rs"]
@@ -27,36 +27,39 @@ mod sha2;
 
 include!(concat!(env!("OUT_DIR"), "/erased.rs"));
 
-/// A program's `main`, by the name of its crate.
-macro_rules! programs {
-    ($($(#[$said:meta])* $name:ident: $of:ident,)*) => {
-        $($(#[$said])* pub fn $name() -> ExitCode {
-            $of::main(HostRuntime).report()
-        })*
-    };
+#[cfg(test)]
+mod counted;
+mod help;
+
+use rattle_std::runtime::HostRuntime;
+use std::process::{ExitCode, Termination};
+
+pub use help::is_asked;
+
+/// Runs `sctp-trace`: 0 if the script was run to its end, 1 if the words are wrong, 2 at a fault of the input, 3 if reading, writing or an
+/// allocation failed.
+pub fn trace() -> ExitCode {
+    help::or_else(sctp_trace::USAGE, sctp_trace_main::main)
 }
 
-programs! {
-    /// `sctp-trace`: runs a script of two endpoints.
-    trace: sctp_trace_main,
-    /// `sctp-end`: one endpoint, line by line.
-    end: sctp_end_main,
-    /// `sctp-look`: draws a script's packets.
-    look: sctp_look_main,
-    /// `sctp-trace` over a reader that fails.
-    trace_fault: sctp_trace_fault,
-    /// `sctp-end` over a reader that fails.
-    end_fault: sctp_end_fault,
-    /// `sctp-look` over a reader that fails.
-    look_fault: sctp_look_fault,
-    /// The stored rows of scripts.
-    rows: sctp_rows,
-    /// The stored rows of calls.
-    call_rows: sctp_call_rows,
-    /// The stored rows of data channels.
-    channel_rows: sctp_channel_rows,
-    /// Packets with faults.
-    broken: sctp_broken,
-    /// The example of a talk.
-    example: sctp_example,
+/// Runs `sctp-end`, with the exit statuses of [`trace`].
+pub fn end() -> ExitCode {
+    help::or_else(sctp_end::USAGE, sctp_end_main::main)
+}
+
+/// Runs `sctp-look`, with the exit statuses of [`trace`].
+pub fn look() -> ExitCode {
+    help::or_else(sctp_look::USAGE, sctp_look_main::main)
+}
+
+/// Runs the program of this name that writes a stored transcript; `None` if there is none.
+pub fn transcript(name: &str) -> Option<ExitCode> {
+    Some(match name {
+        "sctp_rows" => sctp_rows::main(HostRuntime).report(),
+        "sctp_call_rows" => sctp_call_rows::main(HostRuntime).report(),
+        "sctp_channel_rows" => sctp_channel_rows::main(HostRuntime).report(),
+        "sctp_broken" => sctp_broken::main(HostRuntime).report(),
+        "sctp_example" => sctp_example::main(HostRuntime).report(),
+        _ => return None,
+    })
 }

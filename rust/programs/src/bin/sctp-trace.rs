@@ -1,4 +1,4 @@
-//! The program `sctp-trace`.
+//! The program `sctp-trace`: two ends that run a script.
 
 use std::process::ExitCode;
 

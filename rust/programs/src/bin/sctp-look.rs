@@ -1,4 +1,4 @@
-//! The program `sctp-look`.
+//! The program `sctp-look`: a run as a picture.
 
 use std::process::ExitCode;
 

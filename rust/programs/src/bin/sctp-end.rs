@@ -1,4 +1,4 @@
-//! The program `sctp-end`.
+//! The program `sctp-end`: one end, line by line.
 
 use std::process::ExitCode;
 
