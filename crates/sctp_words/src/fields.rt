@@ -15,6 +15,12 @@ use std::alloc::Global;
 /// What a limit of retransmissions begins with in a word, `x`.
 pub const LIMIT_MARK: u8 = 120;
 
+// law
+/// A limit of retransmissions follows byte 120, `x`, as in the pages on formats.
+pub fn limits_follow_an_x()
+    ensures { LIMIT_MARK ≡ 120 }
+{}
+
 /// Reads random values: a verification tag, not 0, and an initial TSN. None if a word isn't its value.
 pub fn read_draw(tag: &[u8], tsn: &[u8]) -> Option<Draw>
     ensures { MatchOption result

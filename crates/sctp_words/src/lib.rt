@@ -10,8 +10,8 @@
 //! - `read_u16`, `read_u32` and `read_u64` read a number exactly if the word spells one of 16, 32 or 64 bits.
 //! - `read_draw` reads two words exactly if they spell a tag other than 0 and a TSN. `read_kind`, `read_until` (a time in milliseconds, or
 //!   `-` for none), `read_mode` and `read_bytes` read a word exactly if it spells such a value.
-//! - `read_until_limit` reads a word exactly if it spells such a time, a limit of retransmissions after `LIMIT_MARK`, which is `x`, or both
-//!   (`xN`, `TxN`), or `-`.
+//! - `read_until_limit` reads a word exactly if it spells such a time, a limit of retransmissions after `LIMIT_MARK`, or both (`xN`, `TxN`), or
+//!   `-`; the law `limits_follow_an_x` states `LIMIT_MARK` to be 120, `x`.
 //! - `is_delay`, `is_standard_closing`, `is_fast_retransmit`, `is_congestion_control`, `is_rto_min` and `is_reset` say whether a word is that option's name.
 //! - `kind_word`, `number_word`, `state_word` and `end_word` write kinds, numbers or `-`, the states of an association (RFC 9260, 4) and how
 //!   it ended by their names; these are the names of the model's kinds, states and ends.
@@ -35,7 +35,8 @@ mod numbers;
 
 pub use fields::{
     LIMIT_MARK, is_congestion_control, is_delay, is_fast_retransmit, is_reset, is_rto_min,
-    is_standard_closing, read_bytes, read_draw, read_kind, read_mode, read_until, read_until_limit,
+    is_standard_closing, limits_follow_an_x, read_bytes, read_draw, read_kind, read_mode,
+    read_until, read_until_limit,
 };
 pub use line_fault::{COMMENT, LineError, LineFault, comments_begin_with_a_number_sign, is_silent};
 pub use line_out::put_line;
