@@ -14,8 +14,6 @@ sys.path[:0] = [str(HERE.parent.parent / "examples" / "webrtc")]
 
 import serve  # noqa: E402
 from carrier import Network  # noqa: E402
-from peer import Peer  # noqa: E402
-from program import Program  # noqa: E402
 
 CHROMIUM = ["--headless=new", "--no-sandbox", "--disable-gpu", "--no-first-run", "--disable-background-networking", "--disable-component-update",
             "--disable-background-timer-throttling", "--disable-renderer-backgrounding", "--allow-loopback-in-peer-connection",
@@ -39,13 +37,18 @@ def command(browser, folder, url):
 class Trial(serve.Peers):
     """One run of a browser: the page tries what `words` ask for, and reports by `/done`. What the endpoint reported is kept by `programs`."""
 
-    def __init__(self, lost=0.0, seed=1, server=False, program=Program, peer=Peer, loud=False):
+    def __init__(self, lost=0.0, seed=1, server=False, program=None, peer=None, loud=False):
+        """`program` and `peer` are those of examples/webrtc if there are none: they are imported then, and load this library."""
         self.programs, self.loud, self.done = [], loud, asyncio.get_running_loop().create_future()
-        super().__init__(lambda: peer(self.made(program), network=Network(lost, seed), server=server, loopback=True))
+        super().__init__(lambda: self.endpoint(peer, program, network=Network(lost, seed), server=server, loopback=True))
 
-    def made(self, program):
+    def endpoint(self, peer, program, **how):
+        if peer is None:
+            from peer import Peer as peer
+        if program is None:
+            from program import Program as program
         self.programs.append(program(self.say))
-        return self.programs[-1]
+        return peer(self.programs[-1], **how)
 
     def say(self, text):
         if self.loud:

@@ -5,6 +5,7 @@ import signal
 import sys
 import time
 
+import bridged
 import odd
 import trials
 import with_aiortc
@@ -27,7 +28,7 @@ def of_browser(browser, room):
         "many": lambda: trials.many(browser, room, 0, 20, 200),
         "many-1": lambda: trials.many(browser, room, 0.01, 3, 200),
         "odd": lambda: odd.at_page(browser, room),
-        "program": lambda: trials.program(browser, room),
+        "program": lambda: bridged.program(browser, room),
         "abort": lambda: trials.ends(browser, room),
         "leave": lambda: trials.leaves(browser, room),
     }

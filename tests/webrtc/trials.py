@@ -2,16 +2,14 @@
 some figures."""
 
 import asyncio
-import socket
-import subprocess
 
-from browser import Trial, serve
+from bridged import SENT, fault_of
+from browser import Trial
 from peer import Peer
 from program import Program
 from sctp_channels import Closed, Incoming
 
 OWN = [("e0", {}), ("e1", {"ordered": False}), ("e2", {"ordered": False, "max_retransmits": 2, "protocol": "q"}), ("e3", {"max_packet_lifetime": 700})]
-SENT = ["ü", "", [0, 255], [], "last"]
 
 
 class Noting(Program):
@@ -49,10 +47,6 @@ def of_channel(it):
 
 def of_event(it):
     return it.label, it.protocol, it.ordered, it.max_retransmits, it.max_packet_lifetime
-
-
-def fault_of(result, needed):
-    return [result["fault"]] if "fault" in result else [f"the page didn't report {name}" for name in needed if name not in result]
 
 
 async def file(browser, room, lost, length, whole="", peer=Peer):
@@ -132,50 +126,6 @@ async def buttons(browser, room):
     if result["files"] != ["the same SHA-256"] * 2 or not result["drawn"] or not result["numbers"].startswith("ESTABLISHED"):
         faults.append(f"files: {result['files']}, drawn: {result['drawn']}, {result['numbers']}")
     return faults, result["numbers"]
-
-
-async def program(browser, room):
-    """The program of docs/CHANNELS.md, in C, behind the bridge: two pages, one after the other."""
-    port, faults = free_port(), []
-    with open(f"{room}/echo.out", "w+") as said:
-        process = subprocess.Popen([f"{room}/echo", str(port)], stdout=said)
-        try:
-            for _ in range(2):
-                faults += await program_with_page(browser, room, port)
-            lines = await lines_until(said, "channel 1: closed\n", 2)
-            faults += [] if process.poll() is None else [f"the program ended, with status {process.returncode}"]
-        finally:
-            process.kill()
-            process.wait()
-        return faults + ([] if lines.count("channel 1: closed\n") == 2 else [f"not two pages gone: {lines}"]), f"{len(lines)} lines of the program"
-
-
-async def lines_until(said, line, count):
-    """The lines of a file once it has one so many times, or after ten seconds."""
-    for _ in range(200):
-        said.seek(0)
-        lines = said.readlines()
-        if lines.count(line) >= count:
-            break
-        await asyncio.sleep(0.05)
-    return lines
-
-
-async def program_with_page(browser, room, port):
-    trial = Trial()
-    trial.make = lambda: serve.Bridge(port, loopback=True)
-    result = await trial.run(browser, "trial=echo", room)
-    faults = fault_of(result, ["rounds"])
-    if not faults and [(it["id"], it["same"]) for it in result["rounds"]] != [(3, True)] * 2:
-        faults.append(f"not on stream 3 twice, or another large message: {result}")
-    faults += [f"came back {it['back']}" for it in result.get("rounds", ()) if sorted(it["back"], key=str) != sorted(SENT, key=str)]
-    return faults + ([] if result.get("off") == ["negotiated", "theirs", "upload", "fetch", "abort"] else [f"buttons off: {result.get('off')}"])
-
-
-def free_port():
-    with socket.socket(socket.AF_INET, socket.SOCK_DGRAM) as it:
-        it.bind(("127.0.0.1", 0))
-        return it.getsockname()[1]
 
 
 async def leaves(browser, room):

@@ -75,6 +75,7 @@ fn main() -> Result<(), Box<dyn Error>> {
     let goodbye = page.abort(b"goodbye")?;
     let _ = program.handle_packet(now, &goodbye, draw(9))?;
     report("program", &mut program, now, true)?;
+    report("page", &mut page, now, false)?;
     println!("{:?} and {:?}", page.ended(), program.ended());
     Ok(())
 }

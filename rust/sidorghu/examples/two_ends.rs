@@ -1,4 +1,4 @@
-//! Two endpoints in one process, and a network between them that loses every third packet: `cargo run --release --example two_ends`.
+//! Two endpoints in one process, and a network between them that loses every fifth packet: `cargo run --release --example two_ends`.
 //!
 //! It is what a program does with an endpoint, turn by turn: packets out, packets in, and the time; here the time goes on by itself.
 
@@ -17,7 +17,7 @@ impl Network {
     fn carry(&mut self, from: &mut Endpoint, to: &mut Endpoint, now: Duration) -> Result<(), Box<dyn Error>> {
         while let Some(sent) = from.poll_transmit(now)? {
             self.packets += 1;
-            if self.loses && self.packets % 3 == 0 {
+            if self.loses && self.packets % 5 == 0 {
                 println!("{now:>8.1?}  packet {} is lost", self.packets);
             } else if let Verdict::Answer(answer) = to.handle_packet(now, &sent.packet, draw(9))? {
                 let _ = from.handle_packet(now, &answer, draw(9))?;
