@@ -1,30 +1,58 @@
 #!/usr/bin/env bash
-# What `rt lib` built in crates/sctp_c, for C:
+# The library for C, put where C finds it:
 #
 #     install.sh PREFIX            PREFIX/lib (libsctp_endpoint.a, libsctp_endpoint_malloc.a, libsctp_endpoint.so.1, pkgconfig/sctp_endpoint.pc),
 #                                  PREFIX/include (sctp_endpoint.h, sctp_channels.h) and the licences in PREFIX/share/licenses/sctp_endpoint
 #     install.sh --archive FILE    the same as FILE, a .tar.gz of one folder, sctp_endpoint-VERSION, which may be unpacked anywhere: pkg-config
-#                                  finds the rest from where its own file is
+#                                  finds the rest from where its own file is. It prints what stands in the archive
 #
-# It needs `rt` and a C compiler (CC). Who has an archive needs neither.
+# With --cargo before these it is built by cargo from the erased sources, which takes a minute, any target of 64 bits (CARGO_BUILD_TARGET names
+# another than this machine's; CC and AR are its tools then). Else it is what `rt lib` proved and built in crates/sctp_c. It needs `rt` or cargo,
+# a C compiler (CC) and ar (AR); who has an archive needs none of them. `pkg-config --variable=build sctp_endpoint` says which build it is.
 
 set -euo pipefail
-usage() { echo "install.sh PREFIX | install.sh --archive FILE" >&2; exit 2; }
+usage() { echo "install.sh [--cargo] PREFIX | install.sh [--cargo] --archive FILE" >&2; exit 2; }
+fail() { echo "install.sh: $*" >&2; exit 1; }
 root=$(CDPATH='' cd -- "$(dirname -- "$0")" && pwd -P)
-core=$root/crates/sctp_c/out/libsctp_c.a
 header=$root/include/sctp_endpoint.h
 version=$(sed -n 's/^#define SCTP_EP_VERSION "\(.*\)"$/\1/p' "$header")
 abi=$(sed -n 's/^#define SCTP_EP_ABI \([0-9]*\)u$/\1/p' "$header")
-if [ -z "$version" ] || [ -z "$abi" ]; then echo "install.sh: no version in $header" >&2; exit 1; fi
+if [ -z "$version" ] || [ -z "$abi" ]; then fail "no version in $header"; fi
 soname=libsctp_endpoint.so.$abi
 at=$(mktemp -d)
 trap 'rm -rf "$at"' EXIT
 
+# Set what is installed: `core`, the library; `heap`, its memory by malloc; `build`, how it was built.
+proved() {
+    core=$root/crates/sctp_c/out/libsctp_c.a
+    [ -f "$core" ] || fail "first (cd crates/sctp_c && rt lib), or --cargo"
+    heap=$(dirname "$(rt doc)")/c/liblibc_c.a
+    build="proved by $(rt version | head -n 1), compiled by Rattle"
+}
+
+# own_of ARCHIVE NAME PATTERN: the archive with the objects of this pattern alone, as the variable NAME. The others are rustc's own runtime, of
+# which the library needs nothing that the C compiler's doesn't have, and what rustc notes for itself.
+own_of() {
+    mkdir "$at/$2"
+    # shellcheck disable=SC2086
+    (cd "$at/$2" && "${AR:-ar}" x "$1" && "${AR:-ar}" crs "$at/$2.a" $3)
+    printf -v "$2" %s "$at/$2.a"
+}
+
+erased() {
+    command -v cargo > /dev/null || fail "no cargo"
+    local target built
+    (cd "$root/rust" && cargo build --release --offline --package sidorghu-c) || fail "cargo build ended with $?"
+    target=$(cd "$root/rust" && cargo metadata --format-version 1 --no-deps --offline | sed 's/.*"target_directory":"\([^"]*\)".*/\1/')
+    built=$target/${CARGO_BUILD_TARGET:+$CARGO_BUILD_TARGET/}release
+    own_of "$built/libsctp_endpoint.a" core 'sctp_endpoint*.o'
+    own_of "$built/libsctp_endpoint_malloc.a" heap '*.o'
+    build=$(sed -n 's/^build=//p' "$built/sctp_endpoint.pc")
+}
+
 # put FOLDER PREFIX: the files, in FOLDER, for use in PREFIX.
 put() {
-    local folder=$1 prefix=$2 heap
-    [ -f "$core" ] || { echo "install.sh: first (cd crates/sctp_c && rt lib)" >&2; exit 1; }
-    heap=$(dirname "$(rt doc)")/c/liblibc_c.a
+    local folder=$1 prefix=$2
     mkdir -p "$folder/lib/pkgconfig" "$folder/include" "$folder/share/licenses/sctp_endpoint"
     install -m 644 "$header" "$root/include/sctp_channels.h" "$folder/include/"
     install -m 644 "$core" "$folder/lib/libsctp_endpoint.a"
@@ -41,9 +69,10 @@ put() {
 prefix=$prefix
 libdir=\${prefix}/lib
 includedir=\${prefix}/include
+build=$build
 
 Name: sctp_endpoint
-Description: One endpoint of an SCTP association, formally verified: no sockets, no clock, no random numbers
+Description: One endpoint of an SCTP association, its sources formally verified: no sockets, no clock, no random numbers
 Version: $version
 Cflags: -I\${includedir}
 Libs: -L\${libdir} -lsctp_endpoint
@@ -51,18 +80,47 @@ Libs.private: -lsctp_endpoint_malloc
 PC
 }
 
+# What a file of the archive is.
+meaning() {
+    case $1 in
+    *_malloc.a) echo "the static library's memory, by malloc: not linked by a program with functions of its own" ;;
+    *.a) echo "the static library" ;;
+    *.so."$abi") echo "the shared library, ABI $abi, its memory by malloc" ;;
+    *.so) echo "its name for the linker" ;;
+    *.pc) echo "for pkg-config: PKG_CONFIG_PATH is its folder" ;;
+    *_channels.h) echo "the calls of data channels" ;;
+    *.h) echo "the calls of an endpoint" ;;
+    *) echo "a licence" ;;
+    esac
+}
+
+# list FOLDER: each file of the archive, with its bytes.
+list() {
+    (cd "$1" && find . ! -type d | LC_ALL=C sort) | while read -r file; do
+        size=$(if [ -L "$1/$file" ]; then echo link; else wc -c < "$1/$file"; fi)
+        printf '%9s  %-45s %s\n' "$size" "${file#./}" "$(meaning "$file")"
+    done
+}
+
+build_it=proved
+if [ "${1:-}" = --cargo ]; then build_it=erased; shift; fi
 case ${1:-} in
 --archive)
     [ $# = 2 ] || usage
     name=sctp_endpoint-$version
+    "$build_it"
     put "$at/$name" "\${pcfiledir}/../.."
     tar -C "$at" --owner=0 --group=0 --sort=name --mtime='1970-01-01 00:00:00 UTC' -czf "$2" "$name"
+    echo "$2: the folder $name, $build"
+    list "$at/$name"
     ;;
 '' | -*) usage ;;
 *)
     [ $# = 1 ] || usage
     mkdir -p "$1"
     prefix=$(CDPATH='' cd -- "$1" && pwd -P)
+    "$build_it"
     put "$prefix" "$prefix"
+    echo "$prefix: sctp_endpoint $version, $build"
     ;;
 esac
