@@ -1,123 +1,183 @@
-//! What two programs use of clap: a subcommand, and words behind it. A stand-in for the tests; the library has no part of it.
+//! What the programs use of the crate `clap`: a subcommand, and words behind it.
+
 use crate::rattle_std::alloc::{AllocError, Global};
 use crate::rattle_std::string::String;
-use std::borrow::ToOwned;
+use error::ErrorKind;
 use std::vec::Vec;
 
+/// Why words aren't a command.
 pub mod error {
+    /// What kind of fault it is.
     #[derive(Clone, Copy, Debug, PartialEq, Eq)]
     pub enum ErrorKind {
+        /// A word that no argument takes.
         UnknownArgument,
+        /// A first word that is no subcommand.
         InvalidSubcommand,
+        /// A word is missing.
         MissingRequiredArgument,
+        /// The subcommand is missing.
         MissingSubcommand,
+        /// No fault: the usage is asked for.
         DisplayHelp,
+        /// An allocation failed.
         OutOfMemory,
     }
+
     impl ErrorKind {
+        /// The fault in words; None for what is no fault.
         pub fn as_str(self) -> Option<&'static str> {
-            Some(match self {
-                ErrorKind::UnknownArgument => "unexpected argument found",
-                ErrorKind::InvalidSubcommand => "unrecognized subcommand",
-                ErrorKind::MissingRequiredArgument => "one or more required arguments were not provided",
-                ErrorKind::MissingSubcommand => "a subcommand is required but one was not provided",
-                ErrorKind::OutOfMemory => "out of memory",
-                ErrorKind::DisplayHelp => return None,
-            })
+            match self {
+                ErrorKind::UnknownArgument => Some("unexpected argument found"),
+                ErrorKind::InvalidSubcommand => Some("unrecognized subcommand"),
+                ErrorKind::MissingRequiredArgument => Some("one or more required arguments were not provided"),
+                ErrorKind::MissingSubcommand => Some("a subcommand is required but one was not provided"),
+                ErrorKind::OutOfMemory => Some("out of memory"),
+                ErrorKind::DisplayHelp => None,
+            }
         }
     }
 }
-use error::ErrorKind;
 
+/// Why words aren't a command.
 pub struct Error(ErrorKind);
+
 impl Error {
+    /// What kind of fault it is.
     pub fn kind(&self) -> ErrorKind {
         self.0
     }
 }
+
 impl From<AllocError> for Error {
     fn from(_: AllocError) -> Error {
         Error(ErrorKind::OutOfMemory)
     }
 }
+
+/// A word behind a subcommand.
 pub struct Arg<'a> {
     name: &'a str,
-    required: bool,
+    is_required: bool,
 }
+
 impl<'a> Arg<'a> {
+    /// A word that may be missing.
     pub fn new(_: Global, name: &'a str) -> Arg<'a> {
-        Arg { name, required: false }
+        Arg { name, is_required: false }
     }
+
+    /// Whether it must be there.
     pub fn required(mut self, is: bool) -> Arg<'a> {
-        self.required = is;
+        self.is_required = is;
         self
     }
 }
+
+/// A command or a subcommand.
 pub struct Command<'a> {
     name: &'a str,
     args: Vec<Arg<'a>>,
     below: Vec<Command<'a>>,
-    required: bool,
+    needs_subcommand: bool,
 }
+
 impl<'a> Command<'a> {
+    /// A command that takes nothing.
     pub fn new(_: Global, name: &'a str) -> Command<'a> {
-        Command { name, args: Vec::new(), below: Vec::new(), required: false }
+        Command { name, args: Vec::new(), below: Vec::new(), needs_subcommand: false }
     }
+
+    /// Whether a subcommand must be there.
     pub fn subcommand_required(mut self, is: bool) -> Command<'a> {
-        self.required = is;
+        self.needs_subcommand = is;
         self
     }
+
+    /// One subcommand more.
     pub fn subcommand(mut self, it: Command<'a>) -> Result<Command<'a>, AllocError> {
+        self.below.try_reserve(1).map_err(|_| AllocError)?;
         self.below.push(it);
         Ok(self)
     }
+
+    /// One word more.
     pub fn arg(mut self, it: Arg<'a>) -> Result<Command<'a>, AllocError> {
+        self.args.try_reserve(1).map_err(|_| AllocError)?;
         self.args.push(it);
         Ok(self)
     }
-    pub fn try_get_matches_from<'w>(self, words: &'w [String]) -> Result<ArgMatches<'w>, Error> {
-        let mut words = words.iter().skip(1).map(|it| it.as_str());
-        let Some(word) = words.next() else {
-            return if self.required { Err(Error(ErrorKind::MissingSubcommand)) } else { Ok(ArgMatches { chosen: std::string::String::new(), values: Vec::new() }) };
+
+    /// The subcommand of the process's words, and the words behind it.
+    pub fn try_get_matches_from<'w>(self, words: &'w [String]) -> Result<ArgMatches<'w>, Error>
+    where
+        'a: 'w,
+    {
+        let mut words = words.iter().skip(1).map(String::as_str);
+        let Some(first) = words.next() else {
+            return if self.needs_subcommand { Err(Error(ErrorKind::MissingSubcommand)) } else { Ok(ArgMatches { chosen: "", values: Vec::new() }) };
         };
-        if word == "help" || word == "-h" || word == "--help" {
+        if first == "help" || is_help(first) {
             return Err(Error(ErrorKind::DisplayHelp));
         }
-        if word.starts_with('-') && word != "-" {
+        if is_option(first) {
             return Err(Error(ErrorKind::UnknownArgument));
         }
-        let Some(chosen) = self.below.iter().find(|it| it.name == word) else {
-            return Err(Error(ErrorKind::InvalidSubcommand));
-        };
-        let mut values: Vec<(std::string::String, &'w str)> = Vec::new();
-        let mut escaped = false;
+        match self.below.iter().find(|it| it.name == first) {
+            Some(chosen) => chosen.words(words),
+            None => Err(Error(ErrorKind::InvalidSubcommand)),
+        }
+    }
+
+    /// The words behind a subcommand; behind `--` none is an option.
+    fn words<'w>(&self, words: impl Iterator<Item = &'w str>) -> Result<ArgMatches<'w>, Error>
+    where
+        'a: 'w,
+    {
+        let mut values = Vec::new();
+        let mut is_plain = false;
         for word in words {
-            if !escaped && word == "--" {
-                escaped = true;
+            if !is_plain && word == "--" {
+                is_plain = true;
                 continue;
             }
-            if !escaped && (word == "-h" || word == "--help") {
+            if !is_plain && is_help(word) {
                 return Err(Error(ErrorKind::DisplayHelp));
             }
-            if !escaped && word.starts_with('-') && word != "-" || values.len() == chosen.args.len() {
+            if !is_plain && is_option(word) || values.len() == self.args.len() {
                 return Err(Error(ErrorKind::UnknownArgument));
             }
-            values.push((chosen.args[values.len()].name.to_owned(), word));
+            values.try_reserve(1).map_err(|_| AllocError)?;
+            values.push((self.args[values.len()].name, word));
         }
-        if chosen.args.iter().skip(values.len()).any(|it| it.required) {
+        if self.args.iter().skip(values.len()).any(|it| it.is_required) {
             return Err(Error(ErrorKind::MissingRequiredArgument));
         }
-        Ok(ArgMatches { chosen: chosen.name.to_owned(), values })
+        Ok(ArgMatches { chosen: self.name, values })
     }
 }
-pub struct ArgMatches<'w> {
-    chosen: std::string::String,
-    values: Vec<(std::string::String, &'w str)>,
+
+fn is_help(word: &str) -> bool {
+    word == "-h" || word == "--help"
 }
+
+fn is_option(word: &str) -> bool {
+    word.starts_with('-') && word != "-"
+}
+
+/// The subcommand that was found, and its words by name.
+pub struct ArgMatches<'w> {
+    chosen: &'w str,
+    values: Vec<(&'w str, &'w str)>,
+}
+
 impl<'w> ArgMatches<'w> {
-    pub fn subcommand_matches(&self, name: &str) -> Option<&ArgMatches<'w>> {
+    /// The words of this subcommand, if it was found.
+    pub fn subcommand_matches(&self, name: &str) -> Option<&Self> {
         (self.chosen == name).then_some(self)
     }
+
+    /// The word of this name, if it was there.
     pub fn get_str(&self, name: &str) -> Option<&'w str> {
         self.values.iter().find(|it| it.0 == name).map(|it| it.1)
     }

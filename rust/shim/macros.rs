@@ -5,28 +5,21 @@ macro_rules! format_in {
     (in $alloc:expr; $($t:tt)*) => { $crate::rattle_std::string::String::written($alloc, ::core::format_args!($($t)*)) };
 }
 
-/// `vec![in alloc; value; many]`, `vec![in alloc; a, b]`: the list, or that an allocation failed.
+/// `vec![in alloc; value; many]`: the list, or that an allocation failed.
 macro_rules! vec_in {
     (in $alloc:expr; $value:expr; $many:expr) => { $crate::rattle_std::vec::Vec::of_value($alloc, $value, $many) };
-    (in $alloc:expr; $($value:expr),+ $(,)?) => { $crate::rattle_std::vec::Vec::of_array($alloc, [$($value),+]) };
 }
 
 /// `println!(rt; ..)`: a line on standard output, or the fault of it.
 #[cfg(any(test, feature = "std"))]
 macro_rules! println_to {
-    ($rt:expr; $($t:tt)*) => { $crate::rattle_std::runtime::Print::print_line(&$rt, ::core::format_args!($($t)*)) };
-}
-
-/// `print!(rt; ..)`: text on standard output, or the fault of it.
-#[cfg(any(test, feature = "std"))]
-macro_rules! print_to {
-    ($rt:expr; $($t:tt)*) => { $crate::rattle_std::runtime::Print::print_args(&$rt, ::core::format_args!($($t)*)) };
+    ($rt:expr; $($t:tt)*) => { $crate::rattle_std::runtime::print_line(&$rt, ::core::format_args!($($t)*)) };
 }
 
 /// `eprint!(rt; ..)`: text on standard error, or the fault of it.
 #[cfg(any(test, feature = "std"))]
 macro_rules! eprint_to {
-    ($rt:expr; $($t:tt)*) => { $crate::rattle_std::runtime::Print::eprint_args(&$rt, ::core::format_args!($($t)*)) };
+    ($rt:expr; $($t:tt)*) => { $crate::rattle_std::runtime::eprint_text(&$rt, ::core::format_args!($($t)*)) };
 }
 
 /// `assert!(rt; ..)` of a test.
@@ -46,4 +39,4 @@ macro_rules! assert_ne_with {
 
 pub(crate) use {assert_eq_with, assert_ne_with, assert_with, format_in, vec_in};
 #[cfg(any(test, feature = "std"))]
-pub(crate) use {eprint_to, print_to, println_to};
+pub(crate) use {eprint_to, println_to};

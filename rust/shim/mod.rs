@@ -8,12 +8,13 @@
 #[cfg(not(target_pointer_width = "64"))]
 compile_error!("sidorghu is proved for a usize of 64 bits: on this target casts of 64-bit numbers to usize would lose bits, so it isn't built");
 
-pub use core::{cell, cmp, convert, fmt, iter, marker, mem, ops, ptr, str, time};
+pub use core::{cell, fmt, marker, mem, ops, ptr, str};
 
 pub mod alloc;
 pub mod boxed;
 pub mod collections;
 pub mod ffi;
+mod lists;
 pub(crate) mod macros;
 #[cfg(any(test, feature = "std"))]
 pub mod runtime;
@@ -24,7 +25,7 @@ pub mod vec;
 
 pub(crate) use macros::{assert_eq_with as assert_eq, assert_ne_with as assert_ne, assert_with as assert, format_in as format, vec_in as vec};
 #[cfg(any(test, feature = "std"))]
-pub(crate) use macros::{eprint_to as eprint, print_to as print, println_to as println};
+pub(crate) use macros::{eprint_to as eprint, println_to as println};
 #[cfg(any(test, feature = "std"))]
 pub use runtime::{env, io, process, test};
 
@@ -33,7 +34,7 @@ pub mod prelude {
     pub use super::alloc::CollectIn;
     pub use super::boxed::Box;
     #[cfg(any(test, feature = "std"))]
-    pub use super::runtime::{Alloc, Eprint, HostRuntime, Input, Print};
+    pub use super::runtime::HostRuntime;
     pub use super::string::String;
     pub use super::vec::Vec;
 }

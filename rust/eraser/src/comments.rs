@@ -63,7 +63,7 @@ fn said(text: &str, laws: &Laws) -> Option<(Row, String)> {
         return None;
     }
     if text[3..].trim() == "```rust" {
-        return Some((Row::Example, text.trim_end().trim_end_matches("rust").to_string() + "ignore"));
+        return Some((Row::Example, text.trim_end().trim_end_matches("rust").to_string() + "text"));
     }
     let new = without_links(text, laws);
     (new != text).then_some((Row::Link, new))

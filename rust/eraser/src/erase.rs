@@ -26,7 +26,7 @@ pub struct Place<'a> {
 const CORE_MACROS: [&str; 4] = ["matches", "unreachable", "write", "writeln"];
 
 /// The macros that take an allocator or the process's handle.
-const SHIM_MACROS: [&str; 9] = ["assert", "assert_eq", "assert_ne", "eprint", "eprintln", "format", "print", "println", "vec"];
+const SHIM_MACROS: [&str; 7] = ["assert", "assert_eq", "assert_ne", "eprint", "format", "println", "vec"];
 
 /// Keywords and names of forms that have no row.
 const NO_ROW: [&str; 9] = ["async", "await", "macro_rules", "union", "yield", "try", "become", "box", "cfg"];

@@ -6,7 +6,7 @@ use crate::rows::Row;
 use crate::source::Source;
 
 /// The names that the shim's prelude has.
-const PRELUDE: [&str; 8] = ["Vec", "String", "Box", "HostRuntime", "Print", "Eprint", "Input", "Alloc"];
+const PRELUDE: [&str; 4] = ["Vec", "String", "Box", "HostRuntime"];
 
 /// What the root of a path is now.
 fn root(place: &Place<'_>, word: &str) -> Option<(Row, String)> {

@@ -77,7 +77,7 @@ pub const ROWS: [Entry; 29] = [
     entry(Row::Macro, "macro", "a macro that takes an allocator or the process's handle is the shim's", "the same text is formatted; an allocation failure is returned"),
     entry(Row::Main, "main", "a program's `main` can be named by the crate", "the binary calls it with the process's handle, as Rattle's start does"),
     entry(Row::Test, "test", "a test makes the process's handle, which it takes in Rattle", "the handle has no size"),
-    entry(Row::Example, "example", "an example of a comment is marked `ignore`", "it is written for Rattle; comments don't run"),
+    entry(Row::Example, "example", "an example of a comment is marked `text`", "it is written for Rattle; comments don't run"),
     entry(Row::Link, "link", "a comment's link to a law is its name alone", "the law isn't there any more"),
     entry(Row::Table, "table of clauses", "a table of a comment whose first line names laws, clauses, contracts, promises or definitions goes", "it says which clause promises what, and clauses went; comments don't run"),
     entry(Row::Space, "space", "white space that is left where something went is closed up", "white space outside of strings means nothing"),

@@ -124,7 +124,7 @@ fn comments_are_for_a_reader_of_rust() {
     );
     assert_eq!(
         text,
-        "//! A list.\n//!\n//! | at | size |\n//! |---|---|\n//! | 0 | 4 |\n\n/// See `one_law` and [`act`].\n///\n/// ```ignore\n/// x(rt);\n/// ```\nfn act(a: u8) {}\n"
+        "//! A list.\n//!\n//! | at | size |\n//! |---|---|\n//! | 0 | 4 |\n\n/// See `one_law` and [`act`].\n///\n/// ```text\n/// x(rt);\n/// ```\nfn act(a: u8) {}\n"
     );
 }
 
