@@ -37,4 +37,5 @@ pub mod prelude {
     pub use super::runtime::HostRuntime;
     pub use super::string::String;
     pub use super::vec::Vec;
+    pub use core::str;
 }

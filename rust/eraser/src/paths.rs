@@ -5,7 +5,7 @@ use crate::refusal::Unknown;
 use crate::rows::Row;
 use crate::source::Source;
 
-/// The names that the shim's prelude has.
+/// The names that the shim's prelude has, beside the module `str`: its functions are found by that name in every rustc.
 const PRELUDE: [&str; 4] = ["Vec", "String", "Box", "HostRuntime"];
 
 /// What the root of a path is now.
@@ -139,7 +139,8 @@ fn braced(names: &[&str]) -> String {
 
 /// The prelude's import, in a file that needs it.
 pub(crate) fn prelude(source: &mut Source<'_>) -> Result<(), Unknown> {
-    let needs = (0..source.len()).any(|at| source.is_word(at) && PRELUDE.contains(&source.word(at)) && !(at > 1 && source.is_path(at - 2)));
+    let names = |at: usize| source.is_word(at) && PRELUDE.contains(&source.word(at)) || source.word(at) == "str" && source.is_path(at + 1);
+    let needs = (0..source.len()).any(|at| names(at) && !(at > 1 && source.is_path(at - 2)));
     let collects = source.edits.iter().any(|edit| edit.row == Row::Collect);
     if !needs && !collects {
         return Ok(());
