@@ -10,7 +10,7 @@
 
 mod random;
 
-use sidorghu::channels::{Channels, ChannelSendError, Content, DtlsRole, Event};
+use sidorghu::channels::{ChannelSendError, Channels, Content, DtlsRole, Event};
 use sidorghu::{Config, Key, SendError, Verdict};
 use std::collections::VecDeque;
 use std::error::Error;
@@ -50,7 +50,9 @@ impl Side {
         while self.waiting.len() < 64 {
             let Some(event) = self.channels.next_event()? else { break };
             match event {
-                Event::Incoming { stream, parameters } => println!("channel {stream}, {}: opened by the page", String::from_utf8_lossy(&parameters.label)),
+                Event::Incoming { stream, parameters } => {
+                    println!("channel {stream}, {}: opened by the page", String::from_utf8_lossy(&parameters.label))
+                }
                 Event::Message { stream, text, payload } => {
                     self.waiting.push_back(Echo { stream, text, bytes: payload.to_vec()? });
                     self.channels.give_back_payload(payload);

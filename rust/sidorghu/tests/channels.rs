@@ -1,11 +1,14 @@
 //! Each call of channels, with its answer.
+#![cfg(feature = "channels")]
 
 mod common;
 use common::{carry, channels, config, draw, events, lose, ms, settle};
 use sidorghu::channels::{
-    ChannelOptions, ChannelSendError, CloseError, Content, ControlError, DtlsRole, Event, Ignored, OpenError, Refusal, Reliability, ThresholdError, Written,
+    ChannelOptions, ChannelSendError, CloseError, Content, ControlError, DtlsRole, Event, Ignored, OpenError, Refusal, Reliability, ThresholdError,
+    Written,
 };
 use sidorghu::{AbortError, Channels, ConnectError, End, Endpoint, Fate, Key, ResetError, SendError, SendOptions, ShutdownError, State, Ticket};
+use std::error::Error;
 use std::time::Duration;
 
 /// The texts that were received, with their streams.
@@ -166,6 +169,80 @@ fn calls_of_the_endpoint_are_passed_on() {
     assert_eq!(events(&mut a), [Event::Closed { stream: 0 }]);
     assert_eq!((a.shutdown(), a.abort(b"")), (Err(ShutdownError::NotOpen), Err(AbortError::State)));
     assert_eq!(a.send(ms(3), 0, "x"), Err(ChannelSendError::NoChannel));
+}
+
+/// What each reader says.
+macro_rules! read {
+    ($it:expr) => {{
+        let it = &$it;
+        let of_path = (it.state(), it.ended(), it.next_moment(), it.config(), it.agreed(), it.path(), it.counts(), it.peer_window(), it.in_flight());
+        let of_queue = (it.tickets(), it.outstanding(), it.queued(), it.queued_bytes(), it.queued_bytes_on(1, &[51]), it.acknowledged(Ticket(1)));
+        let of_buffer = (it.held_bytes(), it.reassembly_bytes(), it.readable(0), it.next_readable(9), it.waiting(1, 0).map(|message| message.len()));
+        let of_streams =
+            (it.inbound(), it.outbound(), it.is_interleaved(), it.is_partial(), it.has_reset(), it.is_resetting(0), it.resetting_streams());
+        let of_lifetimes = (it.abandoned(Ticket(1)), it.has_late(ms(99)), it.next_late(Ticket(0), ms(99)), it.next_to_give_up(Ticket(0), ms(99)));
+        (of_path, of_queue, of_buffer, of_streams, of_lifetimes, it.next_at_limit(Ticket(0)))
+    }};
+}
+
+#[test]
+fn an_endpoint_is_read_through_its_channels() {
+    let (mut a, mut b) = channels();
+    let once = ChannelOptions::new("").reliability(Reliability::MaxPacketLifetime(ms(9)));
+    for channels in [&mut a, &mut b] {
+        channels.open_negotiated(1, &once).unwrap();
+        channels.open_negotiated(0, &once).unwrap();
+        channels.send(ms(1), 1, "from here").unwrap();
+    }
+    carry(&mut a, &mut b, ms(2));
+    carry(&mut b, &mut a, ms(3));
+    a.close(0).unwrap();
+    a.send(ms(4), 1, "queued").unwrap();
+    let through_channels = read!(a);
+    assert_eq!((through_channels.1.2, through_channels.2.2, through_channels.3.6), (1, Some(1), 1));
+    assert_eq!(through_channels.4.2, Some(Ticket(2)));
+    assert_eq!(format!("{through_channels:?}"), format!("{:?}", read!(a.into_endpoint())));
+}
+
+#[test]
+fn memory_is_handed_back() {
+    let (mut a, mut b) = channels();
+    for channels in [&mut a, &mut b] {
+        channels.open_negotiated(1, &ChannelOptions::new("")).unwrap();
+    }
+    for round in 0..3 {
+        let ticket = a.send(ms(round), 1, "text").unwrap();
+        let sent = a.poll_transmit(ms(round)).unwrap().unwrap();
+        assert_eq!(sent.tickets, [ticket]);
+        let _ = b.handle_packet(ms(round), &sent.packet, draw(9)).unwrap();
+        a.recycle(sent);
+        let Ok(Some(Event::Message { payload, .. })) = b.next_event() else { panic!("no message") };
+        b.give_back_payload(payload);
+        let answer = b.poll_transmit(ms(round)).unwrap().unwrap();
+        let _ = a.handle_packet(ms(round), &answer.packet, draw(9)).unwrap();
+        b.recycle_packet(answer.packet);
+        b.recycle_tickets(answer.tickets);
+        b.trim();
+    }
+    let mut endpoint = b.into_endpoint();
+    a.send(ms(9), 1, "taken").unwrap();
+    settle(&mut a, &mut endpoint, ms(9));
+    let message = endpoint.take(1).unwrap();
+    endpoint.give_back(message);
+    endpoint.trim();
+}
+
+#[test]
+fn errors_say_what_happened_and_why() {
+    let refused = OpenError::Refused(SendError::QueueFull);
+    assert_eq!(refused.to_string(), "the endpoint doesn't take the DATA_CHANNEL_OPEN");
+    assert_eq!(refused.source().unwrap().to_string(), "too many messages wait");
+    assert!(ChannelSendError::NoChannel.source().is_none() && OpenError::Used.source().is_none());
+    assert_eq!(CloseError::Refused(ResetError::State).source().unwrap().to_string(), ResetError::State.to_string());
+    assert_eq!(Ignored::BadControl(ControlError::AckWithMore).to_string(), "bad message of DCEP: the DATA_CHANNEL_ACK has more than one byte");
+    assert_eq!(Refusal::WrongHalf.to_string(), "the stream is one of this side's");
+    let (one, _) = channels();
+    assert!(format!("{one:?}").starts_with("Channels { state: Established"));
 }
 
 #[test]

@@ -3,8 +3,8 @@
 mod common;
 use common::{carry, config, draw, lose, ms, pair, pair_of, settle};
 use sidorghu::{
-    AbortError, ConnectError, Draw, End, Endpoint, Fate, Key, LONGEST_MESSAGE, QUEUE_LIMIT, Reset, ResetError, SendError, SendOptions, ShutdownError, State,
-    Ticket, Verdict, abort_cause,
+    AbortError, ConnectError, Draw, End, Endpoint, Fate, Key, LONGEST_MESSAGE, QUEUE_LIMIT, Reset, ResetError, SendError, SendOptions, ShutdownError,
+    State, Ticket, Verdict, abort_cause,
 };
 
 const PLAIN: SendOptions = SendOptions::new();
@@ -203,7 +203,10 @@ fn an_association_is_aborted() {
 fn an_endpoint_that_nobody_answers_times_out() {
     let mut a = Endpoint::caller(config(true));
     a.connect(ms(0), Draw::from_random([0; 8])).unwrap();
-    while let Some(time) = { lose(&mut a, ms(0)); a.next_moment() } {
+    while let Some(time) = {
+        lose(&mut a, ms(0));
+        a.next_moment()
+    } {
         a.on_moment(time);
     }
     assert_eq!((a.ended(), a.state()), (Some(End::TimedOut), State::Closed));

@@ -2,7 +2,7 @@
 
 mod common;
 use common::{carry, config, draw, ms, pair, pair_of, settle};
-use sidorghu::{Agreed, Channels, Config, ConfigError, Draw, Endpoint, Key, SendError, SendOptions, Ticket, channels};
+use sidorghu::{Agreed, BufferTooSmall, Config, ConfigError, ConnectError, Draw, Endpoint, Key, SendError, SendOptions, Ticket};
 use std::collections::{BTreeSet, HashSet};
 use std::error::Error;
 use std::time::Duration;
@@ -110,12 +110,7 @@ fn secrets_are_not_shown() {
     let (mut a, _) = pair_of(config(true), config(false));
     a.send(0, b"text", SendOptions::new()).unwrap();
     let shown = format!("{a:?} {:?} {:?}", draw(77), Key::new([77; 32]));
-    assert_eq!(
-        shown,
-        "Endpoint { state: Established, ended: None, outstanding: 0, queued: 1, queued_bytes: 4, held_bytes: 0, .. } Draw(..) Key(..)"
-    );
-    let (one, _) = common::channels();
-    assert!(format!("{one:?}").starts_with("Channels { state: Established"));
+    assert_eq!(shown, "Endpoint { state: Established, ended: None, outstanding: 0, queued: 1, queued_bytes: 4, held_bytes: 0, .. } Draw(..) Key(..)");
 }
 
 #[test]
@@ -131,19 +126,25 @@ fn values_are_what_they_were_made_with() {
 }
 
 #[test]
-fn errors_say_what_happened_and_why() {
-    let refused = channels::OpenError::Refused(SendError::QueueFull);
-    assert_eq!(refused.to_string(), "the endpoint doesn't take the DATA_CHANNEL_OPEN");
-    assert_eq!(refused.source().unwrap().to_string(), "too many messages wait");
-    let boxed: Box<dyn Error + Send + Sync> = channels::ChannelSendError::NoChannel.into();
+fn errors_say_what_happened() {
+    let boxed: Box<dyn Error + Send + Sync> = ConnectError::State.into();
+    assert_eq!(boxed.to_string(), "the endpoint is a listener, or has been used already");
     assert!(boxed.source().is_none());
+    assert_eq!(SendError::QueueFull.to_string(), "too many messages wait");
+    let (mut a, mut b) = pair();
+    a.send(0, b"four", SendOptions::new()).unwrap();
+    settle(&mut a, &mut b, ms(1));
+    let fault: BufferTooSmall = b.take(0).unwrap().copy_into(&mut []).unwrap_err();
+    assert_eq!(fault.to_string(), "the message has 4 bytes, more than the buffer");
 }
 
 #[test]
 fn what_a_program_keeps_may_go_to_threads() {
     fn goes<T: Send + Sync + Unpin>() {}
     goes::<Endpoint>();
-    goes::<Channels>();
-    goes::<channels::Event>();
+    #[cfg(feature = "channels")]
+    goes::<sidorghu::Channels>();
+    #[cfg(feature = "channels")]
+    goes::<sidorghu::channels::Event>();
     goes::<SendError>();
 }

@@ -1,8 +1,9 @@
 //! Two ends in one process: packets of the one are passed to the other.
 #![allow(dead_code, reason = "each test program uses a part")]
 
-use sidorghu::{Channels, Config, Draw, Endpoint, Key, NoMemory, Sent, Verdict};
-use sidorghu::channels::{DtlsRole, Event};
+#[cfg(feature = "channels")]
+use sidorghu::channels::{Channels, DtlsRole, Event};
+use sidorghu::{Config, Draw, Endpoint, Key, NoMemory, Sent, Verdict};
 use std::time::Duration;
 
 /// What sends and receives packets.
@@ -28,6 +29,7 @@ macro_rules! is_end {
     };
 }
 is_end!(Endpoint);
+#[cfg(feature = "channels")]
 is_end!(Channels);
 
 /// A number of milliseconds.
@@ -79,6 +81,7 @@ pub fn pair() -> (Endpoint, Endpoint) {
 }
 
 /// Two ends of data channels, established: the first is the DTLS client.
+#[cfg(feature = "channels")]
 pub fn channels() -> (Channels, Channels) {
     let config = Config::for_data_channels(5_000, 5_000).expect("ports");
     let mut a = Channels::caller(config, DtlsRole::Client).expect("memory");
@@ -89,6 +92,7 @@ pub fn channels() -> (Channels, Channels) {
 }
 
 /// What is reported until there is nothing more.
+#[cfg(feature = "channels")]
 pub fn events(channels: &mut Channels) -> Vec<Event> {
     std::iter::from_fn(|| channels.next_event().expect("memory")).collect()
 }
