@@ -57,6 +57,12 @@ impl Key {
     pub fn new(bytes: [u8; 32]) -> Key {
         Key(sctp_cookie::Key::new(bytes))
     }
+
+    /// The key that a secret, from a secure source, and these bytes make: HMAC with SHA-256 of the bytes (RFC 2104). A listener whose key is derived
+    /// from the sender's address takes no cookie that was made for another one.
+    pub fn derived(secret: &[u8; 32], bytes: &[u8]) -> Key {
+        Key::new(sctp_cookie::hmac_sha256(secret, bytes))
+    }
 }
 
 impl From<[u8; 32]> for Key {

@@ -47,3 +47,14 @@ fn a_cookie_of_another_key_is_dropped() {
     assert_eq!(second.handle_packet(ms(0), &echo, draw(9)), Ok(Verdict::Dropped(Reason::Cookie)));
     assert_eq!(first.handle_packet(ms(0), &echo, draw(9)), Ok(Verdict::Taken));
 }
+
+#[test]
+fn keys_are_derived_from_a_secret_and_bytes() {
+    let mut caller = Endpoint::caller(config(true));
+    caller.connect(ms(0), draw(7)).unwrap();
+    let listener = |address: &[u8]| Endpoint::listener(config(false), Key::derived(&[5; 32], address));
+    assert!(carry(&mut caller, &mut listener(b"here"), ms(0)));
+    let echo = lose(&mut caller, ms(0)).remove(0).packet;
+    assert_eq!(listener(b"there").handle_packet(ms(0), &echo, draw(9)), Ok(Verdict::Dropped(Reason::Cookie)));
+    assert_eq!(listener(b"here").handle_packet(ms(0), &echo, draw(9)), Ok(Verdict::Taken));
+}
