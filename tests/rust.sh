@@ -1,7 +1,7 @@
 #!/usr/bin/env bash
-# The sources as plain Rust, in the gate (half a minute): all are erased, which refuses what the eraser has no row for; a second program, which
-# shares no rule with the eraser, looks whether the erased text is the sources word for word, and tells faults that are sown in it; and cargo checks the
-# workspace in rust/ with its tests. What is built lies in a folder outside the checkout, which is removed at the end; nothing is written in the checkout, and no
+# The sources as plain Rust, in the gate (a minute): all are erased, which refuses what the eraser has no row for; a second program, which shares no rule
+# with the eraser, looks whether the erased text is the sources word for word, and tells faults that are sown in it; and cargo checks the workspace in
+# rust/ with its tests. What is built lies in a folder outside the checkout, which is removed at the end; nothing is written in the checkout, and no
 # network is used. Where there is no cargo, or one that is older than rust/Cargo.toml asks for, it says so and ends with 0. At a fault it says which, and
 # ends with 1.
 
@@ -42,4 +42,4 @@ step 'the sources are erased' cargo run --quiet --locked --offline -p sidorghu-e
 step 'the erased text is the sources, word for word' python3 -B same_code.py "$root" "$room/erased"
 step 'faults that are sown in it are told' python3 -B sown_faults.py "$root" "$room/erased"
 step 'cargo checks the workspace and its tests' cargo check --quiet --locked --offline --workspace --all-targets
-echo "tests/rust.sh: all sources erased, and cargo 1.$has checks them: $((SECONDS - began)) seconds"
+echo "tests/rust.sh: all sources erased and compared, and cargo 1.$has checks them: $((SECONDS - began)) seconds"

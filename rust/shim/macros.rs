@@ -7,7 +7,9 @@ macro_rules! format_in {
 
 /// `vec![in alloc; value; many]`: the list, or that an allocation failed.
 macro_rules! vec_in {
-    (in $alloc:expr; $value:expr; $many:expr) => { $crate::rattle_std::vec::Vec::of_value($alloc, $value, $many) };
+    (in $alloc:expr; $value:expr; $many:expr) => {
+        $crate::rattle_std::vec::Vec::of_value($alloc, $value, $many)
+    };
 }
 
 /// `println!(rt; ..)`: a line on standard output, or the fault of it.

@@ -7,7 +7,8 @@ use std::path::{Path, PathBuf};
 use std::{env, fs, process};
 
 /// What rustc finds in erased text that is right as it is: names that only the proof or another crate's program uses.
-const ALLOWED: &str = "#[allow(dead_code, unused_imports, unused_labels, unused_variables, unused_must_use, improper_ctypes_definitions, clippy::all)]";
+const ALLOWED: &str =
+    "#[allow(dead_code, unused_imports, unused_labels, unused_variables, unused_must_use, improper_ctypes_definitions, clippy::all)]";
 
 /// Erases the named crates and all that they stand on into `$OUT_DIR/erased`, and writes `$OUT_DIR/erased.rs`, which has a module for each: a crate
 /// includes it by `include!(concat!(env!("OUT_DIR"), "/erased.rs"));`. A form without a row ends the build with its file and line.

@@ -80,9 +80,7 @@ fn of_enum(source: &Source<'_>, name: &str, open: usize) -> Result<(String, Stri
         let head = format!("{name}::{variant}");
         arms += &arm(source, at, &head, &fields, marks.shown)?;
         if let Some(origin) = fields.origin {
-            froms += &format!(
-                "\nimpl From<{origin}> for {name} {{\n    fn from(inner: {origin}) -> {name} {{\n        {head}(inner)\n    }}\n}}\n"
-            );
+            froms += &format!("\nimpl From<{origin}> for {name} {{\n    fn from(inner: {origin}) -> {name} {{\n        {head}(inner)\n    }}\n}}\n");
         }
         at = fields.end;
         if source.word(at) == "," {

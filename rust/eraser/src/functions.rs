@@ -64,7 +64,8 @@ fn test(source: &mut Source<'_>, head: &Head) -> Result<(), Unknown> {
 
 /// A `fmt` that is generic over its writer.
 fn formatter(source: &mut Source<'_>, head: &Head) -> Result<(), Unknown> {
-    let form = ["<", "W", ":", "fmt", ":", ":", "Write", ">", "(", "&", "self", ",", "f", ":", "&", "mut", "fmt", ":", ":", "Formatter", "<", "W", ">", ")"];
+    let form =
+        ["<", "W", ":", "fmt", ":", ":", "Write", ">", "(", "&", "self", ",", "f", ":", "&", "mut", "fmt", ":", ":", "Formatter", "<", "W", ">", ")"];
     if !source.are(head.name + 1, &form) {
         return Err(source.unknown(head.name, "this form of a generic `fmt` has no row"));
     }

@@ -87,7 +87,11 @@ impl Laws {
         let name = source.word(head.name).to_string();
         let is_method = source.are(head.open, &["(", "&"]) || source.word(head.open + 1) == "self";
         if !of_trait && head.is_law(source) {
-            if is_method { self.methods.insert(name) } else { self.free.insert(name) };
+            if is_method {
+                self.methods.insert(name)
+            } else {
+                self.free.insert(name)
+            };
         } else if head.takes_nothing() || head.takes_self(source) {
             self.plain.insert((is_method, name));
         }

@@ -26,5 +26,5 @@ pub use building::{build, write};
 pub use erase::{Place, erase};
 pub use laws::Laws;
 pub use refusal::Refusal;
-pub use rows::{Counts, Entry, ROWS, Row};
+pub use rows::{Counts, Entry, ROWS, Row, rows_table};
 pub use tree::{Erased, Tree};

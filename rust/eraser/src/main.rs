@@ -1,6 +1,6 @@
 //! `sidorghu-erase CHECKOUT OUT [--counts]` writes all crates' erased sources into OUT; `sidorghu-erase --rows` prints the table.
 
-use sidorghu_eraser::{Counts, ROWS, Refusal, Tree, write};
+use sidorghu_eraser::{Counts, ROWS, Refusal, Tree, rows_table, write};
 use std::path::Path;
 use std::process::ExitCode;
 
@@ -11,7 +11,7 @@ fn main() -> ExitCode {
     let words: Vec<&str> = words.iter().map(String::as_str).collect();
     let done = match words.as_slice() {
         ["--rows"] => {
-            print!("{}", rows());
+            print!("{}", rows_table());
             return ExitCode::SUCCESS;
         }
         [checkout, out] => run(checkout, out, false),
@@ -38,15 +38,6 @@ fn run(checkout: &str, out: &str, counts: bool) -> Result<(), Refusal> {
         print!("{}", table(&used));
     }
     Ok(())
-}
-
-/// The rows as a table of a page.
-fn rows() -> String {
-    let mut out = String::from("| row | what it does | why meaning stays |\n|---|---|---|\n");
-    for it in &ROWS {
-        out += &format!("| {} | {} | {} |\n", it.name, it.what, it.why);
-    }
-    out
 }
 
 /// How often each row was used.

@@ -110,7 +110,8 @@ fn heads_of_c_pass_slices_and_no_allocator() {
 
 #[test]
 fn programs_and_tests_get_their_handle() {
-    let (text, _) = erased("fn main(rt: HostRuntime) -> u8 {\n    println!(rt; \"a\")\n}\n\n#[test]\nfn it(rt: HostRuntime) {\n    assert!(rt; true);\n}\n");
+    let (text, _) =
+        erased("fn main(rt: HostRuntime) -> u8 {\n    println!(rt; \"a\")\n}\n\n#[test]\nfn it(rt: HostRuntime) {\n    assert!(rt; true);\n}\n");
     assert_eq!(
         text,
         "use crate::rattle_std::prelude::*;\n\npub(crate) fn main(rt: HostRuntime) -> u8 {\n    crate::rattle_std::println!(rt; \"a\")\n}\n\n#[test]\nfn it() {\n    let rt = HostRuntime;\n    crate::rattle_std::assert!(rt; true);\n}\n"

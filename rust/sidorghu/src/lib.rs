@@ -108,9 +108,7 @@ pub use error::{AbortError, BufferTooSmall, ConfigError, ConnectError, ResetErro
 pub use message::{Message, WaitingMessage};
 pub use packet::{Sent, Verdict, abort_cause, peek_packet};
 pub use send::SendOptions;
-pub use values::{
-    AbortCause, Agreed, Counts, Draw, Dropped, End, Fate, Key, NoMemory, PacketHeader, Path, Reason, Reset, State, Ticket,
-};
+pub use values::{AbortCause, Agreed, Counts, Draw, Dropped, End, Fate, Key, NoMemory, PacketHeader, Path, Reason, Reset, State, Ticket};
 
 /// The longest message that is sent, in bytes. A peer's may be as long as the receive buffer.
 pub const LONGEST_MESSAGE: usize = sctp_values::LONGEST_MESSAGE;
