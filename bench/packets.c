@@ -71,8 +71,8 @@ static void i_forward(void) {
 }
 static void i_forwards(void) {
     uint8_t value[12] = { 0 };
-    interleaved = true, streams = 1024, open_with(0), receive(100, WINDOW + 1, behind_each), begin();
-    for (uint32_t at = 0; put32(value, at + 1), put16(value + 4, at), put(I_FORWARD, 0, value, sizeof value); at++);
+    interleaved = true, streams = 64, open_with(0), receive(100, WINDOW + 1, behind_each), begin();
+    for (uint32_t at = 0; put32(value, at + 1), put16(value + 4, at % streams), put(I_FORWARD, 0, value, sizeof value); at++);
 }
 static void forwards(void) {
     uint8_t value[4];
@@ -130,7 +130,7 @@ static const struct { const char *name, *what, *state; void (*make)(void); } cas
     { "data-first", "one DATA of a byte, for which all others wait", "32,765 whole messages after it", data_first },
     { "forward", "a FORWARD-TSN of 369 entries over all", "16,383 messages in part", forward },
     { "i-forward", "an I-FORWARD-TSN over all, an entry for each of 32 streams", "32,766 messages in part", i_forward },
-    { "i-forwards", "92 I-FORWARD-TSNs of an entry each, each one TSN further on", "32,668 whole messages that wait for the first of their stream, of 1,024 streams", i_forwards },
+    { "i-forwards", "92 I-FORWARD-TSNs of an entry each, each one TSN further on", "32,668 whole messages that wait for the first of their stream, of 64", i_forwards },
     { "forwards", "186 FORWARD-TSNs without entries", "16,383 messages in part", forwards },
     { "blocks", "a SACK of 368 blocks", "32,767 outstanding", blocks },
     { "cover", "a SACK that acknowledges nearly all by a block, if nothing was", "32,767 outstanding", cover },

@@ -1,13 +1,20 @@
 #!/bin/sh
-# Counts instructions by callgrind, of programs that `rt run` proves and builds: what a byte of crc32c takes (beside the same loop in C at -O2), and what a
-# receiver and a sender take for a message; what an endpoint adds to that; what an end takes at rest; what calls of a receiver and of a sender take that keep much; and what one packet
-# of each chunk costs an end at the most. `./run.sh` runs all, `./run.sh crc32c`, `./run.sh receiver`, `./run.sh sender`, `./run.sh endpoint`, `./run.sh channels`, `./run.sh rest`, `./run.sh growth`,
-# `./run.sh groups` and `./run.sh packets` one of them. Needs rt, valgrind, cc and python3.
-# `./run.sh dearest` looks for dear packets over the library for C, which `rt lib` makes; `./run.sh` leaves it out.
-# `./run.sh usrsctp` counts the endpoint's messages over two ends of usrsctp: of Debian's library, libusrsctp-dev, and where USRSCTP_SOURCE names the folder of
-# its source package's sources (`apt-get source libusrsctp`), of these at -O2. It needs no rt, and `./run.sh` leaves it out.
+# What the library costs: instructions by callgrind, processor time, bytes. `./run.sh` names its parts; docs in README.md.
+#
+#   ./run.sh all [--cargo | --proved]    writes the tables of README.md anew, over the library for C as cargo builds it of the erased sources, or as `rt lib`
+#                                        proved and built it (crates/sctp_c/out): ten minutes. Without a word: the proved one, if it is there
+#   ./run.sh PART [--cargo | --proved]   prints the tables of one part: messages, time, memory, packets, growth; or looks for dear packets: dearest
+#   ./run.sh PART                        counts calls of single crates in Rattle, which the toolchain proves and builds first: crc32c, receiver, sender, endpoint,
+#                                        groups, receiver_growth, sender_growth
+#   ./run.sh usrsctp                     counts a message over two endpoints of usrsctp, of Debian's library and, if USRSCTP_SOURCE names the folder of its
+#                                        sources (`apt-get source libusrsctp`), of these at -O2, which `all` and `messages` count again and `time` needs
+#
+# It needs valgrind, a C compiler and Python; cargo for --cargo; `rt` for the proved library and for calls in Rattle.
 set -e
 here=$(cd "$(dirname "$0")" && pwd)
+usage() { sed -n '2,/^$/{/^#/s/^# \{0,1\}//p;}' "$0"; }
+case ${1-} in '' | -h | --help) usage; exit 0 ;; esac
+for tool in valgrind cc python3; do command -v "$tool" > /dev/null || { echo "bench/run.sh: there is no $tool" >&2; exit 2; }; done
 work=$(mktemp -d)
 trap 'rm -rf "$work"' EXIT
 
@@ -111,18 +118,6 @@ endpoint() {
     done
 }
 
-# what a channel adds to a message: the same messages over two ends with a channel, and without
-channels() {
-    # shellcheck disable=SC2086
-    build channels $end sctp_dcep sctp_channels
-    for over in ends channels; do
-        for streams in 1 1024; do
-            each "$over: a message of 64 bytes, 9.5 to a packet, on the last of $streams streams" 100 300 19 "$built" "$over" 19 64 "$streams"
-            each "$over: a message of 64 bytes, one to a packet, on the last of $streams streams" 1000 3000 1 "$built" "$over" 1 64 "$streams"
-        done
-    done
-}
-
 # the same by what runs
 groups() {
     # shellcheck disable=SC2086
@@ -166,18 +161,6 @@ usrsctp() {
     unset GLIBC_TUNABLES
 }
 
-# the bytes of an end at rest: half of what two take at most that were opened and carried nothing
-rest() {
-    # shellcheck disable=SC2086
-    build endpoint $end
-    for over in ends interleaved; do
-        for streams in 1 32 1024; do
-            valgrind --tool=massif --heap-admin=0 --massif-out-file="$work/out" "$built" "$over" 0 0 "$streams" 0 > "$work/log" 2>&1
-            awk -F= -v name="$over, $streams streams" '/^mem_heap_B=/ && $2 > most { most = $2 } END { printf "%s: %d bytes an end at rest\n", name, most / 2 }' "$work/out"
-        done
-    done
-}
-
 # what a call takes at a size, twice and four times that: NAME SIZE CALLS OF PROGRAM WORD ..; a call that costs its own work alone takes as much at each of
 # them. OF is `call`, or `kept`: the cost is told by call, or by call and by what is kept
 grows() {
@@ -195,11 +178,6 @@ grows() {
         a = ($2 - $1) / $3; b = ($5 - $4) / $6; c = ($8 - $7) / $9
         printf "%s, at %d, %d and %d: %.0f, %.0f, %.0f instructions, %.2f and %.2f times\n", name, n, 2 * n, 4 * n, a, b, c, b / a, c / b
     }'
-}
-
-growth() {
-    receiver_growth
-    sender_growth
 }
 
 # calls of a receiver
@@ -277,25 +255,20 @@ sender_growth() {
     grows 'i-data: expire, one late of so many in part, each on a stream of its own' 256 20 call "$built" i-data expire-part
 }
 
-# what one packet of at most 1,500 bytes takes, and what the end sends then
-packets() {
-    # shellcheck disable=SC2086
-    build packets $end
-    for case in data-order data-gaps data-odd data-backwards data-again data-nowhere data-first i-data-order i-data-gaps i-data-odd i-data-backwards \
-        i-data-again i-data-first forward forwards jump i-forward i-forwards i-jump blocks cover turns turns-some turns-none all shutdowns abort heartbeat heartbeats error stop stop-tell pass pass-tell shutdown-acks \
-        completes cookie-acks init-late wrong init init-ack cookie bad-cookie; do
-        none=$(count "$built" "$case" none)
-        heard=$(count "$built" "$case" heard)
-        sent=$(count "$built" "$case" sent)
-        "$built" "$case" sent | awk -v name="$case" -v heard=$((heard - none)) -v sent=$((sent - heard)) '{
-            printf "%s, %s: %d instructions, %.1f a byte, and %d then\n", name, $0, heard, heard / $1, sent
-        }'
-    done
+# the library for C in $work/prefix, as the word says, and how it was built
+library() {
+    how=$1
+    [ -n "$how" ] || { [ -f "$here/../crates/sctp_c/out/libsctp_c.a" ] && how=--proved || how=--cargo; }
+    case $how in
+    --proved) "$here/../install.sh" "$work/prefix" > "$work/log" ;;
+    --cargo) CARGO_TARGET_DIR="$work/target" "$here/../install.sh" --cargo "$work/prefix" > "$work/log" 2>&1 ;;
+    *) echo "bench/run.sh: $how: --cargo or --proved" >&2; exit 2 ;;
+    esac || { cat "$work/log" >&2; exit 1; }
+    built=$(sed -n 's/^build=//p' "$work/prefix/lib/pkgconfig/sctp_endpoint.pc")
 }
 
-# looks for dear packets for some minutes over the library for C, which `rt lib` made in crates/sctp_c, and counts the dearest of each kind that it found
+# looks for dear packets for some minutes, and counts the dearest of each kind that it found
 dearest() {
-    "$here/../install.sh" "$work/prefix" > "$work/log"
     cc -O2 -I"$work/prefix/include" -o "$work/dearest" "$here/dearest.c" "$work/prefix/lib/libsctp_endpoint.a" "$work/prefix/lib/libsctp_endpoint_malloc.a"
     "$work/dearest" search 300 1 > "$work/found"
     within=counted
@@ -307,7 +280,10 @@ dearest() {
     tail -n 1 "$work/found"
 }
 
-case ${1:-all} in
-    all) crc32c; receiver; sender; endpoint; channels; groups; rest; growth; packets ;;
-    *) "$1" ;;
+case $1 in
+all) library "$2"; python3 -B "$here/tables.py" "$work/prefix" "$built" ;;
+messages | time | memory | packets | growth) library "$2"; python3 -B "$here/tables.py" "$work/prefix" "$built" "$1" ;;
+dearest) library "$2"; dearest ;;
+crc32c | receiver | sender | endpoint | groups | receiver_growth | sender_growth | usrsctp) "$1" ;;
+*) echo "bench/run.sh: $1: no part" >&2; usage >&2; exit 2 ;;
 esac

@@ -126,8 +126,8 @@ def time(bench):
                 spent = processor_time(program, many, size, most, *letters) - processor_time(program, many, size, few, *letters)
                 found[program].append(spent * 1e9 / (most - few) / many)
         mine, other = (statistics.median(found[program]) for program in (ours, theirs))
-        rows.append([name.replace(', less the making of its bytes', ''), written(other), written(mine), f'{mine / other:.2f}'])
-    return table(['nanoseconds of one processor a message', 'usrsctp -O2', 'Sidorghu', 'of usrsctp'], rows)
+        rows.append([name.replace(', less the making of its bytes', '') + ': time', written(other), written(mine), f'{mine / other:.2f}'])
+    return table(['nanoseconds of one processor', 'usrsctp -O2', 'Sidorghu', 'of usrsctp'], rows)
 
 
 # ---- memory
