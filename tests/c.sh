@@ -122,17 +122,16 @@ if there valgrind "valgrind"; then
     counting=$at/cost
     count() { valgrind --tool=callgrind --callgrind-out-file=/dev/null "$counting" "$@" 2>&1 | sed -n 's/.*Collected : \([0-9]*\).*/\1/p'; }
     cost() { echo $((($(count "$1" "$2" 300 ${3:+"$3"}) - $(count "$1" "$2" 100 ${3:+"$3"})) / 200 / $1)); }
-    # what bench/README.md has of two endpoints that are called directly: the first figure here in the row that begins so
-    direct() { awk -F'|' -v row="| $1" 'index($0, row) == 1 { split($6, here, ", "); gsub(/[ ,]/, "", here[1]); print here[1]; exit }' bench/README.md; }
-    compare() { # ROW, its figure over two handles, how much more it may be than over two endpoints
-        more=$(($2 - $(direct "$1")))
-        say "$1: $2 instructions a message, $more more than over two endpoints called directly; $3 more are wanted at most"
-        [ "$more" -le "$3" ]
+    # what bench/README.md has in the row that begins so
+    page() { awk -F'|' -v row="| $1" 'index($0, row) == 1 { gsub(/[ ,]/, "", $4); print $4; exit }' bench/README.md; }
+    compare() { # ROW, its figure
+        say "$1: $2 instructions a message, $(page "$1") in bench/README.md; at most a twentieth more is wanted"
+        [ $(($2 * 20)) -le $(($(page "$1") * 21)) ]
     }
     four() { cost 19 64; cost 19 64 i; cost 1 64; echo $(($(cost 1 16384) - $(cost 1 16384 b))); }
     mapfile -t ours < <(four)
-    rows=("64 bytes, 9.5 to a packet" "the same as I-DATA" "64 bytes, one to a packet" "16 KiB") most=(200 300 600 12000)
-    for row in 0 1 2 3; do compare "${rows[row]}" "${ours[row]}" "${most[row]}"; done
+    rows=("64 bytes, 9.5 to a packet" "the same as I-DATA" "64 bytes, one to a packet" "16 KiB")
+    for row in 0 1 2 3; do compare "${rows[row]}" "${ours[row]}"; done
     if [ "$*" = --cargo ] && [ -f crates/sctp_c/out/libsctp_c.a ]; then
         ./install.sh "$at/proved"
         "$cc" "${flags[@]}" -o "$at/cost_proved" tests/c/cost.c "$at/proved/lib/libsctp_endpoint.a" "$at/proved/lib/libsctp_endpoint_malloc.a"

@@ -1,4 +1,4 @@
-"""Figures that are on several pages, for tests/names.py: tests/figures.txt says which."""
+"""Figures that are on several pages, for tests/names.py: tests/figures.txt says which. `tests/names.sh --figures` writes what the owner of each has over the others."""
 
 import re
 
@@ -15,10 +15,33 @@ def blocks(text):
         number += block.count('\n') + 2
 
 
+def pattern_of(words, figure=f'({FIGURE})'):
+    """These words with a figure in place of each `{}`; `{-}` is any figure."""
+    return re.escape(words).replace(r'\{\}', figure).replace(r'\{\-\}', FIGURE)
+
+
 def said(words, page):
-    """What is on a page in place of each `{}` of these words, once for each time that they are there; `{-}` is any figure."""
-    pattern = re.escape(words).replace(r'\{\}', f'({FIGURE})').replace(r'\{\-\}', FIGURE)
-    return {found if isinstance(found, tuple) else (found,) for found in re.findall(pattern, page)}
+    """What is on a page in place of each `{}` of these words, once for each time that they are there."""
+    return {found if isinstance(found, tuple) else (found,) for found in re.findall(pattern_of(words), page)}
+
+
+def written_over(words, page, figures):
+    """The page with these figures where it has others."""
+    parts = [re.escape(part).replace(r'\{\-\}', FIGURE) for part in words.split('{}')]
+    pattern = ''.join(f'({part})' + FIGURE * (at < len(figures)) for at, part in enumerate(parts))
+    return re.sub(pattern, lambda found: ''.join(part + figure for part, figure in zip(found.groups(), [*figures, ''])), page)
+
+
+def write(listed, text_of):
+    """Each page that has other figures than their owners, with these."""
+    pages = {}
+    for _, what, [(owner, words), *others] in blocks(listed):
+        found = said(words, text_of(owner))
+        if len(found) != 1:
+            raise SystemExit(f'{owner}: {what}: {len(found)} figures')
+        for page, there in others:
+            pages[page] = written_over(there, pages.get(page) or text_of(page), *found)
+    return pages
 
 
 def differing(listed, text_of):

@@ -301,7 +301,16 @@ def tree_files(top):
         yield from (os.path.join(folder, name) for name in names)
 
 
+def write_figures():
+    for page, text in figures.write(text_of('tests/figures.txt'), text_of).items():
+        with open(page, 'w', encoding='utf-8') as file:
+            file.write(text)
+
+
 def main(words):
+    if words == ['--figures']:
+        write_figures()
+        return 0
     tree = Tree()
     faults = []
     if words[:1] == ['--words'] or not words:

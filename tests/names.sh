@@ -4,6 +4,7 @@
 #   tests/names.sh               all pages, the figures of tests/figures.txt, and the words of tests/words.txt in pages, header and public comments
 #   tests/names.sh README.md ..  these alone
 #   tests/names.sh --words       these words alone
+#   tests/names.sh --figures     writes the figures that pages have from others over, from the page that owns each
 # tests/names.py has the rules.
 
 root=$(CDPATH='' cd -- "$(dirname -- "$0")/.." && pwd -P) || exit 3
