@@ -7,6 +7,7 @@ import random
 import re
 import sys
 
+import laid_out
 import same_code
 
 PLACES = 6
@@ -55,7 +56,7 @@ def places(files, before):
 def main(checkout, erased, seed=1):
     draw, untold, sown = random.Random(int(seed)), 0, 0
     files = [(crate, source, made, same_code.read(made)) for crate, source, made in same_code.pairs(checkout, erased)]
-    laws = set().union(*(same_code.laws_of(same_code.read(source)) for _, source, _, _ in files))
+    laws = set().union(*(laid_out.laws_of(same_code.read(source)) for _, source, _, _ in files))
     for kind, (before, after) in KINDS.items():
         found = list(places(files, before))
         if not found:
@@ -69,7 +70,7 @@ def main(checkout, erased, seed=1):
             sown += 1
             try:
                 told = same_code.difference(same_code.source_words(same_code.read(source), laws), same_code.erased_words(wrong, crate))
-            except (same_code.Layout, IndexError, StopIteration) as fault:
+            except (laid_out.Layout, IndexError, StopIteration) as fault:
                 told = str(fault) or type(fault).__name__
             if not told:
                 untold += 1
