@@ -77,7 +77,7 @@ sed -e '/^build = /d' -e '/^\[build-dependencies\]/,/^$/d' \
     -e "s|^version.workspace = true|version = \"$(value version)\"|" -e "s|^edition.workspace = true|edition = \"$(value edition)\"|" \
     -e "s|^rust-version.workspace = true|rust-version = \"$(value rust-version)\"|" -e "s|^license.workspace = true|license = \"$(value license)\"\n$more|" \
     "$root/rust/sidorghu/Cargo.toml" >"$out/Cargo.toml"
-grep -v '^//!' "$out/examples/first.rs" | sed '/./,$!d' >"$room/first"
+{ echo '```rust'; grep -v '^//!' "$out/examples/first.rs" | sed '/./,$!d'; echo '```'; } >"$room/first"
 sed -e "/^FIRST PROGRAM$/{" -e "r $room/first" -e d -e '}' -e "s|MSRV|$(value rust-version)|" -e "s|^GENERATED$|$generated|" "$root/rust/sidorghu/README.md" >"$out/README.md"
 sed -i "s|^extern crate alloc;|// $generated\nextern crate alloc;|" "$out/src/lib.rs"
 
