@@ -51,7 +51,7 @@ commit=$(git -C "$root" rev-parse HEAD 2>/dev/null || echo unknown)
 kit=$(sed -n 's/.*`rt version` says `\(.*\)`.*/\1/p' "$root/README.md" | head -n 1)
 generated="Generated from commit $commit, whose sources are proved with the kit \`${kit:-unknown}\`. Not to be edited: changes belong to those sources."
 
-step 'the sources are erased' "$root/rust" cargo run --quiet --locked -p sidorghu-eraser --bin sidorghu-erase -- "$root" "$room/erased"
+step 'the sources are erased' "$root/rust" cargo run --quiet --locked -p sidorghu-eraser --bin sidorghu-erase -- "$root" "$room/erased" --fast-checksum
 cp -r -- "$root/rust/sidorghu/src" "$root/rust/sidorghu/examples" "$root/rust/sidorghu/tests" "$out"/ || exit 3
 cp -r -- "$root/rust/shim" "$out/src/shim" || exit 3
 rm -f -- "$out/src/shim/"{anyhow,clap,hex,itoa}.rs
@@ -88,4 +88,5 @@ step 'it is unpacked' "$room" tar -xf "$made"
 export CARGO_TARGET_DIR=$room/target
 step 'its tests pass' "$room/sidorghu-$(value version)" cargo test --quiet --offline
 step 'its tests pass without data channels' "$room/sidorghu-$(value version)" cargo test --quiet --offline --no-default-features
+step 'its tests pass with the checksum of the processor' "$room/sidorghu-$(value version)" cargo test --quiet --offline --features fast-checksum
 echo "package.sh: $made, $(du -k "$made" | cut -f 1) KiB: built and tested as it is"

@@ -39,6 +39,8 @@ step() {
 }
 
 step 'the sources are erased' cargo run --quiet --locked --offline -p sidorghu-eraser --bin sidorghu-erase -- "$root" "$room/erased"
+step 'the checksum has the place where the processor is asked' cargo run --quiet --locked --offline -p sidorghu-eraser --bin sidorghu-erase -- \
+    "$root" "$room/other" --fast-checksum
 step 'the erased text is the sources, word for word' python3 -B same_code.py "$root" "$room/erased"
 step 'faults that are sown in it are told' python3 -B sown_faults.py "$root" "$room/erased"
 step 'cargo checks the workspace and its tests' cargo check --quiet --locked --offline --workspace --all-targets

@@ -27,11 +27,36 @@ fn try_build(names: &[&str]) -> Result<(), Refusal> {
     for name in tree.crates() {
         println!("cargo::rerun-if-changed={}", tree.folder(&name).display());
     }
-    let (made, _) = tree.erase(&crates)?;
+    let (mut made, _) = tree.erase(&crates)?;
+    if env::var_os("CARGO_FEATURE_FAST_CHECKSUM").is_some() {
+        choose_checksum(&mut made)?;
+    }
     let folder = out.join("erased");
     write(&made, &folder)?;
     let lines: String = crates.iter().map(|name| module(&folder, name)).collect();
     put(&out.join("erased.rs"), &lines)
+}
+
+/// The head of the function that takes all bytes of a checksum.
+const CHECKSUM: &str = "fn after_all(register: u32, bytes: &[u8]) -> u32 {\n";
+
+/// What asks for the processor's checksum, behind that head. Without the feature it is nothing.
+const CHOICE: &str = "    #[cfg(feature = \"fast-checksum\")]\n    if let Some(after) = crate::fast_checksum::after(register, bytes) {\n        return after;\n    }\n";
+
+/// Asks for the processor's checksum before the proved body. This is no row of the table: the including crate's feature `fast-checksum` asks for it, and
+/// its module `fast_checksum` has it.
+///
+/// # Errors
+/// The function isn't there as it was.
+pub fn choose_checksum(made: &mut [Erased]) -> Result<(), Refusal> {
+    let is_it = |it: &&mut Erased| it.crate_name == "sctp_packet" && it.path == Path::new("checksum.rs");
+    match made.iter_mut().find(is_it) {
+        Some(it) if it.text.matches(CHECKSUM).count() == 1 => {
+            it.text = it.text.replace(CHECKSUM, &format!("{CHECKSUM}{CHOICE}"));
+            Ok(())
+        }
+        _ => Err(Refusal { file: "sctp_packet/checksum.rs".to_string(), line: 1, what: "the function `after_all` isn't there once".to_string() }),
+    }
 }
 
 /// The line of one crate's module.

@@ -22,7 +22,7 @@ mod source;
 mod tokens;
 mod tree;
 
-pub use building::{build, write};
+pub use building::{build, choose_checksum, write};
 pub use erase::{Place, erase};
 pub use laws::Laws;
 pub use refusal::Refusal;

@@ -1,10 +1,11 @@
-//! `sidorghu-erase CHECKOUT OUT [--counts]` writes all crates' erased sources into OUT; `sidorghu-erase --rows` prints the table.
+//! `sidorghu-erase CHECKOUT OUT` writes all crates' erased sources into OUT. With `--counts` it prints how often each row was used; with
+//! `--fast-checksum` the checksum asks for the processor's where a feature of that name is on. `sidorghu-erase --rows` prints the table.
 
-use sidorghu_eraser::{Counts, ROWS, Refusal, Tree, rows_table, write};
+use sidorghu_eraser::{Counts, ROWS, Refusal, Tree, choose_checksum, rows_table, write};
 use std::path::Path;
 use std::process::ExitCode;
 
-const USAGE: &str = "usage: sidorghu-erase CHECKOUT OUT [--counts] | --rows";
+const USAGE: &str = "usage: sidorghu-erase CHECKOUT OUT [--counts | --fast-checksum] | --rows";
 
 fn main() -> ExitCode {
     let words: Vec<String> = std::env::args().skip(1).collect();
@@ -14,8 +15,9 @@ fn main() -> ExitCode {
             print!("{}", rows_table());
             return ExitCode::SUCCESS;
         }
-        [checkout, out] => run(checkout, out, false),
-        [checkout, out, "--counts"] => run(checkout, out, true),
+        [checkout, out] => run(checkout, out, false, false),
+        [checkout, out, "--counts"] => run(checkout, out, true, false),
+        [checkout, out, "--fast-checksum"] => run(checkout, out, false, true),
         _ => {
             eprintln!("{USAGE}");
             return ExitCode::from(2);
@@ -30,9 +32,12 @@ fn main() -> ExitCode {
     }
 }
 
-fn run(checkout: &str, out: &str, counts: bool) -> Result<(), Refusal> {
+fn run(checkout: &str, out: &str, counts: bool, fast: bool) -> Result<(), Refusal> {
     let tree = Tree::of(Path::new(checkout))?;
-    let (made, used) = tree.erase(&tree.crates())?;
+    let (mut made, used) = tree.erase(&tree.crates())?;
+    if fast {
+        choose_checksum(&mut made)?;
+    }
     write(&made, Path::new(out))?;
     if counts {
         print!("{}", table(&used));

@@ -60,6 +60,8 @@
 //! # Features
 //!
 //! - `channels` (on by default): data channels.
+//! - `fast-checksum`: the checksum by the processor's own instruction, where there is one (SSE 4.2 of x86-64; `crc` of aarch64 if the target has it).
+//!   This body is written by hand and isn't the proved one; tests compare the two.
 //!
 //! Targets have pointers of 64 bits: the proofs take `usize` to have them, and others are refused at compile time.
 
@@ -77,6 +79,10 @@ mod arrayvec;
 #[allow(dead_code)]
 #[path = "../../shim/byteorder.rs"]
 mod byteorder;
+#[cfg(feature = "fast-checksum")]
+#[allow(unsafe_code)]
+#[path = "../../shim/fast_checksum.rs"]
+mod fast_checksum;
 #[allow(dead_code, unused_imports, unused_macros, unsafe_code)]
 #[path = "../../shim/mod.rs"]
 mod rattle_std;
