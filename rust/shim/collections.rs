@@ -35,6 +35,16 @@ impl<T> VecDeque<T> {
     /// Space for so many items more, at least; if it fails, the block is as it was.
     #[inline]
     pub fn reserve(&mut self, more: usize) -> Result<(), AllocError> {
+        if more <= self.items.capacity() - self.items.len() {
+            return Ok(());
+        }
+        self.grow(more)
+    }
+
+    /// `reserve` for lists that have no space: a call of its own, so that one that has it costs a comparison.
+    #[cold]
+    #[inline(never)]
+    fn grow(&mut self, more: usize) -> Result<(), AllocError> {
         self.items.try_reserve(more).map_err(|_| AllocError)
     }
 
@@ -46,7 +56,7 @@ impl<T> VecDeque<T> {
     /// Appends an item; if it fails, the item comes back.
     #[inline]
     pub fn push_back(&mut self, value: T) -> Result<(), AllocFailed<T>> {
-        if self.items.try_reserve(1).is_err() {
+        if self.items.len() == self.items.capacity() && self.grow(1).is_err() {
             return Err(AllocFailed { value });
         }
         self.items.push_back(value);
@@ -56,7 +66,7 @@ impl<T> VecDeque<T> {
     /// Puts an item before all others; if it fails, the item comes back.
     #[inline]
     pub fn push_front(&mut self, value: T) -> Result<(), AllocFailed<T>> {
-        if self.items.try_reserve(1).is_err() {
+        if self.items.len() == self.items.capacity() && self.grow(1).is_err() {
             return Err(AllocFailed { value });
         }
         self.items.push_front(value);
