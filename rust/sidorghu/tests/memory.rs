@@ -174,6 +174,32 @@ fn messages_are_copied() {
     assert!(many > 0);
 }
 
+#[test]
+fn memory_is_given_back_or_kept() {
+    let burst = || {
+        let (mut a, mut b) = pair();
+        for _ in 0..1_000 {
+            a.send(0, &[1; 30], SendOptions::new()).unwrap();
+        }
+        settle(&mut a, &mut b, ms(1));
+        while let Some(message) = b.take(0) {
+            b.give_back(message);
+        }
+        a.send(0, &[1; 100], SendOptions::new()).unwrap();
+        (a, b)
+    };
+    let trim = |(a, b): &mut (Endpoint, Endpoint)| {
+        a.trim();
+        b.trim();
+        Ok(())
+    };
+    let many = each_refused(burst, trim, NoMemory, |(mut a, mut b), ()| {
+        settle(&mut a, &mut b, ms(2));
+        is_received(b)
+    });
+    assert!(many > 0);
+}
+
 #[cfg(feature = "channels")]
 #[path = "memory/channels.rs"]
 mod of_channels;
