@@ -1,15 +1,15 @@
 #!/usr/bin/env python3
 """What docs/RUST.md says of the calls of the Rust crate, compared with the sources (tests/layout.sh): its table names each call of the crate's front
-and each public function of crates/sctp_endpoint/src and crates/sctp_channels/src that isn't a law, and no others; it has the number of these functions
-and of the laws; and none of them has a `requires`. A law is a function that takes nothing or `&self`, returns nothing and has a clause. Each fault is
-printed, and the status is 1."""
+and each public function of crates/sctp_endpoint/src and crates/sctp_channels/src that isn't a law, and no others; the page has the number of these
+functions, as README and the crate's documentation have it, and of the laws; and none of them has a `requires`. A law is a function that takes nothing
+or `&self`, returns nothing and has a clause. Each fault is printed, and the status is 1."""
 
 import re
 import sys
 from pathlib import Path
 
 ROOT = Path(__file__).resolve().parent.parent
-PAGE = ROOT / 'docs/RUST.md'
+PAGES = [ROOT / 'docs/RUST.md', ROOT / 'README.md', ROOT / 'rust/sidorghu/src/lib.rs']
 PROVED = [ROOT / 'crates/sctp_endpoint/src', ROOT / 'crates/sctp_channels/src']
 FRONT = ROOT / 'rust/sidorghu/src'
 OF = ('Endpoint', 'Channels')
@@ -59,7 +59,7 @@ def front():
 
 def table():
     """The names of both columns of the page's table."""
-    text = PAGE.read_text(encoding='utf-8').partition('<!-- calls -->')[2].partition('\n\n')[0]
+    text = PAGES[0].read_text(encoding='utf-8').partition('<!-- calls -->')[2].partition('\n\n')[0]
     left, right = set(), set()
     for row in text.strip().split('\n')[2:]:
         calls, of = [re.findall(r'`([\w:]+)`', cell) for cell in row.strip('| ').split(' | ')]
@@ -78,9 +78,10 @@ def main():
     readers = {name.replace('Endpoint', 'Channels') for name in left if name.startswith('Endpoint::')}
     same('a call of the front', left | (readers & front()), front())
     same('a public function of the proved crates', right, set(calls) - laws)
-    for number, what in (len(calls), 'public functions of the two proved crates'), (len(laws), 'of them are laws'):
-        if f'{number} {what}' not in PAGE.read_text(encoding='utf-8'):
-            faults.append(f'docs/RUST.md: it has not "{number} {what}"')
+    for page, number, what in [(page, len(calls), 'public functions') for page in PAGES] + [(PAGES[0], len(laws), 'of them are laws')]:
+        found = re.findall(rf'(\d+)\s+(?://! )?{what}', page.read_text(encoding='utf-8'))
+        if set(found) != {str(number)}:
+            faults.append(f'{page.relative_to(ROOT)}: in place of "{number} {what}" it has {" and ".join(found) or "none"}')
     print('\n'.join(faults), end='\n' if faults else '')
     return 1 if faults else 0
 

@@ -50,11 +50,11 @@
 //!
 //! The code below this crate's front is proved: it is written in Rattle, which is Rust with contracts, and the build of this crate erases the proof
 //! and leaves the code. Each call does what the specification says, for any input, also if memory is refused; over any two endpoints and any network,
-//! what is delivered was sent, once and in order (the repository's README). **None of the 97 public calls that this front passes on requires anything
+//! what is delivered was sent, once and in order (the repository's README). **None of the 97 public functions below this front requires anything
 //! of its caller, so no safe program can leave what is proved.**
 //!
 //! The erased code isn't proved again: that it is the proved code rests on the eraser's table, rustc, a hand-written stand-in for Rattle's standard
-//! library (the only `unsafe` code), and this front, of which each call passes one or two proved calls on. The repository's `docs/RUST.md` has all that,
+//! library (the only `unsafe` code, but for the feature `fast-checksum`), and this front, of which each call passes one or two proved calls on. The repository's `docs/RUST.md` has all that,
 //! and which call of this crate is which proved one.
 //!
 //! # Features
@@ -66,7 +66,7 @@
 //! Targets have pointers of 64 bits: the proofs take `usize` to have them, and others are refused at compile time.
 
 #![no_std]
-#![deny(unsafe_code)] // but in the stand-in for Rattle's standard library, which says why at each place
+#![deny(unsafe_code)] // but in the stand-in for Rattle's standard library, and in the feature `fast-checksum`: each place says why
 #![warn(missing_docs, missing_debug_implementations)]
 
 extern crate alloc;
