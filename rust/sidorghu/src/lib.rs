@@ -54,8 +54,8 @@
 //! of its caller, so no safe program can leave what is proved.**
 //!
 //! The erased code isn't proved again: that it is the proved code rests on the eraser's table, rustc, a hand-written stand-in for Rattle's standard
-//! library (the only `unsafe` code, but for the feature `fast-checksum`), and this front, of which each call passes one or two proved calls on. The repository's `docs/RUST.md` has all that,
-//! and which call of this crate is which proved one.
+//! library (the only `unsafe` code, but for the feature `fast-checksum`), and this front, of which each call passes one or two proved calls on. The
+//! repository's `docs/RUST.md` has all that, and which call of this crate is which proved one.
 //!
 //! # Features
 //!
