@@ -108,10 +108,10 @@ impl MissIndications {
     pub fn end_recovery(&mut self, cum: u64)
         ensures { self.new ≡ record self.old { exit = recovery_at cum self.old.exit } }
     {
-        if let Some(exit) = self.exit
-            && exit <= cum
-        {
-            self.exit = None;
+        if let Some(exit) = self.exit {
+            if exit <= cum {
+                self.exit = None;
+            }
         }
     }
 

@@ -208,8 +208,10 @@ impl Pacing {
         ensures { (v u : SenderView) (ws : List Wish) → before ≡ last_sent v → after ≡ last_sent u → some ≡ nat_lt 0 (length ws) → self.new ≡ sent_pace now v u ws self.old }
     {
         self.trips.start_timing(now, before, after);
-        if some && let Some(control) = &mut self.control {
-            control.end_rescue();
+        if some {
+            if let Some(control) = &mut self.control {
+                control.end_rescue();
+            }
         }
     }
 }
