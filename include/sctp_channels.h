@@ -42,8 +42,13 @@ struct sctp_channels {
  * MISUSE: `channels` isn't empty, or `endpoint` is; NO_MEMORY: the endpoint was freed, and both are empty. */
 uint32_t sctp_channels_over(struct sctp_channels *channels, struct sctp_endpoint *endpoint, bool is_dtls_client);
 
-/* Frees channels with their endpoint and all that it holds, and empties the handle. It does nothing for an empty one. */
+/* Frees channels with their endpoint and all that it holds, and empties the handle. It does nothing for an empty one, and, called by its name, for
+ * NULL. */
 void sctp_channels_free(struct sctp_channels *channels);
+static inline void sctp_ch_free(struct sctp_channels *channels) {
+    if (channels != NULL) sctp_channels_free(channels);
+}
+#define sctp_channels_free(channels) sctp_ch_free(channels)
 
 /* ---- a channel */
 

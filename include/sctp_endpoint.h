@@ -9,7 +9,7 @@
  *    and isn't copied. It may be moved, if the old place is forgotten.
  *  - A pointer may be NULL only if the length that follows it is 0; every other pointer is valid. Each is aligned, and what it points to is
  *    the caller's for the whole call. Memory that a call writes (what a pointer to non-const points to) overlaps nothing else that it is given.
- *  - Memory that a call writes is initialised before the call: it may be all zero. A bool is 0 or 1.
+ *  - Memory that a call writes is initialised before the call, buffers too: zeros will do (`static`, or `= { 0 }`). A bool is 0 or 1.
  *  - One endpoint is used by one thread at a time, no matter which. Two endpoints share nothing.
  *  - No call is made from a signal handler, or in the child of a fork of a program with threads.
  *
@@ -147,7 +147,13 @@ struct sctp_endpoint_draw {
     uint64_t reserved;    /* 0 */
 };
 
-/* Secret random bytes that authenticate a listener's state cookies (RFC 9260, 5.1.3); listeners may share them. */
+/* The two random values, made of random numbers of 32 bits, of which the first may be 0:
+ *     struct sctp_endpoint_draw draw = SCTP_ENDPOINT_DRAW(arc4random(), arc4random());
+ * arc4random is in <stdlib.h> of glibc 2.36 and later, the BSDs and macOS; elsewhere take the numbers from getrandom or getentropy. */
+#define SCTP_ENDPOINT_DRAW(random, other_random) { (uint32_t)(random) % UINT32_MAX + 1, (uint32_t)(other_random), 0 }
+
+/* Secret random bytes that authenticate a listener's state cookies (RFC 9260, 5.1.3). Listeners may share them: then a cookie made for one address
+ * opens an association from any other, so a server has a key for each address. */
 struct sctp_endpoint_key {
     uint8_t bytes[32];
     uint32_t reserved[4]; /* 0 */
@@ -165,8 +171,12 @@ uint32_t sctp_endpoint_listener(struct sctp_endpoint *handle, const struct sctp_
 uint32_t sctp_endpoint_opened(struct sctp_endpoint *handle, const struct sctp_endpoint_config *config, const struct sctp_endpoint_draw *own,
                               const struct sctp_endpoint_draw *peer);
 
-/* Frees an endpoint with all that it holds, and empties the handle. It does nothing for an empty one. */
+/* Frees an endpoint with all that it holds, and empties the handle. It does nothing for an empty one, and, called by its name, for NULL. */
 void sctp_endpoint_free(struct sctp_endpoint *handle);
+static inline void sctp_ep_free(struct sctp_endpoint *handle) {
+    if (handle != NULL) sctp_endpoint_free(handle);
+}
+#define sctp_endpoint_free(handle) sctp_ep_free(handle)
 
 /* ---- packets and time */
 

@@ -203,6 +203,14 @@ listen "$at/udp"
 timeout 60 "$at/udp" call "$from" 127.0.0.1 "$to" < "$at/lines" 2> "$at/caller"
 heard "C to C"
 
+# ---- a server of many peers; both programs over UDP as plain C11
+for program in udp server; do "$cc" -std=c11 -Wall -Wextra -Wpedantic -Werror -fsyntax-only -I"$prefix/include" examples/c/$program.c; done
+if there python3 "a server of many peers"; then
+    "$cc" "${flags[@]}" -o "$at/server" examples/c/server.c "${static[@]}"
+    PYTHONPATH=bindings/python SCTP_ENDPOINT_LIBRARY=$prefix/lib/libsctp_endpoint.so.1 python3 -B tests/c/peers.py "$at/server" 100 > "$at/peers" || { cat "$at/peers"; exit 1; }
+    sed 's/^/c: /' "$at/peers"
+fi
+
 # ---- the page's first program, and its trace: a header of 24 bytes, and 16 before each packet
 block() { awk -v wanted="$1" '/^```c$/ { inside = ++count == wanted; next } /^```$/ { inside = 0 } inside' docs/C.md; }
 block 1 > "$at/first.c"
@@ -235,6 +243,11 @@ fi
 if there python3 "bindings/python"; then
     (cd bindings/python && SCTP_ENDPOINT_LIBRARY=$prefix/lib/libsctp_endpoint.so.1 python3 -B -m unittest -q 2> "$at/python.log") || { cat "$at/python.log"; exit 1; }
     say "bindings/python"
+    if python3 -m pip --version > /dev/null 2>&1; then
+        PIP_ROOT_USER_ACTION=ignore python3 -m pip install --quiet --no-index --target "$at/site" bindings/python
+        (cd "$at" && PYTHONPATH=$at/site SCTP_ENDPOINT_LIBRARY=$prefix/lib/libsctp_endpoint.so.1 python3 -B -c 'import sctp_channels, sctp_endpoint; sctp_endpoint.version()')
+        say "bindings/python by pip"
+    fi
     export SCTP_ENDPOINT_LIBRARY=$prefix/lib/libsctp_endpoint.so.1
     listen python3 -B bindings/python/udp.py
     timeout 60 "$at/udp" call "$from" 127.0.0.1 "$to" < "$at/lines" 2> "$at/caller"
@@ -242,5 +255,8 @@ if there python3 "bindings/python"; then
     listen "$at/udp"
     timeout 60 python3 -B bindings/python/udp.py call "$from" 127.0.0.1 "$to" < "$at/lines" 2> "$at/caller"
     heard "Python to C"
+    listen python3 -B bindings/python/over_asyncio.py
+    timeout 60 python3 -B bindings/python/over_asyncio.py call "$from" 127.0.0.1 "$to" < "$at/lines" 2> "$at/caller"
+    heard "Python to Python, by asyncio"
 fi
 say "all passed"

@@ -12,7 +12,7 @@ A channel is known by its stream. The DTLS client opens channels on even streams
 """
 
 import enum
-from ctypes import POINTER, Structure, byref, c_bool, c_char_p, c_size_t, c_uint8, c_uint16, c_uint32, c_uint64
+from ctypes import POINTER, Structure, byref, c_bool, c_char_p, c_size_t, c_uint8, c_uint16, c_uint32, c_uint64, string_at
 from dataclasses import dataclass
 from typing import Iterator, Optional, Union
 
@@ -279,7 +279,7 @@ class Channels(_Association):
             yield event
 
     def _event(self, told: _ChannelEvent) -> Event:
-        stream, data = told.stream, bytes(memoryview(self._buffer)[: told.length])
+        stream, data = told.stream, string_at(self._buffer, told.length)
         if told.kind == Kind.INCOMING:
             label, protocol = data[: told.label_length], data[told.label_length :]
             return Incoming(

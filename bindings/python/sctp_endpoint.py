@@ -13,7 +13,7 @@ import ctypes
 import enum
 import os
 import secrets
-from ctypes import POINTER, Structure, byref, c_bool, c_char_p, c_size_t, c_uint8, c_uint16, c_uint32, c_uint64, c_void_p
+from ctypes import POINTER, Structure, byref, c_bool, c_char_p, c_size_t, c_uint8, c_uint16, c_uint32, c_uint64, c_void_p, string_at
 from typing import Callable, Dict, List, NamedTuple, Optional
 
 LONGEST_PACKET = 1500
@@ -452,7 +452,15 @@ def abort_cause(packet: bytes) -> Optional[AbortCause]:
     room = (c_uint8 * len(packet))()
     if _call["abort_cause"](packet, len(packet), byref(cause), room, len(room), byref(length)) != _OK:
         return None
-    return AbortCause(cause.value, bytes(room[: length.value]))
+    return AbortCause(cause.value, string_at(room, length.value))
+
+
+def _key(value, name: str) -> _Key:
+    """A key of these 32 bytes."""
+    data = _data(value, name)
+    if len(data) != 32:
+        raise ValueError(f"{name} has {len(data)} bytes, not 32")
+    return _Key((c_uint8 * 32)(*data))
 
 
 class _Association:
@@ -483,7 +491,7 @@ class _Association:
         told, packet = _Verdict(), _data(packet, "packet")
         now = _number(now, 64, "now")
         self._do("handle_packet", now, packet, len(packet), byref(draw or Draw()), self._room, len(self._room), byref(told))
-        answer = bytes(self._room[: told.length]) if told.verdict == 1 else None
+        answer = string_at(self._room, told.length) if told.verdict == 1 else None
         return Verdict(answer, Reason(told.reason) if told.verdict == 2 else None)
 
     def poll_transmit(self, now: int) -> Optional[Sent]:
@@ -493,7 +501,7 @@ class _Association:
         self._do("poll_transmit", now, self._room, len(self._room), self._tickets, len(self._tickets), byref(told))
         if told.length == 0:
             return None
-        return Sent(bytes(self._room[: told.length]), self._tickets[: told.tickets])
+        return Sent(string_at(self._room, told.length), self._tickets[: told.tickets])
 
     def on_moment(self, now: int) -> None:
         """The current time: timers that are due expire, and messages whose lifetime is over are abandoned. Call it no later than `next_moment`
@@ -520,7 +528,7 @@ class _Association:
         """Ends the association at once, and returns the packet that says so to the peer."""
         length, reason = c_size_t(), _data(reason, "reason")
         self._do("abort", reason, len(reason), self._room, len(self._room), byref(length))
-        return bytes(self._room[: length.value])
+        return string_at(self._room, length.value)
 
     def status(self) -> Status:
         """Its state, counts and next time; sctp_endpoint.h says what each is."""
@@ -601,11 +609,9 @@ class Endpoint(_Association):
 
     @classmethod
     def listener(cls, config: Config, key: bytes) -> "Endpoint":
-        """An endpoint that waits for a peer. The key, 32 secret random bytes, authenticates its state cookies; listeners may share it."""
-        key = _data(key, "key")
-        if len(key) != 32:
-            raise ValueError(f"the key has {len(key)} bytes, not 32")
-        return cls._made("listener", byref(config), byref(_Key((c_uint8 * 32)(*key))))
+        """An endpoint that waits for a peer. The key, 32 secret random bytes, authenticates its state cookies. With many peers at one
+        socket each address has a key of its own."""
+        return cls._made("listener", byref(config), byref(_key(key, "key")))
 
     @classmethod
     def opened(cls, config: Config, own: Draw, peer: Draw) -> "Endpoint":
@@ -641,7 +647,7 @@ class Endpoint(_Association):
             return None
         room = (c_uint8 * told.length)()
         self._do("take", stream, byref(told), room, told.length)
-        return Message(told.stream, told.ordered, told.number if told.numbered else None, told.payload_id, bytes(room))
+        return Message(told.stream, told.ordered, told.number if told.numbered else None, told.payload_id, string_at(room, told.length))
 
     def _asked(self, name: str, ticket: int) -> bool:
         answer = c_bool()

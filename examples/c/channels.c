@@ -17,7 +17,7 @@ static struct sctp_endpoint_draw draw(void) {
 }
 
 static void must(uint32_t result, const char *what) {
-    char text[SCTP_EP_LONGEST_NAME];
+    char text[SCTP_EP_LONGEST_NAME] = { 0 };
     if (result == SCTP_EP_OK) return;
     sctp_endpoint_name(result, text, sizeof text);
     fprintf(stderr, "%s: %s\n", what, text);
@@ -26,7 +26,7 @@ static void must(uint32_t result, const char *what) {
 
 /* Tells what happened at one end, and answers a message once. */
 static void hear(struct sctp_channels *end, const char *name) {
-    uint8_t buffer[4096];
+    static uint8_t buffer[4096];
     struct sctp_channel_event event = { 0 };
     uint64_t ticket = 0;
     uint32_t result;
@@ -52,8 +52,8 @@ static void hear(struct sctp_channels *end, const char *name) {
 static bool deliver(struct sctp_channels *from, struct sctp_channels *to) {
     bool any = false;
     for (;;) {
-        uint8_t packet[SCTP_EP_LONGEST_PACKET], answer[SCTP_EP_LONGEST_PACKET];
-        uint64_t tickets[SCTP_EP_MOST_TICKETS];
+        static uint8_t packet[SCTP_EP_LONGEST_PACKET], answer[SCTP_EP_LONGEST_PACKET];
+        static uint64_t tickets[SCTP_EP_MOST_TICKETS];
         struct sctp_endpoint_sent sent = { 0 };
         struct sctp_endpoint_verdict verdict = { 0 };
         struct sctp_endpoint_draw d = draw();

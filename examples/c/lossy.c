@@ -58,8 +58,8 @@ static void carry(struct peer *from, const uint8_t *bytes, size_t length) {
 }
 
 static void transmit(struct peer *peer) {
-    uint8_t buffer[SCTP_EP_LONGEST_PACKET];
-    uint64_t tickets[SCTP_EP_MOST_TICKETS];
+    static uint8_t buffer[SCTP_EP_LONGEST_PACKET];
+    static uint64_t tickets[SCTP_EP_MOST_TICKETS];
     struct sctp_endpoint_sent sent = { 0 };
     for (;;) {
         must(sctp_endpoint_poll_transmit(&peer->end, now, buffer, sizeof buffer, tickets, SCTP_EP_MOST_TICKETS, &sent), "poll_transmit");
@@ -74,7 +74,7 @@ static void deliver(struct peer *from, struct peer *to) {
     memcpy(coming, from->sent, count * sizeof *coming);
     from->in_flight = 0;
     for (size_t i = 0; i < count; i++) {
-        uint8_t buffer[SCTP_EP_LONGEST_PACKET];
+        static uint8_t buffer[SCTP_EP_LONGEST_PACKET];
         struct sctp_endpoint_verdict verdict = { 0 };
         struct sctp_endpoint_draw d = draw();
         must(sctp_endpoint_handle_packet(&to->end, now, coming[i].bytes, coming[i].length, &d, buffer, sizeof buffer, &verdict), "handle_packet");
@@ -90,7 +90,7 @@ static size_t message(uint16_t stream, uint32_t number, uint8_t *bytes) {
 }
 
 static void queue(struct peer *peer, uint32_t messages) {
-    uint8_t bytes[LONGEST];
+    static uint8_t bytes[LONGEST];
     while (peer->queued < messages) {
         uint16_t stream = (uint16_t)random_below(STREAMS);
         uint64_t ticket = 0;
@@ -103,7 +103,7 @@ static void queue(struct peer *peer, uint32_t messages) {
 }
 
 static void take(struct peer *peer) {
-    uint8_t buffer[LONGEST], wanted[LONGEST];
+    static uint8_t buffer[LONGEST], wanted[LONGEST];
     struct sctp_endpoint_message received;
     memset(&received, 0, sizeof received);
     uint16_t stream = 0;

@@ -6,6 +6,7 @@
  * One loop around poll: the endpoint says what to send and how long to wait. The socket's receive buffer holds all that the endpoint's own
  * buffer lets the peer send at once, since nothing slows a sender down but that; and after closing, the socket stays open for some seconds,
  * so that the peer learns of it even if the last packet is lost. */
+#define _POSIX_C_SOURCE 200809L /* for clock_gettime, with a compiler that is asked for plain C11 */
 #include "sctp_endpoint.h"
 #include <arpa/inet.h>
 #include <fcntl.h>
@@ -49,10 +50,9 @@ static void fill(void *at, size_t length) {
 }
 
 static struct sctp_endpoint_draw draw(void) {
-    struct sctp_endpoint_draw d = { 0 };
-    do fill(&d.tag, sizeof d.tag);
-    while (d.tag == 0);
-    fill(&d.tsn, sizeof d.tsn);
+    uint32_t random[2] = { 0 };
+    fill(random, sizeof random);
+    struct sctp_endpoint_draw d = SCTP_ENDPOINT_DRAW(random[0], random[1]);
     return d;
 }
 
@@ -69,8 +69,8 @@ static void put(const struct sockaddr_in *to, const uint8_t *packet, size_t leng
 
 /* Sends some of the packets that may be sent. True if there may be more. */
 static bool transmit(void) {
-    uint8_t packet[SCTP_EP_LONGEST_PACKET];
-    uint64_t tickets[SCTP_EP_MOST_TICKETS];
+    static uint8_t packet[SCTP_EP_LONGEST_PACKET];
+    static uint64_t tickets[SCTP_EP_MOST_TICKETS];
     struct sctp_endpoint_sent sent = { 0 };
     for (int i = 0; i < PACKETS_A_TURN; i++) {
         uint32_t result = sctp_endpoint_poll_transmit(&end, now(), packet, sizeof packet, tickets, SCTP_EP_MOST_TICKETS, &sent);
@@ -83,7 +83,7 @@ static bool transmit(void) {
 /* A datagram was received. If memory allocation fails, it counts as lost. An answer after the association has ended is a SHUTDOWN COMPLETE
  * that the peer may still have to ask for again. */
 static void receive(void) {
-    uint8_t packet[65536], buffer[SCTP_EP_LONGEST_PACKET];
+    static uint8_t packet[65536], buffer[SCTP_EP_LONGEST_PACKET];
     struct sctp_endpoint_verdict verdict = { 0 };
     struct sockaddr_in from;
     socklen_t size = sizeof from;
@@ -101,7 +101,7 @@ static void take(void) {
     struct sctp_endpoint_message message = { 0 };
     uint16_t stream = 0;
     while (sctp_endpoint_readable(&end, 0, &stream) == SCTP_EP_OK && sctp_endpoint_peek(&end, stream, &message) == SCTP_EP_OK) {
-        uint8_t *buffer = malloc(message.length);
+        uint8_t *buffer = calloc(1, message.length);
         if (!buffer) return; /* it stays */
         if (sctp_endpoint_take(&end, stream, &message, buffer, message.length) == SCTP_EP_OK) fwrite(buffer, 1, message.length, stdout), putchar('\n');
         free(buffer);

@@ -6,8 +6,8 @@
 //! The standard library can't set a socket's receive buffer, so the endpoint's own is small enough for the system's default: nothing but that slows
 //! a sender down. After closing, the socket stays open for some seconds, so that the peer learns of it even if the last packet is lost.
 
-use sctp_endpoint::{Config, Draw, Ended, Endpoint, Error, State, VerdictInto, LONGEST_PACKET, MOST_TICKETS};
-use std::io::{self, BufRead, Read, Write};
+use sctp_endpoint::{random_key, Config, Draw, Ended, Endpoint, Error, State, VerdictInto, LONGEST_PACKET, MOST_TICKETS};
+use std::io::{self, BufRead, Write};
 use std::net::{SocketAddr, UdpSocket};
 use std::time::{Duration, Instant};
 
@@ -25,21 +25,6 @@ struct Program {
     begun: Instant,
     /// 0 unless the last answer was SHUTDOWN COMPLETE.
     linger_until: u64,
-}
-
-/// Random bytes from the system.
-fn random<const N: usize>() -> [u8; N] {
-    let mut bytes = [0; N];
-    std::fs::File::open("/dev/urandom").and_then(|mut file| file.read_exact(&mut bytes)).expect("/dev/urandom");
-    bytes
-}
-
-fn draw() -> Draw {
-    loop {
-        if let Some(tag) = std::num::NonZeroU32::new(u32::from_ne_bytes(random())) {
-            return Draw { tag, tsn: u32::from_ne_bytes(random()) };
-        }
-    }
 }
 
 impl Program {
@@ -68,7 +53,7 @@ impl Program {
         let Ok((length, sender)) = self.udp.recv_from(&mut packet) else {
             return Ok(());
         };
-        match self.endpoint.handle_packet_into(self.now(), &packet[..length], draw(), &mut answer) {
+        match self.endpoint.handle_packet_into(self.now(), &packet[..length], Draw::random()?, &mut answer) {
             Ok(VerdictInto::Answer(length)) => {
                 let _ = self.udp.send_to(&answer[..length], sender);
                 if self.endpoint.status().ended == Some(Ended::Completed) {
@@ -131,7 +116,7 @@ fn main() -> Result<(), Box<dyn std::error::Error>> {
     };
     let mut config = if peer.is_some() { Config::new(5_000, 5_001) } else { Config::new(5_001, 5_000) };
     (config.buffer, config.outbound, config.inbound) = (BUFFER, 1, 1);
-    let endpoint = if peer.is_some() { Endpoint::caller(&config)? } else { Endpoint::listener(&config, random())? };
+    let endpoint = if peer.is_some() { Endpoint::caller(&config)? } else { Endpoint::listener(&config, random_key()?)? };
     let mut program = Program {
         endpoint,
         udp: UdpSocket::bind(("0.0.0.0", port.parse()?))?,
@@ -142,7 +127,7 @@ fn main() -> Result<(), Box<dyn std::error::Error>> {
     };
     if peer.is_some() {
         program.lines = io::stdin().lock().split(b'\n').collect::<Result<_, _>>()?;
-        program.endpoint.connect(0, draw())?;
+        program.endpoint.connect(0, Draw::random()?)?;
     }
     let ended = program.run()?;
     eprintln!("ended {ended:?}");

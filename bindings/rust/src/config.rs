@@ -95,7 +95,7 @@ impl Config {
     }
 }
 
-/// Two random values from a secure source, new ones for each call: a verification tag, which isn't 0, and a first TSN.
+/// Two random values from a secure source, new ones for each call (`Draw::random`): a verification tag, which isn't 0, and a first TSN.
 #[derive(Clone, Copy, Debug)]
 pub struct Draw {
     pub tag: std::num::NonZeroU32,

@@ -10,6 +10,7 @@
 mod channels;
 mod config;
 mod error;
+mod key;
 mod messages;
 mod packets;
 mod raw;
@@ -19,6 +20,7 @@ mod values;
 pub use channels::{Channels, Content, Event, Parameters, Reason as ChannelReason, Reliability};
 pub use config::{Config, Draw};
 pub use error::Error;
+pub use key::random_key;
 pub use packets::{abort_cause, peek_packet, version};
 pub use values::{
     AbortCause, Counts, Dropped, Ended, Fate, Head, Message, PacketHeader, Path, Reason, Reset, Sent, SentInto, State,
@@ -69,7 +71,8 @@ impl Endpoint {
         Endpoint::made(|end| unsafe { raw::sctp_endpoint_caller(end, &config.raw()) })
     }
 
-    /// An endpoint that waits for a peer. The key, secret random bytes, authenticates its state cookies; listeners may share it.
+    /// An endpoint that waits for a peer. The key, secret random bytes (`random_key`), authenticates its state cookies. With many peers at one
+    /// socket each address has a key of its own.
     pub fn listener(config: &Config, key: [u8; 32]) -> Result<Endpoint, Error> {
         Endpoint::made(|end| unsafe { raw::sctp_endpoint_listener(end, &config.raw(), &raw::Key { bytes: key, reserved: [0; 4] }) })
     }
