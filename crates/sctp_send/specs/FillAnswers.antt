@@ -2,7 +2,7 @@
 use Rattle.std.specs.Prelude.{◌≡◌, ℕ, nat_lt, Bool, not, ◌&&◌, List, map, count_by, Some}
 use Rattle.sctp_model.specs.messages.Format.{Format}
 use Rattle.sctp_model.specs.sender.SenderView.{SenderView}
-use Rattle.sctp_model.specs.sender.Filling.{Wish, goes, IsFill, Follows, newly_numbered}
+use Rattle.sctp_model.specs.sender.Filling.{Wish, goes, IsFill, newly_numbered}
 use Rattle.sctp_model.specs.sender.SentChunks.{chunk_of}
 use Rattle.sctp_packet.specs.Draft.{Draft, room_in, with_chunks}
 use Rattle.sctp_send.specs.SenderKept.{Kept}
@@ -20,14 +20,10 @@ pub record FillAnswer (f : Format) (v : SenderView) (before after : Draft) (s : 
   pub stands : StandsFor f s view
   pub tickets : map (λ t. t.0) filled.tickets.items ≡ newly_numbered v view
 
--- Some of the chunks went in, each whole: those of a beginning of FILL. Another wish goes behind them, which wanted the memory.
-pub record PutSomeOf (f : Format) (v : SenderView) (before after : Draft) : Type 0 where
-  pub wishes : List Wish
-  pub view : SenderView
-  pub follows : Follows f v (room_in before) wishes view
-  pub chunks : after ≡ with_chunks before (map (chunk_of f) wishes)
-  pub refused : Wish
-  pub next : goes f (room_in after) view ≡ Some refused
+-- A chunk could go into a packet with so much space.
+pub record HasNext (f : Format) (v : SenderView) (room : ℕ) : Type 0 where
+  pub wish : Wish
+  pub next : goes f room v ≡ Some wish
 
 -- ---- what was sent for the first time, and what again
 

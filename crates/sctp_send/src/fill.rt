@@ -18,7 +18,7 @@ ghost use Rattle.std.specs.Vec.{vec_capacity};
 ghost use Rattle.sctp_model.specs.sender.Filling.{next_wish, fill};
 ghost use Rattle.sctp_model.specs.sender.SenderView.{SenderView};
 ghost use Rattle.sctp_send.specs.SenderStands.{StandsFor};
-ghost use Rattle.sctp_send.specs.FillAnswers.{FillAnswer, PutSomeOf, sendings_of};
+ghost use Rattle.sctp_send.specs.FillAnswers.{FillAnswer, HasNext, sendings_of};
 ghost use Rattle.sctp_packet.specs.Draft.{room_in, with_space};
 ghost use Rattle.sctp_send.specs.inner.Stocking.{bare, numbers_of, all_numbered, stocked, AreOpen};
 
@@ -56,12 +56,13 @@ impl<F: Framing> Sender<F> {
     /// the tickets of the messages that began.
     ///
     /// # Errors
-    /// `NoMemory`, only if one more chunk could go. The sender's view is then as before; the packet may have some of the chunks, each whole.
+    /// `NoMemory`, only if a chunk could go. The sender's view and the packet are then as before.
     #[inline(always)]
     pub fn fill(&mut self, packet: &mut PacketWriter) -> Result<Filled, NoMemory>
         ensures step { (v : SenderView) → StandsFor F.format self.old v → IfOk result (λ filled. FillAnswer F.format v packet.old packet.new self.new filled) }
         ensures memory { (v : SenderView) → StandsFor F.format self.old v → OnErr result (StandsFor F.format self.new v) }
-        ensures some { (v : SenderView) → StandsFor F.format self.old v → OnErr result (PutSomeOf F.format v packet.old packet.new) }
+        ensures unchanged { OnErr result (packet.new ≡ packet.old) }
+        ensures asked { (v : SenderView) → StandsFor F.format self.old v → OnErr result (HasNext F.format v (room_in packet.old)) }
     {
         self.fill_counting(0, packet)
     }
@@ -80,7 +81,8 @@ impl<F: Framing> Sender<F> {
         ensures step { (v : SenderView) → StandsFor F.format self.old v → IfOk result (λ filled. FillAnswer F.format v packet.old packet.new self.new filled) }
         ensures sendings { (v : SenderView) → StandsFor F.format self.old v → IfOk result (λ filled. filled.sendings ≡ sendings_of missed (fill F.format (room_in packet.old) v).wishes) }
         ensures memory { (v : SenderView) → StandsFor F.format self.old v → OnErr result (StandsFor F.format self.new v) }
-        ensures some { (v : SenderView) → StandsFor F.format self.old v → OnErr result (PutSomeOf F.format v packet.old packet.new) }
+        ensures unchanged { OnErr result (packet.new ≡ packet.old) }
+        ensures asked { (v : SenderView) → StandsFor F.format self.old v → OnErr result (HasNext F.format v (room_in packet.old)) }
     {
         if self.is_at_rest() {
             let tickets = Vec::new(self.told.alloc);
@@ -114,7 +116,8 @@ impl<F: Framing> Sender<F> {
         ensures step { (v : SenderView) → StandsFor F.format self.old v → IfOk result (λ filled. FillAnswer F.format v packet.old packet.new self.new filled) }
         ensures sendings { (v : SenderView) → StandsFor F.format self.old v → IfOk result (λ filled. filled.sendings ≡ sendings_of missed (fill F.format (room_in packet.old) v).wishes) }
         ensures memory { (v : SenderView) → StandsFor F.format self.old v → OnErr result (StandsFor F.format self.new v) }
-        ensures some { (v : SenderView) → StandsFor F.format self.old v → OnErr result (PutSomeOf F.format v packet.old packet.new) }
+        ensures unchanged { OnErr result (packet.new ≡ packet.old) }
+        ensures asked { (v : SenderView) → StandsFor F.format self.old v → OnErr result (HasNext F.format v (room_in packet.old)) }
     {
         let most = most_chunks(packet.room());
         let Ok(before) = reserve_all(&mut self.parts, most, packet) else {
@@ -135,7 +138,7 @@ impl<F: Framing> Sender<F> {
         ensures step { (v : SenderView) → StandsFor F.format self.old v → IfOk result (λ filled. FillAnswer F.format v packet.now packet.now self.new filled) }
         ensures sendings { (v : SenderView) (missed : ℕ) → StandsFor F.format self.old v → IfOk result (λ filled. filled.sendings ≡ sendings_of missed (fill F.format (room_in packet.now) v).wishes) }
         ensures memory { (v : SenderView) → StandsFor F.format self.old v → OnErr result (StandsFor F.format self.new v) }
-        ensures some { (v : SenderView) → StandsFor F.format self.old v → OnErr result (PutSomeOf F.format v packet.now packet.now) }
+        ensures asked { (v : SenderView) → StandsFor F.format self.old v → OnErr result (HasNext F.format v (room_in packet.now)) }
     {
         self.parts.tickets.clear();
         let room = packet.room();

@@ -10,15 +10,15 @@ use Rattle.sctp_send.proofs.fill.FilledLemmas.{no_chunks}
 use Rattle.sctp_send.proofs.fill.NewlyLemmas.{newly_self}
 use Rattle.sctp_send.proofs.sender.Sender.fill_unreserved.Goals as goal
 
-pub returns-in-Some-clause-some : goal.returns-in-Some-clause-some
+pub returns-in-Some-clause-asked : goal.returns-in-Some-clause-asked
 unfolding StandsFor
-returns-in-Some-clause-some g c = λ v stands.
+returns-in-Some-clause-asked g c = λ v stands.
     let f = g.F.Framing.format in
     let p = c.args.packet.now in
     let keeps = subst (λ (k : Kept). Keeps f k v) (sym c.self.view_is) stands in
     let begun : Keeps f (stocked (bare c.self.inside.told) (record c.self.inside.parts { tickets = c.clear.new.self })) v = rw c.clear.ensures.items keeps in
     let asked = (c.in-Some.ensures.goes v p begun c.room-room.ensures.room).1 in
-    record { wishes = []; view = v; follows = refl; chunks = sym (no_chunks p); refused = asked.0; next = asked.1 }
+    record { wish = asked.0; next = asked.1 }
 
 pub returns-clause-step : goal.returns-clause-step
 unfolding StandsFor
