@@ -1,7 +1,7 @@
 //! `sidorghu-erase CHECKOUT OUT` writes all crates' erased sources into OUT. With `--counts` it prints how often each row was used; with
 //! `--fast-checksum` the checksum asks for the processor's where a feature of that name is on. `sidorghu-erase --rows` prints the table.
 
-use sidorghu_eraser::{Counts, ROWS, Refusal, Tree, choose_checksum, rows_table, write};
+use sidorghu_eraser::{Counts, ROWS, Refusal, Row, Tree, choose_checksum, rows_table, write};
 use std::path::Path;
 use std::process::ExitCode;
 
@@ -45,7 +45,8 @@ fn run(checkout: &str, out: &str, counts: bool, fast: bool) -> Result<(), Refusa
     Ok(())
 }
 
-/// How often each row was used.
+/// How often each row was used, but that of white space.
 fn table(used: &Counts) -> String {
-    ROWS.iter().map(|it| format!("{:6} {}\n", used.of(it.row), it.name)).collect()
+    let counted = ROWS.iter().filter(|it| it.row != Row::Space);
+    counted.map(|it| format!("{:6} {}\n", used.of(it.row), it.name)).collect()
 }

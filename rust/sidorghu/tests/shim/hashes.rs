@@ -43,6 +43,6 @@ fn pieces_are_hashed_as_the_whole() {
 #[test]
 fn lengths_around_a_block_have_their_padding() {
     let hashes: String =
-        (54..=66).chain(118..=130).map(|many| hex(&Sha256::digest([0x5a; 130][..many].to_vec()))[..4].into()).collect::<Vec<String>>().concat();
+        (54..=66).chain(118..=130).map(|many| hex(&Sha256::digest(&[0x5a; 130][..many]))[..4].into()).collect::<Vec<String>>().concat();
     assert_eq!(hashes, "bbc95f25301c30abef77298f05057c8796a19397cc73b8de7c6e9b73a96860ec7186443c0cab28b5932416dbf465349d65157d92");
 }
