@@ -1,5 +1,6 @@
 #!/usr/bin/env python3
-"""Proves and builds a program that is run by hand and no crate of the gate's: `tests/build.py NAME FILE` makes FILE of tests/NAME/*.rattle.
+"""Proves and builds a program that is run by hand and no crate of the gate's: `tests/build.py NAME FILE` makes FILE of tests/NAME/*.rattle;
+`tests/build.py --cargo NAME FILE` has it erased and compiled by cargo, in CARGO_TARGET_DIR, if that is set.
 
 Its libraries are those that tests/NAME/libraries names, one line of words as in crates.txt. They are proved and built where they stand, in their own
 order, unless they are; then the program is built in a folder of its own, over copies of them, so that nothing of it stays in this repository. It prints
@@ -43,6 +44,75 @@ def run(words, folder):
     return ran.returncode, "\n".join(line for at, line in enumerate(lines) if at in shown)
 
 
+def put_sources(name, source):
+    """The files of the program, as sources of a crate."""
+    os.makedirs(source)
+    for file in sorted(os.listdir(f"{ROOT}/tests/{name}")):
+        if file.endswith(".rattle"):
+            shutil.copyfile(f"{ROOT}/tests/{name}/{file}", f"{source}/{file[:-len('.rattle')]}.rt")
+
+
+# A package beside those of rust/: the program, and the stand-ins for what it uses.
+PACKAGE = """[package]
+name = "NAME"
+edition = "2024"
+
+[features]
+default = ["std"]
+std = []
+
+[build-dependencies]
+sidorghu-eraser = { path = "ROOT/rust/eraser" }
+
+[workspace]
+
+[profile.release]
+panic = "abort"
+"""
+BUILD = """fn main() {
+    sidorghu_eraser::build(&["NAME"]);
+}
+"""
+MAIN = """#![no_std]
+extern crate alloc;
+extern crate std;
+
+SHIMS
+include!(concat!(env!("OUT_DIR"), "/erased.rs"));
+
+fn main() -> impl std::process::Termination {
+    NAME::main(rattle_std::runtime::HostRuntime)
+}
+"""
+SHIMS = ["anyhow", "arrayvec", "byteorder", "clap", "hex", "itoa", "sha2"]
+
+
+def by_cargo(name, made):
+    """Has the eraser and cargo build the program, in a folder with links to the sources that it stands on."""
+    with open(f"{ROOT}/tests/{name}/libraries", encoding="utf-8") as file:
+        wanted = file.read().split()
+    with tempfile.TemporaryDirectory(prefix=f"{name}-") as room:
+        os.makedirs(f"{room}/crates")
+        for crate in os.listdir(f"{ROOT}/crates"):
+            os.symlink(f"{ROOT}/crates/{crate}", f"{room}/crates/{crate}")
+        put_sources(name, f"{room}/crates/{name}/src")
+        shutil.copyfile(f"{ROOT}/crates.txt", f"{room}/crates.txt")
+        with open(f"{room}/crates.txt", "a", encoding="utf-8") as file:
+            file.write(f"{name}: {' '.join(wanted)}\n")
+        package = f"{room}/rust/{name}"
+        os.makedirs(f"{package}/src")
+        shims = [f'#[path = "{ROOT}/rust/shim/{it}.rs"]\n#[allow(dead_code)]\nmod {it};' for it in SHIMS]
+        shims.append(f'#[path = "{ROOT}/rust/shim/mod.rs"]\n#[allow(dead_code, unused_imports, unused_macros)]\nmod rattle_std;')
+        for file, text in (("Cargo.toml", PACKAGE), ("build.rs", BUILD), ("src/main.rs", MAIN)):
+            with open(f"{package}/{file}", "w", encoding="utf-8") as written:
+                written.write(text.replace("SHIMS", "\n".join(shims)).replace("NAME", name).replace("ROOT", ROOT))
+        target = os.environ.get("CARGO_TARGET_DIR", f"{room}/target")
+        status, said = run(["cargo", "build", "--offline", "--release", "--target-dir", target], package)
+        if status:
+            sys.exit(said)
+        shutil.copy(f"{target}/release/{name}", made)
+
+
 def main(name, made):
     with open(f"{ROOT}/tests/{name}/libraries", encoding="utf-8") as file:
         wanted = file.read().split()
@@ -55,11 +125,7 @@ def main(name, made):
     with tempfile.TemporaryDirectory(prefix=f"{name}-") as room:
         for crate in crates:
             shutil.copytree(f"{ROOT}/crates/{crate}", f"{room}/crates/{crate}", ignore=shutil.ignore_patterns("incremental"))
-        source = f"{room}/crates/{name}/src"
-        os.makedirs(source)
-        for file in sorted(os.listdir(f"{ROOT}/tests/{name}")):
-            if file.endswith(".rattle"):
-                shutil.copyfile(f"{ROOT}/tests/{name}/{file}", f"{source}/{file[:-len('.rattle')]}.rt")
+        put_sources(name, f"{room}/crates/{name}/src")
         shutil.copyfile(f"{ROOT}/HANDLES", f"{room}/HANDLES")
         with open(f"{room}/crates.txt", "w", encoding="utf-8") as file:
             file.writelines(f"{it}: {' '.join(below[it])}\n" for it in crates)
@@ -72,6 +138,8 @@ def main(name, made):
 
 
 if __name__ == "__main__":
-    if len(sys.argv) != 3:
-        sys.exit("build.py NAME FILE")
-    main(sys.argv[1], os.path.abspath(sys.argv[2]))
+    builds = by_cargo if sys.argv[1:2] == ["--cargo"] else main
+    words = [word for word in sys.argv[1:] if word != "--cargo"]
+    if len(words) != 2:
+        sys.exit("build.py [--cargo] NAME FILE")
+    builds(words[0], os.path.abspath(words[1]))

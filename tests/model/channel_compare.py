@@ -1,7 +1,7 @@
 #!/usr/bin/env python3
 """Runs random schedules of data channels through `crates/sctp_channel_rows` and through the model, with the law of channels tested along each.
 
-channel_compare.py [--program P] N [SEED]: each schedule that differs is told, with its first such line, and kept in tests/model/found.
+channel_compare.py [--program 'P WORDS'] N [SEED]: each schedule that differs is told, with its first such line, and kept in tests/model/found.
 --odd: random messages, DCEP and others, at an open end, a thousand a schedule. --only-model runs no program. --jobs N: so many at once.
 --cases FOLDER runs none either, and writes schedules and outputs that are wanted as `rt try --cases` reads them.
 """
@@ -42,7 +42,7 @@ def compared(work):
     program, maker, seeds = work
     given, wanted, contents, broken = made((maker, seeds))
     if program is not None:
-        done = subprocess.run([program], input=given.encode(), capture_output=True, check=False)
+        done = subprocess.run(program.split(), input=given.encode(), capture_output=True, check=False)
         found = done.stdout.decode('latin1')
         if found != wanted:
             broken += differences(given, wanted, found)

@@ -3,7 +3,7 @@
  * REFUSE=N   the Nth call of malloc, calloc, realloc or aligned_alloc answers NULL
  * FAIL=N     the Nth read or write fails
  * SHORT=N    the Nth read or write of several bytes moves one
- * CALLS=FILE at the end the numbers of the three kinds of calls are written there
+ * CALLS=FILE at the end the numbers of the three kinds of calls are written there, and how many of the first came before any of the second
  *
  * What the C library does before main isn't counted. It is for glibc.
  */
@@ -20,6 +20,7 @@ struct kind {
     unsigned long calls, asked;
 };
 static struct kind memory, transfer, several;
+static unsigned long at_start;
 static int counts;
 
 static ssize_t (*real_read)(int, void *, size_t);
@@ -46,6 +47,7 @@ void *aligned_alloc(size_t to, size_t size) { return is_refused() ? NULL : __lib
 
 /* How many bytes of these a transfer moves: -1 where it fails. */
 static ssize_t moved(size_t count) {
+    if (counts && !transfer.calls) at_start = memory.calls;
     if (is_asked(&transfer)) {
         errno = EIO;
         return -1;
@@ -92,6 +94,7 @@ __attribute__((destructor)) static void end(void) {
     counts = 0;
     FILE *out = file ? fopen(file, "w") : NULL;
     if (!out) return;
-    fprintf(out, "%lu %lu %lu\n", memory.calls, transfer.calls, several.calls);
+    if (!transfer.calls) at_start = memory.calls;
+    fprintf(out, "%lu %lu %lu %lu\n", memory.calls, transfer.calls, several.calls, at_start);
     fclose(out);
 }

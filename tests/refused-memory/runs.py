@@ -1,17 +1,46 @@
 """Runs built programs with memory refused, one growth after the other, and with each read and write failing or moving a single byte: by
-tests/refused-memory.sh, which says what is looked for. Words: the runs, none for all of them."""
-import collections, os, subprocess, sys, tempfile
+tests/refused-memory.sh, which says what is looked for. Words: the runs, none for all of them. CARGO_PROGRAMS is the folder of the programs that
+cargo built: Rust's own start ends such a program by a signal where its memory is refused, before the first read or write."""
+import collections, os, re, signal, subprocess, sys, tempfile
 from pathlib import Path
 
 ROOT = Path(__file__).resolve().parent.parent.parent
 STARVED = ["wire", "packet", "send", "send-i", "burst", "burst-i", "receive", "receive-i", "three", "ends", "bundles", "closing", "skipped", "end-mark", "full"]
 KINDS = {"REFUSE": 0, "FAIL": 1, "SHORT": 2}  # what the shim is told, and the place of its number in what it tells
+START = 3  # the place of the number of growths before the first read or write
+BY_CARGO = os.environ.get("CARGO_PROGRAMS")
+ABORTED = -signal.SIGABRT
 room = Path(tempfile.mkdtemp())
 failed = 0
 
 
 def program(crate):
+    if BY_CARGO:
+        return str(Path(BY_CARGO) / crate.removesuffix("_main").replace("_", "-"))
     return str(ROOT / "crates" / crate / "out" / crate)
+
+
+class Starts:
+    """The runs that Rust's own start ended, where cargo built the program; `most` growths were made before the first read or write."""
+
+    def __init__(self, most):
+        self.most, self.sizes = most, []
+
+    def has(self, number, status, output, faults):
+        """Whether this run is one of them; its size is noted then."""
+        size = re.search(rb"memory allocation of (\d+) bytes failed", faults)
+        if not BY_CARGO or status != ABORTED or number > self.most or output or not size:
+            return False
+        self.sizes.append(int(size[1]))
+        return True
+
+    def told(self):
+        return f", {len(self.sizes)} by Rust's own start (bytes: {' '.join(map(str, sorted(self.sizes)))})" if BY_CARGO else ""
+
+
+def calls_told(count):
+    """The numbers that the shim wrote; of a program that a signal ended there are none: it had the call that was refused."""
+    return [int(word) for word in count.read_text().split()] if count.exists() else [sys.maxsize] * 4
 
 
 def run(words, text=b"", **asked):
@@ -20,7 +49,7 @@ def run(words, text=b"", **asked):
     count.unlink(missing_ok=True)
     told = {"LD_PRELOAD": os.environ["REFUSE_LIBRARY"], "CALLS": str(count), **{name: str(value) for name, value in asked.items()}}
     ended = subprocess.run(words, input=text, capture_output=True, env=told, timeout=60)
-    return ended.returncode, ended.stdout, ended.stderr, [int(word) for word in count.read_text().split()]
+    return ended.returncode, ended.stdout, ended.stderr, calls_told(count)
 
 
 def each(kind, words, text=b""):
@@ -50,11 +79,13 @@ def parted(output):
 def starve(name):
     """A run of tests/starved: whatever is refused, it prints what it prints where nothing is."""
     words = [os.environ["STARVED_PROGRAM"], name, "told"]
-    status, output, _, _ = run(words)
+    status, output, _, calls = run(words)
     whole, told = parted(output)
     wrong = [] if status == 0 and not told else ["without a refusal"]
-    refused = collections.Counter()
-    for number, (status, output, _, _) in each("REFUSE", words):
+    refused, starts = collections.Counter(), Starts(calls[START])
+    for number, (status, output, faults, _) in each("REFUSE", words):
+        if starts.has(number, status, output, faults):
+            continue
         lines, told = parted(output)
         refused.update(line.split(": ", 1)[1] if line.startswith("no") else line for line in told)
         if status != 0 or lines != whole:
@@ -63,7 +94,7 @@ def starve(name):
     if told:
         wrong.append("the last run was refused memory")
     seen = ", ".join(f"{call} {times}" for call, times in sorted(refused.items()))
-    report(not wrong, f"{name}: {number - 1} growths; refused: {seen or 'none'}")
+    report(not wrong, f"{name}: {number - 1} growths; refused: {seen or 'none'}{starts.told()}")
     for line in wrong[:9]:
         print("        " + line)
 
@@ -71,16 +102,18 @@ def starve(name):
 def endure(kind, crate, words, text, name):
     """A program under refusals: all of its output and its status, or status 3 behind a beginning of it."""
     words = [program(crate), *words]
-    status, whole, _, _ = run(words, text)
-    wrong, ended, number = [], 0, 0
-    for number, (code, output, _, _) in each(kind, words, text):
+    status, whole, _, calls = run(words, text)
+    wrong, ended, number, starts = [], 0, 0, Starts(calls[START] if kind == "REFUSE" else 0)
+    for number, (code, output, faults, _) in each(kind, words, text):
         if code == 3 and whole.startswith(output) and kind != "SHORT":
             ended += 1
+        elif starts.has(number, code, output, faults):
+            continue
         elif (code, output) != (status, whole):
             wrong.append(f"{number}: status {code}, {len(output)} bytes")
     last = (code, output) == (status, whole)
     kinds = {"REFUSE": "growths", "FAIL": "reads and writes", "SHORT": "reads and writes of several bytes"}
-    report(last and not wrong, f"{crate}, {name}: {number - 1} {kinds[kind]}, {ended} runs ended by them with status 3")
+    report(last and not wrong, f"{crate}, {name}: {number - 1} {kinds[kind]}, {ended} runs ended by them with status 3{starts.told()}")
     for line in wrong[:9]:
         print("        " + line)
 
@@ -92,7 +125,7 @@ class End:
         count = room / "calls"
         count.unlink(missing_ok=True)
         told = {"LD_PRELOAD": os.environ["REFUSE_LIBRARY"], "CALLS": str(count), **{name: str(value) for name, value in asked.items()}}
-        pipes = {"stdin": subprocess.PIPE, "stdout": subprocess.PIPE, "stderr": subprocess.DEVNULL}
+        pipes = dict.fromkeys(("stdin", "stdout", "stderr"), subprocess.PIPE)
         self.process = subprocess.Popen([program("sctp_end_main"), *words], **pipes, env=told, bufsize=0)
         self.lines, self.answers, self.refused = [], [], 0
 
@@ -119,7 +152,8 @@ class End:
         except BrokenPipeError:
             pass
         self.process.stdout.read()
-        return self.process.wait(timeout=60), [int(word) for word in (room / "calls").read_text().split()]
+        self.faults = self.process.stderr.read()
+        return self.process.wait(timeout=60), calls_told(room / "calls")
 
 
 def ends(mode):
@@ -142,14 +176,13 @@ def ends(mode):
         for _ in range(3):
             carry(caller, listener)
             carry(listener, caller)
-    for end in both:
-        end.close()
-    return [(word, end.lines, end.answers) for word, end in zip(words, both)]
+    starts = [end.close()[1][START] for end in both]
+    return [(word, end.lines, end.answers, start) for word, end, start in zip(words, both, starts)]
 
 
-def converse(words, lines, answers, mode):
+def converse(words, lines, answers, start, mode):
     """An end under refusals: all answers, those to what is asked again in the place of `memory`; or a beginning of them, and status 3."""
-    wrong, ended, refused, number = [], 0, 0, 0
+    wrong, ended, refused, number, starts = [], 0, 0, 0, Starts(start)
     while True:
         number += 1
         end = End(words, REFUSE=number)
@@ -160,12 +193,14 @@ def converse(words, lines, answers, mode):
         refused += end.refused
         if status == 3 and end.answers == answers[: len(end.answers)]:
             ended += 1
+        elif starts.has(number, status, b"".join(map(str.encode, end.answers)), end.faults):
+            continue
         elif (status, end.answers) != (0, answers):
             wrong.append(f"{number}: status {status}, {len(end.answers)} answers")
         if calls[0] < number:
             break
     last = (status, end.answers, end.refused) == (0, answers, 0)
-    report(last and not wrong, f"sctp_end_main, {words[0]}, {mode}: {number - 1} growths, {refused} lines asked again, {ended} runs ended with status 3")
+    report(last and not wrong, f"sctp_end_main, {words[0]}, {mode}: {number - 1} growths, {refused} lines asked again, {ended} runs ended with status 3{starts.told()}")
     for line in wrong[:9]:
         print("        " + line)
 
@@ -180,8 +215,8 @@ def programs():
         endure(kind, "sctp_trace_main", ["run"], closing, "the closing script")
         endure(kind, "sctp_trace_main", ["chunks", hi], b"", "chunks")
     for mode in ("data", "idata-pr"):
-        for words, lines, answers in ends(mode):
-            converse(words, lines, answers, mode)
+        for words, lines, answers, start in ends(mode):
+            converse(words, lines, answers, start, mode)
             for kind in ("FAIL", "SHORT"):
                 endure(kind, "sctp_end_main", words, "".join(line + "\n" for line in lines).encode(), f"{words[0]}, {mode}")
 
