@@ -175,8 +175,8 @@ impl Endpoint {
     }
 
     /// Of the bytes that `queued_bytes` counts, those of the messages on this stream, ordered or not, with one of these payload protocol identifiers; an
-    /// identifier given twice counts once. 0 before an association. It is a walk over the queue. Of 51 and 53, the user data that a data channel
-    /// buffers (RFC 8831, 8).
+    /// identifier given twice counts once. 0 before an association. Of 51 and 53, in this order, it is the user data that a data channel buffers
+    /// (RFC 8831, 8), which is kept as a number of each stream. Of others it is a walk over the queue.
     pub fn queued_bytes_on(&self, stream: u16, payload_ids: &[u32]) -> u64
         ensures bytes { (v : EndView) → EndpointStands self.now v → result ≡ queued_bytes_on stream payload_ids.now v.sender }
         ensures bound { (v : EndView) → EndpointStands self.now v → result ≤ QUEUE_LIMIT * LONGEST_MESSAGE }

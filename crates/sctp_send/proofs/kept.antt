@@ -4,6 +4,7 @@ pub mod ItemLemmas
 pub mod MomentLemmas
 pub mod LoadLemmas
 pub mod QueuedOnLemmas
+pub mod UserLemmas
 pub mod OwedLemmas
 pub mod CursorLemmas
 pub mod WeightLemmas

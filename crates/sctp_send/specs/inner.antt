@@ -11,6 +11,7 @@ pub mod Sending
 pub mod Stocking
 pub mod Counting
 pub mod Seating
+pub mod UserData
 pub mod Entering
 pub mod Lanes
 pub mod TicketOrder

@@ -5,7 +5,7 @@
 //! |---|---|---|
 //! | `Outstanding` (`IsInOrder`, `IsCounted`) | an entry for each index above CUM, by its offset from CUM + 1; for each entry after the first ones, as many as rise by ticket, a pair (ticket, index), by rising ticket (`ByTicket`, `Pairs` of sctp_sequence), so that a binary search among entries and one among pairs find a message's entries, whose offsets are side by side, and whose pairs are | the offsets before which nothing waits for retransmission, and before which nothing is unsent; the bytes in flight (exact, since at most 32,767 entries of 65,535 bytes are); the entries that were sent and are still wanted; the abandoned entries in front, so that the point is a sum |
 //! | `Fates` (`AreFates`) | of the first tickets, which are over, a block for each 4,096: one fate if all ended alike, else one each; of the tickets after them one fate each | how many tickets are over, how often one was abandoned |
-//! | `Queue` (`IsQueueOf`) | the messages without a TSN; under I-DATA a seat (stream, ticket) for each (`Pairs` of sctp_sequence); both in deques, where removing one shifts the shorter side | the TSNs that they may take, and their bytes |
+//! | `Queue` (`IsQueueOf`) | the messages without a TSN; under I-DATA a seat (stream, ticket) for each (`Pairs` of sctp_sequence); both in deques, where removing one shifts the shorter side | the TSNs that they may take, and their bytes; of each stream those of user data (`AreUserBytes`) |
 //! | `Streams` (`IsStreamsOf`, `IsCountedOf`) | the numbers of each stream, and its message in part (a track); under I-DATA the tickets of the messages in part, by stream and by ticket (`TwoWayMap` of sctp_sequence). Under DATA no message is ever in part, and nothing is listed | how many messages are in part; the TSNs that they may take |
 //! | `Dues` (`PagedNumbers` of sctp_sequence) | of each ticket a time before which its message is not late; 8 bytes a ticket from the first message with a lifetime on, and before it only how many tickets there are | the least time of 64 tickets in a row, and the least of all |
 //!
@@ -44,5 +44,6 @@ pub mod streams;
 pub mod stretches;
 pub mod taking;
 pub mod track;
+pub mod user_data;
 pub mod waiting;
 pub mod wishes;

@@ -31,7 +31,7 @@
 //! | [`Sender::first_missed`], [`Sender::is_marked_or_covered`] | the lowest index in flight from one on, below another; whether an index is marked or acknowledged |
 //! | [`Sender::weigh`], [`Sender::weigh_shutdown`], [`Weight`] | of a SACK or a SHUTDOWN without a fault, before it is taken: whether it moves CUM, CUM after it, the highest indexes and the bytes that it newly acknowledges, and whether the chunk that is timed is among them (`IsWeight`) |
 //! | [`Sender::queued`], [`Sender::queued_bytes`] | the length and the bytes of the queue; at most 1,024 messages of 65,536 bytes (`bound`) |
-//! | [`Sender::queued_bytes_on`] | the bytes of the messages in the queue that are on one stream with one of the given payload protocol identifiers; no more than all of it may have (`bound`) |
+//! | [`Sender::queued_bytes_on`] | the bytes of the messages in the queue that are on one stream with one of the given payload protocol identifiers; no more than all of it may have (`bound`). Of user data of data channels (51 and 53, in this order) it is kept as a number of each stream |
 //! | [`Sender::reset`], [`Sender::is_resetting`], [`Sender::resetting_streams`] | the stream takes no further message (`resetting`), or the same view if memory is refused (`memory`); whether it waits for its reset, and how many do |
 //! | [`Sender::may_ask`], [`Sender::ask`], [`Sender::take_back_request`], [`Sender::request`], [`ResetRequest`] | whether a request to reset streams may be made; `step`: the view in which it is made, if it may; the view before that; what the request that waits says: its number, the last TSN that was assigned when it was made, and its streams, the lowest 256 of which nothing waits or is outstanding |
 //! | [`Sender::on_response`] | the view after a response: its streams count from 0 again and take messages, the request has the next number, or its streams take none |
@@ -61,19 +61,20 @@
 //! `on_timeout` and `wear` all that is outstanding, `on_missed` and `wear_between` what is of their range, `next_at_limit` the outstanding entries of
 //! higher tickets up to the one that it finds; `expire` and `next_late` the tickets whose deadlines have passed; `weigh` what the SACK does but for what is
 //! no longer acknowledged, each entry once, `first_missed` its range, `room_of_repeats` the entries from the first marked one on, `last_sent` the
-//! entries after it, which were never sent, `queued_bytes_on` the queue; other readers are constant, `abandon` and `acknowledged` the message's own
+//! entries after it, which were never sent, `queued_bytes_on` the queue, but of user data of data channels nothing; other readers are constant, `abandon` and `acknowledged` the message's own
 //! entries and a search for them, by a look at three of them if tickets rise by one from entry to entry, otherwise binary. The first `reset` makes a
 //! table of all streams; each costs a binary search among the streams that wait for their reset, a move of those with higher numbers, and the entries
 //! after the last one of its stream; `on_response` the streams that wait, if it ends the request; `may_ask` and `ask` the streams that wait, each a
 //! look at the entry noted for it and, if that is gone, its search in the queue and a walk over the entries up to its first one, and nothing if there
-//! are none; without a reset no table is kept, and a message costs one test more. What is kept for that is in `kept`, and each part's counts are its
-//! invariant: an entry takes 32 bytes with the count of its retransmissions, which ends at 65,535, as limits do.
+//! are none; without a reset no table is kept, and a message costs one test more. User data of a data channel takes memory for a number of each stream up
+//! to its own, 4 bytes each, if there is none yet: the table doubles. What is kept for that is in `kept`, and each part's counts are its invariant: an
+//! entry takes 32 bytes with the count of its retransmissions, which ends at 65,535, as limits do.
 //!
 //! The files of `src` form a path on which each imports only what is before it: `last_forward`, `message`, `resets`, `sendings`; `blocks`, `by_ticket`,
-//! `dues`, `entry`, `seats`, `shells`; `fates`, `heads`, `pieces`; `queue`, `told`, `track`, `wishes`; `counts`, `looking`, `queued_on`; `streams`,
-//! `stretches`; `acknowledging`, `outstanding`; `by_message`, `entries`, `flying`, `giving_back`, `going_out`, `lanes`, `marking`, `repeats`,
-//! `run_room`, `searching`, `stock`, `table`, `tally`, `telling`, `weight`; `assigning`, `covered`, `others`, `restarting`, `sender`, `still`,
-//! `waking`; `answering`, `asking`, `at_limit`, `last`, `laws`, `owing`, `pace`, `readers`, `resetting`, `sack`, `wear`, `weighing`; `abandon`,
+//! `dues`, `entry`, `seats`, `shells`, `user_data`; `fates`, `heads`, `pieces`; `queue`, `told`, `track`, `wishes`; `counts`, `looking`, `queued_on`;
+//! `streams`, `stretches`; `acknowledging`, `outstanding`; `by_message`, `entries`, `flying`, `giving_back`, `going_out`, `lanes`, `marking`,
+//! `repeats`, `run_room`, `searching`, `stock`, `table`, `tally`, `telling`, `weight`; `assigning`, `covered`, `others`, `restarting`, `sender`,
+//! `still`, `waking`; `answering`, `asking`, `at_limit`, `last`, `laws`, `owing`, `pace`, `readers`, `resetting`, `sack`, `wear`, `weighing`; `abandon`,
 //! `entering`, `keeping`, `moments`, `passing`, `queueing`, `turning`; `expire`, `fill`, `forward`.
 //!
 //! What a body may still get away with: nothing that a caller can see but costs, how much memory is kept, and the texts of `Debug` and of faults. Only

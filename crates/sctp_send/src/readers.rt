@@ -16,6 +16,7 @@ ghost use Rattle.sctp_send.specs.inner.Walks.{total, one_if_rest, abandoned_item
 use crate::kept::message::Fate;
 use crate::kept::outstanding::Outstanding;
 use crate::kept::streams::Streams;
+use crate::kept::user_data::are_of_user_data;
 use crate::readers::queued_on::bytes_on;
 use crate::sender::Sender;
 use sctp_framing::Framing;
@@ -90,11 +91,15 @@ impl<F: Framing> Sender<F> {
     }
 
     /// Of the bytes that `queued_bytes` counts, those of the messages on this stream, ordered or not, with one of these payload protocol identifiers; an
-    /// identifier given twice counts once. It is a walk over the queue. Of 51 and 53, the user data that a data channel buffers (RFC 8831, 8).
+    /// identifier given twice counts once. Of 51 and 53, in this order, it is the user data that a data channel buffers (RFC 8831, 8), which is kept as a
+    /// number of each stream. Of others it is a walk over the queue.
     pub fn queued_bytes_on(&self, stream: u16, payload_ids: &[u32]) -> u64
         ensures bytes { (v : SenderView) → StandsFor F.format self.now v → result ≡ queued_bytes_on stream payload_ids.now v }
         ensures bound { (v : SenderView) → StandsFor F.format self.now v → result ≤ QUEUE_LIMIT * LONGEST_MESSAGE }
     {
+        if are_of_user_data(payload_ids) {
+            return self.parts.queue.user_bytes_on(stream);
+        }
         bytes_on(&self.parts.queue, stream, payload_ids)
     }
 

@@ -17,9 +17,11 @@ use Rattle.sctp_model.specs.sender.SenderView.{Queued}
 use Rattle.sctp_send.specs.SenderFields.{queued_by}
 use Rattle.sctp_send.specs.inner.Owning.{IsOwned, messages_of}
 use Rattle.sctp_send.specs.inner.Seating.{ticket_in, seat_of, bytes_of, owed_by, AreLower, IsQueueOf}
+use Rattle.sctp_send.specs.inner.UserData.{IsCounted, without_bytes}
 use Rattle.sctp_send.specs.declared.kept.message.Message.{Message as MessageFields}
 use Rattle.sctp_send.specs.declared.kept.waiting.Waiting.{Waiting}
 use Rattle.sctp_send.proofs.kept.OwnedLemmas.{message_read, messages_long}
+use Rattle.sctp_send.proofs.kept.UserLemmas.{user_pushed, user_removed}
 use Rattle.sctp_send.proofs.abandon.WithdrawLemmas.{walked_place}
 
 -- ---- messages come and go
@@ -40,10 +42,10 @@ all_removed P xs n lt all k d low =
     ]
 
 -- one message more
-pub queue_pushed : (size sum more load bytes last : ℕ) (rises up seated : Bool) (ws : List Waiting) (w : Waiting) (ps qs : List Pair) → IsQueueOf size ws sum rises last seated ps load → more ≡ owed_by size w.message % 2 ^ 64
-    → bytes ≡ bytes_of w.message → IsOwned size 0 w.message w.others.items → (up ≡ true → (rises ≡ true) × (last < ticket_in w.message)) → (seated ≡ true → AreSame qs (seat_of w.message ∷ ps))
-    → IsQueueOf size (ws ++ w ∷ []) ((sum + more) % 2 ^ 64) up (ticket_in w.message) seated qs ((load + bytes) % 2 ^ 64)
-queue_pushed size sum more load bytes last rises up seated ws w ps qs h owes has own above taken =
+pub queue_pushed : (size sum more load bytes last : ℕ) (rises up seated : Bool) (ws : List Waiting) (w : Waiting) (ps qs : List Pair) (us vs : List ℕ) → IsQueueOf size ws sum rises last seated ps load us → more ≡ owed_by size w.message % 2 ^ 64
+    → bytes ≡ bytes_of w.message → IsCounted w.message.value us vs → IsOwned size 0 w.message w.others.items → (up ≡ true → (rises ≡ true) × (last < ticket_in w.message)) → (seated ≡ true → AreSame qs (seat_of w.message ∷ ps))
+    → IsQueueOf size (ws ++ w ∷ []) ((sum + more) % 2 ^ 64) up (ticket_in w.message) seated qs ((load + bytes) % 2 ^ 64) vs
+queue_pushed size sum more load bytes last rises up seated ws w ps qs us vs h owes has counted own above taken =
     let ms = messages_of ws in
     let x = w.message in
     let after : messages_of (ws ++ w ∷ []) ≡ ms ++ x ∷ [] = map_push (λ (y : Waiting). y.message) ws w in
@@ -51,6 +53,7 @@ queue_pushed size sum more load bytes last rises up seated ws w ps qs h owes has
       some = h.some;
       owed = let all = sum_by_push (owed_by size) ms x in let was = h.owed in rw after (omega (arith, all, was, owes));
       bytes = let all = sum_by_push bytes_of ms x in let was = h.bytes in rw after (omega (arith, all, was, has));
+      user = rw after (user_pushed us vs ms x h.user counted);
       order = λ on.
           rw after (all_pairs_push (λ m n. ticket_in m < ticket_in n) ms x (h.order (above on).0) (λ k d lt. let most = h.most (above on).0 k d lt in let less = (above on).1 in omega (arith, most, less)));
       most = λ on.
@@ -66,10 +69,10 @@ queue_pushed size sum more load bytes last rises up seated ws w ps qs h owes has
     }
 
 -- one less
-pub queue_removed : (size sum less load bytes last n : ℕ) (rises seated : Bool) (ws : List Waiting) (w : Waiting) (ps qs : List Pair) → IsQueueOf size ws sum rises last seated ps load → n < length ws → w ≡ get_or ws n w
+pub queue_removed : (size sum less load bytes last n : ℕ) (rises seated : Bool) (ws : List Waiting) (w : Waiting) (ps qs : List Pair) (us : List ℕ) → IsQueueOf size ws sum rises last seated ps load us → n < length ws → w ≡ get_or ws n w
     → less ≡ owed_by size w.message % 2 ^ 64 → bytes ≡ bytes_of w.message → bytes < 2 ^ 64 → ((us : List Pair) → seated ≡ true → AreSame ps us → Contains us (seat_of w.message) → AreSame ps (seat_of w.message ∷ qs))
-    → IsQueueOf size (remove ws n) ((sum + (2 ^ 64 - less)) % 2 ^ 64) rises last seated qs ((load + (2 ^ 64 - bytes)) % 2 ^ 64)
-queue_removed size sum less load bytes last n rises seated ws w ps qs h lt read owes has fits gone =
+    → IsQueueOf size (remove ws n) ((sum + (2 ^ 64 - less)) % 2 ^ 64) rises last seated qs ((load + (2 ^ 64 - bytes)) % 2 ^ 64) (without_bytes w.message.value us)
+queue_removed size sum less load bytes last n rises seated ws w ps qs us h lt read owes has fits gone =
     let ms = messages_of ws in
     let x = w.message in
     let after : messages_of (remove ws n) ≡ remove ms n = mapped_removed (λ (y : Waiting). y.message) ws n in
@@ -80,6 +83,7 @@ queue_removed size sum less load bytes last n rises seated ws w ps qs h lt read 
       some = h.some;
       owed = let all = sum_by-remove (owed_by size) ms n x low in let own = ap (owed_by size) here in let was = h.owed in rw after (omega (arith, all, own, was, owes));
       bytes = let all = sum_by-remove bytes_of ms n x low in let own = ap bytes_of here in let was = h.bytes in rw after (omega (arith, all, own, was, has, fits));
+      user = rw after (user_removed us ms n x h.user low here (λ P. all_removed P ms n low));
       order = λ on. rw after (all_pairs_remove (λ m n. ticket_in m < ticket_in n) ms n low (h.order on));
       most = λ on. rw after (all_removed (λ m. ticket_in m ≤ last) ms n low (h.most on));
       seats = λ on f.

@@ -10,6 +10,7 @@ use Rattle.sctp_model.specs.sender.Assigning.{first_on}
 use Rattle.sctp_model.specs.sender.Queueing.{cut, owed_for}
 use Rattle.sctp_send.specs.inner.Newcomers.{IsFirstOn}
 use Rattle.sctp_send.specs.inner.Owning.{messages_of, IsOwned}
+use Rattle.sctp_send.specs.inner.UserData.{AreUserBytes}
 use Rattle.sctp_send.specs.declared.kept.message.Message.{Message as MessageFields}
 use Rattle.sctp_send.specs.declared.kept.waiting.Waiting.{Waiting}
 use Rattle.sctp_send.specs.declared.kept.seats.Found.{Found}
@@ -48,12 +49,13 @@ bytes_of m = length m.value.bytes.items
 abbrev pub owed_by : (size : ℕ) → Arc MessageFields Global → ℕ
 owed_by size m = owed_for (length (cut size m.value.bytes.items))
 
--- What is counted of the messages that wait, and where they stand; tickets rise up to the last one, and the seats are those of the messages, where it is
--- said so; each has its owners.
-pub record IsQueueOf (size : ℕ) (ws : List Waiting) (sum : ℕ) (rises : Bool) (last : ℕ) (seated : Bool) (ps : List Pair) (load : ℕ) : Type 0 where
+-- What is counted of the messages that wait, of all and of the user data of each stream, and where they stand; tickets rise up to the last one, and the
+-- seats are those of the messages, where it is said so; each has its owners.
+pub record IsQueueOf (size : ℕ) (ws : List Waiting) (sum : ℕ) (rises : Bool) (last : ℕ) (seated : Bool) (ps : List Pair) (load : ℕ) (counts : List ℕ) : Type 0 where
   pub some : 0 < size
   pub owed : sum ≡ sum_by (owed_by size) (messages_of ws) % 2 ^ 64
   pub bytes : load ≡ sum_by bytes_of (messages_of ws) % 2 ^ 64
+  pub user : AreUserBytes counts (messages_of ws)
   pub order : rises ≡ true → DoTicketsRise (messages_of ws)
   pub most : rises ≡ true → All (λ m. ticket_in m ≤ last) (messages_of ws)
   pub seats : seated ≡ true → AreSeats (messages_of ws) ps

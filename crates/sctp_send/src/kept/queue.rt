@@ -19,6 +19,7 @@ use crate::kept::seats::{
     Found, add_seat, first_from, is_in_front, make_place, make_room, next_by_looking,
     next_by_seats, seat_of,
 };
+use crate::kept::user_data::{add_bytes, take_bytes};
 use crate::kept::waiting::{Waiting, take_others};
 use sctp_sequence::Pairs;
 use sctp_values::NoMemory;
@@ -37,6 +38,8 @@ pub(crate) struct Queue {
     pub(crate) owed: u64,
     // their bytes, modulo 2^64
     pub(crate) bytes: u64,
+    // of each stream those of user data, modulo 2^32; 0 on streams above the last one here
+    pub(crate) user_bytes: Vec<u32>,
     // tickets rise from the front on: so it is where `queue` gives them
     pub(crate) rises: bool,
     // that of the message that came last
@@ -56,7 +59,7 @@ impl Model for Queue {
 
     ghost view = { λ w. record { size = w.size; items = messages_of w.messages.items } };
 
-    ghost invariant = { λ w. IsQueueOf w.size w.messages.items w.owed w.rises w.last w.is_seated w.seats.items w.bytes };
+    ghost invariant = { λ w. IsQueueOf w.size w.messages.items w.owed w.rises w.last w.is_seated w.seats.items w.bytes w.user_bytes.items };
 }
 
 impl Queue {
@@ -68,11 +71,13 @@ impl Queue {
     {
         let messages = VecDeque::new(alloc);
         let seats = Pairs::new(alloc);
+        let user_bytes = Vec::new(alloc);
         Queue {
             size,
             messages,
             owed: 0,
             bytes: 0,
+            user_bytes,
             rises: true,
             last: 0,
             seats,
@@ -128,6 +133,7 @@ impl Queue {
         take_others(&mut others, &message, fragments - 1)?;
         make_room(&mut self.seats, self.is_seated)?;
         make_place(&mut self.messages)?;
+        add_bytes(&mut self.user_bytes, &message)?;
         self.messages
             .push_back_reserved(Waiting { message, others });
         self.owed = self.owed.wrapping_add(owed(fragments));
@@ -152,6 +158,7 @@ impl Queue {
         let owed = owed(fragments_of(self.size, bytes));
         self.owed = self.owed.wrapping_sub(owed);
         self.bytes = self.bytes.wrapping_sub(bytes.len() as u64);
+        take_bytes(&mut self.user_bytes, message);
         if self.is_seated {
             free_seat(&mut self.seats, &waiting.message);
         }

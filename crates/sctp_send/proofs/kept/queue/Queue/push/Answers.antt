@@ -26,6 +26,7 @@ invariant_of-self-2 c =
     let one : Waiting = record { message = x; others = c.take_others.new.others } in
     let owes : c.owed.result ≡ owed_by w.size x % 2 ^ 64 = rw (← is) c.owed.ensures in
     let has : c.bytes_of-bytes.result ≡ bytes_of x = rw (← c.deref.ensures) c.bytes_of-bytes.ensures in
+    let counted = rw c.deref-4.ensures at c.in_ok-add_bytes.ensures.counted in
     rw (c.push_back_reserved.ensures.items, c.in_ok-make_place.ensures.items, seat)
-    (queue_pushed w.size w.owed c.owed.result w.bytes c.bytes_of-bytes.result w.last w.rises c.if-self.self w.is_seated w.messages.items one w.seats.items c.add_seat.new.seats.items i owes has own
+    (queue_pushed w.size w.owed c.owed.result w.bytes c.bytes_of-bytes.result w.last w.rises c.if-self.self w.is_seated w.messages.items one w.seats.items c.add_seat.new.seats.items w.user_bytes.items c.add_bytes.new.counts.items i owes has counted own
     (rw seat at above) (rw (seat, c.in_ok-make_room.ensures.items) at c.add_seat.ensures))

@@ -1,9 +1,21 @@
-use Rattle.std.proofs.Common.{◌≡◌, ◌∙◌, ◌<◌, ◌%◌, ◌^◌, length, refl, arith, deque_len}
+use Rattle.std.proofs.Common.{◌≡◌, ◌∙◌, ◌<◌, ◌%◌, ◌^◌, length, refl, sym, arith, deque_len}
+use Rattle.sctp_send.specs.inner.Owning.{messages_of}
 use Rattle.sctp_send.specs.inner.Seating.{owed_by}
 use Rattle.sctp_send.specs.declared.kept.waiting.Waiting.{Waiting}
+use Rattle.sctp_send.proofs.kept.OwnedLemmas.{message_read, messages_long}
 use Rattle.sctp_send.proofs.kept.SeatedLemmas.{mapped_removed, queue_removed}
+use Rattle.sctp_send.proofs.kept.UserLemmas.{reached}
 use Rattle.sctp_send.proofs.kept.queue.Queue.remove.Goals as goal
 use Rattle.sctp_send.proofs.kept.queue.Queue.remove.Goals.{then-self, else-self}
+
+pub take_bytes-requires : goal.take_bytes-requires
+take_bytes-requires c =
+    let w = c.self.inside in
+    let y = c.in_ok-waiting.waiting in
+    let there : c.args.place < deque_len w.messages = c.in_ok-waiting.ensures.variant.0 refl in
+    let long = messages_long w.messages.items in
+    rw c.deref-message.ensures
+    (reached w.user_bytes.items (messages_of w.messages.items) c.args.place y.message c.self.invariant.user (omega (arith, there, long)) (sym (message_read w.messages.items c.args.place y c.in_ok-waiting.ensures.value)))
 
 pub invariant_of-self-then-self : goal.invariant_of-self-then-self
 invariant_of-self-then-self c =
@@ -11,8 +23,8 @@ invariant_of-self-then-self c =
     let y = c.in_ok-waiting.waiting in
     let there : c.args.place < deque_len w.messages = c.in_ok-waiting.ensures.variant.0 refl in
     let owes : c.owed-owed.result ≡ owed_by w.size y.message % 2 ^ 64 = rw (← c.deref-message.ensures, ← c.deref-bytes.ensures.value, ← c.fragments_of.ensures) c.owed-owed.ensures in
-    rw c.in_ok-waiting.ensures.items
-    (queue_removed w.size w.owed c.owed-owed.result w.bytes (length c.deref-bytes.result.now) w.last c.args.place w.rises w.is_seated w.messages.items y w.seats.items c.free_seat.new.seats.items c.self.invariant (omega (arith, there)) c.in_ok-waiting.ensures.value
+    rw (c.in_ok-waiting.ensures.items, c.take_bytes.ensures, c.deref-message.ensures)
+    (queue_removed w.size w.owed c.owed-owed.result w.bytes (length c.deref-bytes.result.now) w.last c.args.place w.rises w.is_seated w.messages.items y w.seats.items c.free_seat.new.seats.items w.user_bytes.items c.self.invariant (omega (arith, there)) c.in_ok-waiting.ensures.value
     owes (rw (c.deref-bytes.ensures.value, c.deref-message.ensures) refl) (omega (arith, c.deref-bytes.ensures.len, c.deref-bytes.type_inv)) (λ ps _. c.free_seat.ensures ps))
 
 pub invariant_of-self-else-self : goal.invariant_of-self-else-self
@@ -21,8 +33,8 @@ invariant_of-self-else-self c =
     let y = c.in_ok-waiting.waiting in
     let there : c.args.place < deque_len w.messages = c.in_ok-waiting.ensures.variant.0 refl in
     let owes : c.owed-owed.result ≡ owed_by w.size y.message % 2 ^ 64 = rw (← c.deref-message.ensures, ← c.deref-bytes.ensures.value, ← c.fragments_of.ensures) c.owed-owed.ensures in
-    rw c.in_ok-waiting.ensures.items
-    (queue_removed w.size w.owed c.owed-owed.result w.bytes (length c.deref-bytes.result.now) w.last c.args.place w.rises w.is_seated w.messages.items y w.seats.items w.seats.items c.self.invariant (omega (arith, there)) c.in_ok-waiting.ensures.value
+    rw (c.in_ok-waiting.ensures.items, c.take_bytes.ensures, c.deref-message.ensures)
+    (queue_removed w.size w.owed c.owed-owed.result w.bytes (length c.deref-bytes.result.now) w.last c.args.place w.rises w.is_seated w.messages.items y w.seats.items w.seats.items w.user_bytes.items c.self.invariant (omega (arith, there)) c.in_ok-waiting.ensures.value
     owes (rw (c.deref-bytes.ensures.value, c.deref-message.ensures) refl) (omega (arith, c.deref-bytes.ensures.len, c.deref-bytes.type_inv)) (λ ps on. absurd (cc (on, c.if-self.false))))
 
 pub returns-clause-some : goal.returns-clause-some
