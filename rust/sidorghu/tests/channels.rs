@@ -32,6 +32,8 @@ fn a_channel_is_opened_used_and_closed() {
     let Event::Incoming { stream: 0, parameters } = &reported[0] else { panic!("{reported:?}") };
     assert_eq!((parameters.label_text(), &parameters.protocol[..], parameters.ordered), (Some("chat"), &b"v1"[..], false));
     assert_eq!((parameters.reliability, parameters.priority), (Reliability::MaxRetransmits(3), 512));
+    let shown = "Parameters { label: \"chat\", protocol: \"v1\", ordered: false, reliability: MaxRetransmits(3), priority: 512 }";
+    assert_eq!(format!("{parameters:?}"), shown);
     settle(&mut a, &mut b, ms(2));
     assert_eq!(events(&mut a), [Event::Opened { stream: 0 }]);
     assert!(b.send(ms(3), 0, &[1, 2]).is_ok());
@@ -202,6 +204,16 @@ fn an_endpoint_is_read_through_its_channels() {
     assert_eq!((through_channels.1.2, through_channels.2.2, through_channels.3.6), (1, Some(1), 1));
     assert_eq!(through_channels.4.2, Some(Ticket(2)));
     assert_eq!(format!("{through_channels:?}"), format!("{:?}", read!(a.into_endpoint())));
+}
+
+#[test]
+fn a_label_may_be_no_text() {
+    let (mut a, mut b) = channels();
+    a.open(&ChannelOptions::new(b"a\xff")).unwrap();
+    settle(&mut a, &mut b, ms(1));
+    let Ok(Some(Event::Incoming { parameters, .. })) = b.next_event() else { panic!("no channel") };
+    assert_eq!((&parameters.label[..], parameters.label_text()), (&b"a\xff"[..], None));
+    assert!(format!("{parameters:?}").starts_with("Parameters { label: b\"a\\xff\", protocol: \"\","));
 }
 
 #[test]

@@ -89,7 +89,7 @@ impl Event {
 }
 
 /// The parameters of a channel that the peer opened (RFC 8832, 5.1).
-#[derive(Clone, Debug, PartialEq, Eq)]
+#[derive(Clone, PartialEq, Eq)]
 #[non_exhaustive]
 pub struct Parameters {
     /// Its name, which should be UTF-8.
@@ -118,6 +118,31 @@ impl Parameters {
     /// The label as text; `None` if it isn't UTF-8.
     pub fn label_text(&self) -> Option<&str> {
         core::str::from_utf8(&self.label).ok()
+    }
+}
+
+/// It shows label and protocol as text, or as bytes if they aren't UTF-8.
+impl fmt::Debug for Parameters {
+    fn fmt(&self, f: &mut fmt::Formatter<'_>) -> fmt::Result {
+        f.debug_struct("Parameters")
+            .field("label", &Name(&self.label))
+            .field("protocol", &Name(&self.protocol))
+            .field("ordered", &self.ordered)
+            .field("reliability", &self.reliability)
+            .field("priority", &self.priority)
+            .finish()
+    }
+}
+
+/// A name that should be UTF-8.
+struct Name<'a>(&'a [u8]);
+
+impl fmt::Debug for Name<'_> {
+    fn fmt(&self, f: &mut fmt::Formatter<'_>) -> fmt::Result {
+        match core::str::from_utf8(self.0) {
+            Ok(text) => write!(f, "{text:?}"),
+            Err(_) => write!(f, "b\"{}\"", self.0.escape_ascii()),
+        }
     }
 }
 
