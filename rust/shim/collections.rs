@@ -56,7 +56,18 @@ impl<T> VecDeque<T> {
     /// Appends an item; if it fails, the item comes back.
     #[inline]
     pub fn push_back(&mut self, value: T) -> Result<(), AllocFailed<T>> {
-        if self.items.len() == self.items.capacity() && self.grow(1).is_err() {
+        if self.items.len() == self.items.capacity() {
+            return self.push_back_grown(value);
+        }
+        self.items.push_back(value);
+        Ok(())
+    }
+
+    /// `push_back` for a list that has no space.
+    #[cold]
+    #[inline(never)]
+    fn push_back_grown(&mut self, value: T) -> Result<(), AllocFailed<T>> {
+        if self.items.try_reserve(1).is_err() {
             return Err(AllocFailed { value });
         }
         self.items.push_back(value);
@@ -66,7 +77,7 @@ impl<T> VecDeque<T> {
     /// Puts an item before all others; if it fails, the item comes back.
     #[inline]
     pub fn push_front(&mut self, value: T) -> Result<(), AllocFailed<T>> {
-        if self.items.len() == self.items.capacity() && self.grow(1).is_err() {
+        if self.reserve(1).is_err() {
             return Err(AllocFailed { value });
         }
         self.items.push_front(value);
@@ -76,6 +87,16 @@ impl<T> VecDeque<T> {
     /// Appends an item for which there is space.
     #[inline]
     pub fn push_back_reserved(&mut self, value: T) {
+        if self.items.len() == self.items.capacity() {
+            return self.push_back_unreserved(value);
+        }
+        self.items.push_back(value);
+    }
+
+    /// `push_back_reserved` for a list without space, which no caller has: with it apart, the call is short enough to be inlined.
+    #[cold]
+    #[inline(never)]
+    fn push_back_unreserved(&mut self, value: T) {
         self.items.push_back(value);
     }
 

@@ -5,26 +5,25 @@ use super::ops::BitXor;
 /// Sixteen bytes.
 #[derive(Clone, Copy, Debug, PartialEq, Eq)]
 #[allow(non_camel_case_types)]
-#[repr(align(16))]
-pub struct u8x16([u8; 16]);
+pub struct u8x16(u128);
 
 impl u8x16 {
     /// Sixteen times this byte.
     #[inline(always)]
     pub fn splat(value: u8) -> u8x16 {
-        u8x16([value; 16])
+        u8x16(u128::from_ne_bytes([value; 16]))
     }
 
     /// The first sixteen bytes of a slice, which has as many.
     #[inline(always)]
     pub fn from_slice(bytes: &[u8]) -> u8x16 {
-        u8x16(*bytes.first_chunk().expect("sixteen bytes"))
+        u8x16(u128::from_ne_bytes(*bytes.first_chunk().expect("sixteen bytes")))
     }
 
     /// Writes the bytes over the first sixteen of a slice, which has as many.
     #[inline(always)]
     pub fn copy_to_slice(self, bytes: &mut [u8]) {
-        bytes[..16].copy_from_slice(&self.0);
+        bytes[..16].copy_from_slice(&self.0.to_ne_bytes());
     }
 }
 
@@ -33,6 +32,6 @@ impl BitXor for u8x16 {
 
     #[inline(always)]
     fn bitxor(self, other: u8x16) -> u8x16 {
-        u8x16((u128::from_ne_bytes(self.0) ^ u128::from_ne_bytes(other.0)).to_ne_bytes())
+        u8x16(self.0 ^ other.0)
     }
 }

@@ -91,7 +91,18 @@ impl<T> Vec<T> {
     /// Appends an item; if it fails, the item comes back.
     #[inline]
     pub fn push(&mut self, value: T) -> Result<(), AllocFailed<T>> {
-        if self.items.len() == self.items.capacity() && self.grow(1).is_err() {
+        if self.items.len() == self.items.capacity() {
+            return self.push_grown(value);
+        }
+        self.items.push(value);
+        Ok(())
+    }
+
+    /// `push` for a list that has no space.
+    #[cold]
+    #[inline(never)]
+    fn push_grown(&mut self, value: T) -> Result<(), AllocFailed<T>> {
+        if self.items.try_reserve(1).is_err() {
             return Err(AllocFailed { value });
         }
         self.items.push(value);
