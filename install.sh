@@ -6,12 +6,13 @@
 #     install.sh --archive FILE    the same as FILE, a .tar.gz of one folder, sctp_endpoint-VERSION, which may be unpacked anywhere: pkg-config
 #                                  finds the rest from where its own file is. It prints what stands in the archive
 #
-# With --cargo before these it is built by cargo from the erased sources, which takes a minute, any target of 64 bits (CARGO_BUILD_TARGET names
-# another than this machine's; CC and AR are its tools then). Else it is what `rt lib` proved and built in crates/sctp_c. It needs `rt` or cargo,
-# a C compiler (CC) and ar (AR); who has an archive needs none of them. `pkg-config --variable=build sctp_endpoint` says which build it is.
+# With --cargo before these it is built by cargo from the erased sources, which takes a minute, for any target of 64 bits (CARGO_BUILD_TARGET names
+# another than this machine's; CC and AR are its tools then); --cargo=fast-checksum has the processor's checksum where there is one. Else it is what
+# `rt lib` proved and built in crates/sctp_c. It needs cargo or `rt`, a C compiler (CC) and ar (AR); who has an archive needs none of them.
+# `pkg-config --variable=build sctp_endpoint` says which build it is.
 
 set -euo pipefail
-usage() { echo "install.sh [--cargo] PREFIX | install.sh [--cargo] --archive FILE" >&2; exit 2; }
+usage() { echo "install.sh [--cargo[=FEATURES]] PREFIX | install.sh [--cargo[=FEATURES]] --archive FILE" >&2; exit 2; }
 fail() { echo "install.sh: $*" >&2; exit 1; }
 root=$(CDPATH='' cd -- "$(dirname -- "$0")" && pwd -P)
 header=$root/include/sctp_endpoint.h
@@ -42,7 +43,10 @@ own_of() {
 erased() {
     command -v cargo > /dev/null || fail "no cargo"
     local target built
-    (cd "$root/rust" && cargo build --release --offline --package sidorghu-c) || fail "cargo build ended with $?"
+    # LLVM inlines functions that are longer than it would by itself: 1 to 3 % fewer instructions a message. RUSTFLAGS stands in place of this.
+    local inlined='build.rustflags=["-C", "llvm-args=-inline-threshold=600"]'
+    (cd "$root/rust" && cargo --config "$inlined" build --release --offline --package sidorghu-c --features "$features") \
+        || fail "cargo build ended with $?"
     target=$(cd "$root/rust" && cargo metadata --format-version 1 --no-deps --offline | sed 's/.*"target_directory":"\([^"]*\)".*/\1/')
     built=$target/${CARGO_BUILD_TARGET:+$CARGO_BUILD_TARGET/}release
     own_of "$built/libsctp_endpoint.a" core 'sctp_endpoint*.o'
@@ -102,8 +106,11 @@ list() {
     done
 }
 
-build_it=proved
-if [ "${1:-}" = --cargo ]; then build_it=erased; shift; fi
+build_it=proved features=
+case ${1:-} in
+--cargo) build_it=erased; shift ;;
+--cargo=*) build_it=erased features=${1#--cargo=}; shift ;;
+esac
 case ${1:-} in
 --archive)
     [ $# = 2 ] || usage

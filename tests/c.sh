@@ -1,7 +1,8 @@
 #!/usr/bin/env bash
 # The library for C, tried:
 #   tests/c.sh            what (cd crates/sctp_c && rt lib) built: it needs `rt`
-#   tests/c.sh --cargo    what cargo builds in rust/c: it needs cargo; if the library of `rt lib` is there too, their instructions are compared
+#   tests/c.sh --cargo    what cargo builds in rust/c: it needs cargo; if the library of `rt lib` is there too, their instructions are compared.
+#                         --cargo=fast-checksum builds it with this feature
 # It needs a C compiler; C++, valgrind, libusrsctp, cargo and python3 are used if they are there, and it says what it leaves out. It takes some
 # minutes, and prints a line for each try.
 
@@ -11,7 +12,7 @@ at=$(mktemp -d)
 trap 'rm -rf "$at"' EXIT
 cc=${CC:-cc}
 cd "$root"
-[ $# = 0 ] || [ "$*" = --cargo ] || { echo "tests/c.sh [--cargo]" >&2; exit 2; }
+case "$*" in '' | --cargo | --cargo=*) ;; *) echo "tests/c.sh [--cargo[=FEATURES]]" >&2; exit 2 ;; esac
 by=("$@")
 ./install.sh "${by[@]}" "$at/prefix"
 prefix=$at/prefix
@@ -132,7 +133,7 @@ if there valgrind "valgrind"; then
     mapfile -t ours < <(four)
     rows=("64 bytes, 9.5 to a packet" "the same as I-DATA" "64 bytes, one to a packet" "16 KiB")
     for row in 0 1 2 3; do compare "${rows[row]}" "${ours[row]}"; done
-    if [ "$*" = --cargo ] && [ -f crates/sctp_c/out/libsctp_c.a ]; then
+    if [ $# = 1 ] && [ -f crates/sctp_c/out/libsctp_c.a ]; then
         ./install.sh "$at/proved"
         "$cc" "${flags[@]}" -o "$at/cost_proved" tests/c/cost.c "$at/proved/lib/libsctp_endpoint.a" "$at/proved/lib/libsctp_endpoint_malloc.a"
         counting=$at/cost_proved

@@ -78,8 +78,9 @@ fn compiler() -> Result<String, Box<dyn Error>> {
 
 /// The file for pkg-config.
 fn package(header: &Header, compiler: &str) -> Result<String, Box<dyn Error>> {
+    let checksum = if env::var_os("CARGO_FEATURE_FAST_CHECKSUM").is_some() { ", with the processor's checksum" } else { "" };
     Ok(format!(
-        "libdir=${{pcfiledir}}\nincludedir={}\nbuild=erased, compiled by {compiler} for {}\n\nName: sctp_endpoint\n\
+        "libdir=${{pcfiledir}}\nincludedir={}\nbuild=erased{checksum}, compiled by {compiler} for {}\n\nName: sctp_endpoint\n\
          Description: One endpoint of an SCTP association: no sockets, no clock, no random numbers\nVersion: {}\n\
          Cflags: -I${{includedir}}\nLibs: -L${{libdir}} -lsctp_endpoint\nLibs.private: -lsctp_endpoint_malloc\n",
         header.folder.display(),

@@ -14,6 +14,9 @@ extern crate std;
 mod arrayvec;
 #[path = "../../shim/byteorder.rs"]
 mod byteorder;
+#[cfg(feature = "fast-checksum")]
+#[path = "../../shim/fast_checksum.rs"]
+mod fast_checksum;
 mod memory;
 #[allow(dead_code, unused_imports, unused_macros)]
 #[path = "../../shim/mod.rs"]
