@@ -19,8 +19,8 @@ const USER_DATA: [u32; 2] = [51, 53];
 impl Channels {
     /// The bytes of user data queued on a stream: those of the messages that `send` accepted and of which no fragment was sent yet. A message leaves
     /// it as a whole, when its first fragment gets a TSN, or when it is abandoned. Messages of DCEP and empty contents count 0, and so does a stream
-    /// that isn't there. On a stream without a channel nothing is queued, but what was still queued when the association ended. Each of the
-    /// endpoint's queued messages, 1,024 at most, is looked at.
+    /// that isn't there. On a stream without a channel nothing is queued, but what was still queued when the association ended. It is a number that is
+    /// kept: no message is looked at.
     pub fn buffered_amount(&self, stream: u16) -> u64
         ensures { (v : EndView) (x : Table) → ChannelsStand self.now v x → result ≡ buffered v stream }
     {
