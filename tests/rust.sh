@@ -41,6 +41,8 @@ step() {
 step 'the sources are erased' cargo run --quiet --locked --offline -p sidorghu-eraser --bin sidorghu-erase -- "$root" "$room/erased"
 step 'the checksum has the place where the processor is asked' cargo run --quiet --locked --offline -p sidorghu-eraser --bin sidorghu-erase -- \
     "$root" "$room/other" --fast-checksum
+step "docs/RUST.md shows the eraser's table" sh -c 'cargo run --quiet --locked --offline -p sidorghu-eraser --bin sidorghu-erase -- --rows >"$1" &&
+    sed -n "/^<!-- rows -->\$/,/^<!-- end of rows -->\$/p" ../docs/RUST.md | sed "1d;\$d" | diff "$1" -' sh "$room/rows"
 step 'the erased text is the sources, word for word' python3 -B same_code.py "$root" "$room/erased"
 step 'faults that are sown in it are told' python3 -B sown_faults.py "$root" "$room/erased"
 step 'cargo checks the workspace and its tests' cargo check --quiet --locked --offline --workspace --all-targets

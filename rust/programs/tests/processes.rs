@@ -85,7 +85,8 @@ fn a_fault_form_is_the_program() {
 /// Each crate with a stored output is run: here, or by `programs.rs` and `rows.rs`.
 #[test]
 fn no_stored_run_is_left_out() {
-    let mut found: Vec<String> = std::fs::read_dir(path("crates")).expect("crates").map(|it| it.expect("a crate").file_name().into_string().expect("a name")).collect();
+    let mut found: Vec<String> =
+        std::fs::read_dir(path("crates")).expect("crates").map(|it| it.expect("a crate").file_name().into_string().expect("a name")).collect();
     found.retain(|name| ["stdout", "status", "args", "stdin"].iter().any(|file| path(&format!("crates/{name}/{file}")).exists()));
     found.sort();
     let mut run: Vec<&str> = STORED.iter().map(|(name, _)| *name).collect();
