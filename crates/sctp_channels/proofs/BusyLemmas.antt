@@ -1,5 +1,5 @@
 -- Outside of the range of busy streams no channel is closed, no amount is low, and nothing is due.
-use Rattle.std.proofs.Common.{◌≡◌, ℕ, ◌-◌, ◌≤◌, ◌&&◌, not, Bool, false, length, None, refl, arith}
+use Rattle.std.proofs.Common.{◌≡◌, ℕ, ◌-◌, ◌≤◌, ◌&&◌, not, Bool, false, length, None, refl, sym, ◌∙◌, arith}
 use Rattle.std.specs.Prelude.{nat_le}
 use Rattle.std.proofs.lemmas.Bool.{and_parts, or_left, or_right, or_parts, false_from_ne_true}
 use Rattle.sctp_model.specs.end.EndView.{EndView}
@@ -53,3 +53,7 @@ search_begins test x r holds fails = first_from_start test r.low (length x.strea
 
 pub search_ends : (test : ℕ → Bool) (x : Table) (r : Span) (i : ℕ) → r.high ≤ i → ((q : ℕ) → (IsWithin r q → ⊥) → test q ≡ false) → first_from test i (length x.streams - i) ≡ None
 search_ends test x r i past fails = none_from test i (length x.streams) (λ q low. fails q (λ in_r. let high = in_r.1 in omega (arith, past, low, high)))
+
+-- there is none in the range
+pub nothing_within : (test : ℕ → Bool) (x : Table) (r : Span) → Holds r x → r.high ≤ r.low → ((q : ℕ) → (IsWithin r q → ⊥) → test q ≡ false) → None ≡ first_from test 0 (length x.streams)
+nothing_within test x r holds none fails = sym (search_begins test x r holds fails ∙ search_ends test x r r.low none fails)

@@ -66,8 +66,3 @@ pub uncounted : (x : Table) (s : ℕ) (y : Stream) → y.is_reset ≡ false → 
 uncounted x s y off kept =
     let same : one_taken y ≡ stream_at x s = ap (λ (b : Bool). if b then leaving (y.left - 1) y else y) off ∙ kept in
     sym (ap (λ (z : Stream). with_stream x s z) same ∙ ap (λ (ys : List Stream). record x { streams = ys }) (set-get_or x.streams s unused))
-
--- it counts as on that table
-pub counted_as : (t u x : Table) (s : ℕ) (y : Stream) → (y ≡ stream_at t s → u ≡ with_stream t s (one_taken y)) → t ≡ x → y ≡ stream_at x s → u ≡ with_stream x s (one_taken y)
-counted_as t u x s y is same kept =
-    is (kept ∙ sym (ap (λ (r : Table). stream_at r s) same)) ∙ ap (λ (r : Table). with_stream r s (one_taken y)) same

@@ -1,3 +1,4 @@
+pub mod CalmLemmas
 pub mod FirstLemmas
 pub mod TurnLemmas
 pub mod SettlingLemmas

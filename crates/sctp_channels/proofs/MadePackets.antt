@@ -24,7 +24,7 @@ use Rattle.sctp_channels.specs.Streams.{Table}
 use Rattle.sctp_channels.specs.Settling.{Standing, settled_below, settled_all}
 use Rattle.sctp_channels.specs.Events.{with_reset, reset_noted, resets_noted, all_noted}
 use Rattle.sctp_channels.specs.Packets.{StandNoted}
-use Rattle.sctp_channels.specs.ChannelsStand.{ChannelsStand, endpoint_of, table_of}
+use Rattle.sctp_channels.specs.ChannelsStand.{ChannelsStand}
 use Rattle.sctp_channels.specs.Driven.{is_call, Elsewhere, Notes}
 use Rattle.sctp_channels.specs.Making.{Makes, IsReached, IsAllNoted, IsMade}
 use Rattle.sctp_channels.specs.MadeByCalls.{IsAnsweredBy, PacketsAreMade, IsSentAs, TransmitsAreMade}
@@ -65,10 +65,6 @@ module _ (y : Side) (w : World) (x : Table) where
       (makes_one y w1 S.table (Build y ∷ []) (Build y) _ _ t (Some (packet_of (end_of w1 y) (c ∷ cs))) [] S.table refl (at_packet w1 y t (packet_of (end_of w1 y) (c ∷ cs)))
       (steps.BuildsOne y c cs t (built_there (c ∷ cs) t b)) (Elsewhere (Build y) _ refl) refl))
 
-stands_as : (c : Channels) (v : EndView) (x : Table) → EndpointStands (endpoint_of c) v → table_of c ≡ x → ChannelsStand c v x
-unfolding ChannelsStand
-stands_as c v x stands is = (stands, is)
-
 pub transmits_made : TransmitsAreMade
 transmits_made y w x (Ok None) c ((t, b, stands), is) = (
   [],
@@ -77,7 +73,7 @@ transmits_made y w x (Ok None) c ((t, b, stands), is) = (
     view = t;
     table = (settled_all (end_of w y) x).table;
     makes = none_made y w x t b;
-    stands = stands_as c t _ stands is;
+    stands = is t stands;
     noted = λ r all. still_noted y w x [] t b all;
   },
 )
@@ -93,7 +89,7 @@ transmits_made y w x (Ok (Some sent)) c (s, is) = go s.chunks s.some s.builds s.
         view = s.after;
         table = (settled_all (end_of w y) x).table;
         makes = some_made y w x k ks s.after b;
-        stands = stands_as c s.after _ s.stands is;
+        stands = is s.after s.stands;
         noted = λ r all. still_noted y w x (k ∷ ks) s.after b all;
       },
     )

@@ -1,5 +1,5 @@
 -- Packets that are received and sent.
-use Rattle.std.proofs.Common.{◌≡◌, ℕ, length, Option, Result, Ok, Err}
+use Rattle.std.proofs.Common.{ℕ, length, Option, Result, Ok, Err}
 use Rattle.std.specs.Prelude.{IfOk, OnErr}
 use Rattle.sctp_model.specs.wire.Packet.{Packet}
 use Rattle.sctp_model.specs.end.EndView.{Draw, EndView}
@@ -15,7 +15,7 @@ use Rattle.sctp_channels.specs.declared.channels.Channels.{Channels}
 use Rattle.sctp_channels.specs.Streams.{Table}
 use Rattle.sctp_channels.specs.Settling.{settled_all}
 use Rattle.sctp_channels.specs.Packets.{StandNoted, Hears, Transmit}
-use Rattle.sctp_channels.specs.ChannelsStand.{ChannelsStand, endpoint_of, table_of}
+use Rattle.sctp_channels.specs.ChannelsStand.{ChannelsStand, endpoint_of}
 
 -- a packet was handled, and resets were noted
 pub hears_as : (v : EndView) (x : Table) (now : ℕ) (d : Draw) (o : Option Packet) (r : Result Verdict NoMemory) (e : Endpoint) (c : Channels)
@@ -26,7 +26,6 @@ hears_as v x now d o (Err why) e c (t, cut, stands, wants) noted = (t, cut, want
 -- what was due was passed on, and a packet was sent
 pub transmits_as : (v : EndView) (x : Table) (now : ℕ) (r : Result (Option Sent) NoMemory) (c : Channels)
     → IfOk r (λ (sent : Option Sent). Transmits (at_moment (settled_all v x).view now) sent (endpoint_of c))
-    → OnErr r (EndpointStands (endpoint_of c) (settled_all v x).view) → table_of c ≡ (settled_all v x).table → Transmit v x now r c
-unfolding ChannelsStand
-transmits_as v x now (Ok sent) c went refused table = (went, table)
-transmits_as v x now (Err why) c went refused table = (length x.streams, (refused, table))
+    → OnErr r (EndpointStands (endpoint_of c) (settled_all v x).view) → ((t : EndView) → EndpointStands (endpoint_of c) t → ChannelsStand c t (settled_all v x).table) → Transmit v x now r c
+transmits_as v x now (Ok sent) c went refused stands = (went, stands)
+transmits_as v x now (Err why) c went refused stands = (length x.streams, stands _ refused)

@@ -6,6 +6,7 @@ use Rattle.sctp_model.specs.end.Strays as model
 use Rattle.sctp_model.specs.end.Clock.{at_moment}
 use Rattle.sctp_model.specs.end.Arriving.{Receives, IsCutShort, WantsNoMemory}
 use Rattle.sctp_values.specs.declared.no_memory.NoMemory.{NoMemory}
+use Rattle.sctp_endpoint.specs.EndpointStands.{EndpointStands}
 use Rattle.sctp_endpoint.specs.Handled.{VerdictStands}
 use Rattle.sctp_endpoint.specs.Transmitted.{Transmits}
 use Rattle.sctp_endpoint.specs.declared.after.Verdict.{Verdict}
@@ -14,7 +15,7 @@ use Rattle.sctp_channels.specs.declared.channels.Channels.{Channels}
 use Rattle.sctp_channels.specs.Streams.{Table}
 use Rattle.sctp_channels.specs.Settling.{settled_below, settled_all}
 use Rattle.sctp_channels.specs.Events.{all_noted}
-use Rattle.sctp_channels.specs.ChannelsStand.{endpoint_of, table_of, ChannelsStand}
+use Rattle.sctp_channels.specs.ChannelsStand.{endpoint_of, ChannelsStand}
 
 -- the endpoint, to which this was done, and its streams, on which each reset of the peer that wasn't told is noted
 abbrev pub StandNoted : EndView → Table → Channels → Type 0
@@ -27,5 +28,6 @@ Hears v x now d o (Err why) c = (t : EndView) × IsCutShort v now d o t × (Want
 
 -- What was due of the channels was passed to the endpoint, which then sent its next packet; or an allocation failed, and only what was due on the streams below some one was.
 abbrev pub Transmit : EndView → Table → (now : ℕ) → Result (Option Sent) NoMemory → Channels → Type 0
-Transmit v x now (Ok sent) c = Transmits (at_moment (settled_all v x).view now) sent (endpoint_of c) × (table_of c ≡ (settled_all v x).table)
+Transmit v x now (Ok sent) c =
+    Transmits (at_moment (settled_all v x).view now) sent (endpoint_of c) × ((t : EndView) → EndpointStands (endpoint_of c) t → ChannelsStand c t (settled_all v x).table)
 Transmit v x now (Err why) c = (n : ℕ) × ChannelsStand c (settled_below n v x).view (settled_below n v x).table

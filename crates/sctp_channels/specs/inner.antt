@@ -4,3 +4,4 @@ pub mod Sent
 pub mod Settles
 pub mod Spans
 pub mod Upcoming
+pub mod Ahead

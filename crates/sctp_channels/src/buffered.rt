@@ -2,10 +2,11 @@
 
 ghost use Rattle.std.specs.Prelude.{◌≡◌, length};
 ghost use Rattle.sctp_model.specs.end.EndView.{EndView};
+ghost use Rattle.sctp_endpoint.specs.Counted.{counted};
 ghost use Rattle.sctp_channels.specs.Streams.{Table, first_from};
 ghost use Rattle.sctp_channels.specs.Buffered.{buffered, is_low};
 ghost use Rattle.sctp_channels.specs.Answers.{StandLooked, SetsThreshold};
-ghost use Rattle.sctp_channels.specs.ChannelsStand.{ChannelsStand};
+ghost use Rattle.sctp_channels.specs.ChannelsStand.{ChannelsStand, endpoint_of};
 
 use crate::channels::Channels;
 use crate::fault::ThresholdFault;
@@ -39,13 +40,15 @@ impl Channels {
         stream: u16,
         bytes: u32,
     ) -> Result<(), ThresholdFault>
-        ensures { (v : EndView) (x : Table) → ChannelsStand self.old v x → SetsThreshold v x stream bytes result self.new }
+        ensures step { (v : EndView) (x : Table) → ChannelsStand self.old v x → SetsThreshold v x stream bytes result self.new }
+        ensures counts { counted (endpoint_of self.new) ≡ counted (endpoint_of self.old) }
     {
         if !self.table.at(stream).state.may_send() {
             return Err(ThresholdFault::NoChannel);
         }
         match self.table.make_thresholds(self.alloc) {
             Ok(()) => {
+                self.is_calm = false;
                 let threshold = Threshold::of(bytes, self.buffered_amount(stream));
                 self.table.set_threshold(stream, threshold);
                 Ok(())
@@ -56,11 +59,13 @@ impl Channels {
 
     /// Looks at the buffered amount of a stream: one above its threshold is noted.
     pub(crate) fn look(&mut self, stream: u16)
-        ensures { (v : EndView) (x : Table) → ChannelsStand self.old v x → StandLooked v stream x self.new }
+        ensures step { (v : EndView) (x : Table) → ChannelsStand self.old v x → StandLooked v stream x self.new }
+        ensures counts { counted (endpoint_of self.new) ≡ counted (endpoint_of self.old) }
     {
         let threshold = self.table.threshold(stream);
         if threshold.is_waiting() {
             let amount = self.buffered_amount(stream);
+            self.is_calm = false;
             self.table.set_threshold(stream, threshold.looked(amount));
         }
     }

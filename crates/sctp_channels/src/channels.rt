@@ -2,6 +2,7 @@
 
 ghost use Rattle.std.specs.Prelude.{◌≡◌, max, IfOk};
 ghost use Rattle.sctp_model.specs.end.EndView.{EndView};
+ghost use Rattle.sctp_endpoint.specs.Counted.{counted};
 ghost use Rattle.sctp_endpoint.specs.EndpointStands.{EndpointStands};
 ghost use Rattle.sctp_channels.specs.Streams.{fresh_table};
 ghost use Rattle.sctp_channels.specs.ChannelsStand.{endpoint_of, ChannelsStand};
@@ -18,6 +19,8 @@ pub struct Channels {
     pub(crate) alloc: Global,
     pub(crate) endpoint: Endpoint,
     pub(crate) table: Table,
+    /// No channel is closed and no buffered amount is low: neither is looked for until something changes.
+    pub(crate) is_calm: bool,
 }
 
 #[tactic(auto, unfolding(crate::specs::ChannelsStand::ChannelsStand, crate::specs::ChannelsStand::endpoint_of, crate::specs::ChannelsStand::table_of))]
@@ -28,8 +31,9 @@ impl Channels {
     /// # Errors
     /// `NoMemory` if an allocation failed: the endpoint is dropped.
     pub fn new(alloc: Global, endpoint: Endpoint, role: DtlsRole) -> Result<Channels, NoMemory>
-        ensures { (v : EndView) → EndpointStands endpoint v
+        ensures stands { (v : EndView) → EndpointStands endpoint v
             → IfOk result (λ c. ChannelsStand c v (fresh_table role (max v.configuration.outbound v.configuration.inbound))) }
+        ensures counts { IfOk result (λ c. counted (endpoint_of c) ≡ counted endpoint) }
     {
         let config = endpoint.config();
         let streams = config.outbound().max(config.inbound());
@@ -38,6 +42,7 @@ impl Channels {
             alloc,
             endpoint,
             table,
+            is_calm: false,
         })
     }
 

@@ -1,10 +1,11 @@
 //! Channels are closed by the reset of their streams (RFC 8831, 6.7).
 
 ghost use Rattle.sctp_model.specs.end.EndView.{EndView};
+ghost use Rattle.sctp_endpoint.specs.Counted.{counted};
 ghost use Rattle.sctp_channels.specs.Streams.{Table};
 ghost use Rattle.sctp_channels.specs.Events.{all_noted};
 ghost use Rattle.sctp_channels.specs.Answers.{Closes};
-ghost use Rattle.sctp_channels.specs.ChannelsStand.{ChannelsStand};
+ghost use Rattle.sctp_channels.specs.ChannelsStand.{ChannelsStand, endpoint_of};
 ghost use Rattle.std.specs.Prelude.{◌≡◌};
 ghost use Rattle.sctp_channels.specs.inner.Settles.{wants_memory, SettlesOne, SettlesAll, SettlesAs};
 ghost use Rattle.sctp_model.specs.end.UserCalls.{send_answer, reset_call};
@@ -26,12 +27,14 @@ impl Channels {
     /// `CloseFault::NoChannel` if there is no channel on the stream, or it is being closed; else `CloseFault::Refused` if the endpoint doesn't reset the
     /// stream: without stream reset, or if the association isn't established, no channel can be closed. Nothing changed.
     pub fn close(&mut self, stream: u16) -> Result<(), CloseFault>
-        ensures { (v : EndView) (x : Table) → ChannelsStand self.old v x → Closes v x stream result self.new }
+        ensures step { (v : EndView) (x : Table) → ChannelsStand self.old v x → Closes v x stream result self.new }
+        ensures counts { counted (endpoint_of self.new) ≡ counted (endpoint_of self.old) }
     {
         let kept = self.table.at(stream);
         if !kept.state.may_send() {
             return Err(CloseFault::NoChannel);
         }
+        self.is_calm = false;
         self.endpoint.reset(stream).map_err(CloseFault::Refused)?;
         self.table.set(
             stream,
@@ -44,12 +47,29 @@ impl Channels {
         Ok(())
     }
 
-    /// Passes to the endpoint what is due on all streams, the lowest first.
+    /// Passes to the endpoint what is due on all streams, the lowest first. Without a busy stream nothing is.
     ///
     /// # Errors
     /// `NoMemory` if an allocation failed: it is still due on that stream and those above.
+    #[inline(always)]
     pub(crate) fn settle(&mut self) -> Result<(), NoMemory>
-        ensures { (v : EndView) (x : Table) → ChannelsStand self.old v x → SettlesAll v x result self.new }
+        ensures step { (v : EndView) (x : Table) → ChannelsStand self.old v x → SettlesAll v x result self.new }
+        ensures counts { counted (endpoint_of self.new) ≡ counted (endpoint_of self.old) }
+    {
+        if self.table.busy.high <= self.table.busy.low {
+            return Ok(());
+        }
+        self.settle_busy()
+    }
+
+    /// `settle`, with busy streams. A function of its own, so that packets cost little where no stream is busy.
+    ///
+    /// # Errors
+    /// As `settle`.
+    #[inline(never)]
+    fn settle_busy(&mut self) -> Result<(), NoMemory>
+        ensures step { (v : EndView) (x : Table) → ChannelsStand self.old v x → SettlesAll v x result self.new }
+        ensures counts { counted (endpoint_of self.new) ≡ counted (endpoint_of self.old) }
     {
         for stream in self.table.busy.low..self.table.busy.high {
             match self.settle_one(stream) {
@@ -67,11 +87,13 @@ impl Channels {
     /// `NoMemory` if an allocation failed: nothing changed.
     #[inline(never)]
     fn settle_one(&mut self, stream: u16) -> Result<(), NoMemory>
-        ensures { (v : EndView) (x : Table) → ChannelsStand self.old v x → SettlesOne v x stream result self.new }
+        ensures step { (v : EndView) (x : Table) → ChannelsStand self.old v x → SettlesOne v x stream result self.new }
+        ensures counts { counted (endpoint_of self.new) ≡ counted (endpoint_of self.old) }
     {
         let kept = self.table.at(stream);
         match self.settle_due(stream, kept) {
             Ok(settled) => {
+                self.is_calm = false;
                 self.table.set(stream, settled);
                 Ok(())
             }
@@ -84,7 +106,8 @@ impl Channels {
     /// # Errors
     /// `NoMemory` if an allocation failed: nothing changed.
     fn settle_due(&mut self, stream: u16, kept: Stream) -> Result<Stream, NoMemory>
-        ensures { (v : EndView) (x : Table) → ChannelsStand self.old v x → SettlesAs (settled v stream kept) v x result self.new }
+        ensures step { (v : EndView) (x : Table) → ChannelsStand self.old v x → SettlesAs (settled v stream kept) v x result self.new }
+        ensures counts { counted (endpoint_of self.new) ≡ counted (endpoint_of self.old) }
     {
         match kept.due {
             Due::Nothing => Ok(kept),
@@ -98,7 +121,8 @@ impl Channels {
     /// # Errors
     /// `NoMemory` if an allocation failed: nothing changed.
     fn settle_ack(&mut self, stream: u16, kept: Stream) -> Result<Stream, NoMemory>
-        ensures { (v : EndView) (x : Table) → ChannelsStand self.old v x → SettlesAs (acknowledged (send_answer v (ack_call stream)) v stream kept) v x result self.new }
+        ensures step { (v : EndView) (x : Table) → ChannelsStand self.old v x → SettlesAs (acknowledged (send_answer v (ack_call stream)) v stream kept) v x result self.new }
+        ensures counts { counted (endpoint_of self.new) ≡ counted (endpoint_of self.old) }
     {
         match self.queue_ack(stream) {
             Ok(_) => Ok(kept.without_due()),
@@ -117,8 +141,10 @@ impl Channels {
     /// # Errors
     /// `NoMemory` if an allocation failed: nothing changed.
     fn settle_reset(&mut self, stream: u16, kept: Stream) -> Result<Stream, NoMemory>
-        ensures { (v : EndView) (x : Table) → ChannelsStand self.old v x → SettlesAs (reset_asked (reset_call v stream) v stream kept) v x result self.new }
+        ensures step { (v : EndView) (x : Table) → ChannelsStand self.old v x → SettlesAs (reset_asked (reset_call v stream) v stream kept) v x result self.new }
+        ensures counts { counted (endpoint_of self.new) ≡ counted (endpoint_of self.old) }
     {
+        self.is_calm = false;
         match self.endpoint.reset(stream) {
             Ok(()) | Err(ResetFault::NoSuchStream) => Ok(kept.without_due()),
             Err(ResetFault::State) => Ok(kept),
@@ -129,7 +155,8 @@ impl Channels {
     /// Notes each reset of the peer that wasn't reported (RFC 6525, 5.2.2). After most packets there is none.
     #[inline(always)]
     pub(crate) fn note_resets(&mut self)
-        ensures { (v : EndView) (x : Table) → ChannelsStand self.old v x → ChannelsStand self.new (all_noted v x).view (all_noted v x).table }
+        ensures step { (v : EndView) (x : Table) → ChannelsStand self.old v x → ChannelsStand self.new (all_noted v x).view (all_noted v x).table }
+        ensures counts { counted (endpoint_of self.new) ≡ counted (endpoint_of self.old) }
     {
         if self.endpoint.has_reset() {
             self.note_each_reset();
@@ -139,10 +166,12 @@ impl Channels {
     /// Notes each reset of the peer that wasn't reported.
     #[inline(never)]
     fn note_each_reset(&mut self)
-        ensures { (v : EndView) (x : Table) → ChannelsStand self.old v x → ChannelsStand self.new (all_noted v x).view (all_noted v x).table }
+        ensures step { (v : EndView) (x : Table) → ChannelsStand self.old v x → ChannelsStand self.new (all_noted v x).view (all_noted v x).table }
+        ensures counts { counted (endpoint_of self.new) ≡ counted (endpoint_of self.old) }
     {
         let streams = self.endpoint.inbound();
         for done in 0..streams {
+            self.is_calm = false;
             match self.endpoint.take_reset() {
                 Some(reset) => {
                     let kept = self.table.at(reset.stream);

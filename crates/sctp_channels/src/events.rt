@@ -4,22 +4,23 @@ ghost use Rattle.std.specs.Prelude.{◌≡◌, List, ◌∷◌, length, option_m
 ghost use Rattle.sctp_model.specs.receiver.ReceiverView.{Handed};
 ghost use Rattle.sctp_model.specs.end.EndView.{EndView};
 ghost use Rattle.sctp_recv.specs.HandedOf.{handed_of};
+ghost use Rattle.sctp_endpoint.specs.Counted.{counted};
 ghost use Rattle.sctp_channels.specs.Streams.{Table, stream_at, first_from};
-ghost use Rattle.sctp_channels.specs.Settling.{is_closed};
 ghost use Rattle.sctp_channels.specs.Events.{readable_from, turn, reports_taken, reports_message, reports_over, next_report};
 ghost use Rattle.sctp_channels.specs.Meanings.{event_meaning};
-ghost use Rattle.sctp_channels.specs.ChannelsStand.{ChannelsStand};
+ghost use Rattle.sctp_channels.specs.ChannelsStand.{ChannelsStand, endpoint_of};
 ghost use Rattle.sctp_channels.specs.Telling.{Tells};
 ghost use Rattle.sctp_channels.specs.Told.{Message as Shows};
 ghost use Rattle.sctp_channels.specs.Coming.{tells};
 ghost use Rattle.sctp_channels.specs.inner.SaidMeans.{kind_meaning};
 ghost use Rattle.sctp_channels.specs.inner.Telling.{IsContentOf, IsEventOf};
 
+use crate::ahead::Ahead;
 use crate::channels::Channels;
 use crate::coming::{Side, Told, comes};
 use crate::event::Event;
 use crate::said::{ContentKind, content_told, read_message};
-use crate::stream::{Due, State, Stream};
+use crate::stream::Stream;
 use sctp_endpoint::Message;
 use sctp_values::NoMemory;
 
@@ -44,44 +45,25 @@ impl Channels {
     pub fn next_event(&mut self) -> Result<Option<Event>, NoMemory>
         ensures told { (v : EndView) (x : Table) → ChannelsStand self.old v x → IfOk result (λ event. Tells (next_report v x) event self.new) }
         ensures refused { (v : EndView) (x : Table) → ChannelsStand self.old v x → OnErr result (ChannelsStand self.new v x) }
+        ensures counts { counted (endpoint_of self.new) ≡ counted (endpoint_of self.old) }
     {
-        if let Some(stream) = self.first_closed() {
-            self.table.free(stream);
-            return Ok(Some(Event::Closed { stream }));
-        }
-        if let Some(stream) = self.first_low() {
-            let threshold = self.table.threshold(stream);
-            self.table.set_threshold(stream, threshold.told_low());
-            return Ok(Some(Event::BufferedAmountLow { stream }));
-        }
-        match self.turn() {
-            Some(stream) => self.hear(stream),
-            None => Ok(self.end()),
-        }
-    }
-
-    /// The lowest stream whose channel is closed.
-    pub(crate) fn first_closed(&self) -> Option<u16>
-        ensures { (v : EndView) (x : Table) → ChannelsStand self.now v x → result ≡ first_from (is_closed v x) 0 (length x.streams) }
-    {
-        for stream in self.table.busy.low..self.table.busy.high {
-            if self.is_closed(stream) {
-                return Some(stream);
+        match self.ahead() {
+            Ahead::Closed { stream } => {
+                self.is_calm = false;
+                self.table.free(stream);
+                Ok(Some(Event::Closed { stream }))
             }
+            Ahead::Low { stream } => {
+                self.is_calm = false;
+                let threshold = self.table.threshold(stream);
+                self.table.set_threshold(stream, threshold.told_low());
+                Ok(Some(Event::BufferedAmountLow { stream }))
+            }
+            Ahead::Nothing => match self.turn() {
+                Some(stream) => self.hear(stream),
+                None => Ok(self.end()),
+            },
         }
-        None
-    }
-
-    /// The channel of the stream is closed (RFC 8831, 6.7).
-    #[inline(never)]
-    fn is_closed(&self, stream: u16) -> bool
-        ensures { (v : EndView) (x : Table) → ChannelsStand self.now v x → result ≡ is_closed v x stream }
-    {
-        let kept = self.table.at(stream);
-        matches!(kept.state, State::Closing)
-            && kept.is_drained()
-            && !matches!(kept.due, Due::Reset)
-            && !self.endpoint.is_resetting(stream)
     }
 
     /// The stream whose turn it is, of those with a message to be reported: the endpoint's next one with a message, unless what waits there first is of the
@@ -145,6 +127,7 @@ impl Channels {
         ensures told { (v : EndView) (x : Table) → ChannelsStand self.old v x
             → IfOk result (λ event. Tells (reports_message stream (v.receiver.waiting stream) v x) event self.new) }
         ensures refused { (v : EndView) (x : Table) → ChannelsStand self.old v x → OnErr result (ChannelsStand self.new v x) }
+        ensures counts { counted (endpoint_of self.new) ≡ counted (endpoint_of self.old) }
     {
         let Some(message) = self.endpoint.waiting(stream, 0) else {
             return Ok(None);
@@ -159,6 +142,7 @@ impl Channels {
             outgoing: self.outgoing(),
         };
         let after = comes(side, stream, said, kept);
+        self.is_calm = false;
         if !after.taken {
             self.table.set(stream, after.stream);
             return Ok(Some(Event::Opened { stream }));
@@ -172,22 +156,24 @@ impl Channels {
     /// The first message that waits on a stream is taken, and reported as a content of this kind. Nearly every message is heard so: what `comes` says of
     /// one, with the parameters of a channel in its place, is too much to copy for each.
     fn take_content(&mut self, stream: u16, kept: Stream, kind: ContentKind) -> Event
-        ensures { (v : EndView) (x : Table) (h : Handed) (rest : List Handed) → ChannelsStand self.old v x → v.receiver.waiting stream ≡ h ∷ rest
+        ensures step { (v : EndView) (x : Table) (h : Handed) (rest : List Handed) → ChannelsStand self.old v x → v.receiver.waiting stream ≡ h ∷ rest
             → kept ≡ stream_at x stream → Tells (reports_taken stream h rest (tells (Shows (kind_meaning h.bytes kind)) kept) v x) (Some result) self.new }
+        ensures counts { counted (endpoint_of self.new) ≡ counted (endpoint_of self.old) }
     {
         let message = self.endpoint.take(stream);
-        self.table.count_taken(stream, kept);
-        self.table.turn_past(stream);
+        self.count_taken(stream, kept);
         content_event(stream, kind, message)
     }
 
     /// Once the association is over, a channel that is left is closed.
     fn end(&mut self) -> Option<Event>
-        ensures { (v : EndView) (x : Table) → ChannelsStand self.old v x → Tells (reports_over v x) result self.new }
+        ensures step { (v : EndView) (x : Table) → ChannelsStand self.old v x → Tells (reports_over v x) result self.new }
+        ensures counts { counted (endpoint_of self.new) ≡ counted (endpoint_of self.old) }
     {
         if self.endpoint.ended().is_none() {
             return None;
         }
+        self.is_calm = false;
         let stream = self.table.first_used()?;
         self.table.free(stream);
         Some(Event::Closed { stream })

@@ -2,10 +2,11 @@
 //!
 //! [`Channels`] owns its `Endpoint` and keeps 16 bytes for each stream, and 8 more once a low threshold was set. It has no queue of its own: what is sent
 //! is queued by the endpoint, what was received waits there, and a label is returned with the event that says it. A call looks at the streams between the
-//! lowest and the highest on which there may be something to do, and at no others. Each call makes calls of the endpoint, which its contract lists:
-//! `specs/Streams` says what is kept, `specs/Coming` what a message does to its stream, `specs/Calling` and `specs/Settling` which calls are made,
-//! `specs/Buffered` how much is buffered, `specs/Events` what is reported next. A channel is closed by the reset of its stream in both directions (RFC 8831, 6.7): whatever the peer sent
-//! before it reset the stream is reported before `Event::Closed`, and what it sends after that waits until then.
+//! lowest and the highest on which there may be something to do, and at no others; what is closed or low is looked for once after each change. Each call
+//! makes calls of the endpoint, which its contract lists: `specs/Streams` says what is kept, `specs/Coming` what a message does to its stream,
+//! `specs/Calling` and `specs/Settling` which calls are made, `specs/Buffered` how much is buffered, `specs/Events` what is reported next. A channel is
+//! closed by the reset of its stream in both directions (RFC 8831, 6.7): whatever the peer sent before it reset the stream is reported before
+//! `Event::Closed`, and what it sends after that waits until then.
 //!
 //! | promise | contract |
 //! |---|---|
@@ -21,6 +22,7 @@
 //! | a packet is handled as the endpoint handles it, and each reset of the peer is noted | [`Channels::handle_packet`]: `Hears`, `all_noted` |
 //! | what is due is passed to the endpoint before its next packet | [`Channels::poll_transmit`]: `Transmit`, `settled_all` |
 //! | calls that are passed on are the endpoint's, and the streams stay as they are | [`Channels::connect`], [`Channels::on_moment`], [`Channels::abandon`], [`Channels::shutdown`], [`Channels::abort`] |
+//! | each call says what is counted, as those of the endpoint do: a packet that is received, sent or aborts, and nothing else | clause `counts` of each |
 //! | buffers handed back, and memory given back, change nothing | [`Channels::recycle`], [`Channels::recycle_tickets`], [`Channels::give_back`], [`Channels::trim`] |
 //! | the longest message to announce to the peer is a quarter of the receive buffer | [`Channels::max_message_size`] |
 //!
@@ -39,6 +41,7 @@
 //! Not promised: that the peer answers, that labels and text are UTF-8, anything of DTLS and ICE. A body may answer `NoMemory` although there was some.
 #![tactic(auto)]
 
+mod ahead;
 mod buffered;
 mod channels;
 mod closing;

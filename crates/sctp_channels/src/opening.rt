@@ -3,11 +3,12 @@
 ghost use Rattle.std.specs.Prelude.{◌≡◌, ◌≤◌, ◌&&◌, ℕ, Option, Ok};
 ghost use Rattle.sctp_model.specs.end.EndView.{EndView};
 ghost use Rattle.sctp_dcep.specs.Meanings.{reliability_meaning, opening_meaning};
+ghost use Rattle.sctp_endpoint.specs.Counted.{counted};
 ghost use Rattle.sctp_channels.specs.Streams.{Table, stream_at, is_own, is_free, first_from};
 ghost use Rattle.sctp_channels.specs.inner.Sent.{SendsOn};
 ghost use Rattle.sctp_channels.specs.Calling.{open_call, outgoing, both_ways, is_too_long, is_out_of_range, free_stream, own_stream, stream_for, open_choice, negotiated_choice};
 ghost use Rattle.sctp_channels.specs.Answers.{Opens, OpensNegotiated};
-ghost use Rattle.sctp_channels.specs.ChannelsStand.{ChannelsStand};
+ghost use Rattle.sctp_channels.specs.ChannelsStand.{ChannelsStand, endpoint_of};
 
 use crate::channels::Channels;
 use crate::fault::OpenFault;
@@ -30,7 +31,8 @@ impl Channels {
     /// # Errors
     /// The first `OpenFault` that applies. Nothing changed.
     pub fn open(&mut self, parameters: &Opening<'_>, stream: Option<u16>) -> Result<u16, OpenFault>
-        ensures { (v : EndView) (x : Table) → ChannelsStand self.old v x → Opens v x (opening_meaning parameters.now) stream result self.new }
+        ensures step { (v : EndView) (x : Table) → ChannelsStand self.old v x → Opens v x (opening_meaning parameters.now) stream result self.new }
+        ensures counts { counted (endpoint_of self.new) ≡ counted (endpoint_of self.old) }
     {
         match self.open_choice(parameters, stream) {
             Ok(stream) => self.open_on(parameters, stream),
@@ -43,8 +45,9 @@ impl Channels {
     /// # Errors
     /// `OpenFault::Refused`: nothing changed.
     fn open_on(&mut self, parameters: &Opening<'_>, stream: u16) -> Result<u16, OpenFault>
-        ensures { (v : EndView) (x : Table) (o : Option ℕ) → ChannelsStand self.old v x → open_choice v x (opening_meaning parameters.now) o ≡ Ok stream
+        ensures step { (v : EndView) (x : Table) (o : Option ℕ) → ChannelsStand self.old v x → open_choice v x (opening_meaning parameters.now) o ≡ Ok stream
             → Opens v x (opening_meaning parameters.now) o result self.new }
+        ensures counts { counted (endpoint_of self.new) ≡ counted (endpoint_of self.old) }
     {
         match self.queue_open(parameters, stream) {
             Ok(_) => {
@@ -53,6 +56,7 @@ impl Channels {
                     parameters.ordered,
                     parameters.reliability,
                 );
+                self.is_calm = false;
                 self.table.set(stream, kept);
                 Ok(stream)
             }
@@ -65,11 +69,13 @@ impl Channels {
     /// # Errors
     /// The endpoint refuses it, or an allocation failed: nothing changed.
     fn queue_open(&mut self, parameters: &Opening<'_>, stream: u16) -> Result<Ticket, Refused>
-        ensures { (v : EndView) (x : Table) → ChannelsStand self.old v x → SendsOn v x (open_call stream (opening_meaning parameters.now)) result self.new }
+        ensures step { (v : EndView) (x : Table) → ChannelsStand self.old v x → SendsOn v x (open_call stream (opening_meaning parameters.now)) result self.new }
+        ensures counts { counted (endpoint_of self.new) ≡ counted (endpoint_of self.old) }
     {
         let bytes = write_open(self.alloc, parameters).map_err(|_| Refused::Fault(
             SendFault::NoMemory,
         ))?;
+        self.is_calm = false;
         self.endpoint.send(stream, true, DCEP, bytes, None)
     }
 
@@ -83,7 +89,8 @@ impl Channels {
         ordered: bool,
         reliability: Reliability,
     ) -> Result<(), OpenFault>
-        ensures { (v : EndView) (x : Table) → ChannelsStand self.old v x → OpensNegotiated v x ordered (reliability_meaning reliability) stream result self.new }
+        ensures step { (v : EndView) (x : Table) → ChannelsStand self.old v x → OpensNegotiated v x ordered (reliability_meaning reliability) stream result self.new }
+        ensures counts { counted (endpoint_of self.new) ≡ counted (endpoint_of self.old) }
     {
         match self.negotiated_choice(stream, reliability) {
             Ok(_) => {
@@ -91,6 +98,7 @@ impl Channels {
                     .table
                     .at(stream)
                     .with_channel(State::Open, ordered, reliability);
+                self.is_calm = false;
                 self.table.set(stream, kept);
                 Ok(())
             }

@@ -1,14 +1,17 @@
 //! Packets are received and sent.
 
-ghost use Rattle.std.specs.Prelude.{◌≡◌, Option, IfOk};
+ghost use Rattle.std.specs.Prelude.{◌≡◌, length, Option, IfOk};
 ghost use Rattle.sctp_model.specs.wire.Packet as meaning;
+ghost use Rattle.sctp_model.specs.end.Clock.{at_moment};
 ghost use Rattle.sctp_model.specs.end.EndView.{EndView};
+ghost use Rattle.sctp_endpoint.specs.Counted.{counted, sacks_read, heard_counts, CountsAfter};
 ghost use Rattle.sctp_endpoint.specs.Handled.{IsRead, IsAnsweredWithin};
 ghost use Rattle.sctp_endpoint.specs.Transmitted.{TellsFew};
+ghost use Rattle.sctp_channels.specs.Settling.{settled_all};
 ghost use Rattle.sctp_channels.specs.Streams.{Table};
 ghost use Rattle.sctp_channels.specs.Events.{all_noted};
 ghost use Rattle.sctp_channels.specs.Packets.{Hears, Transmit};
-ghost use Rattle.sctp_channels.specs.ChannelsStand.{ChannelsStand};
+ghost use Rattle.sctp_channels.specs.ChannelsStand.{ChannelsStand, endpoint_of};
 
 use crate::channels::Channels;
 use sctp_endpoint::{Draw, Sent, Verdict};
@@ -24,7 +27,10 @@ impl Channels {
     pub fn handle_packet(&mut self, now: u64, bytes: &[u8], draw: Draw) -> Result<Verdict, NoMemory>
         ensures step { (v : EndView) (x : Table) (o : Option meaning.Packet) → ChannelsStand self.old v x → IsRead bytes.now o → Hears v x now draw o result self.new }
         ensures within { (v : EndView) (x : Table) → ChannelsStand self.old v x → IfOk result (λ verdict. IsAnsweredWithin v.configuration.limit verdict) }
+        ensures counts { (v : EndView) (x : Table) (o : Option meaning.Packet) → ChannelsStand self.old v x → IsRead bytes.now o
+            → counted (endpoint_of self.new) ≡ heard_counts (length bytes.now) (sacks_read o) result (counted (endpoint_of self.old)) }
     {
+        self.is_calm = false;
         let heard = self.endpoint.handle_packet(now, bytes, draw);
         self.noted(heard)
     }
@@ -35,6 +41,7 @@ impl Channels {
     fn noted(&mut self, heard: Result<Verdict, NoMemory>) -> Result<Verdict, NoMemory>
         ensures same { result ≡ heard }
         ensures noted { (v : EndView) (x : Table) → ChannelsStand self.old v x → ChannelsStand self.new (all_noted v x).view (all_noted v x).table }
+        ensures counts { counted (endpoint_of self.new) ≡ counted (endpoint_of self.old) }
     {
         match heard {
             Ok(Verdict::Taken) => {
@@ -56,9 +63,14 @@ impl Channels {
     pub fn poll_transmit(&mut self, now: u64) -> Result<Option<Sent>, NoMemory>
         ensures step { (v : EndView) (x : Table) → ChannelsStand self.old v x → Transmit v x now result self.new }
         ensures few { (v : EndView) (x : Table) → ChannelsStand self.old v x → IfOk result (λ sent. TellsFew sent) }
+        ensures counts { (v : EndView) (x : Table) → ChannelsStand self.old v x
+            → CountsAfter (at_moment (settled_all v x).view now) result (endpoint_of self.new) (counted (endpoint_of self.old)) }
     {
         match self.settle() {
-            Ok(()) => self.endpoint.poll_transmit(now),
+            Ok(()) => {
+                self.is_calm = false;
+                self.endpoint.poll_transmit(now)
+            }
             Err(NoMemory) => Err(NoMemory),
         }
     }

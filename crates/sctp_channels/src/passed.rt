@@ -7,8 +7,9 @@ ghost use Rattle.sctp_model.specs.end.UserCalls.{connect_answer, abandons, aband
 ghost use Rattle.sctp_send.specs.SenderAnswers.{answer_meaning};
 ghost use Rattle.sctp_association.specs.AbortAnswers.{AbortAnswers, aborted_view};
 ghost use Rattle.sctp_association.specs.CallAnswers.{connect_meaning, connected, shutdown_meaning};
+ghost use Rattle.sctp_endpoint.specs.Counted.{counted, aborted_counts};
 ghost use Rattle.sctp_channels.specs.Streams.{Table};
-ghost use Rattle.sctp_channels.specs.ChannelsStand.{ChannelsStand};
+ghost use Rattle.sctp_channels.specs.ChannelsStand.{ChannelsStand, endpoint_of};
 
 use crate::channels::Channels;
 use sctp_endpoint::{Abandoned, AbortFault, ConnectFault, Draw, Message, ShutdownFault, Ticket};
@@ -22,7 +23,9 @@ impl Channels {
     pub fn connect(&mut self, now: u64, draw: Draw) -> Result<(), ConnectFault>
         ensures answer { (v : EndView) (x : Table) → ChannelsStand self.old v x → connect_meaning result ≡ connect_answer v.phase }
         ensures step { (v : EndView) (x : Table) → ChannelsStand self.old v x → ChannelsStand self.new (connected v now draw result) x }
+        ensures counts { counted (endpoint_of self.new) ≡ counted (endpoint_of self.old) }
     {
+        self.is_calm = false;
         self.endpoint.connect(now, draw)
     }
 
@@ -31,14 +34,18 @@ impl Channels {
     pub fn abandon(&mut self, ticket: Ticket) -> Abandoned
         ensures answer { (v : EndView) (x : Table) → ChannelsStand self.old v x → answer_meaning result ≡ abandons v ticket.0 }
         ensures step { (v : EndView) (x : Table) → ChannelsStand self.old v x → ChannelsStand self.new (abandoned_at v ticket.0) x }
+        ensures counts { counted (endpoint_of self.new) ≡ counted (endpoint_of self.old) }
     {
+        self.is_calm = false;
         self.endpoint.abandon(ticket)
     }
 
     /// Advances the time to `now`, in milliseconds: `Endpoint::on_moment`.
     pub fn on_moment(&mut self, now: u64)
         ensures step { (v : EndView) (x : Table) → ChannelsStand self.old v x → ChannelsStand self.new (ticked v now) x }
+        ensures counts { counted (endpoint_of self.new) ≡ counted (endpoint_of self.old) }
     {
+        self.is_calm = false;
         self.endpoint.on_moment(now);
     }
 
@@ -65,7 +72,9 @@ impl Channels {
     pub fn shutdown(&mut self) -> Result<(), ShutdownFault>
         ensures answer { (v : EndView) (x : Table) → ChannelsStand self.old v x → shutdown_meaning result ≡ shutdown_answer v.phase }
         ensures step { (v : EndView) (x : Table) → ChannelsStand self.old v x → ChannelsStand self.new (shut v) x }
+        ensures counts { counted (endpoint_of self.new) ≡ counted (endpoint_of self.old) }
     {
+        self.is_calm = false;
         self.endpoint.shutdown()
     }
 
@@ -78,34 +87,40 @@ impl Channels {
         ensures answer { (v : EndView) (x : Table) → ChannelsStand self.old v x → AbortAnswers v reason.now result }
         ensures within { (v : EndView) (x : Table) → ChannelsStand self.old v x → IfOk result (λ packet. length packet.items ≤ v.configuration.limit) }
         ensures step { (v : EndView) (x : Table) → ChannelsStand self.old v x → ChannelsStand self.new (aborted_view v reason.now result) x }
+        ensures counts { counted (endpoint_of self.new) ≡ aborted_counts result (counted (endpoint_of self.old)) }
     {
+        self.is_calm = false;
         self.endpoint.abort(reason)
     }
 
     /// Returns the buffer of a packet that was sent: `Endpoint::recycle`.
     pub fn recycle(&mut self, packet: Vec<u8>)
-        ensures { (v : EndView) (x : Table) → ChannelsStand self.old v x → ChannelsStand self.new v x }
+        ensures stands { (v : EndView) (x : Table) → ChannelsStand self.old v x → ChannelsStand self.new v x }
+        ensures counts { counted (endpoint_of self.new) ≡ counted (endpoint_of self.old) }
     {
         self.endpoint.recycle(packet);
     }
 
     /// Returns the buffer of the tickets of a packet that was sent: `Endpoint::recycle_tickets`.
     pub fn recycle_tickets(&mut self, tickets: Vec<Ticket>)
-        ensures { (v : EndView) (x : Table) → ChannelsStand self.old v x → ChannelsStand self.new v x }
+        ensures stands { (v : EndView) (x : Table) → ChannelsStand self.old v x → ChannelsStand self.new v x }
+        ensures counts { counted (endpoint_of self.new) ≡ counted (endpoint_of self.old) }
     {
         self.endpoint.recycle_tickets(tickets);
     }
 
     /// Returns the memory of a message that was reported: `Endpoint::give_back`.
     pub fn give_back(&mut self, message: Message)
-        ensures { (v : EndView) (x : Table) → ChannelsStand self.old v x → ChannelsStand self.new v x }
+        ensures stands { (v : EndView) (x : Table) → ChannelsStand self.old v x → ChannelsStand self.new v x }
+        ensures counts { counted (endpoint_of self.new) ≡ counted (endpoint_of self.old) }
     {
         self.endpoint.give_back(message);
     }
 
     /// Gives back memory that a burst of messages took: `Endpoint::trim`.
     pub fn trim(&mut self)
-        ensures { (v : EndView) (x : Table) → ChannelsStand self.old v x → ChannelsStand self.new v x }
+        ensures stands { (v : EndView) (x : Table) → ChannelsStand self.old v x → ChannelsStand self.new v x }
+        ensures counts { counted (endpoint_of self.new) ≡ counted (endpoint_of self.old) }
     {
         self.endpoint.trim();
     }

@@ -5,13 +5,15 @@ ghost use Rattle.sctp_model.specs.receiver.ReceiverView.{Handed};
 ghost use Rattle.sctp_model.specs.end.EndView.{EndView};
 ghost use Rattle.sctp_model.specs.end.UserCalls.{UserTakes};
 ghost use Rattle.sctp_recv.specs.HandedOf.{message_bytes};
+ghost use Rattle.sctp_endpoint.specs.Counted.{counted};
 ghost use Rattle.sctp_channels.specs.Streams.{Table};
 ghost use Rattle.sctp_channels.specs.Events.{reports_message, reports_over, next_report};
 ghost use Rattle.sctp_channels.specs.Writing.{Keeps, Writes};
-ghost use Rattle.sctp_channels.specs.ChannelsStand.{ChannelsStand};
+ghost use Rattle.sctp_channels.specs.ChannelsStand.{ChannelsStand, endpoint_of};
 ghost use Rattle.sctp_channels.specs.inner.SaidMeans.{bytes_unless};
 ghost use Rattle.sctp_channels.specs.inner.Upcoming.{Comes, PutsAll};
 
+use crate::ahead::Ahead;
 use crate::channels::Channels;
 use crate::said::{ContentKind, content_told};
 use sctp_endpoint::Message;
@@ -52,6 +54,7 @@ impl Channels {
     pub fn next_message_into(&mut self, buffer: &mut [u8]) -> Written
         ensures did { (v : EndView) (x : Table) → ChannelsStand self.old v x → Writes (next_report v x) v x result self.new buffer.old buffer.new }
         ensures kept { Keeps result buffer.old buffer.new }
+        ensures counts { counted (endpoint_of self.new) ≡ counted (endpoint_of self.old) }
     {
         match self.upcoming() {
             Upcoming::Nothing => Written::Nothing,
@@ -61,18 +64,18 @@ impl Channels {
     }
 
     /// What is reported next.
-    fn upcoming(&self) -> Upcoming
-        ensures { (v : EndView) (x : Table) → ChannelsStand self.now v x → Comes (next_report v x) v x result }
+    fn upcoming(&mut self) -> Upcoming
+        ensures comes { (v : EndView) (x : Table) → ChannelsStand self.old v x → Comes (next_report v x) v x result }
+        ensures same { (v : EndView) (x : Table) → ChannelsStand self.old v x → ChannelsStand self.new v x }
+        ensures counts { counted (endpoint_of self.new) ≡ counted (endpoint_of self.old) }
     {
-        if let Some(stream) = self.first_closed() {
-            return Upcoming::Other;
-        }
-        if let Some(stream) = self.first_low() {
-            return Upcoming::Other;
-        }
-        match self.turn() {
-            Some(stream) => Upcoming::First { stream },
-            None => self.upcoming_end(),
+        match self.ahead() {
+            Ahead::Nothing => match self.turn() {
+                Some(stream) => Upcoming::First { stream },
+                None => self.upcoming_end(),
+            },
+            Ahead::Closed { stream } => Upcoming::Other,
+            Ahead::Low { stream } => Upcoming::Other,
         }
     }
 
@@ -92,6 +95,7 @@ impl Channels {
         ensures did { (v : EndView) (x : Table) → ChannelsStand self.old v x
             → Writes (reports_message stream (v.receiver.waiting stream) v x) v x result self.new buffer.old buffer.new }
         ensures kept { Keeps result buffer.old buffer.new }
+        ensures counts { counted (endpoint_of self.new) ≡ counted (endpoint_of self.old) }
     {
         let Some(message) = self.endpoint.waiting(stream, 0) else {
             return Written::Nothing;
@@ -105,8 +109,7 @@ impl Channels {
         };
         self.drop_first(stream);
         let kept = self.table.at(stream);
-        self.table.count_taken(stream, kept);
-        self.table.turn_past(stream);
+        self.count_taken(stream, kept);
         Written::Message {
             stream,
             text: kind.text,
@@ -116,8 +119,9 @@ impl Channels {
 
     /// Takes the first message that waits on a stream, and gives its memory back to the endpoint.
     fn drop_first(&mut self, stream: u16)
-        ensures { (v : EndView) (x : Table) (h : Handed) → ChannelsStand self.old v x → slice_get (v.receiver.waiting stream) 0 ≡ Some h
+        ensures step { (v : EndView) (x : Table) (h : Handed) → ChannelsStand self.old v x → slice_get (v.receiver.waiting stream) 0 ≡ Some h
             → (t : EndView) × UserTakes v stream (Some h) t × ChannelsStand self.new t x }
+        ensures counts { counted (endpoint_of self.new) ≡ counted (endpoint_of self.old) }
     {
         if let Some(message) = self.endpoint.take(stream) {
             self.endpoint.give_back(message);

@@ -4,13 +4,14 @@ ghost use Rattle.std.specs.Prelude.{◌≡◌, min, Result, Option, Some, None};
 ghost use Rattle.sctp_model.specs.end.EndView.{EndView};
 ghost use Rattle.sctp_model.specs.numbers.Limits.{LAST_MOMENT};
 ghost use Rattle.sctp_dcep.specs.Meanings.{content_meaning};
+ghost use Rattle.sctp_endpoint.specs.Counted.{counted};
 ghost use Rattle.sctp_channels.specs.declared.stream.Due.TheVariants.{Acknowledgement};
 ghost use Rattle.sctp_association.specs.CallAnswers.{call_with};
 ghost use Rattle.sctp_send.specs.SenderAnswers.{lane_for};
 ghost use Rattle.sctp_channels.specs.Streams.{Table, stream_at};
 ghost use Rattle.sctp_channels.specs.Calling.{ack_call, content_call, until_by, limit_by};
 ghost use Rattle.sctp_channels.specs.Answers.{Sends};
-ghost use Rattle.sctp_channels.specs.ChannelsStand.{ChannelsStand};
+ghost use Rattle.sctp_channels.specs.ChannelsStand.{ChannelsStand, endpoint_of};
 ghost use Rattle.sctp_channels.specs.inner.Sent.{AcksOn, SendsOn, SendsBehind};
 
 use crate::channels::Channels;
@@ -37,7 +38,8 @@ impl Channels {
     /// message, or an allocation failed. If the DATA_CHANNEL_ACK of a channel of the peer's is still due it is queued first, and the message is
     /// refused with it; nothing else changed.
     pub fn send(&mut self, now: u64, stream: u16, content: Content<'_>) -> Result<Ticket, SendFault>
-        ensures { (v : EndView) (x : Table) → ChannelsStand self.old v x → Sends v x now stream (content_meaning content.entry) result self.new }
+        ensures step { (v : EndView) (x : Table) → ChannelsStand self.old v x → Sends v x now stream (content_meaning content.entry) result self.new }
+        ensures counts { counted (endpoint_of self.new) ≡ counted (endpoint_of self.old) }
     {
         let kept = self.table.at(stream);
         if !kept.state.may_send() {
@@ -63,8 +65,9 @@ impl Channels {
         kept: Stream,
         content: Content<'_>,
     ) -> Result<Ticket, Refused>
-        ensures { (v : EndView) (x : Table) → ChannelsStand self.old v x → kept ≡ stream_at x stream
+        ensures step { (v : EndView) (x : Table) → ChannelsStand self.old v x → kept ≡ stream_at x stream
             → SendsBehind v x now stream kept (content_meaning content.entry) result self.new }
+        ensures counts { counted (endpoint_of self.new) ≡ counted (endpoint_of self.old) }
     {
         match kept.due {
             Due::Acknowledgement => self.send_after_ack(now, stream, content),
@@ -84,8 +87,9 @@ impl Channels {
         stream: u16,
         content: Content<'_>,
     ) -> Result<Ticket, Refused>
-        ensures { (v : EndView) (x : Table) → ChannelsStand self.old v x → (stream_at x stream).due ≡ Acknowledgement
+        ensures step { (v : EndView) (x : Table) → ChannelsStand self.old v x → (stream_at x stream).due ≡ Acknowledgement
             → SendsBehind v x now stream (stream_at x stream) (content_meaning content.entry) result self.new }
+        ensures counts { counted (endpoint_of self.new) ≡ counted (endpoint_of self.old) }
     {
         let kept = self.table.at(stream);
         match self.acknowledge(stream, kept) {
@@ -99,11 +103,13 @@ impl Channels {
     /// # Errors
     /// The endpoint refuses it, or an allocation failed: nothing changed.
     pub(crate) fn queue_ack(&mut self, stream: u16) -> Result<Ticket, Refused>
-        ensures { (v : EndView) (x : Table) → ChannelsStand self.old v x → SendsOn v x (ack_call stream) result self.new }
+        ensures step { (v : EndView) (x : Table) → ChannelsStand self.old v x → SendsOn v x (ack_call stream) result self.new }
+        ensures counts { counted (endpoint_of self.new) ≡ counted (endpoint_of self.old) }
     {
         let bytes = Vec::from_slice(self.alloc, &[ACKNOWLEDGEMENT]).map_err(|_| Refused::Fault(
             Fault::NoMemory,
         ))?;
+        self.is_calm = false;
         self.endpoint.send(stream, true, DCEP, bytes, None)
     }
 
@@ -113,11 +119,13 @@ impl Channels {
     /// The endpoint refuses it, or an allocation failed: nothing changed.
     #[inline(never)]
     fn acknowledge(&mut self, stream: u16, kept: Stream) -> Result<Stream, Refused>
-        ensures { (v : EndView) (x : Table) → ChannelsStand self.old v x → AcksOn v x stream kept result self.new }
+        ensures step { (v : EndView) (x : Table) → ChannelsStand self.old v x → AcksOn v x stream kept result self.new }
+        ensures counts { counted (endpoint_of self.new) ≡ counted (endpoint_of self.old) }
     {
         match self.queue_ack(stream) {
             Ok(_) => {
                 let kept = kept.without_due();
+                self.is_calm = false;
                 self.table.set(stream, kept);
                 Ok(kept)
             }
@@ -138,7 +146,8 @@ impl Channels {
         kept: Stream,
         content: Content<'_>,
     ) -> Result<Ticket, Refused>
-        ensures { (v : EndView) (x : Table) → ChannelsStand self.old v x → SendsOn v x (content_call stream kept now (content_meaning content.entry)) result self.new }
+        ensures step { (v : EndView) (x : Table) → ChannelsStand self.old v x → SendsOn v x (content_call stream kept now (content_meaning content.entry)) result self.new }
+        ensures counts { counted (endpoint_of self.new) ≡ counted (endpoint_of self.old) }
     {
         let head = Head {
             stream,
@@ -163,8 +172,9 @@ impl Channels {
     /// The endpoint refuses it, or an allocation failed: nothing changed.
     #[inline(always)]
     fn send_reliable(&mut self, head: Head, bytes: &[u8]) -> Result<Ticket, Refused>
-        ensures { (v : EndView) (x : Table) → ChannelsStand self.old v x
+        ensures step { (v : EndView) (x : Table) → ChannelsStand self.old v x
             → SendsOn v x (call_with (lane_for head.stream head.ordered) head.payload_id bytes.now None None) result self.new }
+        ensures counts { counted (endpoint_of self.new) ≡ counted (endpoint_of self.old) }
     {
         let Ok(bytes) = self.endpoint.copy_bytes(self.alloc, bytes) else {
             return Err(Refused::Fault(Fault::NoMemory));
@@ -174,6 +184,7 @@ impl Channels {
             ordered,
             payload_id,
         } = head;
+        self.is_calm = false;
         self.endpoint.send(stream, ordered, payload_id, bytes, None)
     }
 
@@ -190,8 +201,9 @@ impl Channels {
         head: Head,
         bytes: &[u8],
     ) -> Result<Ticket, Refused>
-        ensures { (v : EndView) (x : Table) → ChannelsStand self.old v x
+        ensures step { (v : EndView) (x : Table) → ChannelsStand self.old v x
             → SendsOn v x (call_with (lane_for head.stream head.ordered) head.payload_id bytes.now (until_by kept.kind kept.parameter now) (limit_by kept.kind kept.parameter)) result self.new }
+        ensures counts { counted (endpoint_of self.new) ≡ counted (endpoint_of self.old) }
     {
         let Ok(bytes) = self.endpoint.copy_bytes(self.alloc, bytes) else {
             return Err(Refused::Fault(Fault::NoMemory));
@@ -202,6 +214,7 @@ impl Channels {
             payload_id,
         } = head;
         let until = until_by(kept.kind, kept.parameter, now);
+        self.is_calm = false;
         match limit_by(kept.kind, kept.parameter) {
             None => self
                 .endpoint

@@ -2,7 +2,6 @@
 
 ghost use Rattle.std.specs.Prelude.{◌≡◌, replicate, IfOk, OnErr};
 ghost use Rattle.sctp_channels.specs.Streams.{is_own, no_threshold, fresh_table, stream_at, with_stream, threshold_at, with_threshold, with_none};
-ghost use Rattle.sctp_channels.specs.Coming.{one_taken};
 ghost use Rattle.sctp_channels.specs.Events.{one_on};
 ghost use Rattle.sctp_channels.specs.Buffered.{with_thresholds};
 ghost use Rattle.sctp_channels.specs.Meanings.{table_meaning};
@@ -70,16 +69,6 @@ impl Table {
             self.busy = self.busy.with(stream, to.is_restless());
             self.used = self.used.with(stream, !to.state.is_unused());
         }
-    }
-
-    /// Counts that a message was taken from a stream that is kept so: nothing is written unless the peer has reset it.
-    pub(crate) fn count_taken(&mut self, stream: u16, kept: Stream)
-        ensures { kept ≡ stream_at (table_meaning self.old) stream → table_meaning self.new ≡ with_stream (table_meaning self.old) stream (one_taken kept) }
-    {
-        if !kept.is_reset {
-            return;
-        }
-        self.set(stream, kept.one_taken());
     }
 
     /// The next message is looked for on the streams behind this one, from which one was taken.

@@ -19,7 +19,7 @@ returns-in-Some-content_told-clause-told c = λ v x stands.
     let m = c.in-Some.message.now in
     let first = first_waits (v.receiver.waiting s) (handed_of m) (c.in-Some.ensures v stands.0) in
     let kept = at_as _ x s _ c.at-kept.ensures stands.1 in
-    told_content v x s (handed_of m) first.0 _ _ _ _ first.1 kept (c.in-Some-content_told.ensures (message_bytes m)) (c.take_content.ensures v x (handed_of m) first.0 stands first.1 kept)
+    told_content v x s (handed_of m) first.0 _ _ _ _ first.1 kept (c.in-Some-content_told.ensures (message_bytes m)) (c.take_content.ensures.step v x (handed_of m) first.0 stands first.1 kept)
 
 pub returns-then-not-after-clause-told : goal.returns-then-not-after-clause-told
 unfolding ChannelsStand endpoint_of table_of
@@ -29,7 +29,7 @@ returns-then-not-after-clause-told c = λ v x stands.
     let first = first_waits (v.receiver.waiting s) (handed_of m) (c.in-Some.ensures v stands.0) in
     let came = came_as _ _ x.role _ _ s _ _ _ _ (c.comes-after.ensures (message_bytes m)) (ap (λ (t : Table). t.role) stands.1) (c.outgoing.ensures.count v x stands) c.in_ok-said.ensures (at_as _ x s _ c.at-kept.ensures stands.1) in
     told_waiting v x s (handed_of m) first.0 (after_meaning (message_bytes m) c.comes-after.result) _ first.1 came (not_holds _ c.if-not-after.true)
-    (stands.0, c.set.ensures ∙ ap (λ (t : Table). with_stream t s c.comes-after.result.stream) stands.1)
+    (stands.0, c.set.ensures ∙ ap (λ (t : Table). with_stream t s c.comes-after.result.stream) stands.1, (λ on. absurd (cc on)))
 
 pub returns-clause-told : goal.returns-clause-told
 unfolding ChannelsStand endpoint_of table_of
@@ -45,4 +45,5 @@ returns-clause-told c = λ v x stands.
     (c.event.ensures ∙ ap (λ (t : Told). record { stream = s; told = t }) (ap (λ (bytes : _). told_meaning bytes c.comes-after.result.told) taken.0)) (
       subst (λ (t : EndView). EndpointStands c.take-message.new.self t) taken.1 step.2,
       c.turn_past.ensures ∙ ap (λ (t : Table). record t { next = one_on s }) put,
+      (λ on. absurd (cc on)),
     )

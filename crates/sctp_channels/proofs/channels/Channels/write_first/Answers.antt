@@ -3,18 +3,16 @@ use Rattle.std.specs.Prelude.{slice_get}
 use Rattle.sctp_model.specs.receiver.ReceiverView.{Handed}
 use Rattle.sctp_model.specs.end.EndView.{EndView}
 use Rattle.sctp_recv.specs.HandedOf.{message_bytes, handed_of}
-use Rattle.sctp_endpoint.specs.EndpointStands.{EndpointStands}
 use Rattle.sctp_channels.specs.declared.stream.Stream.{Stream}
 use Rattle.sctp_channels.specs.Streams.{Table, with_stream, stream_at}
 use Rattle.sctp_channels.specs.Told.{Message}
 use Rattle.sctp_channels.specs.Coming.{one_taken}
-use Rattle.sctp_channels.specs.Events.{Reported, one_on}
+use Rattle.sctp_channels.specs.Events.{Reported, one_on, reports_message}
 use Rattle.sctp_channels.specs.Writing.{Copies}
 use Rattle.sctp_channels.specs.ChannelsStand.{ChannelsStand, endpoint_of, table_of}
 use Rattle.sctp_channels.specs.inner.SaidMeans.{kind_meaning}
 use Rattle.sctp_channels.proofs.HearingLemmas.{first_waits}
 use Rattle.sctp_channels.proofs.TableLemmas.{at_as}
-use Rattle.sctp_channels.proofs.ContentLemmas.{counted_as}
 use Rattle.sctp_channels.proofs.UpcomingLemmas.{tells_apart, content_report, fits_not, took_first, kept_unless, kept_bytes}
 use Rattle.sctp_channels.proofs.channels.Channels.write_first.Goals as goal
 
@@ -50,19 +48,17 @@ returns-clause-did c = λ v x stands.
     let rest = first.0 in
     let there = at_as _ x s _ c.at-state.ensures stands.1 in
     let report = content_report v x s h rest _ (kind_meaning (message_bytes m) k) first.1 there (c.in-Some-content_told.ensures (message_bytes m)) in
-    let step = c.drop_first.ensures v x h stands (ap (λ (hs : List Handed). slice_get hs 0) first.1) in
+    let step = c.drop_first.ensures.step v x h stands (ap (λ (hs : List Handed). slice_get hs 0) first.1) in
     let gone = took_first v step.0 s h rest step.1 first.1 in
     let kept = at_as _ x s _ c.at-kept.ensures step.2.1 in
-    let put = counted_as _ _ x s _ c.count_taken.ensures step.2.1 kept ∙ ap (λ (y : Stream). with_stream x s (one_taken y)) kept in
+    let put = c.count_taken.ensures.step step.0 x step.2 kept in
     let copied = c.in-Some-copy_content.ensures in (
       kept_unless k.empty m,
       record {
         report = ap (λ (bytes : List ℕ). Some (record { stream = s; told = Message (record { text = k.text; bytes = bytes }) })) (kept_bytes k.empty m (message_bytes m) refl)
             ∙ sym (ap (λ (r : Reported). r.report) report);
-        stands = (
-          subst (λ (t : EndView). EndpointStands (endpoint_of c.drop_first.new.self) t) (gone ∙ sym (ap (λ (r : Reported). r.view) report)) step.2.0,
-          c.turn_past.ensures ∙ (ap (λ (t : Table). record t { next = one_on s }) put ∙ sym (ap (λ (r : Reported). r.table) report)),
-        );
+        stands = subst (λ (t : EndView). ChannelsStand c.count_taken.new.self t (reports_message s (v.receiver.waiting s) v x).table) (gone ∙ sym (ap (λ (r : Reported). r.view) report))
+            (subst (λ (t : Table). ChannelsStand c.count_taken.new.self step.0 t) (ap (λ (y : Stream). record (with_stream x s (one_taken y)) { next = one_on s }) kept ∙ sym (ap (λ (r : Reported). r.table) report)) put);
       },
       subst (λ (bytes : List ℕ). Copies bytes c.in-Some-copy_content.length c.args.buffer.now c.copy_content.new.buffer) (sym (kept_bytes k.empty m (message_bytes m) refl))
           (record { counted = copied.0; fits = copied.1; put = copied.2 }),
