@@ -34,6 +34,9 @@ fn law(source: &mut Source<'_>, at: usize, head: &Head) -> Result<usize, Unknown
     if (head.body..end).any(|place| source.word(place) == "unsafe") {
         return Err(source.unknown(at, "a law with `unsafe` has no row"));
     }
+    if (0..source.len()).any(|place| source.word(place) == "Cell") {
+        return Err(source.unknown(at, "a law in a file with `Cell`, which is written through `&`, has no row"));
+    }
     let start = source.with_lead(source.start(item_start(source, at)));
     source.remove(Row::Law, start, source.end(end));
     Ok(end + 1)
