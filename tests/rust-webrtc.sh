@@ -2,6 +2,7 @@
 # A page in a browser without a screen talks to a program in Rust over WebRTC data channels: examples/webrtc.rs of the crate in rust/sidorghu, which cargo
 # builds here from the proved sources, and the page of examples/webrtc; ICE and DTLS are aiortc's, on the loopback interface alone. The page opens
 # channels, sends text and binary data, empty and up to 65,536 bytes, gets each back, closes the channels, and goes; then a second page does it again.
+# To a third one the program opens a channel, and closes it.
 # To be run by hand; neither the toolchain nor the library for C is needed:
 #   tests/rust-webrtc.sh             Chromium, a minute with the build
 #   tests/rust-webrtc.sh firefox     Firefox in its place

@@ -128,6 +128,18 @@ const trials = {
     return { rounds, off: [...document.querySelectorAll('button[id]')].filter(it => it.disabled).map(it => it.id) };
   },
 
+  /* A program opens a channel by itself, sends back what it receives on it, and closes it if it is asked to. */
+  async byProgram() {
+    await until(() => came.has('from the program'), 10000);
+    const [channel] = came.get('from the program'), back = collect(channel);
+    for (const data of ['ü', new Uint8Array([0, 255])]) channel.send(data);
+    await until(() => back.length == 2, 10000);
+    channel.send('close');
+    await within(10000, closed(channel), 'closed');
+    connection.close();
+    return { id: channel.id, back, state: channel.readyState };
+  },
+
   /* The endpoint aborts. */
   async abort(control) {
     const others = [await opened(openChannel('one')), await opened(openChannel('two'))];

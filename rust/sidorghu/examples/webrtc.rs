@@ -1,5 +1,6 @@
-//! Data channels with a page in a browser: each message is sent back. ICE and DTLS are aiortc's, which `examples/webrtc/serve.py` of the repository
-//! runs; it passes the SCTP packets on as datagrams of the loopback interface. From the repository's top, with Debian's python3-aiortc:
+//! Data channels with a page in a browser: each message is sent back, on the page's channels and on one that the program opens, which it closes at the
+//! text `close`. ICE and DTLS are aiortc's, which `examples/webrtc/serve.py` of the repository runs; it passes the SCTP packets on as datagrams of the
+//! loopback interface. From the repository's top, with Debian's python3-aiortc:
 //!
 //! ```text
 //! (cd rust && cargo run --release --example webrtc -- 9899) &
@@ -10,8 +11,8 @@
 
 mod random;
 
-use sidorghu::channels::{ChannelSendError, Channels, Content, DtlsRole, Event};
-use sidorghu::{Config, Key, SendError, Verdict};
+use sidorghu::channels::{ChannelOptions, ChannelSendError, Channels, Content, DtlsRole, Event};
+use sidorghu::{Config, Key, SendError, State, Verdict};
 use std::collections::VecDeque;
 use std::error::Error;
 use std::net::{SocketAddr, UdpSocket};
@@ -35,6 +36,8 @@ struct Side {
     peer: Option<SocketAddr>,
     start: Instant,
     waiting: VecDeque<Echo>,
+    /// The stream of the channel that the program opened.
+    own: Option<u16>,
 }
 
 impl Side {
@@ -42,7 +45,15 @@ impl Side {
     fn new(socket: UdpSocket) -> Result<Side, Box<dyn Error>> {
         let config = Config::for_data_channels(5_000, 5_000)?;
         let channels = Channels::listener(config, Key::new(random::bytes()?), DtlsRole::Client)?;
-        Ok(Side { channels, socket, peer: None, start: Instant::now(), waiting: VecDeque::new() })
+        Ok(Side { channels, socket, peer: None, start: Instant::now(), waiting: VecDeque::new(), own: None })
+    }
+
+    /// Opens the program's own channel, once the association is established: before there is no stream.
+    fn open(&mut self) -> Result<(), Box<dyn Error>> {
+        if self.own.is_none() && self.channels.state() == State::Established {
+            self.own = Some(self.channels.open(&ChannelOptions::new("from the program"))?);
+        }
+        Ok(())
     }
 
     /// Prints what is reported, and keeps each message to be sent back.
@@ -54,8 +65,13 @@ impl Side {
                     println!("channel {stream}, {}: opened by the page", String::from_utf8_lossy(&parameters.label))
                 }
                 Event::Message { stream, text, payload } => {
-                    self.waiting.push_back(Echo { stream, text, bytes: payload.to_vec()? });
+                    let bytes = payload.to_vec()?;
                     self.channels.give_back_payload(payload);
+                    if self.own == Some(stream) && bytes == b"close" {
+                        self.channels.close(stream)?;
+                    } else {
+                        self.waiting.push_back(Echo { stream, text, bytes });
+                    }
                 }
                 Event::Closed { stream } => println!("channel {stream}: closed"),
                 other => println!("{other:?}"),
@@ -111,6 +127,7 @@ impl Side {
     fn run(&mut self) -> Result<(), Box<dyn Error>> {
         while self.channels.ended().is_none() {
             self.channels.on_moment(self.start.elapsed());
+            self.open()?;
             self.report()?;
             self.answer()?;
             self.transmit()?;
