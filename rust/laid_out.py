@@ -2,7 +2,7 @@
 import re
 
 VISIBLE = r'(?:pub(?:\(\w+\))? )?'
-LAW = re.compile(r' *' + VISIBLE + r'fn (\w+)\((&self)?\)$')
+LAW = re.compile(r' *' + VISIBLE + r'fn (\w+)(?:<[^()]*>)?\((&self)?\)$')
 CALL = re.compile(r' *(?:\w+(?:\.|::))*(\w+)\(\);?$')
 
 

@@ -105,6 +105,9 @@ fn token(source: &mut Source<'_>, at: usize, place: &Place<'_>) -> Result<usize,
         "Drop" => bound(source, at),
         _ if !is_member && NO_ROW.contains(&word) => Err(source.unknown(at, format!("`{word}` has no row"))),
         _ if source.are(at + 1, &["(", ")"]) && is_law_call(source, at, place) => law_call(source, at),
+        _ if source.is_path(at + 1) && source.word(at + 3) == "<" && place.laws.has(word) => {
+            Err(source.unknown(at, "a call of a law with types has no row"))
+        }
         _ => path(source, at, place),
     }
 }

@@ -45,7 +45,7 @@ impl Head {
     /// Whether it has the form of a law: a clause, nothing that it could write to, and no result.
     pub(crate) fn is_law(&self, source: &Source<'_>) -> bool {
         let has_clause = source.tokens.proofs.iter().any(|proof| proof.before == self.body && proof.start > source.start(self.close));
-        let is_plain = source.are(self.name + 1, &["("]) && (self.takes_nothing() || self.takes_self(source));
+        let is_plain = self.takes_nothing() || self.takes_self(source);
         has_clause && is_plain && self.body == self.close + 1 && source.word(self.body) == "{"
     }
 }

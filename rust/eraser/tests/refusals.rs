@@ -5,7 +5,7 @@ mod given;
 use given::tried;
 
 /// A source that is refused, the line, and a word of what is said.
-const REFUSED: [(&str, usize, &str); 39] = [
+const REFUSED: [(&str, usize, &str); 40] = [
     ("fn f() {}\n#[cfg(unix)]\nfn g() {}\n", 2, "cfg(unix)"),
     ("#[allow(dead_code)]\nfn g() {}\n", 1, "allow"),
     ("#![no_std]\n", 1, "no_std"),
@@ -36,6 +36,7 @@ const REFUSED: [(&str, usize, &str); 39] = [
     ("impl Model for A {\n    fn f(a: u8) {}\n}\n", 2, "Model"),
     ("fn l()\n    ensures { a }\n{}\nfn f(a: u8) {\n    let x = l();\n}\n", 5, "law"),
     ("fn l()\n    ensures { a }\n{}\nfn f(a: u8) {\n    g(l());\n}\n", 5, "law"),
+    ("fn l<T>()\n    ensures { a }\n{}\nfn f(a: u8) {\n    l::<u8>();\n}\n", 5, "law"),
     ("use crate::laws::l as m;\nfn l()\n    ensures { a }\n{}\n", 1, "another name"),
     ("fn l()\n    ensures { a }\n{\n    unsafe { b }\n}\n", 1, "unsafe"),
     ("use std::cell::Cell;\nimpl A {\n    fn l(&self)\n        ensures { a }\n    {}\n}\n", 3, "Cell"),
