@@ -34,6 +34,7 @@ take_cargo() {
 emulated() {
     local target=$1-unknown-linux-gnu linker=$1-linux-gnu-gcc named
     command -v "$linker" >/dev/null 2>&1 || missing "$linker (of Debian: gcc-$1-linux-gnu)"
+    [ -e "/usr/$1-linux-gnu/lib/Scrt1.o" ] || missing "libraries for $linker (of Debian: libc6-dev-$2-cross)"
     command -v "qemu-$1" >/dev/null 2>&1 || missing "qemu-$1 (of Debian: qemu-user)"
     take_cargo "$target" "$2"
     named=$(printf '%s' "$target" | tr 'a-z-' 'A-Z_')

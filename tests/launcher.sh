@@ -105,8 +105,9 @@ helped() {
 
 # The rows of this program whose words are wrong, but for help.
 wrong_rows() {
-    awk -v program="$launched" '/^= /{name = substr($0, 3); said = 0} /^\$ /{mine = $2 == program} /^! /{said = 1}
-        /^status 1$/{if (mine && said && name !~ /^help/) print name}' $rows
+    awk -v program="$launched" '/^= /{name = substr($0, 3); said = 0} /^! /{said = 1}
+        /^\$ /{mine = $2 == program; asks = / (--help|-h)( |$)/ || NF == 3 && $3 == "help"}
+        /^status 1$/{if (mine && said && !asks) print name}' $rows
 }
 
 # Each of these rows; before a build those that the launcher knows without running the sources.
