@@ -3,54 +3,12 @@
 #![allow(unsafe_code, reason = "an allocator of this program's")]
 
 mod common;
+mod rough;
 use common::{config, draw, ms};
+use rough::{Numbers, roughly};
 use sidorghu::{End, Endpoint, Key, NoMemory, SendError, SendOptions, State, Verdict};
-use std::alloc::{GlobalAlloc, Layout, System};
-use std::cell::Cell;
 use std::collections::VecDeque;
 use std::time::Duration;
-
-/// Numbers that look random, from a seed.
-#[derive(Clone, Copy)]
-struct Numbers(u64);
-
-impl Numbers {
-    /// A number below `limit`.
-    fn below(&mut self, limit: usize) -> usize {
-        self.0 = self.0.wrapping_mul(6_364_136_223_846_793_005).wrapping_add(1_442_695_040_888_963_407);
-        (self.0 >> 33) as usize % limit
-    }
-}
-
-/// Memory of the system's, of which one allocation in twenty is refused while `REFUSING` has numbers.
-struct Refusing;
-
-thread_local! {
-    static REFUSING: Cell<Option<Numbers>> = const { Cell::new(None) };
-}
-
-fn refuses() -> bool {
-    let Some(mut numbers) = REFUSING.get() else { return false };
-    let refused = numbers.below(20) == 0;
-    REFUSING.set(Some(numbers));
-    refused
-}
-
-// SAFETY: it is the system's allocator, but that some allocations fail.
-unsafe impl GlobalAlloc for Refusing {
-    unsafe fn alloc(&self, layout: Layout) -> *mut u8 {
-        if refuses() { std::ptr::null_mut() } else { unsafe { System.alloc(layout) } }
-    }
-    unsafe fn dealloc(&self, at: *mut u8, layout: Layout) {
-        unsafe { System.dealloc(at, layout) }
-    }
-    unsafe fn realloc(&self, at: *mut u8, layout: Layout, size: usize) -> *mut u8 {
-        if refuses() { std::ptr::null_mut() } else { unsafe { System.realloc(at, layout, size) } }
-    }
-}
-
-#[global_allocator]
-static MEMORY: Refusing = Refusing;
 
 /// A message: its stream, its number there, and how many bytes it has. Its bytes follow from these. The last stream's are unordered.
 #[derive(Clone, Copy, Debug, PartialEq)]
@@ -97,9 +55,7 @@ impl Run {
 
     /// Makes a call at a side, with allocations refused if it is rough. `None` if the call says that one was.
     fn call<T>(&mut self, side: usize, call: impl FnOnce(&mut Endpoint) -> Result<T, NoMemory>) -> Option<T> {
-        REFUSING.set(self.is_rough.then_some(self.numbers));
-        let answer = call(&mut self.sides[side].endpoint);
-        self.numbers = REFUSING.take().unwrap_or(self.numbers);
+        let answer = roughly(self.is_rough, &mut self.numbers, || call(&mut self.sides[side].endpoint));
         self.refused += usize::from(answer.is_err());
         answer.ok()
     }
