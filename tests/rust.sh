@@ -19,6 +19,8 @@ cargo --version >/dev/null 2>&1 || export RUSTUP_HOME=$beside
 has=$(cargo --version 2>/dev/null | sed -n 's/^cargo 1\.\([0-9]*\)\..*/\1/p')
 needs=$(sed -n 's/^rust-version = "1\.\([0-9]*\).*/\1/p' "$root/rust/Cargo.toml")
 [ -n "$has" ] || left_out "cargo doesn't run: $(cargo --version 2>&1 | head -n 1)"
+rustc --version >/dev/null 2>&1 || left_out "rustc doesn't run: $(rustc --version 2>&1 | head -n 1)"
+command -v cc >/dev/null 2>&1 || left_out 'there is no cc, by which rustc links'
 [ "$has" -ge "$needs" ] || left_out "cargo is 1.$has, and rust/Cargo.toml asks for 1.$needs"
 
 room=$(mktemp -d) || exit 3
