@@ -1,5 +1,6 @@
 //! No test of the proved crates is left out: as many are run as their sources have.
 
+use std::ffi::OsString;
 use std::fs;
 use std::path::Path;
 use std::prelude::rust_2024::*;
@@ -17,10 +18,13 @@ fn tests_in(file: &Path) -> usize {
     text.lines().filter(|line| line.trim() == "#[test]").count()
 }
 
-/// The names of the tests in this program that are those of a proved crate.
+/// The number of tests in this program that are those of a proved crate. `SIDORGHU_RUNNER` has words before it: an emulator and its options.
 fn tests_here() -> usize {
     let program = std::env::current_exe().expect("the path of this program");
-    let listed = Command::new(program).args(["--list", "--format", "terse"]).output().expect("a list of tests");
+    let runner = std::env::var("SIDORGHU_RUNNER").unwrap_or_default();
+    let mut words: Vec<OsString> = runner.split_whitespace().map(OsString::from).collect();
+    words.push(program.into());
+    let listed = Command::new(&words[0]).args(&words[1..]).args(["--list", "--format", "terse"]).output().expect("a list of tests");
     let text = String::from_utf8(listed.stdout).expect("names in UTF-8");
     text.lines().filter(|line| line.starts_with("sctp_") && line.ends_with(": test")).count()
 }
