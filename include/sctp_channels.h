@@ -39,7 +39,8 @@ struct sctp_channels {
 
 /* Makes channels over an endpoint, on which nothing was sent or taken yet: sctp_endpoint_caller, listener or opened has made it. The handle of the
  * endpoint is empty afterwards. `is_dtls_client`: this side was the client in the DTLS handshake. 16 bytes are allocated for each of its streams.
- * MISUSE: `channels` isn't empty, or `endpoint` is; NO_MEMORY: the endpoint was freed, and both are empty. */
+ * MISUSE: `channels` isn't empty, or `endpoint` is; BAD_STATE: a message was sent on the endpoint, which stays as it is; NO_MEMORY: the endpoint was
+ * freed, and both are empty. */
 uint32_t sctp_channels_over(struct sctp_channels *channels, struct sctp_endpoint *endpoint, bool is_dtls_client);
 
 /* Frees channels with their endpoint and all that it holds, and empties the handle. It does nothing for an empty one, and, called by its name, for
@@ -70,14 +71,15 @@ struct sctp_channel_parameters {
 #define SCTP_CHANNEL_PARAMETERS_INIT { 0, 256, SCTP_CH_RELIABLE, true, { 0, 0 } } /* reliable and ordered */
 
 /* Opens a channel, on this stream or on SCTP_CH_ANY_STREAM, and returns its stream. Label and protocol should be UTF-8. Messages may be sent on it at
- * once: they go in order until something was received from the peer. SCTP_CH_OPENED says that the peer has it, too. Before the association is established
- * there is no stream. MISUSE; BAD_RESERVED: a reserved number isn't 0, or `reliability` is above 2; TOO_LONG: label and protocol have more than 65,524
- * bytes together; OUT_OF_RANGE; NO_STREAM; WRONG_HALF; USED; then as sctp_endpoint_send. */
+ * once: they go in order until something was received from the peer. SCTP_CH_OPENED says that the peer has it, too. MISUSE; BAD_RESERVED: a reserved number
+ * isn't 0, or `reliability` is above 2; NOT_OPEN: the association wasn't established yet; TOO_LONG: label and protocol have more than 65,524 bytes
+ * together; OUT_OF_RANGE; NO_STREAM; WRONG_HALF; USED; then as sctp_endpoint_send. */
 uint32_t sctp_channels_open(struct sctp_channels *channels, const struct sctp_channel_parameters *parameters, const uint8_t *label,
                             size_t label_length, const uint8_t *protocol, size_t protocol_length, uint16_t stream, uint16_t *opened);
 
 /* Opens a channel that both applications agreed on, on a stream of either half: `negotiated` and `id` of a browser. Nothing is sent for it, and it
- * is open at once. The priority has no effect. MISUSE, BAD_RESERVED, OUT_OF_RANGE, NO_STREAM, USED. */
+ * is open at once. The priority has no effect. MISUSE; BAD_RESERVED; NOT_OPEN: there was no association yet (from SCTP_EP_COOKIE_ECHOED on there is);
+ * OUT_OF_RANGE; NO_STREAM; USED. */
 uint32_t sctp_channels_open_negotiated(struct sctp_channels *channels, const struct sctp_channel_parameters *parameters, uint16_t stream);
 
 /* Sends a message, text or binary, which may be empty: its bytes are copied and queued. `now` is the current time, from which a lifetime counts. The
@@ -88,7 +90,7 @@ uint32_t sctp_channels_send(struct sctp_channels *channels, uint64_t now, uint16
                             uint64_t *ticket);
 
 /* Closes a channel: nothing more can be sent on it, what was sent is still delivered, and what the peer sent before it noticed is still reported. Then
- * SCTP_CH_CLOSED says that it is closed both ways. MISUSE; NO_CHANNEL; BAD_STATE unless the association is established with stream reset:
+ * SCTP_CH_CLOSED says that it is closed both ways. MISUSE; NOT_OPEN: the association wasn't established yet; NO_CHANNEL; BAD_STATE unless the association is established with stream reset:
  * without, no channel can be closed but by the association's end; NO_SUCH_STREAM; NO_MEMORY. */
 uint32_t sctp_channels_close(struct sctp_channels *channels, uint16_t stream);
 

@@ -68,7 +68,8 @@ enum sctp_endpoint_result {
     SCTP_EP_QUEUE_FULL = 4,     /* 1,024 messages are queued: send again after the next SACK */
     SCTP_EP_SPENT = 5,          /* the 2^63 - 1 TSNs or the tickets of this association are used up */
     SCTP_EP_NO_MEMORY = 6,      /* memory allocation failed */
-    SCTP_EP_NOT_OPEN = 7,       /* the association isn't established; shutdown: nor is it being closed */
+    SCTP_EP_NOT_OPEN = 7,       /* the association isn't established; shutdown: nor is it being closed; a channel's opening or closing: it wasn't
+                                 * established yet */
     SCTP_EP_BAD_STATE = 8,      /* the call isn't allowed in this state */
     SCTP_EP_NOTHING = 9,        /* there is none: no message is ready; a packet doesn't have what is asked for */
     SCTP_EP_NEEDS_ROOM = 10,    /* the buffer is too small: the length says how many bytes it must have. Nothing is lost */
@@ -87,7 +88,9 @@ enum sctp_endpoint_result {
     SCTP_EP_BAD_PACKET_LIMIT = 22,
     SCTP_EP_BAD_FRAGMENT = 23,
     SCTP_EP_BAD_BUFFER = 24,
-    SCTP_EP_BAD_STREAMS = 25
+    SCTP_EP_BAD_STREAMS = 25,
+    /* of a key */
+    SCTP_EP_ZERO_KEY = 26       /* its bytes are all 0, as if nobody had set them */
 };
 
 /* Writes what a result means, in a few words, as sctp_endpoint_version does. */
@@ -152,18 +155,22 @@ struct sctp_endpoint_draw {
  * arc4random is in <stdlib.h> of glibc 2.36 and later, the BSDs and macOS; elsewhere take the numbers from getrandom or getentropy. */
 #define SCTP_ENDPOINT_DRAW(random, other_random) { (uint32_t)(random) % UINT32_MAX + 1, (uint32_t)(other_random), 0 }
 
-/* Secret random bytes that authenticate a listener's state cookies (RFC 9260, 5.1.3). Listeners may share them: then a cookie made for one address
- * opens an association from any other, so a server has a key for each address. */
+/* Secret random bytes, not all 0, that authenticate a listener's state cookies (RFC 9260, 5.1.3). Listeners may share them: then a cookie made for
+ * one address opens an association from any other, so a server has a key for each address (sctp_endpoint_key_derived). */
 struct sctp_endpoint_key {
     uint8_t bytes[32];
     uint32_t reserved[4]; /* 0 */
 };
 
+/* Derives a key from a secret master key and bytes that say what it is for, as the address and port that a packet was received from: HMAC-SHA-256 of
+ * the bytes under the master key (RFC 2104). Equal bytes give equal keys. BAD_RESERVED; ZERO_KEY: the master key's bytes are all 0. */
+uint32_t sctp_endpoint_key_derived(const struct sctp_endpoint_key *master, const uint8_t *bytes, size_t length, struct sctp_endpoint_key *key);
+
 /* Makes an endpoint that opens the association, by sctp_endpoint_connect.
  * The first of these that applies: MISUSE, BAD_RESERVED, what is wrong with the configuration, NO_MEMORY. */
 uint32_t sctp_endpoint_caller(struct sctp_endpoint *handle, const struct sctp_endpoint_config *config);
 
-/* Makes an endpoint that waits for a peer to open the association. Results as for a caller. */
+/* Makes an endpoint that waits for a peer to open the association. MISUSE, BAD_RESERVED, ZERO_KEY, then as for a caller. */
 uint32_t sctp_endpoint_listener(struct sctp_endpoint *handle, const struct sctp_endpoint_config *config, const struct sctp_endpoint_key *key);
 
 /* Makes an endpoint that is established at once, without packets: its peer is opened with `own` and `peer` exchanged and the same
@@ -360,11 +367,17 @@ struct sctp_endpoint_status {
     uint32_t reassembly_bytes;  /* of held_bytes, those that can't be taken yet: of messages of which fragments are missing, and of ordered ones
                                  * after such a message. If they are near the configured buffer, it is too small (SCTP_ENDPOINT_CONFIG) */
     uint32_t resetting;         /* the outgoing streams whose reset was asked for and isn't done */
-    uint32_t reserved[2];       /* 0 */
+    uint32_t own_tag;           /* the verification tag that packets to the endpoint carry; 0 if it has none: sctp_endpoint_own_tag */
+    uint32_t reserved;          /* 0 */
 };
 
 /* Returns the status. MISUSE. */
 uint32_t sctp_endpoint_status(struct sctp_endpoint *handle, struct sctp_endpoint_status *status);
+
+/* Returns the verification tag that packets to the endpoint carry (sctp_endpoint_peek_packet), by which a program with many peers at one socket finds
+ * the endpoint of a packet: a caller's from connect on, a listener's from the COOKIE ECHO on that establishes its association. NOTHING: it has none
+ * yet, or the association is over. MISUSE. */
+uint32_t sctp_endpoint_own_tag(struct sctp_endpoint *handle, uint32_t *tag);
 
 /* Which numbers of a path are there, as a sum. Those that aren't are 0. */
 enum sctp_endpoint_path_flag {

@@ -69,7 +69,7 @@ int main(int count, char **) {
     struct sctp_endpoint_config of_channels = SCTP_CHANNELS_CONFIG(5000 + count, 5001 + count);
     struct sctp_channel_parameters parameters = SCTP_CHANNEL_PARAMETERS_INIT;
     if (sctp_endpoint_caller(&e, &of_channels) != SCTP_EP_OK || sctp_channels_over(&c, &e, true) != SCTP_EP_OK) return 1;
-    if (sctp_channels_open_negotiated(&c, &parameters, 0) != SCTP_EP_NO_STREAM) return 1;
+    if (sctp_channels_open_negotiated(&c, &parameters, 0) != SCTP_EP_NOT_OPEN) return 1;
     sctp_channels_free(&c);
     return sctp_endpoint_abi() != SCTP_EP_ABI;
 }

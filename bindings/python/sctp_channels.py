@@ -196,7 +196,8 @@ class Channels(_Association):
     _call = _bind("sctp_channels_", _calls)
 
     def __init__(self, endpoint: Endpoint, is_dtls_client: bool):
-        """`is_dtls_client`: this side was the client in the DTLS handshake. Nothing was sent or taken on the endpoint yet."""
+        """`is_dtls_client`: this side was the client in the DTLS handshake. Nothing was sent or taken on the endpoint yet: BAD_STATE if a message was
+        sent, and the endpoint stays as it is."""
         super().__init__(_Handle())
         self._buffer = (c_uint8 * 65536)()
         self._do("over", byref(endpoint._handle), bool(is_dtls_client))
@@ -213,7 +214,7 @@ class Channels(_Association):
         priority: int = 256,
     ) -> int:
         """Opens a channel on this stream, or on the lowest that is free of this side's, and returns its stream. Messages may be sent at once; `Opened` says
-        that the peer has it, too. Before the association is established there is no stream. Lifetimes are milliseconds."""
+        that the peer has it, too. NOT_OPEN before the association is established. Lifetimes are milliseconds."""
         asked, opened = _parameters(ordered, max_retransmits, max_packet_lifetime, priority), c_uint16()
         label, protocol = _utf8(label, "label"), _utf8(protocol, "protocol")
         stream = ANY_STREAM if stream is None else _number(stream, 16, "stream")

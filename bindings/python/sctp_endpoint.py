@@ -57,6 +57,7 @@ class Result(enum.IntEnum):
     BAD_FRAGMENT = 23
     BAD_BUFFER = 24
     BAD_STREAMS = 25
+    ZERO_KEY = 26
 
 
 class State(enum.IntEnum):
@@ -244,7 +245,8 @@ class _Status(Structure):
         ("partial", c_bool),
         ("reassembly_bytes", c_uint32),
         ("resetting", c_uint32),
-        ("_reserved", c_uint32 * 2),
+        ("own_tag", c_uint32),
+        ("_reserved", c_uint32),
     ]
 
 
@@ -319,6 +321,7 @@ class Status(NamedTuple):
     interleaved: bool
     partial: bool
     resetting: int
+    own_tag: Optional[int]
 
 
 class Reset(NamedTuple):
@@ -377,6 +380,7 @@ _calls = {
     "caller": (_end, POINTER(Config)),
     "listener": (_end, POINTER(Config), POINTER(_Key)),
     "opened": (_end, POINTER(Config), POINTER(Draw), POINTER(Draw)),
+    "key_derived": (POINTER(_Key), c_char_p, c_size_t, POINTER(_Key)),
     "free": (_end,),
     "connect": (_end, c_uint64, POINTER(Draw)),
     "handle_packet": (_end, c_uint64, c_char_p, c_size_t, POINTER(Draw), _bytes, c_size_t, POINTER(_Verdict)),
@@ -453,6 +457,16 @@ def abort_cause(packet: bytes) -> Optional[AbortCause]:
     if _call["abort_cause"](packet, len(packet), byref(cause), room, len(room), byref(length)) != _OK:
         return None
     return AbortCause(cause.value, string_at(room, length.value))
+
+
+def key_derived(master: bytes, data: bytes) -> bytes:
+    """A key derived from a secret master key of 32 bytes, which aren't all 0, and data that says what it is for, as the address that a packet was received
+    from: HMAC-SHA-256 of the data under the master key (RFC 2104). Equal data gives equal keys."""
+    data, key = _data(data, "data"), _Key()
+    result = _call["key_derived"](byref(_key(master, "master")), data, len(data), byref(key))
+    if result != _OK:
+        raise Refused(Result(result))
+    return bytes(key.bytes)
 
 
 def _key(value, name: str) -> _Key:
@@ -550,7 +564,13 @@ class _Association:
             told.interleaved,
             told.partial,
             told.resetting,
+            told.own_tag or None,
         )
+
+    def own_tag(self) -> Optional[int]:
+        """The verification tag that packets to it carry (`peek_packet`), by which a program with many peers at one socket finds the endpoint of a
+        packet: a caller's from `connect` on, a listener's from the COOKIE ECHO on that establishes its association; None once that is over."""
+        return self.status().own_tag
 
     def path(self) -> Path:
         """What it knows of the path to its peer: bytes in flight, RTO, round trips, congestion window."""
@@ -609,8 +629,8 @@ class Endpoint(_Association):
 
     @classmethod
     def listener(cls, config: Config, key: bytes) -> "Endpoint":
-        """An endpoint that waits for a peer. The key, 32 secret random bytes, authenticates its state cookies. With many peers at one
-        socket each address has a key of its own."""
+        """An endpoint that waits for a peer. The key, 32 secret random bytes that aren't all 0, authenticates its state cookies. With many peers at one
+        socket each address has a key of its own: `key_derived`."""
         return cls._made("listener", byref(config), byref(_key(key, "key")))
 
     @classmethod

@@ -64,6 +64,16 @@ class Talk(unittest.TestCase):
             exchange(client, server)
             self.told(client, MessageReceived(0, "ho"), Closed(0))
 
+    def test_nothing_is_opened_or_closed_before_the_association(self):
+        client = Channels(Endpoint.caller(Config.for_data_channels()), True)
+        self.refused(Result.NOT_OPEN, client.open, "a")
+        self.refused(Result.NOT_OPEN, client.open_negotiated, 0)
+        self.refused(Result.NOT_OPEN, client.close, 0)
+        used = Endpoint.opened(Config.for_data_channels(), Draw(7, 100), Draw(9, 500))
+        used.send(0, b"x")
+        self.refused(Result.BAD_STATE, Channels, used, True)
+        self.assertEqual(used.status().queued, 1)
+
     def test_streams_are_by_half(self):
         client, server = opened()
         self.assertEqual([client.open("a"), client.open("b"), server.open("c"), client.open("d", stream=10)], [0, 2, 1, 10])

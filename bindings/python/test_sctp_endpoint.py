@@ -1,8 +1,10 @@
 """Two endpoints in one program: python3 -m unittest, with SCTP_ENDPOINT_LIBRARY."""
 
+import hashlib
+import hmac
 import unittest
 
-from sctp_endpoint import Config, Draw, Ended, Endpoint, Fate, Reason, Refused, Result, State, abort_cause, peek_packet, version
+from sctp_endpoint import Config, Draw, Ended, Endpoint, Fate, Reason, Refused, Result, State, abort_cause, key_derived, peek_packet, version
 
 
 def exchange(a, b, now):
@@ -72,6 +74,23 @@ class Talk(unittest.TestCase):
         self.assertIsNone(listener.handle_packet(0, abort).reason)
         self.assertEqual([caller.status().ended, listener.status().ended], [Ended.ABORTED_HERE, Ended.ABORTED])
         self.refused(Result.NOT_OPEN, caller.send, 0, b"x")
+
+    def test_a_tag_is_told_while_packets_carry_it(self):
+        caller, listener = Endpoint.caller(Config(5000, 5001)), Endpoint.listener(Config(5001, 5000), bytes(range(32)))
+        self.assertEqual([caller.own_tag(), listener.own_tag()], [None, None])
+        caller.connect(0, Draw(7, 100))
+        self.assertEqual(caller.own_tag(), 7)
+        exchange(caller, listener, 0)
+        packet = caller.abort(b"")
+        self.assertEqual([peek_packet(packet).tag, caller.own_tag()], [listener.own_tag(), None])
+
+    def test_keys_are_derived_and_none_is_zero(self):
+        self.refused(Result.ZERO_KEY, Endpoint.listener, Config(5001, 5000), bytes(32))
+        self.refused(Result.ZERO_KEY, key_derived, bytes(32), b"")
+        for data in (b"", b"127.0.0.1 9899", bytes(1000)):
+            self.assertEqual(key_derived(bytes(range(32)), data), hmac.new(bytes(range(32)), data, hashlib.sha256).digest())
+        with self.assertRaises(ValueError):
+            key_derived(bytes(31), b"")
 
     def test_a_stream_is_reset(self):
         draws = Draw(7, 100), Draw(9, 500)

@@ -7,7 +7,6 @@
  * The answer is "welcome". What it sends from then on goes to all other clients, after its name. A message with the payload protocol identifier ASK
  * says nothing: its acknowledgement says that a quiet client is still there. */
 #define _POSIX_C_SOURCE 200809L
-#include "hmac.h"
 #include "sctp_endpoint.h"
 #include <arpa/inet.h>
 #include <fcntl.h>
@@ -44,7 +43,7 @@ struct client {
 };
 
 static struct client *clients, *gone; /* those that are gone are kept, without an endpoint, as long as their cookies live */
-static uint8_t master[32]; /* the key that each listener's key is derived from */
+static struct sctp_endpoint_key master;
 static int udp, urandom;
 static uint64_t now;
 
@@ -172,7 +171,7 @@ static uint64_t turn(struct client *c) {
 
 /* Returns a client that a packet for none begins, or NULL. A new listener answers it: only a COOKIE ECHO whose cookie was made for this very address
  * begins one. */
-static struct client *meet(const uint8_t *packet, size_t length, const struct sockaddr_in *from, uint16_t source, uint32_t tag) {
+static struct client *meet(const uint8_t *packet, size_t length, const struct sockaddr_in *from, uint16_t source) {
     static uint8_t answer[SCTP_EP_LONGEST_PACKET];
     struct sctp_endpoint_config config = SCTP_ENDPOINT_CONFIG(PORT, source);
     struct sctp_endpoint_verdict verdict = { 0 };
@@ -183,12 +182,11 @@ static struct client *meet(const uint8_t *packet, size_t length, const struct so
     if (c == NULL) return NULL; /* as if the packet were lost */
     memcpy(address, &from->sin_addr, 4), memcpy(address + 4, &from->sin_port, 2);
     config.buffer = BUFFER, config.outbound = config.inbound = 1;
-    hmac_sha256(master, address, sizeof address, key.bytes);
-    if (sctp_endpoint_listener(&c->end, &config, &key) == SCTP_EP_OK)
+    if (sctp_endpoint_key_derived(&master, address, sizeof address, &key) == SCTP_EP_OK && sctp_endpoint_listener(&c->end, &config, &key) == SCTP_EP_OK)
         (void)sctp_endpoint_handle_packet(&c->end, now, packet, length, &d, answer, sizeof answer, &verdict);
     if (verdict.verdict == SCTP_EP_ANSWER) put(from, answer, verdict.length);
-    if (status(c).state > SCTP_EP_LISTEN) { /* the association's tag is that of its COOKIE ECHO */
-        c->tag = tag, c->at = *from, c->opened = c->heard = now, c->next = clients, clients = c;
+    if (sctp_endpoint_own_tag(&c->end, &c->tag) == SCTP_EP_OK) {
+        c->at = *from, c->opened = c->heard = now, c->next = clients, clients = c;
         return c;
     }
     sctp_endpoint_free(&c->end), free(c);
@@ -204,7 +202,7 @@ static void receive(const uint8_t *packet, size_t length, const struct sockaddr_
     struct client *c = with_tag(clients, tag);
     if (c == NULL) {
         if (length > 12 && packet[12] == COOKIE_ECHO && with_tag(gone, tag)) return; /* late: what followed it was delivered */
-        c = meet(packet, length, from, source, tag);
+        c = meet(packet, length, from, source);
     } else {
         struct sctp_endpoint_draw d = draw();
         if (sctp_endpoint_handle_packet(&c->end, now, packet, length, &d, answer, sizeof answer, &verdict) != SCTP_EP_OK) return;
@@ -219,7 +217,7 @@ int main(int argc, char **argv) {
     struct sockaddr_in own = { .sin_family = AF_INET, .sin_port = htons(argc > 1 ? (uint16_t)atoi(argv[1]) : 9899) };
     int size = 1 << 22; /* bytes: many clients may send at once. The system may allow less */
     if ((urandom = open("/dev/urandom", O_RDONLY)) < 0) fail("/dev/urandom");
-    fill(master, sizeof master);
+    fill(master.bytes, sizeof master.bytes);
     if ((udp = socket(AF_INET, SOCK_DGRAM, 0)) < 0 || bind(udp, (struct sockaddr *)&own, sizeof own)) fail("bind");
     (void)!setsockopt(udp, SOL_SOCKET, SO_RCVBUF, &size, sizeof size);
     for (;;) {

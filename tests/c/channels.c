@@ -103,6 +103,56 @@ static int events_fit(struct sctp_channels *a, struct sctp_channels *b) {
     return 0;
 }
 
+/* Before the association nothing is opened or closed; an endpoint on which a message was sent stays as it is. */
+static int comes_too_early(struct sctp_endpoint_config *config) {
+    struct sctp_channels a = SCTP_CHANNELS_INIT;
+    struct sctp_endpoint end = SCTP_ENDPOINT_INIT;
+    struct sctp_channel_parameters parameters = SCTP_CHANNEL_PARAMETERS_INIT, wrong = parameters;
+    struct sctp_endpoint_status status = { 0 };
+    uint64_t ticket = 0;
+    uint16_t opened = 77;
+    wrong.reserved[1] = 1;
+    HOLDS(sctp_endpoint_caller(&end, config) == SCTP_EP_OK && sctp_channels_over(&a, &end, true) == SCTP_EP_OK);
+    for (int i = 0; i < 2; i++) {
+        HOLDS(sctp_channels_open(&a, &parameters, NULL, 0, NULL, 0, 1024, &opened) == SCTP_EP_NOT_OPEN && opened == 77);
+        HOLDS(sctp_channels_open(&a, &wrong, NULL, 0, NULL, 0, 0, &opened) == SCTP_EP_BAD_RESERVED);
+        HOLDS(sctp_channels_open_negotiated(&a, &parameters, 0) == SCTP_EP_NOT_OPEN && sctp_channels_close(&a, 0) == SCTP_EP_NOT_OPEN);
+        HOLDS(sctp_channels_connect(&a, 0, &own) == (i ? SCTP_EP_BAD_STATE : SCTP_EP_OK));
+    }
+    HOLDS(sctp_channels_status(&a, &status) == SCTP_EP_OK && status.state == SCTP_EP_COOKIE_WAIT && status.own_tag == 7);
+    sctp_channels_free(&a), sctp_channels_free(NULL);
+    HOLDS(sctp_endpoint_opened(&end, config, &own, &peer) == SCTP_EP_OK);
+    HOLDS(sctp_endpoint_send(&end, 0, true, 51, room, 1, SCTP_EP_NEVER, &ticket) == SCTP_EP_OK);
+    HOLDS(sctp_channels_over(&a, &end, true) == SCTP_EP_BAD_STATE && !a.full && end.full);
+    HOLDS(sctp_endpoint_status(&end, &status) == SCTP_EP_OK && status.queued == 1 && status.tickets == 1);
+    sctp_endpoint_free(&end);
+    return 0;
+}
+
+/* Over an association whose listener doesn't answer yet: there are streams from COOKIE-ECHOED on, and none is closed or opened by a message. */
+static int is_echoed(struct sctp_endpoint_config config) {
+    struct sctp_channels a = SCTP_CHANNELS_INIT;
+    struct sctp_endpoint end = SCTP_ENDPOINT_INIT, listener = SCTP_ENDPOINT_INIT;
+    struct sctp_channel_parameters parameters = SCTP_CHANNEL_PARAMETERS_INIT;
+    struct sctp_endpoint_key key = { { 7 }, { 0 } };
+    struct sctp_endpoint_sent sent = { 0 };
+    struct sctp_endpoint_verdict verdict = { 0 };
+    struct sctp_endpoint_status status = { 0 };
+    uint16_t opened = 77;
+    HOLDS(sctp_endpoint_caller(&end, &config) == SCTP_EP_OK && sctp_channels_over(&a, &end, true) == SCTP_EP_OK);
+    config.own_port = 5001, config.peer_port = 5000;
+    HOLDS(sctp_endpoint_listener(&listener, &config, &key) == SCTP_EP_OK && sctp_channels_connect(&a, 0, &own) == SCTP_EP_OK);
+    HOLDS(sctp_channels_poll_transmit(&a, 0, room, sizeof room, NULL, 0, &sent) == SCTP_EP_OK && sent.length > 0);
+    HOLDS(sctp_endpoint_handle_packet(&listener, 0, room, sent.length, &peer, answer, sizeof answer, &verdict) == SCTP_EP_OK && verdict.verdict == SCTP_EP_ANSWER);
+    HOLDS(sctp_channels_handle_packet(&a, 0, answer, verdict.length, &own, room, sizeof room, &verdict) == SCTP_EP_OK && verdict.verdict == SCTP_EP_TAKEN);
+    HOLDS(sctp_channels_status(&a, &status) == SCTP_EP_OK && status.state == SCTP_EP_COOKIE_ECHOED && status.own_tag == 7);
+    HOLDS(sctp_channels_open(&a, &parameters, NULL, 0, NULL, 0, 1024, &opened) == SCTP_EP_NOT_OPEN && opened == 77);
+    HOLDS(sctp_channels_close(&a, 4) == SCTP_EP_NOT_OPEN && sctp_channels_open_negotiated(&a, &parameters, 4) == SCTP_EP_OK);
+    HOLDS(sctp_channels_open_negotiated(&a, &parameters, 4) == SCTP_EP_USED && sctp_channels_close(&a, 4) == SCTP_EP_NOT_OPEN);
+    sctp_channels_free(&a), sctp_endpoint_free(&listener);
+    return 0;
+}
+
 int main(void) {
     struct sctp_channels a = SCTP_CHANNELS_INIT, b = SCTP_CHANNELS_INIT;
     struct sctp_endpoint end = SCTP_ENDPOINT_INIT, other = SCTP_ENDPOINT_INIT;
@@ -120,7 +170,7 @@ int main(void) {
     size_t length = 0;
 
     HOLDS(sizeof(struct sctp_channels) == 16 && sizeof parameters == 16 && sizeof(struct sctp_channel_event) == 40);
-    HOLDS(nothing_there(&a) == 0);
+    HOLDS(nothing_there(&a) == 0 && comes_too_early(&config) == 0 && is_echoed(config) == 0);
 
     /* Made over an endpoint, whose handle is empty then; over none, and twice. */
     HOLDS(sctp_channels_over(&a, &end, true) == SCTP_EP_MISUSE && !a.full);

@@ -13,11 +13,44 @@ static int is_kept(const uint8_t *bytes, size_t from, size_t to) {
     return 1;
 }
 
+/* A derived key is HMAC-SHA-256 (by Python's hmac: key 07 and 31 zeros, text "message"); a master key of zeros is refused. */
+static int derives_keys(struct sctp_endpoint_key *master, const struct sctp_endpoint_key *zeros) {
+    static const uint8_t wanted[32] = { 0x83, 0x37, 0xea, 0xb2, 0xf1, 0x50, 0x19, 0x43, 0x6c, 0x69, 0xe5, 0x42, 0xb5, 0x85, 0xfa, 0x71,
+                                        0xe7, 0x69, 0x9b, 0x09, 0x8d, 0xa6, 0x08, 0x9d, 0x63, 0x9f, 0x03, 0x2f, 0x97, 0x96, 0xe5, 0x29 };
+    IN_BYTES(sctp_endpoint_key) key;
+    memset(&key, BEFORE, sizeof key);
+    HOLDS(sctp_endpoint_key_derived(zeros, (const uint8_t *)"message", 7, &key.it) == SCTP_EP_ZERO_KEY && is_kept(key.bytes, 0, sizeof key.bytes));
+    master->reserved[2] = 1;
+    HOLDS(sctp_endpoint_key_derived(master, (const uint8_t *)"message", 7, &key.it) == SCTP_EP_BAD_RESERVED && is_kept(key.bytes, 0, sizeof key.bytes));
+    master->reserved[2] = 0;
+    HOLDS(sctp_endpoint_key_derived(master, (const uint8_t *)"message", 7, &key.it) == SCTP_EP_OK && memcmp(key.it.bytes, wanted, 32) == 0);
+    for (int i = 0; i < 4; i++) HOLDS(key.it.reserved[i] == 0);
+    HOLDS(is_kept(key.bytes, sizeof key.it, sizeof key.bytes));
+    HOLDS(sctp_endpoint_key_derived(master, NULL, 0, &key.it) == SCTP_EP_OK && key.it.bytes[0] == 0x87 && key.it.bytes[3] == 0x19);
+    return 0;
+}
+
+/* A caller has its tag from connect on; nobody has one before, or once the association is over. */
+static int tells_its_tag(const struct sctp_endpoint_config *config) {
+    struct sctp_endpoint a = SCTP_ENDPOINT_INIT;
+    struct sctp_endpoint_draw own = SCTP_ENDPOINT_DRAW(6, 100), first = SCTP_ENDPOINT_DRAW(0, 0), last = SCTP_ENDPOINT_DRAW(UINT32_MAX, 1);
+    struct sctp_endpoint_status status = { 0 };
+    uint32_t tag = 1;
+    HOLDS(own.tag == 7 && own.tsn == 100 && own.reserved == 0 && first.tag == 1 && last.tag == 1 && last.tsn == 1);
+    HOLDS(sctp_endpoint_own_tag(&a, &tag) == SCTP_EP_MISUSE && sctp_endpoint_caller(&a, config) == SCTP_EP_OK);
+    HOLDS(sctp_endpoint_own_tag(&a, &tag) == SCTP_EP_NOTHING && tag == 1);
+    HOLDS(sctp_endpoint_status(&a, &status) == SCTP_EP_OK && status.own_tag == 0);
+    HOLDS(sctp_endpoint_connect(&a, 0, &own) == SCTP_EP_OK && sctp_endpoint_own_tag(&a, &tag) == SCTP_EP_OK && tag == 7);
+    HOLDS(sctp_endpoint_status(&a, &status) == SCTP_EP_OK && status.own_tag == 7 && status.state == SCTP_EP_COOKIE_WAIT);
+    sctp_endpoint_free(&a), sctp_endpoint_free(NULL);
+    return 0;
+}
+
 int main(void) {
     struct sctp_endpoint a = SCTP_ENDPOINT_INIT, b = SCTP_ENDPOINT_INIT, other = SCTP_ENDPOINT_INIT;
     struct sctp_endpoint_config config = SCTP_ENDPOINT_CONFIG(5000, 5001), wrong;
     struct sctp_endpoint_draw own = { 7, 100, 0 }, peer = { 9, 500, 0 }, none = { 0, 1, 0 }, later = own;
-    struct sctp_endpoint_key key = { { 7 }, { 0 } };
+    struct sctp_endpoint_key key = { { 7 }, { 0 } }, zeros = { { 0 }, { 0 } };
     char name[SCTP_EP_LONGEST_NAME];
     uint8_t room[SCTP_EP_LONGEST_PACKET], text[8] = "message";
     uint64_t tickets[SCTP_EP_MOST_TICKETS], ticket = 0, earlier = 0;
@@ -67,6 +100,12 @@ int main(void) {
     wrong = config; wrong.flags = 8; HOLDS(sctp_endpoint_caller(&a, &wrong) == SCTP_EP_BAD_RESERVED);
     for (int i = 0; i < 2; i++) { wrong = config; wrong.reserved[i] = 1u << 31; HOLDS(sctp_endpoint_caller(&a, &wrong) == SCTP_EP_BAD_RESERVED); }
     for (int i = 0; i < 4; i++) { key.reserved[i] = 1; HOLDS(sctp_endpoint_listener(&a, &config, &key) == SCTP_EP_BAD_RESERVED); key.reserved[i] = 0; }
+    HOLDS(sctp_endpoint_listener(&a, &config, &zeros) == SCTP_EP_ZERO_KEY && !a.full);
+    zeros.reserved[3] = 1; HOLDS(sctp_endpoint_listener(&a, &config, &zeros) == SCTP_EP_BAD_RESERVED); zeros.reserved[3] = 0;
+    zeros.bytes[31] = 1; HOLDS(sctp_endpoint_listener(&a, &config, &zeros) == SCTP_EP_OK); zeros.bytes[31] = 0;
+    HOLDS(sctp_endpoint_listener(&a, &config, &zeros) == SCTP_EP_MISUSE && sctp_endpoint_own_tag(&a, &tag) == SCTP_EP_NOTHING && tag == 0);
+    sctp_endpoint_free(&a);
+    HOLDS(derives_keys(&key, &zeros) == 0);
     HOLDS(sctp_endpoint_opened(&a, &config, &none, &peer) == SCTP_EP_BAD_DRAW && sctp_endpoint_opened(&a, &config, &own, &none) == SCTP_EP_BAD_DRAW);
     later.reserved = 1;
     HOLDS(sctp_endpoint_opened(&a, &config, &later, &peer) == SCTP_EP_BAD_RESERVED && sctp_endpoint_opened(&a, &config, &own, &later) == SCTP_EP_BAD_RESERVED);
@@ -121,8 +160,9 @@ int main(void) {
     memset(&status, BEFORE, sizeof status);
     HOLDS(sctp_endpoint_status(&b, &status.it) == SCTP_EP_OK && status.it.held_bytes == 13 && status.it.state == SCTP_EP_ESTABLISHED);
     HOLDS(status.it.ended == SCTP_EP_NOT_ENDED && status.it.outbound == 64 && status.it.inbound == 64 && status.it.interleaved && status.it.partial);
-    HOLDS(status.it.reassembly_bytes == 0 && status.it.resetting == 0 && status.it.reserved[1] == 0);
-    HOLDS(status.it.tickets == 0 && status.it.outstanding == 0 && status.it.next_moment == SCTP_EP_NEVER && status.it.reserved[0] == 0);
+    HOLDS(status.it.reassembly_bytes == 0 && status.it.resetting == 0 && status.it.reserved == 0 && status.it.own_tag == 9);
+    HOLDS(status.it.tickets == 0 && status.it.outstanding == 0 && status.it.next_moment == SCTP_EP_NEVER);
+    HOLDS(sctp_endpoint_own_tag(&b, &tag) == SCTP_EP_OK && tag == 9 && sctp_endpoint_own_tag(&a, &tag) == SCTP_EP_OK && tag == 7);
     HOLDS(is_kept(status.bytes, sizeof status.it, sizeof status.bytes));
     HOLDS(sctp_endpoint_status(&a, &status.it) == SCTP_EP_OK && status.it.outstanding == 2 && status.it.tickets == 2 && status.it.next_moment == 1000);
     memset(&path, BEFORE, sizeof path);
@@ -177,6 +217,7 @@ int main(void) {
     HOLDS(sctp_endpoint_abort(&a, NULL, 0, room, 1232, &length) == SCTP_EP_OK && length == 20);
     HOLDS(sctp_endpoint_abort_cause(room, length, &cause, NULL, 0, &length) == SCTP_EP_OK && cause == 12 && length == 0);
     HOLDS(sctp_endpoint_abort(&b, text, 7, room, 1232, &length) == SCTP_EP_BAD_STATE);
+    HOLDS(sctp_endpoint_own_tag(&b, &tag) == SCTP_EP_NOTHING && tag == 7 && tells_its_tag(&config) == 0);
     HOLDS(sctp_endpoint_shutdown(&b) == SCTP_EP_NOT_OPEN && sctp_endpoint_send(&b, 0, true, 0, text, 7, SCTP_EP_NEVER, &ticket) == SCTP_EP_NOT_OPEN);
 
     sctp_endpoint_free(&a), sctp_endpoint_free(&b), sctp_endpoint_free(&b), sctp_endpoint_free(&other);

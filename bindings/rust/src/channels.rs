@@ -98,7 +98,8 @@ impl fmt::Debug for Channels {
 
 impl Channels {
     /// The channels of an endpoint on which nothing was sent or taken yet. `is_dtls_client`: this side was the client in the DTLS handshake; it opens
-    /// channels on even streams, the server on odd ones. If memory allocation fails, the endpoint is dropped.
+    /// channels on even streams, the server on odd ones. The endpoint is dropped if memory allocation fails, or if a message was sent on it
+    /// (`Error::BadState`).
     pub fn over(mut endpoint: Endpoint, is_dtls_client: bool) -> Result<Channels, Error> {
         let mut channels = Channels(raw::Channels { full: 0, at: std::ptr::null_mut() });
         checked(unsafe { raw::sctp_channels_over(&mut channels.0, &mut endpoint.0, is_dtls_client) })?;
@@ -106,7 +107,7 @@ impl Channels {
     }
 
     /// Opens a channel on this stream, or on the lowest that is free of this side's, and returns its stream. Messages may be sent at once;
-    /// `Event::Opened` says that the peer has it, too. Before the association is established there is no stream.
+    /// `Event::Opened` says that the peer has it, too. `Error::NotOpen` before the association is established.
     pub fn open(&mut self, parameters: &Parameters, stream: Option<u16>) -> Result<u16, Error> {
         let mut opened = 0;
         checked(unsafe {

@@ -49,6 +49,8 @@ pub enum Error {
     BadBuffer,
     /// A number of streams isn't in 1 to 1,024.
     BadStreams,
+    /// The bytes of the key are all 0.
+    ZeroKey,
     /// A number that no call of this crate's `sctp_endpoint.h` returns: the library is for another header.
     Unknown(u32),
 }
@@ -76,6 +78,7 @@ impl Error {
             23 => Error::BadFragment,
             24 => Error::BadBuffer,
             25 => Error::BadStreams,
+            26 => Error::ZeroKey,
             other => Error::Unknown(other),
         }
     }
@@ -104,6 +107,7 @@ impl Error {
             Error::BadFragment => 23,
             Error::BadBuffer => 24,
             Error::BadStreams => 25,
+            Error::ZeroKey => 26,
             Error::Unknown(other) => other,
         }
     }

@@ -1,6 +1,7 @@
 //! Keys of listeners and random values, from the system's source.
 
-use crate::Draw;
+use crate::error::{checked, Error};
+use crate::{raw, Draw};
 use std::io;
 use std::num::NonZeroU32;
 
@@ -21,6 +22,15 @@ fn random<const N: usize>() -> io::Result<[u8; N]> {
 /// A secret random key for `Endpoint::listener`, from the system.
 pub fn random_key() -> io::Result<[u8; 32]> {
     random()
+}
+
+/// Derives a key from a secret master key and bytes that say what it is for, as the address that a packet was received from: HMAC-SHA-256 of the bytes
+/// under the master key (RFC 2104). Equal bytes give equal keys. `Error::ZeroKey` if the master key's bytes are all 0.
+pub fn key_derived(master: &[u8; 32], bytes: &[u8]) -> Result<[u8; 32], Error> {
+    let master = raw::Key { bytes: *master, reserved: [0; 4] };
+    let mut key = raw::Key { bytes: [0; 32], reserved: [0; 4] };
+    checked(unsafe { raw::sctp_endpoint_key_derived(&master, bytes.as_ptr(), bytes.len(), &mut key) })?;
+    Ok(key.bytes)
 }
 
 impl Draw {

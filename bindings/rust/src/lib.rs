@@ -20,7 +20,7 @@ mod values;
 pub use channels::{Channels, Content, Event, Parameters, Reason as ChannelReason, Reliability};
 pub use config::{Config, Draw};
 pub use error::Error;
-pub use key::random_key;
+pub use key::{key_derived, random_key};
 pub use packets::{abort_cause, peek_packet, version};
 pub use values::{
     AbortCause, Counts, Dropped, Ended, Fate, Head, Message, PacketHeader, Path, Reason, Reset, Sent, SentInto, State,
@@ -29,6 +29,7 @@ pub use values::{
 
 use error::{checked, checked_at};
 use std::fmt;
+use std::num::NonZeroU32;
 use values::{counts_of, path_of, status_of, verdict_of};
 
 /// The bytes of the longest packet that an endpoint builds.
@@ -71,8 +72,8 @@ impl Endpoint {
         Endpoint::made(|end| unsafe { raw::sctp_endpoint_caller(end, &config.raw()) })
     }
 
-    /// An endpoint that waits for a peer. The key, secret random bytes (`random_key`), authenticates its state cookies. With many peers at one
-    /// socket each address has a key of its own.
+    /// An endpoint that waits for a peer. The key, secret random bytes (`random_key`), authenticates its state cookies; one of zeros is refused. With
+    /// many peers at one socket each address has a key of its own: `key_derived`.
     pub fn listener(config: &Config, key: [u8; 32]) -> Result<Endpoint, Error> {
         Endpoint::made(|end| unsafe { raw::sctp_endpoint_listener(end, &config.raw(), &raw::Key { bytes: key, reserved: [0; 4] }) })
     }
@@ -201,6 +202,14 @@ impl Endpoint {
         let result = unsafe { raw::sctp_endpoint_status(&mut self.0, &mut told) };
         debug_assert_eq!(result, OK);
         status_of(&told)
+    }
+
+    /// The verification tag that packets to it carry (`peek_packet`), by which a program with many peers at one socket finds the endpoint of a packet: a
+    /// caller's from `connect` on, a listener's from the COOKIE ECHO on that establishes its association; None once that is over.
+    pub fn own_tag(&mut self) -> Option<NonZeroU32> {
+        let mut tag = 0;
+        let result = unsafe { raw::sctp_endpoint_own_tag(&mut self.0, &mut tag) };
+        (result == OK).then_some(tag).and_then(NonZeroU32::new)
     }
 
     /// What it knows of the path to its peer.

@@ -120,7 +120,8 @@ pub struct Status {
     pub partial: bool,
     pub reassembly_bytes: u32,
     pub resetting: u32,
-    pub reserved: [u32; 2],
+    pub own_tag: u32,
+    pub reserved: u32,
 }
 
 #[repr(C)]
@@ -164,6 +165,7 @@ extern "C" {
     pub fn sctp_endpoint_caller(handle: *mut Handle, config: *const Config) -> u32;
     pub fn sctp_endpoint_listener(handle: *mut Handle, config: *const Config, key: *const Key) -> u32;
     pub fn sctp_endpoint_opened(handle: *mut Handle, config: *const Config, own: *const Draw, peer: *const Draw) -> u32;
+    pub fn sctp_endpoint_key_derived(master: *const Key, bytes: *const u8, length: usize, key: *mut Key) -> u32;
     pub fn sctp_endpoint_free(handle: *mut Handle);
     pub fn sctp_endpoint_connect(handle: *mut Handle, now: u64, draw: *const Draw) -> u32;
     pub fn sctp_endpoint_handle_packet(
@@ -233,6 +235,7 @@ extern "C" {
         length: *mut usize,
     ) -> u32;
     pub fn sctp_endpoint_status(handle: *mut Handle, status: *mut Status) -> u32;
+    pub fn sctp_endpoint_own_tag(handle: *mut Handle, tag: *mut u32) -> u32;
     pub fn sctp_endpoint_path(handle: *mut Handle, path: *mut Path) -> u32;
     pub fn sctp_endpoint_counts(handle: *mut Handle, counts: *mut Counts) -> u32;
     pub fn sctp_endpoint_peek_packet(

@@ -1,6 +1,7 @@
 //! What the library returns: verdicts, packets, messages, the status.
 
 use crate::{raw, NEVER};
+use std::num::NonZeroU32;
 
 /// What was done with a received packet.
 #[derive(Clone, Debug, PartialEq, Eq)]
@@ -174,6 +175,8 @@ pub struct Status {
     pub partial: bool,
     /// The outgoing streams whose reset was asked for and isn't done.
     pub resetting: u32,
+    /// The verification tag that packets to it carry (`Endpoint::own_tag`).
+    pub own_tag: Option<NonZeroU32>,
 }
 
 /// What an endpoint knows of the path to its peer: times in milliseconds, sizes in bytes of user data.
@@ -264,6 +267,7 @@ pub(crate) fn status_of(told: &raw::Status) -> Status {
         interleaved: told.interleaved,
         partial: told.partial,
         resetting: told.resetting,
+        own_tag: NonZeroU32::new(told.own_tag),
     }
 }
 

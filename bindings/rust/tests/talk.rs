@@ -1,4 +1,4 @@
-use sctp_endpoint::{abort_cause, peek_packet, version, AbortCause, Config, Draw, Dropped, Ended, Endpoint, Error, Fate, Reason, Reset, State, Verdict, VerdictInto, LONGEST_PACKET, MOST_TICKETS};
+use sctp_endpoint::{abort_cause, key_derived, peek_packet, random_key, version, AbortCause, Config, Draw, Dropped, Ended, Endpoint, Error, Fate, Reason, Reset, State, Verdict, VerdictInto, LONGEST_PACKET, MOST_TICKETS};
 use std::num::NonZeroU32;
 
 fn draw(tag: u32) -> Draw {
@@ -75,6 +75,33 @@ fn refusals_say_why() {
     assert_eq!(listener.status().ended, Some(Ended::Aborted));
     assert_eq!(caller.status().ended, Some(Ended::AbortedHere));
     assert_eq!(caller.send(0, true, 0, b"x", None), Err(Error::NotOpen));
+}
+
+#[test]
+fn a_tag_is_told_while_packets_carry_it() {
+    let mut caller = Endpoint::caller(&Config::new(5_000, 5_001)).unwrap();
+    let mut listener = Endpoint::listener(&Config::new(5_001, 5_000), random_key().unwrap()).unwrap();
+    assert_eq!((caller.own_tag(), listener.own_tag(), listener.status().own_tag), (None, None, None));
+    caller.connect(0, draw(7)).unwrap();
+    assert_eq!(caller.own_tag(), NonZeroU32::new(7));
+    exchange(&mut caller, &mut listener, 0);
+    assert_eq!((listener.own_tag(), listener.status().own_tag), (NonZeroU32::new(9), NonZeroU32::new(9)));
+    let packet = caller.abort(b"").unwrap();
+    assert_eq!(peek_packet(&packet).unwrap().tag, 9);
+    assert_eq!(caller.own_tag(), None);
+}
+
+#[test]
+fn keys_are_derived_and_none_is_zero() {
+    assert_eq!(Endpoint::listener(&Config::new(5_001, 5_000), [0; 32]).unwrap_err(), Error::ZeroKey);
+    assert_eq!(key_derived(&[0; 32], b"message"), Err(Error::ZeroKey));
+    let mut master = [0; 32];
+    master[0] = 7;
+    let key = key_derived(&master, b"message").unwrap(); // by Python's hmac
+    assert_eq!((key[..4].to_vec(), key[31]), (vec![0x83, 0x37, 0xea, 0xb2], 0x29));
+    assert_ne!(key_derived(&master, b"massage").unwrap(), key);
+    let (one, other) = (Draw::random().unwrap(), Draw::random().unwrap());
+    assert!((one.tag, one.tsn) != (other.tag, other.tsn));
 }
 
 #[test]

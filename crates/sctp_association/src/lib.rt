@@ -53,7 +53,7 @@
 //! - **Readers** return what the view says, before, in and after an association: `state`, `ended`, `config`, `agreed` (None exactly if no stream is agreed
 //!   on), `tickets`, `waiting`, `readable`, `next_readable`, `inbound`, `outbound`, `is_interleaved`, `is_partial`, `has_late`, `next_late`, `next_to_give_up`,
 //!   `next_at_limit`, `acknowledged`, `abandoned`, `abandoned_messages`, `owes_sack`, `queued`, `queued_bytes`,
-//!   `queued_bytes_on`, `peer_window`, `held_bytes`, `outstanding`, `is_resetting`, `has_reset`, `resetting_streams`.
+//!   `queued_bytes_on`, `peer_window`, `held_bytes`, `outstanding`, `is_resetting`, `has_reset`, `resetting_streams`, `own_tag`.
 //! - **Bounds.** Received bytes that aren't taken never exceed the receive buffer (`held_bytes`, `bound`); at most 32,767 TSNs and partly sent messages are
 //!   outstanding (`outstanding`, `bound`).
 //! - **Laws of every view** that an endpoint stands for (their functions do nothing): it is sound (`sound`), its sender's view is one that a

@@ -8,3 +8,4 @@ pub mod readers;
 pub mod resetting;
 pub mod rooms;
 pub mod status;
+pub mod tag;

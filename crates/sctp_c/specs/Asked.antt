@@ -1,10 +1,11 @@
 -- What C passes in, in the words of the definitions.
-use Rattle.std.specs.Prelude.{◌≡◌, ℕ, ◌<◌, ◌⊎◌, ◌+◌, ◌==◌, nat_le, bit_and, not, ◌&&◌, ◌||◌, if◌then◌else◌, Bool, true, false, List, [], ◌∷◌, Option, Some, None}
+use Rattle.std.specs.Prelude.{◌≡◌, ℕ, ◌<◌, ◌⊎◌, ◌+◌, ◌==◌, nat_le, bit_and, replicate, not, ◌&&◌, ◌||◌, if◌then◌else◌, Bool, true, false, List, [], ◌∷◌, Option, Some, None}
+use Rattle.std.specs.Str.{bytes_eq}
 use Rattle.sctp_model.specs.end.EndView.{Configuration, Draw}
 use Rattle.sctp_model.specs.end.Configured.{ConfigurationFault, configuration_fault}
 use Rattle.sctp_model.specs.numbers.Limits.{LEAST_WAIT}
 use Rattle.sctp_terms.specs.Meanings.{config_code}
-use Rattle.sctp_c.specs.declared.codes.TheConstants.{OK, NO_MEMORY, MISUSE, BAD_RESERVED, BAD_CONFIG}
+use Rattle.sctp_c.specs.declared.codes.TheConstants.{OK, NO_MEMORY, MISUSE, BAD_RESERVED, BAD_CONFIG, ZERO_KEY}
 use Rattle.sctp_c.specs.declared.crossing.SctpConfig.{SctpConfig}
 use Rattle.sctp_c.specs.declared.crossing.SctpDraw.{SctpDraw}
 
@@ -61,6 +62,10 @@ abbrev pub is_zeroed : List ℕ → Bool
 is_zeroed [] = true
 is_zeroed (n ∷ ns) = (n == 0) && is_zeroed ns
 
+-- the bytes of a key are all zeros
+abbrev pub is_zero_key : List ℕ → Bool
+is_zero_key bytes = bytes_eq bytes (replicate 32 0)
+
 -- each flag of a configuration has a meaning, and its reserved numbers are 0
 abbrev pub is_free : SctpConfig → Bool
 is_free c = are_flags c.flags && is_zeroed c.reserved
@@ -84,3 +89,14 @@ IsMadeZeroed true c n = IsMadeUnless (configuration_fault (asked_by c)) n
 abbrev pub IsMade : (full zeroed : Bool) → SctpConfig → ℕ → Type 0
 IsMade true zeroed c n = n ≡ MISUSE
 IsMade false zeroed c n = IsMadeZeroed zeroed c n
+
+-- the result by whether the bytes of the key are all zeros, if all reserved numbers are 0
+abbrev pub IsMadeUnder : (zero : Bool) → SctpConfig → ℕ → Type 0
+IsMadeUnder true c n = n ≡ ZERO_KEY
+IsMadeUnder false c n = IsMadeUnless (configuration_fault (asked_by c)) n
+
+-- The result of a call that makes a listener: as of any endpoint; a key of zeros is refused before the configuration.
+abbrev pub IsListening : (full zeroed zero : Bool) → SctpConfig → ℕ → Type 0
+IsListening true zeroed zero c n = n ≡ MISUSE
+IsListening false false zero c n = n ≡ BAD_RESERVED
+IsListening false true zero c n = IsMadeUnder zero c n

@@ -98,6 +98,11 @@ state_number (view.InStage view.ShutdownSent) = 7
 state_number (view.InStage view.ShutdownReceived) = 8
 state_number (view.InStage view.ShutdownAckSent) = 9
 
+-- the verification tag of an endpoint, 0 if it has none
+abbrev pub tag_number : Option ℕ → ℕ
+tag_number None = 0
+tag_number (Some t) = t
+
 -- how an association ended, 0 if it hasn't
 abbrev pub ended_number : Option view.Ended → ℕ
 ended_number None = 0

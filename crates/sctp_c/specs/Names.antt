@@ -41,4 +41,5 @@ name_of n =
     else if n == 17 then codes "the stream is one of the peer's"
     else if n == 18 then codes "there is a channel on the stream"
     else if n == 19 then codes "more than 65,535 retransmissions or milliseconds"
+    else if n == 26 then codes "the bytes of the key are all 0"
     else config_name n

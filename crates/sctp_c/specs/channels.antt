@@ -6,3 +6,4 @@ pub mod Holds
 pub mod Told
 pub mod Events
 pub mod Buffered
+pub mod Early

@@ -7,6 +7,7 @@ mod buffered;
 mod calls;
 mod codes;
 mod crossing;
+mod early;
 mod events;
 mod handle;
 mod held;

@@ -16,7 +16,7 @@ pub(crate) const QUEUE_FULL: u32 = 4;
 pub(crate) const SPENT: u32 = 5;
 /// Memory allocation failed.
 pub(crate) const NO_MEMORY: u32 = 6;
-/// The association isn't established; for a shutdown, nor is it being closed.
+/// The association isn't established; for a shutdown, nor is it being closed; for a channel's opening or closing, it wasn't established yet.
 pub(crate) const NOT_OPEN: u32 = 7;
 /// The call isn't allowed in the endpoint's state.
 pub(crate) const BAD_STATE: u32 = 8;
@@ -44,6 +44,8 @@ pub(crate) const USED: u32 = 18;
 pub(crate) const OUT_OF_RANGE: u32 = 19;
 /// What the first fault of a configuration is counted from: 21 to 25.
 pub(crate) const BAD_CONFIG: u32 = 20;
+/// The bytes of a key are all 0.
+pub(crate) const ZERO_KEY: u32 = 26;
 
 /// Verdict: the packet was processed.
 pub(crate) const TAKEN: u32 = 0;
@@ -91,6 +93,7 @@ pub fn result_numbers()
     ensures used { USED ≡ 18 }
     ensures out_of_range { OUT_OF_RANGE ≡ 19 }
     ensures bad_config { BAD_CONFIG ≡ 20 }
+    ensures zero_key { ZERO_KEY ≡ 26 }
 {}
 
 // law

@@ -22,6 +22,7 @@ mod config;
 mod counts;
 mod crossing;
 mod handle;
+mod key;
 mod making;
 mod messages;
 mod names;

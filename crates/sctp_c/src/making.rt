@@ -10,12 +10,13 @@ ghost use Rattle.sctp_endpoint.specs.Counted.{none_counted};
 ghost use Rattle.sctp_c.specs.Counts.{counted_in};
 ghost use Rattle.sctp_c.specs.Slot.{is_full};
 ghost use Rattle.sctp_c.specs.Holds.{Holds};
-ghost use Rattle.sctp_c.specs.Asked.{asked_by, drawn, is_zeroed, is_free, IsMade};
+ghost use Rattle.sctp_c.specs.Asked.{asked_by, drawn, is_zeroed, is_free, is_zero_key, IsMade, IsListening};
 
-use crate::codes::{BAD_DRAW, BAD_RESERVED, MISUSE, NO_MEMORY, OK};
+use crate::codes::{BAD_DRAW, BAD_RESERVED, MISUSE, NO_MEMORY, OK, ZERO_KEY};
 use crate::config::{config_answer, config_of, is_free, is_zeroed};
 use crate::crossing::{SctpConfig, SctpDraw, SctpKey};
 use crate::handle::SctpEndpoint;
+use crate::key::is_zero;
 use sctp_endpoint::{Draw, Endpoint, Key};
 use std::alloc::Global;
 
@@ -81,7 +82,7 @@ pub extern "C" fn sctp_endpoint_caller(
     }
 }
 
-/// Makes an endpoint that waits for a peer to open the association; the key authenticates its state cookies.
+/// Makes an endpoint that waits for a peer to open the association; the key, which isn't all zeros, authenticates its state cookies.
 #[unsafe(no_mangle)]
 pub extern "C" fn sctp_endpoint_listener(
     alloc: Global,
@@ -91,7 +92,7 @@ pub extern "C" fn sctp_endpoint_listener(
 ) -> u32
     ensures made { (s : Sealing) → IsUnder key.now.bytes s → (result ≡ OK)
         → Holds handle.new.slot.endpoint (fresh_end (asked_by config.now) (model.Listener s) model.Listening) }
-    ensures answer { IsMade (is_full handle.old.slot.endpoint) (is_free config.now && is_zeroed key.now.reserved) config.now result }
+    ensures answer { IsListening (is_full handle.old.slot.endpoint) (is_free config.now && is_zeroed key.now.reserved) (is_zero_key key.now.bytes) config.now result }
     ensures kept { ((result ≡ OK) → ⊥) → handle.new ≡ handle.old }
     ensures counts { (result ≡ OK) → counted_in handle.new.slot.endpoint ≡ none_counted }
 {
@@ -100,6 +101,9 @@ pub extern "C" fn sctp_endpoint_listener(
     }
     if !are_listening_zeroed(config, key) {
         return BAD_RESERVED;
+    }
+    if is_zero(key) {
+        return ZERO_KEY;
     }
     match config_of(config) {
         Ok(config) => keep(

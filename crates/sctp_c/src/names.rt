@@ -7,7 +7,7 @@ use crate::buffers::put_text;
 use crate::codes::{
     BAD_DRAW, BAD_RESERVED, BAD_STATE, EMPTY, MISUSE, NEEDS_ROOM, NO_CHANNEL, NO_MEMORY, NO_STREAM,
     NO_SUCH_STREAM, NOT_OPEN, NOTHING, OK, OUT_OF_RANGE, QUEUE_FULL, RESETTING, SPENT, TOO_LONG,
-    USED, WRONG_HALF,
+    USED, WRONG_HALF, ZERO_KEY,
 };
 
 /// What a result that is a fault of a configuration means.
@@ -49,6 +49,7 @@ fn name_of(code: u32) -> &'static [u8]
         WRONG_HALF => b"the stream is one of the peer's",
         USED => b"there is a channel on the stream",
         OUT_OF_RANGE => b"more than 65,535 retransmissions or milliseconds",
+        ZERO_KEY => b"the bytes of the key are all 0",
         _ => config_name(code),
     }
 }

@@ -4,13 +4,14 @@ ghost use Rattle.std.specs.Prelude.{◌≡◌, None, option_map};
 ghost use Rattle.sctp_model.specs.sender.Readers as sender;
 ghost use Rattle.sctp_model.specs.end.EndView.{EndView};
 ghost use Rattle.sctp_terms.specs.Meanings.{end_meaning, state_meaning};
+ghost use Rattle.sctp_association.specs.OwnTag.{own_tag};
 ghost use Rattle.sctp_send.specs.ResetAnswers.{resetting_streams};
 ghost use Rattle.sctp_endpoint.specs.EndpointStands.{EndpointStands};
 ghost use Rattle.sctp_c.specs.Holds.{Holds};
-ghost use Rattle.sctp_c.specs.Codes.{moment_code, state_number, ended_number};
-ghost use Rattle.sctp_c.specs.Status.{IsStatus, IsWithin};
+ghost use Rattle.sctp_c.specs.Codes.{moment_code, state_number, ended_number, tag_number};
+ghost use Rattle.sctp_c.specs.Status.{IsStatus, IsWithin, TagTold};
 
-use crate::codes::{MISUSE, OK};
+use crate::codes::{MISUSE, NOTHING, OK};
 use crate::handle::SctpEndpoint;
 use sctp_endpoint::{End, Endpoint, State, Ticket};
 use sctp_values::small_len;
@@ -50,8 +51,10 @@ pub struct SctpStatus {
     pub reassembly_bytes: u32,
     /// The outgoing streams whose reset was asked for and isn't done.
     pub resetting: u32,
+    /// The verification tag that packets to it carry; 0 if it has none: before an INIT or COOKIE ECHO, and once the association is over.
+    pub own_tag: u32,
     /// 0.
-    pub reserved: [u32; 2],
+    pub reserved: u32,
 }
 
 /// The number of a state.
@@ -95,6 +98,16 @@ fn moment_told(moment: Option<u64>) -> u64
     }
 }
 
+/// A verification tag, and 0 if there is none.
+fn tag_of(tag: Option<u32>) -> u32
+    ensures { result ≡ tag_number tag }
+{
+    match tag {
+        None => 0,
+        Some(tag) => tag,
+    }
+}
+
 /// How many streams wait for their reset: at most 1,024.
 fn resetting_of(end: &Endpoint) -> u32
     ensures { (v : EndView) → EndpointStands end.now v → result ≡ resetting_streams v.sender }
@@ -123,7 +136,8 @@ pub(crate) fn status_of(end: &Endpoint) -> SctpStatus
         partial: end.is_partial(),
         reassembly_bytes: end.reassembly_bytes(),
         resetting: resetting_of(end),
-        reserved: [0; 2],
+        own_tag: tag_of(end.own_tag()),
+        reserved: 0,
     }
 }
 
@@ -142,6 +156,36 @@ pub extern "C" fn sctp_endpoint_status(handle: &mut SctpEndpoint, status: &mut S
     let end = handle.slot.lend();
     *status = status_of(end);
     OK
+}
+
+/// Writes a verification tag, if there is one.
+fn tell_tag(found: Option<u32>, tag: &mut u32) -> u32
+    ensures { TagTold found result tag.old tag.new }
+{
+    match found {
+        Some(own) => {
+            *tag = own;
+            OK
+        }
+        None => NOTHING,
+    }
+}
+
+/// Writes the verification tag that packets to the endpoint carry to `tag`: a program with many endpoints at one socket finds by it the one that a
+/// packet is for.
+#[unsafe(no_mangle)]
+pub extern "C" fn sctp_endpoint_own_tag(handle: &mut SctpEndpoint, tag: &mut u32) -> u32
+    ensures misuse { handle.old.slot.endpoint ≡ None → result ≡ MISUSE }
+    ensures untold { ((result ≡ OK) → ⊥) → tag.new ≡ tag.old }
+    ensures answer { (v : EndView) → Holds handle.old.slot.endpoint v → TagTold (own_tag v.phase) result tag.old tag.new }
+    ensures kept { handle.new.slot.endpoint ≡ handle.old.slot.endpoint }
+{
+    if !handle.is_full() {
+        return MISUSE;
+    }
+    let end = handle.slot.lend();
+    let found = end.own_tag();
+    tell_tag(found, tag)
 }
 
 /// Writes to `is` whether the peer has acknowledged all of a message that wasn't abandoned.

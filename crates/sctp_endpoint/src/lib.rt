@@ -56,6 +56,7 @@ mod sacks;
 mod shutdowns;
 mod small;
 mod strays;
+mod tag;
 mod transmit;
 
 pub use after::Verdict;

@@ -129,6 +129,13 @@ macro_rules! reads_endpoint {
                 self.proved().in_flight()
             }
 
+            /// The verification tag that packets to it carry, by which a program with many endpoints at one socket finds the one that a packet is for
+            /// ([`peek_packet`](crate::peek_packet)): a caller's from `connect` on, a listener's from the COOKIE ECHO on that begins its association;
+            /// `None` once that is over (RFC 9260, 8.5).
+            pub fn own_tag(&self) -> Option<u32> {
+                self.proved().own_tag()
+            }
+
             /// What is known of the path to the peer; `None` exactly before an association, and without fast retransmission.
             pub fn path(&self) -> Option<Path> {
                 self.proved().path().map(Path::of)

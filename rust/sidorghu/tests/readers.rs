@@ -13,7 +13,7 @@ fn readers_before_an_association() {
     assert_eq!((endpoint.inbound(), endpoint.outbound(), endpoint.agreed()), (0, 0, None));
     assert_eq!((endpoint.outstanding(), endpoint.queued(), endpoint.queued_bytes(), endpoint.peer_window()), (0, 0, 0, 0));
     assert_eq!((endpoint.held_bytes(), endpoint.reassembly_bytes(), endpoint.in_flight()), (0, 0, 0));
-    assert_eq!((endpoint.path(), endpoint.next_moment(), endpoint.ended()), (None, None, None));
+    assert_eq!((endpoint.path(), endpoint.next_moment(), endpoint.ended(), endpoint.own_tag()), (None, None, None, None));
     assert_eq!((endpoint.is_interleaved(), endpoint.is_partial(), endpoint.has_late(ms(9))), (false, false, false));
     assert_eq!(endpoint.config(), config(true));
 }
@@ -23,6 +23,7 @@ fn readers_of_an_association() {
     let (mut a, mut b) = pair();
     assert_eq!(a.agreed(), Some(Agreed { outbound: 4, inbound: 4, interleave: true, partial: true }));
     assert!(a.is_interleaved() && a.is_partial());
+    assert_eq!((a.own_tag(), b.own_tag().is_some()), (Some(7), true));
     assert_eq!((a.inbound(), a.outbound(), a.peer_window()), (4, 4, 65_536));
     let options = SendOptions::new().payload_id(51);
     a.send(1, &[1; 100], options).unwrap();

@@ -16,7 +16,7 @@ macro_rules! read {
         let of_streams =
             (it.inbound(), it.outbound(), it.is_interleaved(), it.is_partial(), it.has_reset(), it.is_resetting(0), it.resetting_streams());
         let of_lifetimes = (it.abandoned(Ticket(1)), it.has_late(ms(99)), it.next_late(Ticket(0), ms(99)), it.next_to_give_up(Ticket(0), ms(99)));
-        (of_path, of_queue, of_buffer, of_streams, of_lifetimes, it.next_at_limit(Ticket(0)))
+        (of_path, of_queue, of_buffer, of_streams, of_lifetimes, it.next_at_limit(Ticket(0)), it.own_tag())
     }};
 }
 

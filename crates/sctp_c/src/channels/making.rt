@@ -1,6 +1,6 @@
 //! How C makes channels over an endpoint, and frees them.
 
-ghost use Rattle.std.specs.Prelude.{◌≡◌, ◌⊎◌, true, None, Some, max, IfOk};
+ghost use Rattle.std.specs.Prelude.{◌≡◌, ◌<◌, ◌⊎◌, nat_lt, true, false, None, Some, max, IfOk};
 ghost use Rattle.sctp_model.specs.end.EndView.{EndView};
 ghost use Rattle.sctp_endpoint.specs.EndpointStands.{EndpointStands};
 ghost use Rattle.sctp_channels.specs.Streams.{fresh_table};
@@ -12,7 +12,7 @@ ghost use Rattle.sctp_c.specs.channels.Holds.{HoldsChannels, waiting_in};
 
 use crate::channels::handle::SctpChannels;
 use crate::channels::held::Held;
-use crate::codes::{MISUSE, NO_MEMORY, OK};
+use crate::codes::{BAD_STATE, MISUSE, NO_MEMORY, OK};
 use crate::handle::SctpEndpoint;
 use sctp_channels::{Channels, DtlsRole};
 use sctp_endpoint::Endpoint;
@@ -51,7 +51,20 @@ fn channels_over(
     Box::new(alloc, held).map_err(|_| NoMemory)
 }
 
-/// Makes channels over an endpoint, whose handle is empty afterwards.
+/// Whether a message was sent on the endpoint in a handle, if there is one.
+fn has_sent(endpoint: &mut SctpEndpoint) -> bool
+    ensures answer { (v : EndView) → Holds endpoint.old.slot.endpoint v → result ≡ nat_lt 0 v.sender.tickets }
+    ensures empty { endpoint.old.slot.endpoint ≡ None → result ≡ false }
+    ensures kept { endpoint.new.slot.endpoint ≡ endpoint.old.slot.endpoint }
+{
+    if !endpoint.is_full() {
+        return false;
+    }
+    let end = endpoint.slot.lend();
+    end.tickets() > 0
+}
+
+/// Makes channels over an endpoint on which no message was sent, and whose handle is empty afterwards.
 #[unsafe(no_mangle)]
 pub extern "C" fn sctp_channels_over(
     alloc: Global,
@@ -61,7 +74,10 @@ pub extern "C" fn sctp_channels_over(
 ) -> u32
     ensures full { is_full channels.old.slot.held ≡ true → (result ≡ MISUSE) × (channels.new ≡ channels.old) × (endpoint.new ≡ endpoint.old) }
     ensures misuse { endpoint.old.slot.endpoint ≡ None → (result ≡ MISUSE) × (channels.new ≡ channels.old) × (endpoint.new.slot.endpoint ≡ None) }
-    ensures answer { channels.old.slot.held ≡ None → is_full endpoint.old.slot.endpoint ≡ true → ((result ≡ OK) ⊎ (result ≡ NO_MEMORY)) × (endpoint.new.slot.endpoint ≡ None) }
+    ensures used { (v : EndView) → channels.old.slot.held ≡ None → Holds endpoint.old.slot.endpoint v → 0 < v.sender.tickets
+        → (result ≡ BAD_STATE) × (channels.new ≡ channels.old) × (endpoint.new.slot.endpoint ≡ endpoint.old.slot.endpoint) }
+    ensures answer { (v : EndView) → channels.old.slot.held ≡ None → Holds endpoint.old.slot.endpoint v → v.sender.tickets ≡ 0
+        → ((result ≡ OK) ⊎ (result ≡ NO_MEMORY)) × (endpoint.new.slot.endpoint ≡ None) }
     ensures made { (v : EndView) → Holds endpoint.old.slot.endpoint v → (result ≡ OK)
         → HoldsChannels channels.new.slot.held v (fresh_table (role_of is_dtls_client) (max v.configuration.outbound v.configuration.inbound)) }
     ensures waits { (result ≡ OK) → waiting_in channels.new.slot.held ≡ None }
@@ -69,6 +85,9 @@ pub extern "C" fn sctp_channels_over(
 {
     if channels.is_full() {
         return MISUSE;
+    }
+    if has_sent(endpoint) {
+        return BAD_STATE;
     }
     let Some(end) = endpoint.take(alloc) else {
         return MISUSE;

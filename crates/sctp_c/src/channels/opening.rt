@@ -1,20 +1,22 @@
 //! Channels are opened and closed by C (RFC 8831, 6.4, 6.5 and 6.7).
 
-ghost use Rattle.std.specs.Prelude.{◌≡◌, true, None, Some, option_map};
+ghost use Rattle.std.specs.Prelude.{◌≡◌, true, false, None, Some, option_map};
 ghost use Rattle.sctp_model.specs.end.EndView.{EndView};
 ghost use Rattle.sctp_dcep.specs.Dcep as dcep;
 ghost use Rattle.sctp_dcep.specs.Meanings.{reliability_meaning};
 ghost use Rattle.sctp_channels.specs.Streams.{Table};
 ghost use Rattle.sctp_c.specs.Slot.{is_full};
 ghost use Rattle.sctp_c.specs.channels.Asked.{asked_reliability, asked_parameters, stream_asked};
+ghost use Rattle.sctp_c.specs.channels.Early.{is_early, is_unjoined};
 ghost use Rattle.sctp_c.specs.channels.Holds.{HoldsChannels, waiting_in};
 ghost use Rattle.sctp_c.specs.channels.Told.{OpenTold, OpensFor, NegotiatesFor, ClosesFor};
 ghost use Rattle.sctp_c.specs.channels.Codes.{negotiate_code, closing_code};
 
 use crate::channels::codes::{close_code, open_code};
 use crate::channels::crossing::{SctpChannelParameters, is_zeroed, reliability_of, stream_of};
+use crate::channels::early::{is_early, is_unjoined};
 use crate::channels::handle::SctpChannels;
-use crate::codes::{BAD_RESERVED, MISUSE, OK};
+use crate::codes::{BAD_RESERVED, MISUSE, NOT_OPEN, OK};
 use sctp_channels::{CloseFault, OpenFault, Opening, Reliability};
 
 /// The reliability that C asks for; None if its number has no meaning, or a reserved number isn't 0.
@@ -55,8 +57,10 @@ pub extern "C" fn sctp_channels_open(
     ensures misuse { channels.old.slot.held ≡ None → (result ≡ MISUSE) × (channels.new.slot.held ≡ None) }
     ensures unasked { is_full channels.old.slot.held ≡ true → asked_reliability parameters.now ≡ None → (result ≡ BAD_RESERVED) × (channels.new ≡ channels.old) }
     ensures untold { ((result ≡ OK) → ⊥) → opened.new ≡ opened.old }
+    ensures early { (v : EndView) (x : Table) (r : dcep.Reliability) → HoldsChannels channels.old.slot.held v x → asked_reliability parameters.now ≡ Some r
+        → is_early v.phase ≡ true → (result ≡ NOT_OPEN) × (channels.new.slot.held ≡ channels.old.slot.held) }
     ensures did { (v : EndView) (x : Table) (r : dcep.Reliability) → HoldsChannels channels.old.slot.held v x → asked_reliability parameters.now ≡ Some r
-        → OpensFor v x (asked_parameters parameters.now r label.now protocol.now) (stream_asked stream) channels.new.slot.held result opened.new }
+        → is_early v.phase ≡ false → OpensFor v x (asked_parameters parameters.now r label.now protocol.now) (stream_asked stream) channels.new.slot.held result opened.new }
     ensures waits { waiting_in channels.new.slot.held ≡ waiting_in channels.old.slot.held }
 {
     if !channels.is_full() {
@@ -73,6 +77,9 @@ pub extern "C" fn sctp_channels_open(
         priority: parameters.priority,
     };
     let held = channels.slot.lend();
+    if is_early(held) {
+        return NOT_OPEN;
+    }
     let answer = held.channels.open(&opening, stream_of(stream));
     tell_open(answer, opened)
 }
@@ -96,8 +103,10 @@ pub extern "C" fn sctp_channels_open_negotiated(
 ) -> u32
     ensures misuse { channels.old.slot.held ≡ None → (result ≡ MISUSE) × (channels.new.slot.held ≡ None) }
     ensures unasked { is_full channels.old.slot.held ≡ true → asked_reliability parameters.now ≡ None → (result ≡ BAD_RESERVED) × (channels.new ≡ channels.old) }
+    ensures early { (v : EndView) (x : Table) (r : dcep.Reliability) → HoldsChannels channels.old.slot.held v x → asked_reliability parameters.now ≡ Some r
+        → is_unjoined v.phase ≡ true → (result ≡ NOT_OPEN) × (channels.new.slot.held ≡ channels.old.slot.held) }
     ensures did { (v : EndView) (x : Table) (r : dcep.Reliability) → HoldsChannels channels.old.slot.held v x → asked_reliability parameters.now ≡ Some r
-        → NegotiatesFor v x parameters.now.ordered r stream channels.new.slot.held result }
+        → is_unjoined v.phase ≡ false → NegotiatesFor v x parameters.now.ordered r stream channels.new.slot.held result }
     ensures waits { waiting_in channels.new.slot.held ≡ waiting_in channels.old.slot.held }
 {
     if !channels.is_full() {
@@ -107,6 +116,9 @@ pub extern "C" fn sctp_channels_open_negotiated(
         return BAD_RESERVED;
     };
     let held = channels.slot.lend();
+    if is_unjoined(held) {
+        return NOT_OPEN;
+    }
     let answer = held
         .channels
         .open_negotiated(stream, parameters.ordered, reliability);
@@ -127,13 +139,18 @@ fn closing_code(answer: Result<(), CloseFault>) -> u32
 #[unsafe(no_mangle)]
 pub extern "C" fn sctp_channels_close(channels: &mut SctpChannels, stream: u16) -> u32
     ensures misuse { channels.old.slot.held ≡ None → (result ≡ MISUSE) × (channels.new.slot.held ≡ None) }
-    ensures did { (v : EndView) (x : Table) → HoldsChannels channels.old.slot.held v x → ClosesFor v x stream channels.new.slot.held result }
+    ensures early { (v : EndView) (x : Table) → HoldsChannels channels.old.slot.held v x → is_early v.phase ≡ true
+        → (result ≡ NOT_OPEN) × (channels.new.slot.held ≡ channels.old.slot.held) }
+    ensures did { (v : EndView) (x : Table) → HoldsChannels channels.old.slot.held v x → is_early v.phase ≡ false → ClosesFor v x stream channels.new.slot.held result }
     ensures waits { waiting_in channels.new.slot.held ≡ waiting_in channels.old.slot.held }
 {
     if !channels.is_full() {
         return MISUSE;
     }
     let held = channels.slot.lend();
+    if is_early(held) {
+        return NOT_OPEN;
+    }
     let answer = held.channels.close(stream);
     closing_code(answer)
 }
