@@ -117,42 +117,7 @@ if there valgrind "valgrind"; then
     "${memcheck[@]}" "$at/layout"
     "${memcheck[@]}" "$at/channels"
     say "under ${memcheck[*]}: nothing found, nothing leaks"
-    "$cc" "${flags[@]}" -o "$at/cost" tests/c/cost.c "${static[@]}"
-    # a long copy by `rep movsb` would count as an instruction a byte
-    export GLIBC_TUNABLES=glibc.cpu.x86_rep_movsb_threshold=1000000000:glibc.cpu.x86_rep_stosb_threshold=1000000000
-    counting=$at/cost
-    count() { valgrind --tool=callgrind --callgrind-out-file=/dev/null "$counting" "$@" 2>&1 | sed -n 's/.*Collected : \([0-9]*\).*/\1/p'; }
-    cost() { echo $((($(count "$1" "$2" 300 ${3:+"$3"}) - $(count "$1" "$2" 100 ${3:+"$3"})) / 200 / $1)); }
-    # what bench/README.md has in the row that begins so
-    page() { awk -F'|' -v row="| $1" 'index($0, row) == 1 { gsub(/[ ,]/, "", $4); print $4; exit }' bench/README.md; }
-    compare() { # ROW, its figure
-        say "$1: $2 instructions a message, $(page "$1") in bench/README.md; at most a twentieth more is wanted"
-        [ $(($2 * 20)) -le $(($(page "$1") * 21)) ]
-    }
-    four() { cost 19 64; cost 19 64 i; cost 1 64; echo $(($(cost 1 16384) - $(cost 1 16384 b))); }
-    mapfile -t ours < <(four)
-    rows=("64 bytes, 9.5 to a packet" "the same as I-DATA" "64 bytes, one to a packet" "16 KiB")
-    for row in 0 1 2 3; do compare "${rows[row]}" "${ours[row]}"; done
-    if [ $# = 1 ] && [ -f crates/sctp_c/out/libsctp_c.a ]; then
-        ./install.sh "$at/proved"
-        "$cc" "${flags[@]}" -o "$at/cost_proved" tests/c/cost.c "$at/proved/lib/libsctp_endpoint.a" "$at/proved/lib/libsctp_endpoint_malloc.a"
-        counting=$at/cost_proved
-        mapfile -t theirs < <(four)
-        counting=$at/cost
-        for row in 0 1 2 3; do
-            say "${rows[row]}: ${ours[row]} by cargo, ${theirs[row]} by the toolchain; 1.03 of that is wanted at most"
-            [ $((ours[row] * 100)) -le $((theirs[row] * 103)) ]
-        done
-    fi
-    "$cc" "${flags[@]}" -o "$at/channels_cost" tests/c/channels_cost.c "${static[@]}"
-    counted() { valgrind --tool=callgrind --callgrind-out-file=/dev/null "$at/channels_cost" "$@" 2>&1 | sed -n 's/.*Collected : \([0-9]*\).*/\1/p'; }
-    for row in "19 1 150" "19 1024 180" "1 1 150" "1 1024 185"; do
-        read -r many streams most <<< "$row"
-        more=$((($(counted "$many" 64 300 "$streams") - $(counted "$many" 64 100 "$streams")) / 200 / many - $(cost "$many" 64)))
-        say "64 bytes, $many at once, on the last of $streams channels: $more instructions more than over an endpoint; $most more are wanted at most"
-        [ "$more" -le "$most" ]
-    done
-    unset GLIBC_TUNABLES
+    tests/c/counts.sh "$prefix" "$@"
 fi
 
 # ---- beside usrsctp in one process
