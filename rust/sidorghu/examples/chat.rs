@@ -88,10 +88,12 @@ impl Server {
         let mut endpoint = Endpoint::listener(config(5_001, 5_000)?, Key::derived(&self.secret, from.to_string().as_bytes()));
         match endpoint.handle_packet(now, packet, random::draw()?)? {
             Verdict::Answer(answer) => drop(self.socket.send_to(&answer, from)),
-            Verdict::Taken if endpoint.state() == State::Established => {
-                self.members.insert(header.tag, Member { endpoint, at: from, name: from.to_string(), last: now });
+            Verdict::Taken => {
+                if let Some(tag) = endpoint.own_tag() {
+                    self.members.insert(tag, Member { endpoint, at: from, name: from.to_string(), last: now });
+                }
             }
-            Verdict::Taken | Verdict::Dropped(_) => {}
+            Verdict::Dropped(_) => {}
         }
         Ok(())
     }
