@@ -15,11 +15,7 @@ struct Block {
 impl Block {
     /// The address of the block, null if there is none.
     fn address(self) -> *mut u8 {
-        if self.ok {
-            self.at.cast()
-        } else {
-            core::ptr::null_mut()
-        }
+        if self.ok { self.at.cast() } else { core::ptr::null_mut() }
     }
 }
 
