@@ -18,8 +18,9 @@
  * of a buffer only the beginning, as many bytes as its length says. Otherwise outputs are unchanged, except that lengths and the verdict of a
  * packet may be set to zero, and except for what is said at SCTP_EP_NEEDS_ROOM.
  *
- * Times are milliseconds on any clock that doesn't go back, the same for all calls of an endpoint. A time before the latest one counts as the
- * latest. A time that is wrong can't be taken back: UINT64_MAX, passed as the current time, stops all timers of the endpoint for good.
+ * Times are milliseconds on any clock that doesn't go back, the same for all calls of an endpoint, and for all listeners that share a key. A time
+ * before the latest one counts as the latest. A time that is wrong can't be taken back: UINT64_MAX, passed as the current time, stops all timers of
+ * the endpoint for good.
  *
  * Memory is allocated by three functions, which are called on the thread that calls the library. libsctp_endpoint_malloc.a implements them by
  * malloc, realloc and free; a program that defines its own doesn't link that library (rattle_alloc below).
@@ -155,8 +156,9 @@ struct sctp_endpoint_draw {
  * arc4random is in <stdlib.h> of glibc 2.36 and later, the BSDs and macOS; elsewhere take the numbers from getrandom or getentropy. */
 #define SCTP_ENDPOINT_DRAW(random, other_random) { (uint32_t)(random) % UINT32_MAX + 1, (uint32_t)(other_random), 0 }
 
-/* Secret random bytes, not all 0, that authenticate a listener's state cookies (RFC 9260, 5.1.3). Listeners may share them: then a cookie made for
- * one address opens an association from any other, so a server has a key for each address (sctp_endpoint_key_derived). */
+/* Secret random bytes, not all 0, that authenticate a listener's state cookies (RFC 9260, 5.1.3). Listeners may share them, on one clock, since a
+ * cookie holds the time that it was made at: it opens an association for 60,000 milliseconds, the last one included. A cookie that was made for one
+ * address opens one from any other, so a server has a key for each address (sctp_endpoint_key_derived). */
 struct sctp_endpoint_key {
     uint8_t bytes[32];
     uint32_t reserved[4]; /* 0 */
@@ -213,9 +215,10 @@ struct sctp_endpoint_verdict {
 
 /* Processes a received packet: its bytes from the common header on. The draw is used if it is an INIT to a listener; pass a new one each time.
  * The buffer is for the answer: it has at least the endpoint's packet limit, else NEEDS_ROOM, with the limit as the length.
- * The peer's address is the one that a packet with the verdict TAKEN was received from: its tag was right. An ANSWER or a DROPPED packet
- * says nothing about its sender. BAD_DRAW; MISUSE; BAD_RESERVED; NO_MEMORY: the chunks before the one whose memory couldn't be allocated were
- * processed, and the same packet may be passed again. */
+ * Once there is an association the peer's address is the one that a packet with the verdict TAKEN was received from: its tag was right. That of the
+ * COOKIE ECHO that begins it may be forged, unless the listener's key is for this address alone. An ANSWER or a DROPPED packet says nothing about
+ * its sender. BAD_DRAW; MISUSE; BAD_RESERVED; NO_MEMORY: the chunks before the one whose memory couldn't be allocated were processed, and the same
+ * packet may be passed again. */
 uint32_t sctp_endpoint_handle_packet(struct sctp_endpoint *handle, uint64_t now, const uint8_t *packet, size_t packet_length,
                                      const struct sctp_endpoint_draw *draw, uint8_t *buffer, size_t buffer_length,
                                      struct sctp_endpoint_verdict *verdict);
@@ -376,7 +379,7 @@ uint32_t sctp_endpoint_status(struct sctp_endpoint *handle, struct sctp_endpoint
 
 /* Returns the verification tag that packets to the endpoint carry (sctp_endpoint_peek_packet), by which a program with many peers at one socket finds
  * the endpoint of a packet: a caller's from connect on, a listener's from the COOKIE ECHO on that establishes its association. NOTHING: it has none
- * yet, or the association is over. MISUSE. */
+ * yet, or the association is over; a program that needs it then has noted it before. MISUSE. */
 uint32_t sctp_endpoint_own_tag(struct sctp_endpoint *handle, uint32_t *tag);
 
 /* Which numbers of a path are there, as a sum. Those that aren't are 0. */
@@ -425,7 +428,9 @@ uint32_t sctp_endpoint_counts(struct sctp_endpoint *handle, struct sctp_endpoint
 /* ---- what a packet says, without an endpoint */
 
 /* Reads ports and verification tag of a packet, for a program with several peers at one socket. The tag is that of the endpoint which the
- * packet is for, 0 with an INIT. Nothing else of the packet is checked, so it may be anyone's. NOTHING if it is shorter than 12 bytes. */
+ * packet is for, 0 with an INIT. But with the T bit (bit 0 of byte 13) of an ABORT or a SHUTDOWN COMPLETE (byte 12 is 6 or 14) it is the
+ * sender's, which packets to the sender carry (RFC 9260, 8.5.1). Nothing else of the packet is checked, so it may be anyone's. NOTHING if it is
+ * shorter than 12 bytes. */
 uint32_t sctp_endpoint_peek_packet(const uint8_t *packet, size_t packet_length, uint16_t *source, uint16_t *destination, uint32_t *tag);
 
 /* Reads why a peer aborted: the first cause of the first ABORT in a packet, 12 for a user's abort (RFC 9260, 3.3.10), 0 if it has none; and its

@@ -361,7 +361,8 @@ class Counts(NamedTuple):
 
 
 class PacketHeader(NamedTuple):
-    """The ports and the verification tag of a packet: the tag is that of the endpoint which the packet is for, 0 with an INIT."""
+    """The ports and the verification tag of a packet: the tag is that of the endpoint which the packet is for, 0 with an INIT; with the T bit of an
+    ABORT or a SHUTDOWN COMPLETE it is the sender's (RFC 9260, 8.5.1)."""
 
     source: int
     destination: int

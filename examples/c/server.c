@@ -5,7 +5,7 @@
  *
  * A client calls SCTP port 5001 from any port, and its first message says who it is: a name, a space, and a secret that it keeps over its restarts.
  * The answer is "welcome". What it sends from then on goes to all other clients, after its name. A message with the payload protocol identifier ASK
- * says nothing: its acknowledgement says that a quiet client is still there. */
+ * says nothing: its acknowledgement says that a quiet client is still there. A client that has heard nothing for 30 seconds sends one, too. */
 #define _POSIX_C_SOURCE 200809L
 #include "sctp_endpoint.h"
 #include <arpa/inet.h>
@@ -27,9 +27,8 @@ enum {
     FIRST = 30000,       /* ms for a client to say who it is: what is lost is sent again after 1, 3, 7 and 15 seconds */
     QUIET = 20000,       /* ms after which a quiet client is asked */
     COOKIE_LIFE = 60000, /* ms for which a state cookie opens an association */
-    COOKIE_ECHO = 10,    /* the type of a chunk that is the first of its packet */
-    TALK = 0,
-    ASK = 1
+    ABORT = 6, COOKIE_ECHO = 10, SHUTDOWN_COMPLETE = 14, /* types of a packet's first chunk */
+    TALK = 0, ASK = 1    /* payload protocol identifiers */
 };
 
 struct client {
@@ -37,6 +36,8 @@ struct client {
     struct sctp_endpoint end;
     struct sockaddr_in at; /* where the last packet with its tag was received from */
     uint32_t tag;          /* of packets to the server: the client is found by it */
+    uint32_t peer_tag;     /* of packets to the client, and of those with the T bit from it */
+    bool missed;           /* a message to it couldn't be queued */
     uint64_t opened, heard;
     char who[LONGEST_WHO]; /* name, space, secret: of `length` bytes, 0 if it hasn't said who it is */
     size_t length, name;
@@ -113,8 +114,8 @@ static void turn_out(struct client *c, const char *why) {
 
 static void say(struct client *to, uint32_t what, const char *bytes, size_t length) {
     uint64_t ticket = 0;
-    if (sctp_endpoint_send(&to->end, 0, true, what, (const uint8_t *)bytes, length, SCTP_EP_NEVER, &ticket) != SCTP_EP_OK)
-        fprintf(stderr, "%.*s doesn't get a message: it reads too slowly, or is leaving\n", (int)to->name, to->who);
+    uint32_t result = sctp_endpoint_send(&to->end, 0, true, what, (const uint8_t *)bytes, length, SCTP_EP_NEVER, &ticket);
+    if (result != SCTP_EP_OK && result != SCTP_EP_NOT_OPEN) to->missed = true; /* its next turn aborts it. One that isn't open is leaving */
 }
 
 /* A client says who it is. If another one has the name, the secret decides: with it the peer was restarted, and the old endpoint is freed; without,
@@ -158,20 +159,22 @@ static uint64_t turn(struct client *c) {
     struct sctp_endpoint_sent sent = { 0 };
     struct sctp_endpoint_status s = { 0 };
     uint64_t deadline = c->length > 0 ? c->heard + QUIET : c->opened + FIRST;
+    uint16_t source = 0, destination = 0;
+    if (c->missed) return turn_out(c, "it reads too slowly"), SCTP_EP_NEVER;
     sctp_endpoint_on_moment(&c->end, now);
     s = status(c);
     if (now >= deadline && c->length == 0) return turn_out(c, "no first message"), SCTP_EP_NEVER;
     if (now >= deadline && s.state == SCTP_EP_ESTABLISHED && s.outstanding == 0 && s.queued == 0) say(c, ASK, "?", 1);
-    while (sctp_endpoint_poll_transmit(&c->end, now, packet, sizeof packet, tickets, SCTP_EP_MOST_TICKETS, &sent) == SCTP_EP_OK && sent.length > 0)
+    while (sctp_endpoint_poll_transmit(&c->end, now, packet, sizeof packet, tickets, SCTP_EP_MOST_TICKETS, &sent) == SCTP_EP_OK
+           && sctp_endpoint_peek_packet(packet, sent.length, &source, &destination, &c->peer_tag) == SCTP_EP_OK) /* not of 0 bytes: there is none */
         put(&c->at, packet, sent.length);
     s = status(c);
     if (s.ended != SCTP_EP_NOT_ENDED) return drop(c), SCTP_EP_NEVER; /* meet() answers the peer if the last packet was lost */
     return now < deadline && deadline < s.next_moment ? deadline : s.next_moment;
 }
 
-/* Returns a client that a packet for none begins, or NULL. A new listener answers it: only a COOKIE ECHO whose cookie was made for this very address
- * begins one. */
-static struct client *meet(const uint8_t *packet, size_t length, const struct sockaddr_in *from, uint16_t source) {
+/* A packet for no client: a new listener answers it. Only a COOKIE ECHO whose cookie was made for this very address begins a client. */
+static void meet(const uint8_t *packet, size_t length, const struct sockaddr_in *from, uint16_t source) {
     static uint8_t answer[SCTP_EP_LONGEST_PACKET];
     struct sctp_endpoint_config config = SCTP_ENDPOINT_CONFIG(PORT, source);
     struct sctp_endpoint_verdict verdict = { 0 };
@@ -179,7 +182,7 @@ static struct client *meet(const uint8_t *packet, size_t length, const struct so
     struct sctp_endpoint_key key = { { 0 }, { 0 } };
     struct client *c = calloc(1, sizeof *c);
     uint8_t address[6] = { 0 };
-    if (c == NULL) return NULL; /* as if the packet were lost */
+    if (c == NULL) return; /* as if the packet were lost */
     memcpy(address, &from->sin_addr, 4), memcpy(address + 4, &from->sin_port, 2);
     config.buffer = BUFFER, config.outbound = config.inbound = 1;
     if (sctp_endpoint_key_derived(&master, address, sizeof address, &key) == SCTP_EP_OK && sctp_endpoint_listener(&c->end, &config, &key) == SCTP_EP_OK)
@@ -187,29 +190,32 @@ static struct client *meet(const uint8_t *packet, size_t length, const struct so
     if (verdict.verdict == SCTP_EP_ANSWER) put(from, answer, verdict.length);
     if (sctp_endpoint_own_tag(&c->end, &c->tag) == SCTP_EP_OK) {
         c->at = *from, c->opened = c->heard = now, c->next = clients, clients = c;
-        return c;
-    }
-    sctp_endpoint_free(&c->end), free(c);
-    return NULL;
+        if (take(c)) turn(c);
+    } else sctp_endpoint_free(&c->end), free(c);
+}
+
+static void pass(struct client *c, const uint8_t *packet, size_t length, const struct sockaddr_in *from) {
+    static uint8_t answer[SCTP_EP_LONGEST_PACKET];
+    struct sctp_endpoint_verdict verdict = { 0 };
+    struct sctp_endpoint_draw d = draw();
+    if (sctp_endpoint_handle_packet(&c->end, now, packet, length, &d, answer, sizeof answer, &verdict) != SCTP_EP_OK) return;
+    if (verdict.verdict == SCTP_EP_ANSWER) put(from, answer, verdict.length);
+    if (verdict.verdict == SCTP_EP_TAKEN) c->at = *from, c->heard = now; /* its tag was right: the client may have a new port */
+    if (take(c)) turn(c); /* its acknowledgement goes out at once */
 }
 
 static void receive(const uint8_t *packet, size_t length, const struct sockaddr_in *from) {
-    static uint8_t answer[SCTP_EP_LONGEST_PACKET];
-    struct sctp_endpoint_verdict verdict = { 0 };
     uint16_t source = 0, destination = 0;
     uint32_t tag = 0;
-    if (sctp_endpoint_peek_packet(packet, length, &source, &destination, &tag) != SCTP_EP_OK) return;
-    struct client *c = with_tag(clients, tag);
-    if (c == NULL) {
-        if (length > 12 && packet[12] == COOKIE_ECHO && with_tag(gone, tag)) return; /* late: what followed it was delivered */
-        c = meet(packet, length, from, source);
-    } else {
-        struct sctp_endpoint_draw d = draw();
-        if (sctp_endpoint_handle_packet(&c->end, now, packet, length, &d, answer, sizeof answer, &verdict) != SCTP_EP_OK) return;
-        if (verdict.verdict == SCTP_EP_ANSWER) put(from, answer, verdict.length);
-        if (verdict.verdict == SCTP_EP_TAKEN) c->at = *from, c->heard = now; /* its tag was right: the client may have a new port */
+    if (length < 16 || sctp_endpoint_peek_packet(packet, length, &source, &destination, &tag) != SCTP_EP_OK) return;
+    if ((packet[12] == ABORT || packet[12] == SHUTDOWN_COMPLETE) && (packet[13] & 1) != 0) { /* the T bit: the client's endpoint ended */
+        for (struct client *c = clients, *after; c; c = after)
+            if (after = c->next, c->peer_tag == tag) pass(c, packet, length, from);
+        return;
     }
-    if (c && take(c)) turn(c); /* its acknowledgement goes out at once */
+    struct client *c = with_tag(clients, tag);
+    if (c) pass(c, packet, length, from);
+    else if (packet[12] != COOKIE_ECHO || !with_tag(gone, tag)) meet(packet, length, from, source); /* else it is late: what followed it was delivered */
 }
 
 int main(int argc, char **argv) {

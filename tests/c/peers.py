@@ -2,8 +2,9 @@
 """Tries examples/c/server.c, by clients over UDP: tests/c/peers.py SERVER, with SCTP_ENDPOINT_LIBRARY and PYTHONPATH=bindings/python.
 
 Clients are restarted, change their port, lose their port to another client, are impersonated by a COOKIE ECHO that was made for another address, send old
-packets again once they are gone; and a thousand call at once over a link that loses a twentieth of the packets each way. It prints a line a trial, and
-ends with 1 if a client is lost, or gets a message twice or not at all. `peers.py SERVER 100` has a hundred clients in place of the thousand."""
+packets again once they are gone, lose their last packet, read nothing; and a thousand call at once over a link that loses a twentieth of the packets each
+way. It prints a line a trial, and ends with 1 if a client is lost, or gets a message twice or not at all. `peers.py SERVER 100` has a hundred clients in
+place of the thousand."""
 
 import random
 import resource
@@ -13,9 +14,9 @@ import subprocess
 import sys
 import time
 
-from sctp_endpoint import Config, Endpoint, Refused, State
+from sctp_endpoint import Config, Endpoint, Ended, State
 
-COOKIE_ECHO = 10
+ABORT, COOKIE_ECHO, SHUTDOWN_COMPLETE = 6, 10, 14
 ASK = 1
 
 
@@ -23,13 +24,18 @@ def now():
     return int(time.monotonic() * 1000)
 
 
-class Client:
-    """A client of the chat: an endpoint and a socket."""
+def is_one(packet, kind, t_bit=False):
+    """The packet's first chunk is of this type, and has the T bit or not."""
+    return packet[12] == kind and (packet[13] & 1 == 1) == t_bit
 
-    def __init__(self, server, name, secret="secret", port=0, sctp_port=5000, loss=0.0, holds_echo=False):
+
+class Client:
+    """A client of the chat: an endpoint and a socket. What it sends of the type `held` without the T bit never arrives."""
+
+    def __init__(self, server, name, secret="secret", port=0, sctp_port=5000, loss=0.0, held=None):
         self.server, self.name, self.loss = server, name, loss
         self.first = f"{name} {secret}".encode()
-        self.inbox, self.packets, self.said, self.holds_echo = [], [], False, holds_echo
+        self.inbox, self.packets, self.said, self.held = [], [], False, held
         self.open(port)
         self.end = Endpoint.caller(Config(sctp_port, 5001, buffer=65536, outbound=1, inbound=1))
         self.end.connect(now())
@@ -45,7 +51,7 @@ class Client:
 
     def put(self, packet):
         self.packets.append(packet)
-        if random.random() >= self.loss and not (self.holds_echo and packet[12] == COOKIE_ECHO):
+        if random.random() >= self.loss and not is_one(packet, self.held):
             self.udp.sendto(packet, self.server)
 
     def turn(self):
@@ -156,8 +162,8 @@ class Trials:
 
     def forged(self):
         watcher, victim = self.joined("watcher-f", sctp_port=6000), self.joined("victim")
-        evil = Client(self.server, "evil", holds_echo=True)
-        run([evil], lambda: evil.packets[-1][12] == COOKIE_ECHO, 10)
+        evil = Client(self.server, "evil", held=COOKIE_ECHO)
+        run([evil], lambda: is_one(evil.packets[-1], COOKIE_ECHO), 10)
         before = victim.end.counts().packets_in
         victim.udp.sendto(evil.packets[-1], self.server)  # what a third party sends in the victim's name
         run([victim, watcher], lambda: False, 0.5)
@@ -176,6 +182,38 @@ class Trials:
                 time.sleep(0.002)
         run([watcher], lambda: False, 1)
         self.tell("all its packets again once it is gone", good and watcher.inbox.count("leaving: once") == 1)
+
+    def is_freed(self, client):
+        """The server has no endpoint of this client: its name goes to who has another secret."""
+        other = Client(self.server, client.name, secret="another")
+        run([other], lambda: "welcome" in other.inbox or other.ended is not None, 10)
+        return "welcome" in other.inbox
+
+    def lost_end(self):
+        watcher, closing, aborting = self.joined("watcher-e", sctp_port=6000), self.joined("closing", held=SHUTDOWN_COMPLETE), self.joined("aborting")
+        closing.end.shutdown()
+        closing.turn()
+        answered = run([closing], lambda: is_one(closing.packets[-1], SHUTDOWN_COMPLETE, t_bit=True), 10)
+        self.tell("its SHUTDOWN COMPLETE is lost, and the next one, with the T bit, ends the server's endpoint",
+                  answered and closing.ended == Ended.COMPLETED and self.is_freed(closing))
+        aborting.end.abort(b"lost")
+        watcher.say("who is there?")
+        answered = run([watcher, aborting], lambda: is_one(aborting.packets[-1], ABORT, t_bit=True), 10)
+        self.tell("its ABORT is lost, and the next one, with the T bit, ends the server's endpoint",
+                  answered and aborting.ended == Ended.ABORTED_HERE and self.is_freed(aborting) and watcher.ended is None)
+
+    def full(self):
+        watcher, slow, other = self.joined("watcher-q", sctp_port=6000), self.joined("slow"), self.joined("reading")
+        good = True
+        for part in range(13):  # 1,300 messages: 131 of 500 bytes fit the receive buffer of who reads nothing, and 1,024 the server's queue for it
+            for _ in range(100):
+                watcher.end.send(0, bytes(500))
+            watcher.turn()
+            good &= run([watcher, other], lambda: len(other.inbox) == 101 + 100 * part, 20)  # the welcome, too
+        slow.say("still here")
+        run([slow, other], lambda: slow.ended is not None, 10)
+        self.tell("a client that reads nothing is aborted, and the others get all", good and slow.ended == Ended.ABORTED and self.is_freed(slow)
+                  and self.heard(watcher, other, "and on"))
 
     def many(self, count):
         begun = time.monotonic()
@@ -211,6 +249,8 @@ def main(words):
         trials.lost_port()
         trials.forged()
         trials.late()
+        trials.lost_end()
+        trials.full()
         trials.many(int(words[1]) if len(words) > 1 else 1000)
         trials.tell("the server lives", server.poll() is None)
     finally:
