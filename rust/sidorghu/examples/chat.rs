@@ -5,12 +5,13 @@
 //! cargo run --release --example chat -- ann 127.0.0.1:9899         says each line of its input, prints what is said, and leaves at its end
 //! ```
 //!
-//! A packet belongs to the endpoint whose own verification tag it has. Any other one is for a listener, which keeps nothing of a peer until its
-//! cookie returns: so a new one is made for each such packet, with a key for the sender's address alone.
+//! A packet belongs to the endpoint whose own verification tag it has; an ABORT or a SHUTDOWN COMPLETE with the T bit has the tag of the packets to
+//! its sender, and belongs to the endpoints that send those (RFC 9260, 8.5.1). Any other one is for a listener, which keeps nothing of a peer until
+//! its cookie returns: so a new one is made for each such packet, with a key for the sender's address alone.
 
 mod random;
 
-use sidorghu::{Config, ConfigError, Endpoint, Key, NoMemory, SendError, SendOptions, State, Verdict, peek_packet};
+use sidorghu::{Config, ConfigError, End, Endpoint, Key, NoMemory, SendError, SendOptions, State, Verdict, peek_packet};
 use std::collections::HashMap;
 use std::error::Error;
 use std::io::{self, BufRead};
@@ -21,24 +22,28 @@ use std::time::{Duration, Instant};
 
 /// How long a turn waits at most.
 const TURN: Duration = Duration::from_millis(50);
-/// How long a cookie is valid. An endpoint that is over is kept as long, so that its late COOKIE ECHO opens nothing.
-const COOKIE_LIFE: Duration = Duration::from_secs(60);
+/// How long a cookie is valid, its last millisecond included. An endpoint that is over is kept as long, so that its late COOKIE ECHO opens nothing.
+const COOKIE_LIFE: Duration = Duration::from_millis(60_001);
 /// A member that is silent for this time is sent an empty line: if it has gone, that isn't acknowledged, and the association ends.
 const SILENCE: Duration = Duration::from_secs(30);
+/// How long a member that has left still answers: if its SHUTDOWN COMPLETE is lost, the server repeats its SHUTDOWN ACK after 1 and 3 seconds.
+const LINGER: Duration = Duration::from_secs(5);
 
 /// One stream each way, and a receive buffer that is no larger than what the system keeps for a socket.
 fn config(own: u16, peer: u16) -> Result<Config, ConfigError> {
     Config::builder(own, peer).streams(1, 1).receive_buffer(131_072).build()
 }
 
-/// Sends what an endpoint has to send.
-fn transmit(endpoint: &mut Endpoint, socket: &UdpSocket, to: SocketAddr, now: Duration) -> Result<(), NoMemory> {
+/// Sends what an endpoint has to send, and returns the tag of the last packet: the peer's.
+fn transmit(endpoint: &mut Endpoint, socket: &UdpSocket, to: SocketAddr, now: Duration) -> Result<Option<u32>, NoMemory> {
+    let mut tag = None;
     endpoint.on_moment(now);
     while let Some(sent) = endpoint.poll_transmit(now)? {
         let _ = socket.send_to(&sent.packet, to); // what the system doesn't take counts as lost
+        tag = peek_packet(&sent.packet).map(|header| header.tag);
         endpoint.recycle(sent);
     }
-    Ok(())
+    Ok(tag)
 }
 
 /// Waits for a packet until a deadline, or the end of the turn.
@@ -61,9 +66,22 @@ struct Member {
     endpoint: Endpoint,
     /// Where the last packet that was taken was received from.
     at: SocketAddr,
+    /// That of the packets to it, and of those with the T bit from it.
+    peer_tag: Option<u32>,
     name: String,
     /// When something was last received from it, or it was asked whether it is there; from the end on, the time of the end.
     last: Duration,
+}
+
+impl Member {
+    fn handle(&mut self, socket: &UdpSocket, packet: &[u8], from: SocketAddr, now: Duration) -> Result<(), Box<dyn Error>> {
+        match self.endpoint.handle_packet(now, packet, random::draw()?)? {
+            Verdict::Answer(answer) => drop(socket.send_to(&answer, from)),
+            Verdict::Taken => (self.at, self.last) = (from, now),
+            Verdict::Dropped(_) => {}
+        }
+        Ok(())
+    }
 }
 
 /// The chat: its members by their endpoints' own tags.
@@ -77,23 +95,19 @@ impl Server {
     /// Handles a packet: a member's, or for a listener that may become one.
     fn handle(&mut self, packet: &[u8], from: SocketAddr, now: Duration) -> Result<(), Box<dyn Error>> {
         let Some(header) = peek_packet(packet) else { return Ok(()) };
-        if let Some(member) = self.members.get_mut(&header.tag) {
-            match member.endpoint.handle_packet(now, packet, random::draw()?)? {
-                Verdict::Answer(answer) => drop(self.socket.send_to(&answer, from)),
-                Verdict::Taken => (member.at, member.last) = (from, now),
-                Verdict::Dropped(_) => {}
-            }
-            return Ok(());
+        // an ABORT, 6, or a SHUTDOWN COMPLETE, 14, with the T bit: the endpoint that sent it is over
+        if matches!(packet[12..], [6 | 14, flags, ..] if flags & 1 == 1) {
+            let mut theirs = self.members.values_mut().filter(|member| member.peer_tag == Some(header.tag));
+            return theirs.try_for_each(|member| member.handle(&self.socket, packet, from, now));
         }
-        let mut endpoint = Endpoint::listener(config(5_001, 5_000)?, Key::derived(&self.secret, from.to_string().as_bytes()));
-        match endpoint.handle_packet(now, packet, random::draw()?)? {
-            Verdict::Answer(answer) => drop(self.socket.send_to(&answer, from)),
-            Verdict::Taken => {
-                if let Some(tag) = endpoint.own_tag() {
-                    self.members.insert(tag, Member { endpoint, at: from, name: from.to_string(), last: now });
-                }
-            }
-            Verdict::Dropped(_) => {}
+        if let Some(member) = self.members.get_mut(&header.tag) {
+            return member.handle(&self.socket, packet, from, now);
+        }
+        let endpoint = Endpoint::listener(config(5_001, 5_000)?, Key::derived(&self.secret, from.to_string().as_bytes()));
+        let mut member = Member { endpoint, at: from, peer_tag: None, name: from.to_string(), last: now };
+        member.handle(&self.socket, packet, from, now)?;
+        if let Some(tag) = member.endpoint.own_tag() {
+            self.members.insert(tag, member);
         }
         Ok(())
     }
@@ -112,11 +126,12 @@ impl Server {
         Ok(said)
     }
 
-    /// Says a line to all. Whoever has not taken 1,024 lines before misses this one.
+    /// Says a line to all. Whoever has not taken 1,024 lines before is aborted: one that is left out would be lost without its knowing.
     fn say(&mut self, line: &str) {
         for member in self.members.values_mut().filter(|member| member.endpoint.state() == State::Established) {
-            if let Err(why) = member.endpoint.send(0, line.as_bytes(), SendOptions::new()) {
-                eprintln!("not said to {}: {why}", member.name);
+            if let Err(why @ (SendError::QueueFull | SendError::NoMemory)) = member.endpoint.send(0, line.as_bytes(), SendOptions::new()) {
+                eprintln!("{} is aborted: {why}", member.name);
+                let _ = member.endpoint.abort(b"lines wait").map(|packet| self.socket.send_to(&packet, member.at));
             }
         }
     }
@@ -146,15 +161,13 @@ impl Server {
         loop {
             let now = start.elapsed();
             for member in self.members.values_mut() {
-                transmit(&mut member.endpoint, &self.socket, member.at, now)?;
+                member.peer_tag = transmit(&mut member.endpoint, &self.socket, member.at, now)?.or(member.peer_tag);
             }
             let deadline = self.members.values().filter_map(|member| member.endpoint.next_moment()).min();
             if let Some((packet, from)) = receive(&self.socket, &mut buffer, deadline, now)? {
                 self.handle(packet, from, start.elapsed())?;
             }
-            let mut said = self.listen()?;
-            said.extend(self.look(start.elapsed()));
-            for line in said {
+            for line in [self.listen()?, self.look(start.elapsed())].concat() {
                 println!("{line}");
                 self.say(&line);
             }
@@ -187,9 +200,20 @@ fn speak(endpoint: &mut Endpoint, input: &Receiver<String>, waiting: &mut Option
     }
 }
 
+/// Waits for a packet to a member, and answers it.
+fn hear(endpoint: &mut Endpoint, socket: &UdpSocket, start: Instant) -> Result<(), Box<dyn Error>> {
+    let mut buffer = [0; 2_048];
+    if let Some((packet, from)) = receive(socket, &mut buffer, endpoint.next_moment(), start.elapsed())? {
+        if let Verdict::Answer(answer) = endpoint.handle_packet(start.elapsed(), packet, random::draw()?)? {
+            let _ = socket.send_to(&answer, from);
+        }
+    }
+    Ok(())
+}
+
 /// A member's side.
 fn join(name: &str, server: SocketAddr) -> Result<(), Box<dyn Error>> {
-    let (socket, start, mut buffer) = (UdpSocket::bind(("0.0.0.0", 0))?, Instant::now(), [0; 2_048]);
+    let (socket, start) = (UdpSocket::bind(("0.0.0.0", 0))?, Instant::now());
     let mut endpoint = Endpoint::caller(config(5_000, 5_001)?);
     let (input, mut waiting) = (lines(), Some(format!("/name {name}")));
     endpoint.connect(Duration::ZERO, random::draw()?)?;
@@ -198,16 +222,16 @@ fn join(name: &str, server: SocketAddr) -> Result<(), Box<dyn Error>> {
             endpoint.shutdown()?;
         }
         transmit(&mut endpoint, &socket, server, start.elapsed())?;
-        if let Some((packet, from)) = receive(&socket, &mut buffer, endpoint.next_moment(), start.elapsed())? {
-            if let Verdict::Answer(answer) = endpoint.handle_packet(start.elapsed(), packet, random::draw()?)? {
-                let _ = socket.send_to(&answer, from);
-            }
-        }
+        hear(&mut endpoint, &socket, start)?;
         while let Some(line) = take_line(&mut endpoint)? {
             println!("{line}");
         }
     }
     println!("{:?}", endpoint.ended());
+    let over = start.elapsed();
+    while endpoint.ended() == Some(End::Completed) && start.elapsed() < over + LINGER {
+        hear(&mut endpoint, &socket, start)?;
+    }
     Ok(())
 }
 

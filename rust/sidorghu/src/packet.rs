@@ -43,8 +43,9 @@ impl Verdict {
 }
 
 /// The ports and the verification tag in a packet's header, for a program that has several peers at one socket: it passes the packet to the endpoint
-/// whose own tag it has, and one of tag 0, which is an INIT's, to a listener. `None` if there are fewer than the header's 12 bytes. Nothing else is
-/// tested, neither checksum nor chunks: [`handle_packet`](crate::Endpoint::handle_packet) does that.
+/// whose own tag it has, and one of tag 0, which is an INIT's, to a listener. But with the T bit (bit 0 of byte 13) of an ABORT or a SHUTDOWN COMPLETE
+/// (byte 12 is 6 or 14) the tag is the sender's, which packets to the sender carry (RFC 9260, 8.5.1). `None` if there are fewer than the header's 12
+/// bytes. Nothing else is tested, neither checksum nor chunks: [`handle_packet`](crate::Endpoint::handle_packet) does that.
 pub fn peek_packet(bytes: &[u8]) -> Option<PacketHeader> {
     proved::peek_packet(bytes)
 }
