@@ -11,7 +11,7 @@ use Rattle.sctp_recv.specs.HandedOf.{handed_of}
 use Rattle.sctp_events.specs.declared.event.Side.{Side}
 use Rattle.sctp_events.specs.declared.event.Side.TheVariants as side
 use Rattle.sctp_events.specs.declared.event.Event.{Event}
-use Rattle.sctp_events.specs.declared.event.Event.TheVariants.{Open, At, Drawing, Connect, Build, Deliver, Foreign, Send, SendWithMaxRetransmits, Abandon, Take, Reset, WasReset, Shutdown, Abort}
+use Rattle.sctp_events.specs.declared.event.Event.TheVariants.{Open, Later, Moment, At, Drawing, Connect, Build, Deliver, Foreign, Send, SendWithMaxRetransmits, Abandon, Take, Reset, WasReset, Shutdown, Abort}
 use Rattle.sctp_events.specs.declared.outcome.Refusal.{Refusal}
 use Rattle.sctp_events.specs.declared.outcome.Refusal.TheVariants as refusal
 use Rattle.sctp_events.specs.declared.outcome.Outcome.{Outcome}
@@ -32,6 +32,8 @@ pub data Wanted : Type 0 where
 -- what an event asks for
 abbrev pub event_meaning : Event → Wanted
 event_meaning (Open a b) = Happens (meaning.OpenBoth a b)
+event_meaning (Later x moment) = Happens (meaning.Later (side_meaning x) moment)
+event_meaning (Moment x) = Happens (meaning.Moment (side_meaning x))
 event_meaning (At moment) = Happens (meaning.At moment)
 event_meaning (Drawing draw) = Happens (meaning.Drawing draw)
 event_meaning (Connect draw) = Happens (meaning.Connect draw)

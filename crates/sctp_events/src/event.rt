@@ -34,7 +34,17 @@ pub enum Event {
         a: Draw,
         b: Draw,
     },
-    /// `at`: the clock advances to this time, in milliseconds, and both endpoints are notified. A smaller time leaves the clock.
+    /// `later`: an endpoint's clock advances to this time, in milliseconds, and no endpoint is notified. A smaller time leaves the clock.
+    Later {
+        side: Side,
+        moment: u64,
+    },
+    /// `moment`: an endpoint is notified of the time of its clock: timers run out, and lifetimes end.
+    Moment {
+        side: Side,
+    },
+    /// `at`: both clocks advance to this time, in milliseconds, and both endpoints are notified, each of its own clock. A smaller time leaves
+    /// a clock.
     At {
         moment: u64,
     },
