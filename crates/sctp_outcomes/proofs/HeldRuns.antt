@@ -4,9 +4,9 @@ use Rattle.sctp_model.specs.wire.Packet.{Packet}
 use Rattle.sctp_model.specs.end.EndView.{Configuration, EndView}
 use Rattle.sctp_model.specs.end.Arriving.{DroppedUnread, ReadAs, CutFirst, CutLater}
 use Rattle.sctp_model.specs.end.UserCalls.{shut, abort_answer, abort_leaves, reset_call, reset_leaves, reset_there, told_leaves}
-use Rattle.sctp_model.specs.world.World.{Side, A, B, World, end_of, end_now, start, Setup, configuration_of}
+use Rattle.sctp_model.specs.world.World.{Side, A, B, World, end_of, end_now, start, Setup, configuration_of, clock_of}
 use Rattle.sctp_model.specs.world.Events.{Event, Outcome}
-use Rattle.sctp_model.specs.world.Steps.{Step, OpensBoth, OpenRefused, TimePasses, Draws, Connects, ConnectRefused, BuildsOne, BuildsNone, PacketComes, IsAbsent, Sends, AbandonsOne, TakesOne, ShutsDown, AbortsIt, NoMemory, Run, Rest, Then, PacketCut, ResetsOne, TellsReset}
+use Rattle.sctp_model.specs.world.Steps.{Step, OpensBoth, OpenRefused, TimePasses, Draws, Connects, ConnectRefused, BuildsOne, BuildsNone, PacketComes, IsAbsent, Sends, AbandonsOne, TakesOne, ShutsDown, AbortsIt, NoMemory, Run, Rest, Then, PacketCut, ResetsOne, TellsReset, TimeGoesOn, MomentComes}
 use Rattle.sctp_safety.proofs.machine.OneEnd.{IsAt, at_end, at_log, at_packet, at_came, answer_of, at_verdict, abort_of, at_abort, both_ends}
 use Rattle.sctp_safety.proofs.machine.DiagramRuns.{ends_follow_the_diagram, IsFresh, step_onward}
 use Rattle.sctp_outcomes.specs.NeverHeld.{NoneIsHeldForEver}
@@ -33,7 +33,10 @@ held_step w e o v f k r (OpensBoth x y like may dx dy) = at_both v
     (λ some. begins_paced w.a.configuration w.a.configuration.buffer some, λ q here some. absurd (omega (arith, some)))
     (λ some. begins_paced w.b.configuration w.b.configuration.buffer some, λ q here some. absurd (omega (arith, some)))
 held_step w e o v f k r (OpenRefused x y closed) = r
-held_step w e o v f k r (TimePasses m small) = at_both v (held_ticked w.a (max w.clock m) (f A) (k A) (r A)) (held_ticked w.b (max w.clock m) (f B) (k B) (r B))
+held_step w e o v f k r (TimeGoesOn A m small) = at_both v (r A) (r B)
+held_step w e o v f k r (TimeGoesOn B m small) = at_both v (r A) (r B)
+held_step w e o v f k r (MomentComes x) = at_one_end w v x _ None (at_log w x _ _) r (held_ticked (end_of w x) (clock_of w x) (f x) (k x) (r x))
+held_step w e o v f k r (TimePasses m small) = at_both v (held_ticked w.a (max w.clock_a m) (f A) (k A) (r A)) (held_ticked w.b (max w.clock_b m) (f B) (k B) (r B))
 held_step w e o v f k r (Draws d dd) = at_both v (r A) (r B)
 held_step w e o v f k r (Connects d dd answer) = at_both v (held_called (end_now w A) d answer (r A)) (r B)
 held_step w e o v f k r (ConnectRefused d answer) = r

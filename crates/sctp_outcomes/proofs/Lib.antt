@@ -32,4 +32,5 @@ pub mod Untouched
 pub mod SetUp
 pub mod AgedDates
 pub mod users
+pub mod BothClocks
 pub mod resets

@@ -12,9 +12,9 @@ use Rattle.sctp_model.specs.end.Strays.{Verdict}
 use Rattle.sctp_model.specs.end.Arriving.{Receives}
 use Rattle.sctp_model.specs.end.Building.{packet_of}
 use Rattle.sctp_model.specs.end.UserCalls.{Called, NotIdle}
-use Rattle.sctp_model.specs.world.World.{Side, other, are_alike, World, end_of, bag_of, with_end, with_packet, end_now, came}
+use Rattle.sctp_model.specs.world.World.{Side, other, are_alike, World, end_of, bag_of, with_end, with_packet, end_now, came, clock_of}
 use Rattle.sctp_model.specs.world.Events.{Event, Deliver, Outcome, Sent, next_number, told, with_verdict, message_told}
-use Rattle.sctp_model.specs.world.Steps.{FromBag, FromStranger, Brings, Step, OpensBoth, OpenRefused, TimePasses, Draws, Connects, ConnectRefused, BuildsOne, BuildsNone, PacketComes, IsAbsent, Sends, AbandonsOne, TakesOne, ShutsDown, AbortsIt, NoPacket, ResetsOne, TellsReset}
+use Rattle.sctp_model.specs.world.Steps.{FromBag, FromStranger, Brings, Step, OpensBoth, OpenRefused, TimePasses, Draws, Connects, ConnectRefused, BuildsOne, BuildsNone, PacketComes, IsAbsent, Sends, AbandonsOne, TakesOne, ShutsDown, AbortsIt, NoPacket, ResetsOne, TellsReset, TimeGoesOn, MomentComes}
 use Rattle.sctp_outcomes.specs.Outcomes.{OutcomesAreOne}
 use Rattle.sctp_outcomes.proofs.Receivers.{Whatever, HoldsIn, holds_always}
 use Rattle.sctp_outcomes.proofs.Ordinary.{ordinary_law}
@@ -61,6 +61,12 @@ one_step w ordinary e o p v u (OpenRefused _ _ off) (OpensBoth _ _ like may _ _)
 one_step w ordinary e o p v u (OpenRefused _ _ _) (OpenRefused _ _ _) = (refl, refl)
 one_step w ordinary e o p v u (OpenRefused _ _ _) (PacketComes _ _ _ _ _ brings _) = elim brings [ ]
 one_step w ordinary e o p v u (PacketComes _ _ _ _ _ brings _) (OpenRefused _ _ _) = elim brings [ ]
+one_step w ordinary e o p v u (TimeGoesOn _ _ _) (TimeGoesOn _ _ _) = (refl, refl)
+one_step w ordinary e o p v u (TimeGoesOn _ _ _) (PacketComes _ _ _ _ _ brings _) = elim brings [ ]
+one_step w ordinary e o p v u (PacketComes _ _ _ _ _ brings _) (TimeGoesOn _ _ _) = elim brings [ ]
+one_step w ordinary e o p v u (MomentComes _) (MomentComes _) = (refl, refl)
+one_step w ordinary e o p v u (MomentComes _) (PacketComes _ _ _ _ _ brings _) = elim brings [ ]
+one_step w ordinary e o p v u (PacketComes _ _ _ _ _ brings _) (MomentComes _) = elim brings [ ]
 one_step w ordinary e o p v u (TimePasses _ _) (TimePasses _ _) = (refl, refl)
 one_step w ordinary e o p v u (TimePasses _ _) (PacketComes _ _ _ _ _ brings _) = elim brings [ ]
 one_step w ordinary e o p v u (PacketComes _ _ _ _ _ brings _) (TimePasses _ _) = elim brings [ ]
@@ -117,9 +123,9 @@ one_step w ordinary e o p v u (AbortsIt _ _) (PacketComes _ _ _ _ _ brings _) = 
 one_step w ordinary e o p v u (PacketComes _ _ _ _ _ brings _) (AbortsIt _ _) = elim brings [ ]
 one_step w ordinary e o p v u (PacketComes _ x q t d b a) (PacketComes _ y r z k c f) =
     let m = one_brought w e x y q r b c in
-    let g : Receives (end_of w x) w.clock w.draw q z k =
-    subst (λ (s : Side). Receives (end_of w s) w.clock w.draw q z k) (sym m.0) (subst (λ (s : Option Packet). Receives (end_of w y) w.clock w.draw s z k) (sym m.1) f) in
-    let n = one_received (end_of w x) w.clock w.draw q t z d k (ordinary x) a g in (
+    let g : Receives (end_of w x) (clock_of w x) w.draw q z k =
+    subst (λ (s : Side). Receives (end_of w s) (clock_of w s) w.draw q z k) (sym m.0) (subst (λ (s : Option Packet). Receives (end_of w y) (clock_of w y) w.draw s z k) (sym m.1) f) in
+    let n = one_received (end_of w x) (clock_of w x) w.draw q t z d k (ordinary x) a g in (
       ap (λ (j : Verdict). told w x j) n.1 ∙ ap (λ (s : Side). told w s k) m.0,
       ap (λ (i : EndView). with_verdict (came w x i) x d) n.0 ∙ ap (λ (j : Verdict). with_verdict (came w x z) x j) n.1 ∙ ap (λ (s : Side). with_verdict (came w s z) s k) m.0,
     )

@@ -4,9 +4,9 @@ use Rattle.sctp_model.specs.wire.Packet.{Packet}
 use Rattle.sctp_model.specs.end.EndView.{EndView}
 use Rattle.sctp_model.specs.end.Arriving.{DroppedUnread, ReadAs, CutFirst, CutLater}
 use Rattle.sctp_model.specs.end.UserCalls.{shut, abort_answer, abort_leaves, reset_call, reset_leaves, reset_there, told_leaves}
-use Rattle.sctp_model.specs.world.World.{Side, A, B, World, end_of, end_now, start, Setup}
+use Rattle.sctp_model.specs.world.World.{Side, A, B, World, end_of, end_now, start, Setup, clock_of}
 use Rattle.sctp_model.specs.world.Events.{Event, Outcome}
-use Rattle.sctp_model.specs.world.Steps.{Step, OpensBoth, OpenRefused, TimePasses, Draws, Connects, ConnectRefused, BuildsOne, BuildsNone, PacketComes, IsAbsent, Sends, AbandonsOne, TakesOne, ShutsDown, AbortsIt, NoMemory, Run, Rest, Then, PacketCut, ResetsOne, TellsReset}
+use Rattle.sctp_model.specs.world.Steps.{Step, OpensBoth, OpenRefused, TimePasses, Draws, Connects, ConnectRefused, BuildsOne, BuildsNone, PacketComes, IsAbsent, Sends, AbandonsOne, TakesOne, ShutsDown, AbortsIt, NoMemory, Run, Rest, Then, PacketCut, ResetsOne, TellsReset, TimeGoesOn, MomentComes}
 use Rattle.sctp_safety.proofs.machine.OneEnd.{IsAt, at_end, at_log, at_packet, at_came, answer_of, at_verdict, abort_of, at_abort, both_ends}
 use Rattle.sctp_outcomes.proofs.ReachedEnds.{IsReachedAt, reached_anew, reached_arrives, reached_builds, reached_ticked, reached_sent, reached_abandoned, reached_shut, reached_aborted, reached_reset, reached_told}
 
@@ -24,7 +24,10 @@ at_both v a b B = b
 pub reached_step : (w : World) (e : Event) (o : Option Outcome) (v : World) → AreReached w → Step w e o v → AreReached v
 reached_step w e o v r (OpensBoth x y like may dx dy) = at_both v (reached_anew v.a _ _ _ _ refl) (reached_anew v.b _ _ _ _ refl)
 reached_step w e o v r (OpenRefused x y closed) = r
-reached_step w e o v r (TimePasses m small) = at_both v (reached_ticked w.a (max w.clock m) (r A)) (reached_ticked w.b (max w.clock m) (r B))
+reached_step w e o v r (TimeGoesOn A m small) = at_both v (r A) (r B)
+reached_step w e o v r (TimeGoesOn B m small) = at_both v (r A) (r B)
+reached_step w e o v r (MomentComes x) = at_one_end w v x _ None (at_log w x _ _) r (reached_ticked (end_of w x) (clock_of w x) (r x))
+reached_step w e o v r (TimePasses m small) = at_both v (reached_ticked w.a (max w.clock_a m) (r A)) (reached_ticked w.b (max w.clock_b m) (r B))
 reached_step w e o v r (Draws d dd) = at_both v (r A) (r B)
 reached_step w e o v r (Connects d dd answer) = at_both v (r A) (r B)
 reached_step w e o v r (ConnectRefused d answer) = r

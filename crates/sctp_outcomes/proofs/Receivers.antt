@@ -21,9 +21,9 @@ use Rattle.sctp_model.specs.end.Building.{Slot, Puts, NoMore, NotDue, Put, IsFul
 use Rattle.sctp_model.specs.end.Building.{EndsFull}
 use Rattle.sctp_model.specs.end.Moments.{ticked}
 use Rattle.sctp_model.specs.end.UserCalls.{send_answer, shut, abort_answer, abort_leaves, ResetCall, Begun, NotAgreed, NoStream, reset_call, reset_leaves, reset_there, told_leaves}
-use Rattle.sctp_model.specs.world.World.{Side, A, B, World, end_of, end_now, start, Setup}
+use Rattle.sctp_model.specs.world.World.{Side, A, B, World, end_of, end_now, start, Setup, clock_of}
 use Rattle.sctp_model.specs.world.Events.{Event, Outcome}
-use Rattle.sctp_model.specs.world.Steps.{Step, OpensBoth, OpenRefused, TimePasses, Draws, Connects, ConnectRefused, BuildsOne, BuildsNone, PacketComes, IsAbsent, Sends, AbandonsOne, TakesOne, ShutsDown, AbortsIt, NoMemory, Run, Rest, Then, PacketCut, ResetsOne, TellsReset}
+use Rattle.sctp_model.specs.world.Steps.{Step, OpensBoth, OpenRefused, TimePasses, Draws, Connects, ConnectRefused, BuildsOne, BuildsNone, PacketComes, IsAbsent, Sends, AbandonsOne, TakesOne, ShutsDown, AbortsIt, NoMemory, Run, Rest, Then, PacketCut, ResetsOne, TellsReset, TimeGoesOn, MomentComes}
 use Rattle.sctp_safety.proofs.machine.EndWords.{ended_cases}
 use Rattle.sctp_safety.proofs.machine.Sides.{unknown_goes, unknown_ends, unknown_never_replies}
 use Rattle.sctp_outcomes.proofs.Unheard.{IsUnheard, unheard_rested, unheard_worn, unheard_ticked, unheard_sent, unheard_abandoned, unheard_shut, unheard_aborted}
@@ -216,11 +216,23 @@ module _ (P : Format → ℕ → ReceiverView → Type 0) (law : IsReceiverLaw P
       both A = law.fresh _ _ _ _
       both B = law.fresh _ _ _ _
   holds_step w e o v k (OpenRefused x y closed) = k
+  holds_step w e o v k (TimeGoesOn A m small) = both
+    where
+      both : HoldsIn v
+      both A = k A
+      both B = k B
+  holds_step w e o v k (TimeGoesOn B m small) = both
+    where
+      both : HoldsIn v
+      both A = k A
+      both B = k B
+  holds_step w e o v k (MomentComes x) =
+      holds_at w v x _ None (at_log w x _ _) k (holds_same (end_of w x) (ticked (end_of w x) (clock_of w x)) (unheard_ticked (end_of w x) (clock_of w x)) (k x))
   holds_step w e o v k (TimePasses m small) = both
     where
       both : HoldsIn v
-      both A = holds_same w.a (ticked w.a (max w.clock m)) (unheard_ticked w.a (max w.clock m)) (k A)
-      both B = holds_same w.b (ticked w.b (max w.clock m)) (unheard_ticked w.b (max w.clock m)) (k B)
+      both A = holds_same w.a (ticked w.a (max w.clock_a m)) (unheard_ticked w.a (max w.clock_a m)) (k A)
+      both B = holds_same w.b (ticked w.b (max w.clock_b m)) (unheard_ticked w.b (max w.clock_b m)) (k B)
   holds_step w e o v k (Draws d dd) = both
     where
       both : HoldsIn v

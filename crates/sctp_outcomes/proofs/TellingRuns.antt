@@ -9,9 +9,9 @@ use Rattle.sctp_model.specs.receiver.ReceiverView.{Handed}
 use Rattle.sctp_model.specs.end.EndView.{Configuration, Draw, Phase, Role, EndView, fresh_end, format_of}
 use Rattle.sctp_model.specs.end.Opening.{opened}
 use Rattle.sctp_model.specs.end.UserCalls.{SendAnswer, Ticket, Refused, NotOpen, send_answer, abort_answer, abort_leaves, shut, reset_call, reset_leaves, reset_there, told_leaves}
-use Rattle.sctp_model.specs.world.World.{Side, A, B, World, end_of, end_now, start, Setup}
+use Rattle.sctp_model.specs.world.World.{Side, A, B, World, end_of, end_now, start, Setup, clock_of}
 use Rattle.sctp_model.specs.world.Events.{Event, Outcome}
-use Rattle.sctp_model.specs.world.Steps.{Step, OpensBoth, OpenRefused, TimePasses, Draws, Connects, ConnectRefused, BuildsOne, BuildsNone, PacketComes, IsAbsent, Sends, AbandonsOne, TakesOne, ShutsDown, AbortsIt, NoMemory, Run, Rest, Then, PacketCut, ResetsOne, TellsReset}
+use Rattle.sctp_model.specs.world.Steps.{Step, OpensBoth, OpenRefused, TimePasses, Draws, Connects, ConnectRefused, BuildsOne, BuildsNone, PacketComes, IsAbsent, Sends, AbandonsOne, TakesOne, ShutsDown, AbortsIt, NoMemory, Run, Rest, Then, PacketCut, ResetsOne, TellsReset, TimeGoesOn, MomentComes}
 use Rattle.sctp_safety.proofs.machine.OneEnd.{IsAt, at_end, at_log, at_packet, at_came, answer_of, at_verdict, abort_of, at_abort, both_ends}
 use Rattle.sctp_safety.proofs.machine.Turns.{builds_plain}
 use Rattle.sctp_safety.proofs.machine.DiagramRuns.{IsFresh, step_onward, ends_follow_the_diagram}
@@ -94,18 +94,21 @@ step_goes_on : (w : World) (e : Event) (o : Option Outcome) (v : World) → IsFr
 step_goes_on w e o v f s (OpensBoth x y like may dx dy) =
     at_both w v (by_opening w.a x y (ap is_before (f may).0) (s A)) (by_opening w.b y x (ap is_before (f may).1) (s B))
 step_goes_on w e o v f s (OpenRefused x y closed) = at_both w w (by_itself w.a (s A)) (by_itself w.b (s B))
+step_goes_on w e o v f s (TimeGoesOn A m small) = at_both w v (by_itself w.a (s A)) (by_itself w.b (s B))
+step_goes_on w e o v f s (TimeGoesOn B m small) = at_both w v (by_itself w.a (s A)) (by_itself w.b (s B))
+step_goes_on w e o v f s (MomentComes x) = at_one w v x _ None (at_log w x _ _) s (by_logs (end_of w x) _ (moments_keep_logs (end_of w x) (clock_of w x) (s x)))
 step_goes_on w e o v f s (TimePasses m small) =
-    at_both w v (by_logs w.a v.a (moments_keep_logs w.a (max w.clock m) (s A))) (by_logs w.b v.b (moments_keep_logs w.b (max w.clock m) (s B)))
+    at_both w v (by_logs w.a v.a (moments_keep_logs w.a (max w.clock_a m) (s A))) (by_logs w.b v.b (moments_keep_logs w.b (max w.clock_b m) (s B)))
 step_goes_on w e o v f s (Draws d dd) = at_both w v (by_itself w.a (s A)) (by_itself w.b (s B))
-step_goes_on w e o v f s (Connects d dd answer) = at_both w v (by_logs w.a v.a (connect_keeps_logs w.a w.clock d (s A) answer)) (by_itself w.b (s B))
+step_goes_on w e o v f s (Connects d dd answer) = at_both w v (by_logs w.a v.a (connect_keeps_logs w.a w.clock_a d (s A) answer)) (by_itself w.b (s B))
 step_goes_on w e o v f s (ConnectRefused d answer) = at_both w w (by_itself w.a (s A)) (by_itself w.b (s B))
 step_goes_on w e o v f s (BuildsOne x y ys t b) =
-    at_one w v x t _ (at_packet w x t _) s (by_numbers (end_of w x) t (builds_add_numbers (end_of w x) w.clock (y ∷ ys) t (s x) b))
-step_goes_on w e o v f s (BuildsNone x t b) = at_one w v x t None (at_end w x t) s (by_numbers (end_of w x) t (builds_add_numbers (end_of w x) w.clock [] t (s x) b))
+    at_one w v x t _ (at_packet w x t _) s (by_numbers (end_of w x) t (builds_add_numbers (end_of w x) (clock_of w x) (y ∷ ys) t (s x) b))
+step_goes_on w e o v f s (BuildsNone x t b) = at_one w v x t None (at_end w x t) s (by_numbers (end_of w x) t (builds_add_numbers (end_of w x) (clock_of w x) [] t (s x) b))
 step_goes_on w e o v f s (PacketComes _ x p t d brings received) =
-    at_one w v x t (answer_of d) (at_verdict w x t d) s (by_logs (end_of w x) t (packets_keep_logs (end_of w x) w.clock w.draw p t d (s x) received))
+    at_one w v x t (answer_of d) (at_verdict w x t d) s (by_logs (end_of w x) t (packets_keep_logs (end_of w x) (clock_of w x) w.draw p t d (s x) received))
 step_goes_on w e o v f s (PacketCut _ x p t brings cut) =
-    at_one w v x t None (at_came w x t) s (by_logs (end_of w x) t (cut_packets_keep_logs (end_of w x) w.clock w.draw p t (s x) cut))
+    at_one w v x t None (at_came w x t) s (by_logs (end_of w x) t (cut_packets_keep_logs (end_of w x) (clock_of w x) w.draw p t (s x) cut))
 step_goes_on w e o v f s (IsAbsent x n none) = at_both w w (by_itself w.a (s A)) (by_itself w.b (s B))
 step_goes_on w e o v f s (Sends x c) =
     at_one w v x _ None (at_log w x _ _) s (by_send (send_answer (end_of w x) c) (end_of w x) _ (send_gives_tickets (end_of w x) c (s x)))
@@ -164,7 +167,7 @@ holds e t same some = subst (λ (c : Configuration). 0 < c.fragment) (sym same) 
 pub builds_tell_anew : BuildsTellAnew
 builds_tell_anew s events answers w run x some xs t builds =
     let sound = ((from_start s events answers w run).on x).sound in
-    let adds = builds_add_numbers (end_of w x) w.clock xs t sound builds in
+    let adds = builds_add_numbers (end_of w x) (clock_of w x) xs t sound builds in
     let reached : IsReachedAt t = reached_builds (end_now w x) xs t (senders_reached s events answers w run x) builds in
     told_anew (end_of w x) t _ adds.numbers (once_reached t reached (holds (end_of w x) t (builds_plain (end_now w x) xs t builds).configuration some))
 

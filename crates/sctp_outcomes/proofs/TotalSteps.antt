@@ -10,8 +10,8 @@ use Rattle.sctp_model.specs.end.Building.{Builds}
 use Rattle.sctp_model.specs.end.UserCalls.{ConnectAnswer, Called, NotIdle, connect_answer}
 use Rattle.sctp_model.specs.end.Arriving.{ReadAs, DroppedUnread}
 use Rattle.sctp_model.specs.world.World.{Side, other, are_alike, World, end_of, bag_of, end_now}
-use Rattle.sctp_model.specs.world.Events.{Event, OpenBoth, At, Drawing, Connect, Build, Deliver, Foreign, Send, Abandon, Take, Shutdown, Abort, Reset, WasReset}
-use Rattle.sctp_model.specs.world.Steps.{FromBag, FromStranger, Brings, OpensBoth, OpenRefused, TimePasses, Draws, Connects, ConnectRefused, BuildsOne, BuildsNone, PacketComes, IsAbsent, Sends, AbandonsOne, TakesOne, ShutsDown, AbortsIt, NoPacket, ResetsOne, TellsReset}
+use Rattle.sctp_model.specs.world.Events.{Event, OpenBoth, At, Drawing, Connect, Build, Deliver, Foreign, Send, Abandon, Take, Shutdown, Abort, Reset, WasReset, Later, Moment}
+use Rattle.sctp_model.specs.world.Steps.{FromBag, FromStranger, Brings, OpensBoth, OpenRefused, TimePasses, Draws, Connects, ConnectRefused, BuildsOne, BuildsNone, PacketComes, IsAbsent, Sends, AbandonsOne, TakesOne, ShutsDown, AbortsIt, NoPacket, ResetsOne, TellsReset, TimeGoesOn, MomentComes}
 use Rattle.sctp_outcomes.specs.Outcomes.{CanHappen, HasOutcome, EventsHaveOutcomes}
 use Rattle.sctp_outcomes.proofs.Receivers.{Whatever, HoldsIn, holds_always}
 use Rattle.sctp_outcomes.proofs.Bounded.{IsBounded, bounded_law}
@@ -60,6 +60,8 @@ module _ (w : World) (bounded : HoldsIn (Whatever IsBounded) bounded_law w) wher
 
   has_outcome : (e : Event) → CanHappen w e → HasOutcome w e
   has_outcome (OpenBoth x y) (dx, dy) = opening x y dx dy
+  has_outcome (Later x m) small = (_, _, TimeGoesOn x m small)
+  has_outcome (Moment x) can = (_, _, MomentComes x)
   has_outcome (At m) small = (_, _, TimePasses m small)
   has_outcome (Drawing d) dd = (_, _, Draws d dd)
   has_outcome (Connect d) dd = connecting d dd

@@ -4,9 +4,9 @@ use Rattle.sctp_model.specs.wire.Packet.{Packet}
 use Rattle.sctp_model.specs.end.EndView.{EndView, Configuration, ResetAlarm}
 use Rattle.sctp_model.specs.end.Arriving.{DroppedUnread, ReadAs, CutFirst, CutLater}
 use Rattle.sctp_model.specs.end.UserCalls.{shut, abort_answer, abort_leaves, reset_call, reset_leaves, reset_there, told_leaves}
-use Rattle.sctp_model.specs.world.World.{Side, A, B, World, end_of, end_now, start, Setup, configuration_of}
+use Rattle.sctp_model.specs.world.World.{Side, A, B, World, end_of, end_now, start, Setup, configuration_of, clock_of}
 use Rattle.sctp_model.specs.world.Events.{Event, Outcome}
-use Rattle.sctp_model.specs.world.Steps.{Step, OpensBoth, OpenRefused, TimePasses, Draws, Connects, ConnectRefused, BuildsOne, BuildsNone, PacketComes, IsAbsent, Sends, AbandonsOne, TakesOne, ShutsDown, AbortsIt, NoMemory, Run, Rest, Then, PacketCut, ResetsOne, TellsReset}
+use Rattle.sctp_model.specs.world.Steps.{Step, OpensBoth, OpenRefused, TimePasses, Draws, Connects, ConnectRefused, BuildsOne, BuildsNone, PacketComes, IsAbsent, Sends, AbandonsOne, TakesOne, ShutsDown, AbortsIt, NoMemory, Run, Rest, Then, PacketCut, ResetsOne, TellsReset, TimeGoesOn, MomentComes}
 use Rattle.sctp_safety.proofs.machine.OneEnd.{IsAt, at_end, at_log, at_packet, at_came, answer_of, at_verdict, abort_of, at_abort, both_ends}
 use Rattle.sctp_outcomes.proofs.UnresetEnds.{IsUnresetAt, unreset_arrives, unreset_builds, unreset_ticked, unreset_sent, unreset_abandoned, unreset_shut, unreset_aborted, unreset_reset, unreset_told}
 use Rattle.sctp_safety.proofs.machine.DiagramRuns.{ends_follow_the_diagram}
@@ -31,7 +31,10 @@ at_both v a b B = b
 pub unreset_step : (w : World) (e : Event) (o : Option Outcome) (v : World) → AreUnreset w → Step w e o v → AreUnreset v
 unreset_step w e o v r (OpensBoth x y like may dx dy) = at_both v (λ off. off) (λ off. off)
 unreset_step w e o v r (OpenRefused x y closed) = r
-unreset_step w e o v r (TimePasses m small) = at_both v (unreset_ticked w.a (max w.clock m) (r A)) (unreset_ticked w.b (max w.clock m) (r B))
+unreset_step w e o v r (TimeGoesOn A m small) = at_both v (r A) (r B)
+unreset_step w e o v r (TimeGoesOn B m small) = at_both v (r A) (r B)
+unreset_step w e o v r (MomentComes x) = at_one_end w v x _ None (at_log w x _ _) r (unreset_ticked (end_of w x) (clock_of w x) (r x))
+unreset_step w e o v r (TimePasses m small) = at_both v (unreset_ticked w.a (max w.clock_a m) (r A)) (unreset_ticked w.b (max w.clock_b m) (r B))
 unreset_step w e o v r (Draws d dd) = at_both v (r A) (r B)
 unreset_step w e o v r (Connects d dd answer) = at_both v (r A) (r B)
 unreset_step w e o v r (ConnectRefused d answer) = r

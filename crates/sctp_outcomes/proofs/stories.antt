@@ -5,6 +5,7 @@ pub mod Small
 pub mod Arrival
 pub mod Abandoning
 pub mod Ending
+pub mod TwoClocks
 pub mod ScriptOpening
 pub mod ScriptSending
 pub mod ScriptClosing

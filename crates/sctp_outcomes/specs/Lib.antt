@@ -16,3 +16,4 @@ pub mod Few
 pub mod AgedSinceBuilt
 pub mod Users
 pub mod Parted
+pub mod Clocks

@@ -2,13 +2,14 @@
 use Rattle.std.specs.Prelude.{◌≡◌, ◌^◌, ◌<◌, List, Option, Some}
 use Rattle.sctp_model.specs.wire.Places.{ArePlaced}
 use Rattle.sctp_model.specs.world.World.{World, Setup, start}
-use Rattle.sctp_model.specs.world.Events.{Event, OpenBoth, At, Drawing, Connect, Foreign, Outcome}
+use Rattle.sctp_model.specs.world.Events.{Event, OpenBoth, At, Drawing, Connect, Foreign, Outcome, Later}
 use Rattle.sctp_model.specs.end.EndView.{IsDraw}
 use Rattle.sctp_model.specs.world.Steps.{Step, Run}
 
--- What may happen: chance hands in draws, a moment has 64 bits, and in a foreign packet that reads each chunk stands where it may.
+-- What may happen: chance hands in draws, a time has 64 bits, and in a foreign packet that reads each chunk stands where it may.
 abbrev pub CanHappen : World → Event → Type 0
 CanHappen w (OpenBoth x y) = IsDraw x × IsDraw y
+CanHappen w (Later x m) = m < 2 ^ 64
 CanHappen w (At m) = m < 2 ^ 64
 CanHappen w (Drawing d) = IsDraw d
 CanHappen w (Connect d) = IsDraw d

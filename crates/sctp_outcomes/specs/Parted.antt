@@ -44,6 +44,13 @@ abbrev pub TakesToldOnly : Side → (stream : ℕ) → List Event → List (Opti
 TakesToldOnly y n (e ∷ es) (o ∷ os) (v ∷ vs) = ((taken_by y n e o ≡ []) ⊎ ((end_of v y).receiver.resets.told n ≡ None)) × TakesToldOnly y n es os vs
 TakesToldOnly y n es os vs = Unit {0}
 
+-- the messages that are delivered before this place, and those from it on
+abbrev pub delivered_before : (place : ℕ) → List Match → List Match
+delivered_before n ms = take n ms
+
+abbrev pub delivered_from : (place : ℕ) → List Match → List Match
+delivered_from n ms = drop n ms
+
 -- ---- what is promised
 
 -- All messages that were taken or wait are matched with messages that were sent, as in IsFaithful.
@@ -58,8 +65,8 @@ pub record AreMatched (e : Exchange) (ms : List Match) : Type 0 where
 pub record AreParted (x : Side) (stream : ℕ) (es : List Event) (os : List (Option Outcome)) (vs : List World) (t : IsTold x stream es os) (ms : List Match) : Type 0 where
   pub count : ℕ
   pub reset : ResetAfter x stream 0 t.past t.answers count
-  pub new : (m : Match) → Has (drop (place_of x stream es os t) ms) m → count < m.sent.ticket
-  pub old : (0 < t.waiting) ⊎ TakesToldOnly (other x) stream es os vs → (m : Match) → Has (take (place_of x stream es os t) ms) m → m.sent.ticket ≤ count
+  pub new : (m : Match) → Has (delivered_from (place_of x stream es os t) ms) m → count < m.sent.ticket
+  pub old : (0 < t.waiting) ⊎ TakesToldOnly (other x) stream es os vs → (m : Match) → Has (delivered_before (place_of x stream es os t) ms) m → m.sent.ticket ≤ count
 
 -- THE PROMISE: in every run that meets the three premises, of each stream in each direction, all messages are matched so that every reset that is told parts them.
 abbrev pub ResetsPartMessages : Type 0

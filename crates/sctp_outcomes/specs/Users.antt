@@ -10,10 +10,13 @@ use Rattle.sctp_model.specs.end.Configured.{IsConfiguration}
 use Rattle.sctp_model.specs.end.EndView.{Ended, Completed, ended_of}
 use Rattle.sctp_model.specs.end.UserCalls.{Ticket}
 use Rattle.sctp_model.specs.world.World.{Side, A, B, other, World, end_of, Setup, configuration_of, start}
-use Rattle.sctp_model.specs.world.Events.{Event, At, Send, Abandon, Take, Outcome, Told, Fate, Message}
+use Rattle.sctp_model.specs.world.Events.{Event, At, Send, Abandon, Take, Outcome, Told, Fate, Message, Later}
 use Rattle.sctp_model.specs.world.Steps.{PassesThrough, last_of}
 use Rattle.sctp_model.specs.world.Aged.{Aged}
 use Rattle.sctp_model.specs.world.Premises.{FreshAndUnforged}
+use Rattle.sctp_model.specs.sender.Abandoning.{AbandonAnswer, gives_up}
+use Rattle.sctp_safety.specs.Runs.{AssignFewer}
+use Rattle.sctp_model.specs.numbers.Serial.{half_space}
 
 -- ---- what an application did, read off events and answers
 
@@ -39,12 +42,16 @@ abbrev pub sent : Side → List Event → List (Option Outcome) → List Sent
 sent x (e ∷ es) (o ∷ os) = sent_by x e o ++ sent x es os
 sent x es os = []
 
--- the ticket that this side named in `abandon` at one event
+-- this ticket, if `abandon` answered that its message is given up
+abbrev pub given_by : AbandonAnswer → (ticket : ℕ) → List ℕ
+given_by a t = if gives_up a then t ∷ [] else []
+
+-- the ticket of the message that this side gave up by `abandon` at one event
 abbrev pub named_by : Side → Event → Option Outcome → List ℕ
-named_by x (Abandon s t) (Some (Fate a)) = if same_side s x then t ∷ [] else []
+named_by x (Abandon s t) (Some (Fate a)) = if same_side s x then given_by a t else []
 named_by x e o = []
 
--- the tickets that this side named in `abandon`
+-- the tickets of the messages that this side gave up by `abandon`
 abbrev pub named : Side → List Event → List (Option Outcome) → List ℕ
 named x (e ∷ es) (o ∷ os) = named_by x e o ++ named x es os
 named x es os = []
@@ -59,15 +66,16 @@ abbrev pub taken : Side → (stream : ℕ) → List Event → List (Option Outco
 taken x n (e ∷ es) (o ∷ os) = taken_by x n e o ++ taken x n es os
 taken x n es os = []
 
--- the time that both endpoints learned at one event, in milliseconds
-abbrev pub time_by : Event → Option Outcome → ℕ
-time_by (At m) (Some o) = m
-time_by e o = 0
+-- the time that the clock of this side reached at one event, in milliseconds
+abbrev pub time_by : Side → Event → Option Outcome → ℕ
+time_by x (Later s m) (Some o) = if same_side s x then m else 0
+time_by x (At m) (Some o) = m
+time_by x e o = 0
 
--- the latest time that both endpoints learned, in milliseconds
-abbrev pub time : List Event → List (Option Outcome) → ℕ
-time (e ∷ es) (o ∷ os) = max (time_by e o) (time es os)
-time es os = 0
+-- the latest time that it reached, in milliseconds
+abbrev pub time : Side → List Event → List (Option Outcome) → ℕ
+time x (e ∷ es) (o ∷ os) = max (time_by x e o) (time x es os)
+time x es os = 0
 
 -- ---- one direction of a stream
 
@@ -77,8 +85,10 @@ pub record Exchange : Type 0 where
   -- what the sending application did, on any stream
   pub sent : List Sent
   pub named : List ℕ
-  -- the time
+  -- the time, by the clock of the sending endpoint
   pub time : ℕ
+  -- the endpoints agreed on partial reliability: `Endpoint::options` at the sending endpoint
+  pub partial : Bool
   -- of a ticket: `Endpoint::acknowledged` at the sending endpoint
   pub acknowledged : ℕ → Bool
   -- what the receiving application took from the stream, and what waits there for `take`: `Endpoint::waiting`
@@ -95,7 +105,8 @@ exchange x n es os w = record {
   stream = n;
   sent = sent x es os;
   named = named x es os;
-  time = time es os;
+  time = time x es os;
+  partial = (end_of w x).sender.partial;
   acknowledged = λ t. acknowledged (end_of w x).sender t;
   taken = taken (other x) n es os;
   waiting = (end_of w (other x)).receiver.waiting n;
@@ -126,17 +137,19 @@ pub record IsMatch (e : Exchange) (m : Match) : Type 0 where
 abbrev pub IsDelivered : List Match → Sent → Type 0
 IsDelivered matches s = (m : Match) × Has matches m × (m.sent ≡ s)
 
--- Its application gave it up: it named the ticket in `abandon`; or the lifetime that it gave the message is over; or it limited how often a fragment may be
--- retransmitted. (That a fragment really went out again so often is in SAFE: no event shows it.)
+-- Its application gave it up: by `abandon`, which answered so; or the lifetime that it gave the message is over; or it limited how often a fragment may
+-- be retransmitted, and partial reliability was agreed on. (That a fragment really went out again so often is in SAFE: no event shows it.)
 pub data IsGivenUp (e : Exchange) (s : Sent) : Type 0 where
   ByName : Has e.named s.ticket → IsGivenUp e s
   ByTime : (until : ℕ) → s.call.until ≡ Some until → until ≤ e.time → IsGivenUp e s
-  ByLimit : (limit : ℕ) → s.call.limit ≡ Some limit → IsGivenUp e s
+  ByLimit : (limit : ℕ) → s.call.limit ≡ Some limit → e.partial ≡ true → IsGivenUp e s
 
--- The endpoint holds the whole message: chunks of its stream and kind, of rising TSN, whose bytes joined are its bytes.
-pub record IsHeld (e : Exchange) (s : Sent) : Type 0 where
+-- The endpoint holds the whole message: chunks of its stream and kind, of rising TSN, whose bytes joined are its bytes. Each of them has the message's
+-- ticket, and so is a chunk of no other message.
+pub record IsHeld (e : Exchange) (ticket_of : Piece → ℕ) (s : Sent) : Type 0 where
   pub chunks : List Piece
   pub each : (x : Piece) → Has chunks x → Has e.held x × (x.lane ≡ s.call.lane)
+  pub own : (x : Piece) → Has chunks x → ticket_of x ≡ s.ticket
   pub rising : AreInOrder (λ (x y : Piece). x.index < y.index) chunks
   pub bytes : joined (map (λ (x : Piece). x.bytes) chunks) ≡ s.call.bytes
 
@@ -153,8 +166,9 @@ pub record IsFaithful (e : Exchange) : Type 0 where
   -- An ordered message that was sent before one of these is one of these, or was given up.
   pub overtaken : (s : Sent) → WasSent e s → s.call.lane.kind ≡ Ordered → (m : Match) → Has matches m → m.message.lane.kind ≡ Ordered → s.ticket < m.sent.ticket →
       IsDelivered matches s ⊎ IsGivenUp e s
-  -- A message that is reported acknowledged is one of these, or is held whole.
-  pub acknowledged : (s : Sent) → WasSent e s → e.acknowledged s.ticket ≡ true → IsDelivered matches s ⊎ IsHeld e s
+  -- A message that is reported acknowledged is one of these, or is held whole; each chunk that is held has one ticket.
+  pub ticket_of : Piece → ℕ
+  pub acknowledged : (s : Sent) → WasSent e s → e.acknowledged s.ticket ≡ true → IsDelivered matches s ⊎ IsHeld e ticket_of s
   -- Once either endpoint has completed the association, every message that was sent is one of these, or was given up.
   pub completed : (x : Side) → e.ended x ≡ Some Completed → (s : Sent) → WasSent e s → IsDelivered matches s ⊎ IsGivenUp e s
 
@@ -162,4 +176,11 @@ pub record IsFaithful (e : Exchange) : Type 0 where
 abbrev pub UsersTakeWhatWasSent : Type 0
 UsersTakeWhatWasSent = (s : Setup) (es : List Event) (os : List (Option Outcome)) (vs : List World) → ((x : Side) → IsConfiguration (configuration_of s x)) →
     PassesThrough (start s) es os vs → FreshAndUnforged s.sealing es → Aged (start s) es vs →
+    (x : Side) (n : ℕ) → IsFaithful (exchange x n es os (last_of (start s) vs))
+
+-- The same at the end of every run in which each endpoint assigns fewer than 2^31 TSNs, however late packets arrive: it meets FRESH and UNFORGED, and
+-- needs no third premise (RFC 9260, 2.6).
+abbrev pub ShortRunsAreFaithful : Type 0
+ShortRunsAreFaithful = (s : Setup) (es : List Event) (os : List (Option Outcome)) (vs : List World) → ((x : Side) → IsConfiguration (configuration_of s x)) →
+    PassesThrough (start s) es os vs → FreshAndUnforged s.sealing es → AssignFewer (half_space 32) (start s ∷ vs) →
     (x : Side) (n : ℕ) → IsFaithful (exchange x n es os (last_of (start s) vs))

@@ -108,6 +108,7 @@
 //! `every_event_has_an_outcome`.
 #![tactic(auto)]
 
+mod clocks;
 mod examples;
 mod headline;
 mod kept;
@@ -119,10 +120,11 @@ mod sender_calls;
 mod steps;
 mod views;
 
+pub use clocks::{a_message_arrives_by_two_clocks, one_clock_is_a_case_of_two};
 pub use examples::{
     a_message_arrives, a_message_in_part_is_ended, a_message_is_passed_over, the_script_runs,
 };
-pub use headline::{aged_asks_no_more, users_take_what_was_sent};
+pub use headline::{aged_asks_no_more, short_runs_are_faithful, users_take_what_was_sent};
 pub use kept::{
     calls_note_their_own, new_ends_have_no_logs, no_packet_notes_nothing,
     packets_begin_few_messages, packets_note_their_numbers, tickets_are_told_once,

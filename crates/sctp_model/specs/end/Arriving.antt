@@ -116,6 +116,10 @@ acknowledges_in n true h e = e
 abbrev pub packet_ended : Notes → EndView → EndView
 packet_ended n e = acknowledges_in n n.acknowledges e.phase e
 
+-- What a packet that acted leaves at its end: messages that missed too much are given up, and what is due after it; `e` is the end before it.
+abbrev pub at_its_end : (e : EndView) → Notes → (gap : Bool) → EndView → EndView
+at_its_end e n gap t = packet_ended (urged gap n) (wearing (missed_below e.pace) t)
+
 -- ---- a packet
 
 -- ACT: a packet that reads, at the end's moment, with this draw: the end after it, and what is told (8.4 and 8.5).
@@ -128,7 +132,7 @@ pub data Arrives (e : EndView) (d : Draw) (p : Packet) : EndView → Verdict →
       has_association e.phase ≡ false → opened_by e p ≡ Some b → AllAct p.tag (begun b e) (noted Unnoted no_notes) (drop 1 p.chunks) t n v →
       (gap : Bool) → LeavesGap t gap → Arrives e d p (packet_ended (urged gap n) t) v
   Heard : (t : EndView) (n : Notes) (v : Verdict) → has_ports e.configuration p ≡ true → passes e.phase p ≡ true → has_association e.phase ≡ true →
-      AllAct p.tag e no_notes p.chunks t n v → (gap : Bool) → LeavesGap t gap → Arrives e d p (packet_ended (urged gap n) (wearing (missed_below e.pace) t)) v
+      AllAct p.tag e no_notes p.chunks t n v → (gap : Bool) → LeavesGap t gap → Arrives e d p (at_its_end e n gap t) v
 
 -- ---- what comes to an end at a moment, as it reads: None if the bytes don't
 

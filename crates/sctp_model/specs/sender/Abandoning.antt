@@ -1,5 +1,5 @@
 -- Messages that are abandoned (RFC 3758, 3.5; RFC 8260, 2.3.1): by name, past their lifetime, or retransmitted as often as they may be (RFC 7496, 3.1); and the data timer (RFC 9260, 6.3.3).
-use Rattle.std.specs.Prelude.{ℕ, ◌==◌, nat_lt, nat_le, if◌then◌else◌, Bool, true, not, ◌&&◌, ◌||◌, List, [], ◌∷◌, Option, fold, find, unwrap_or, option_map, option_and_then, length}
+use Rattle.std.specs.Prelude.{ℕ, ◌==◌, nat_lt, nat_le, if◌then◌else◌, Bool, true, false, not, ◌&&◌, ◌||◌, List, [], ◌∷◌, Option, fold, find, unwrap_or, option_map, option_and_then, length}
 use Rattle.std.specs.Option.{option_map_or}
 use Rattle.std.specs.List.{list_any}
 use Rattle.sctp_model.specs.numbers.Lists.{at}
@@ -61,6 +61,14 @@ is_covered v n = not (is_in_part v n.lane n.number) && not (has_uncovered v n)
 pub data AbandonAnswer : Type 0 where
   -- it has no number, and won't take one; it is abandoned; it was acknowledged whole; there is none; it may not be abandoned
   Withdrawn Abandoned Acknowledged Unknown Reliable : AbandonAnswer
+
+-- By these answers the message is given up: it was withdrawn or abandoned, by this call or before.
+abbrev pub gives_up : AbandonAnswer → Bool
+gives_up Withdrawn = true
+gives_up Abandoned = true
+gives_up Acknowledged = false
+gives_up Unknown = false
+gives_up Reliable = false
 
 -- of a message with a number: abandoned already; else acknowledged; else not to be abandoned; and else it is abandoned now
 abbrev pub answer_for : SenderView → Name → AbandonAnswer

@@ -16,7 +16,10 @@ use Rattle.sctp_model.specs.world.World.{Side, World, bag_of, with_packet}
 pub data Event : Type 0 where
   -- both ends are opened without a packet, each by its draw, and told the other's
   OpenBoth : (of_a of_b : Draw) → Event
-  -- a moment, in milliseconds; the chance for packets that come later; the caller calls
+  -- the clock of one end goes on to this time, in milliseconds, and the end isn't told; an end is asked what is due at the time of its clock
+  Later : Side → ℕ → Event
+  Moment : Side → Event
+  -- both of these at both ends, to one time; the chance for packets that come later; the caller calls
   At : ℕ → Event
   Drawing Connect : Draw → Event
   -- an end is asked for its next packet

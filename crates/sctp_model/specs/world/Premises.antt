@@ -12,7 +12,7 @@ use Rattle.sctp_model.specs.world.Safe.{Safe, WasHanded}
 use Rattle.sctp_model.specs.end.Sealing.{Body, Sealing}
 use Rattle.sctp_model.specs.end.EndView.{Draw, format_of, Completed, Over}
 use Rattle.sctp_model.specs.end.Configured.{IsConfiguration}
-use Rattle.sctp_model.specs.world.World.{Side, other, World, end_of, log_of, Setup, configuration_of, FIRST_DRAW, start}
+use Rattle.sctp_model.specs.world.World.{Side, other, World, end_of, log_of, Setup, configuration_of, FIRST_DRAW, start, clock_of}
 use Rattle.sctp_model.specs.world.Events.{Event, OpenBoth, Drawing, Connect, Foreign, Outcome}
 use Rattle.sctp_model.specs.world.Steps.{Run, PassesThrough, last_of}
 use Rattle.sctp_model.specs.world.Aged.{Aged}
@@ -54,9 +54,9 @@ FreshAndUnforged s es = (x : Side) (p : Packet) → Has es (Foreign x (Some p)) 
 
 -- ---- SAFE
 
--- what an end's user asked for, as its log and the world's clock tell it
+-- what an end's user asked for, as its log and its clock tell it
 abbrev pub asked_at : World → Side → Asked
-asked_at w s = record { calls = (log_of w s).calls; named = (log_of w s).named; clock = w.clock }
+asked_at w s = record { calls = (log_of w s).calls; named = (log_of w s).named; clock = clock_of w s }
 
 -- SAFE: the five promises in both directions, in the format that the sending end agreed on.
 abbrev pub IsSafeWorld : World → Type 0

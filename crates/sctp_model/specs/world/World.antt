@@ -1,5 +1,5 @@
--- The world of two endpoints: a caller and a listener, all packets that either ever built, the clock, and the random numbers for what arrives next.
-use Rattle.std.specs.Prelude.{min, ℕ, zero, suc, Bool, true, false, not, ◌&&◌, ◌==◌, if◌then◌else◌, List, [], ◌∷◌, ◌++◌, Option, None, Some}
+-- The world of two endpoints: a caller and a listener, all packets that either ever built, a clock for each, and the random numbers for what arrives next.
+use Rattle.std.specs.Prelude.{min, max, ℕ, zero, suc, Bool, true, false, not, ◌&&◌, ◌==◌, if◌then◌else◌, List, [], ◌∷◌, ◌++◌, Option, None, Some}
 use Rattle.sctp_model.specs.wire.Packet.{Packet}
 use Rattle.sctp_model.specs.world.Calls.{Call}
 use Rattle.sctp_model.specs.sender.SenderView.{SenderView}
@@ -18,15 +18,16 @@ abbrev pub other : Side → Side
 other A = B
 other B = A
 
--- What is remembered of an end's user: the calls of `send` that were accepted, by ticket; the tickets given to `abandon`; and the tickets
--- of the messages that were abandoned, in the order of the events that abandoned them; those of one event by rising ticket.
+-- What is remembered of an end's user: the calls of `send` that were accepted, by ticket; the tickets of the messages that its calls of
+-- `abandon` gave up; and those of the messages that were abandoned, in the order of the events that did it, those of one event by rising ticket.
 pub record Log : Type 0 where
   pub calls : List Call
   pub named : ℕ → Bool
   pub order : List ℕ
 
 -- The network loses nothing for good: every packet of an end stays in its bag, and may come at any time, often, or never. `openable` tells
--- whether both ends may still be opened without packets: neither has called, nor was anything delivered.
+-- whether both ends may still be opened without packets: neither has called, nor was anything delivered. Each end has a clock of its own, in
+-- milliseconds; nothing compares the two.
 pub record World : Type 0 where
   pub a : EndView
   pub b : EndView
@@ -34,7 +35,8 @@ pub record World : Type 0 where
   pub from_b : List Packet
   pub log_a : Log
   pub log_b : Log
-  pub clock : ℕ
+  pub clock_a : ℕ
+  pub clock_b : ℕ
   pub draw : Draw
   pub openable : Bool
 
@@ -55,6 +57,11 @@ abbrev pub log_of : World → Side → Log
 log_of w A = w.log_a
 log_of w B = w.log_b
 
+-- its clock
+abbrev pub clock_of : World → Side → ℕ
+clock_of w A = w.clock_a
+clock_of w B = w.clock_b
+
 -- another end in its place
 abbrev pub with_end : World → Side → EndView → World
 with_end w A e = record w { a = e }
@@ -70,9 +77,14 @@ abbrev pub with_log : World → Side → Log → World
 with_log w A l = record w { log_a = l }
 with_log w B l = record w { log_b = l }
 
--- the end, which is told the clock
+-- its clock goes on to this time; a time before its own changes nothing
+abbrev pub with_clock : World → Side → ℕ → World
+with_clock w A m = record w { clock_a = max w.clock_a m }
+with_clock w B m = record w { clock_b = max w.clock_b m }
+
+-- the end at the time of its clock
 abbrev pub end_now : World → Side → EndView
-end_now w s = at_moment (end_of w s) w.clock
+end_now w s = at_moment (end_of w s) (clock_of w s)
 
 -- ---- the order of abandoning
 
@@ -156,7 +168,8 @@ start s = record {
   from_b = [];
   log_a = no_log;
   log_b = no_log;
-  clock = 0;
+  clock_a = 0;
+  clock_b = 0;
   draw = FIRST_DRAW;
   openable = true;
 }

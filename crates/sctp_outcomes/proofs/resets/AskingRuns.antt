@@ -4,9 +4,9 @@ use Rattle.sctp_model.specs.wire.Packet.{Packet}
 use Rattle.sctp_model.specs.end.EndView.{Phase, EndView, ResetAlarm}
 use Rattle.sctp_model.specs.end.Arriving.{DroppedUnread, ReadAs, CutFirst, CutLater}
 use Rattle.sctp_model.specs.end.UserCalls.{shut, abort_answer, abort_leaves, reset_call, reset_leaves, reset_there, told_leaves}
-use Rattle.sctp_model.specs.world.World.{Side, A, B, World, end_of, end_now, start}
+use Rattle.sctp_model.specs.world.World.{Side, A, B, World, end_of, end_now, start, clock_of}
 use Rattle.sctp_model.specs.world.Events.{Event, Outcome}
-use Rattle.sctp_model.specs.world.Steps.{Step, OpensBoth, OpenRefused, TimePasses, Draws, Connects, ConnectRefused, BuildsOne, BuildsNone, PacketComes, IsAbsent, Sends, AbandonsOne, TakesOne, ShutsDown, AbortsIt, NoMemory, Run, Rest, Then, PacketCut, ResetsOne, TellsReset}
+use Rattle.sctp_model.specs.world.Steps.{Step, OpensBoth, OpenRefused, TimePasses, Draws, Connects, ConnectRefused, BuildsOne, BuildsNone, PacketComes, IsAbsent, Sends, AbandonsOne, TakesOne, ShutsDown, AbortsIt, NoMemory, Run, Rest, Then, PacketCut, ResetsOne, TellsReset, TimeGoesOn, MomentComes}
 use Rattle.sctp_safety.proofs.machine.DiagramRuns.{connect_idle}
 use Rattle.sctp_safety.proofs.machine.OneEnd.{IsAt, at_end, at_log, at_packet, at_came, answer_of, at_verdict, abort_of, at_abort, both_ends}
 use Rattle.sctp_outcomes.proofs.resets.AskingEnds.{Goes, runs, IsAskingAt, asking_arrives, asking_builds, asking_ticked, asking_sent, asking_abandoned, asking_shut, asking_aborted, asking_reset, asking_told}
@@ -26,7 +26,10 @@ at_both v a b B = b
 pub asking_step : (w : World) (e : Event) (o : Option Outcome) (v : World) → AreAsking w → Step w e o v → AreAsking v
 asking_step w e o v r (OpensBoth x y like may dx dy) = at_both v (λ on. absurd (cc)) (λ on. absurd (cc))
 asking_step w e o v r (OpenRefused x y closed) = r
-asking_step w e o v r (TimePasses m small) = at_both v (asking_ticked w.a (max w.clock m) (r A)) (asking_ticked w.b (max w.clock m) (r B))
+asking_step w e o v r (TimeGoesOn A m small) = at_both v (r A) (r B)
+asking_step w e o v r (TimeGoesOn B m small) = at_both v (r A) (r B)
+asking_step w e o v r (MomentComes x) = at_one_end w v x _ None (at_log w x _ _) r (asking_ticked (end_of w x) (clock_of w x) (r x))
+asking_step w e o v r (TimePasses m small) = at_both v (asking_ticked w.a (max w.clock_a m) (r A)) (asking_ticked w.b (max w.clock_b m) (r B))
 asking_step w e o v r (Draws d dd) = at_both v (r A) (r B)
 asking_step w e o v r (Connects d dd answer) =
     at_both v (subst (λ (h : Phase). Goes h (is_some w.a.sender.resets.pending) w.a.due.request (runs (w.a.timers ResetAlarm))) (connect_idle w.a.phase answer) (r A)) (r B)

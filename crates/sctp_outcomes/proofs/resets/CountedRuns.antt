@@ -17,9 +17,9 @@ use Rattle.sctp_model.specs.end.Clock.{is_home}
 use Rattle.sctp_model.specs.end.Reconfiguring.{asking, asking_now}
 use Rattle.sctp_model.specs.end.Building.{Slot, EchoSlot, CookieAckSlot, HeartbeatSlot, ErrorSlot, SackSlot, ForwardSlot, AnswerSlot, RequestSlot, ShutdownSlot, ShutdownAckSlot, once_built, Puts, NoMore, NotDue, Put, IsFull, Builds, Sleeps, Waits, Calls, Echoes, EndsFull, Fills}
 use Rattle.sctp_model.specs.end.UserCalls.{send_answer, shut, abort_answer, abort_leaves, ResetCall, Begun, NotAgreed, NoStream, reset_call, reset_leaves, reset_there, told_leaves}
-use Rattle.sctp_model.specs.world.World.{Side, A, B, World, end_of, end_now, start, Setup}
+use Rattle.sctp_model.specs.world.World.{Side, A, B, World, end_of, end_now, start, Setup, clock_of}
 use Rattle.sctp_model.specs.world.Events.{Event, Outcome}
-use Rattle.sctp_model.specs.world.Steps.{Brings, Step, OpensBoth, OpenRefused, TimePasses, Draws, Connects, ConnectRefused, BuildsOne, BuildsNone, PacketComes, IsAbsent, Sends, AbandonsOne, TakesOne, ShutsDown, AbortsIt, NoMemory, PacketCut, ResetsOne, TellsReset, PassesThrough, last_of}
+use Rattle.sctp_model.specs.world.Steps.{Brings, Step, OpensBoth, OpenRefused, TimePasses, Draws, Connects, ConnectRefused, BuildsOne, BuildsNone, PacketComes, IsAbsent, Sends, AbandonsOne, TakesOne, ShutsDown, AbortsIt, NoMemory, PacketCut, ResetsOne, TellsReset, PassesThrough, last_of, TimeGoesOn, MomentComes}
 use Rattle.sctp_safety.proofs.machine.OneEnd.{IsAt, at_end, at_log, at_packet, at_came, answer_of, at_verdict, abort_of, at_abort, both_ends}
 use Rattle.sctp_safety.proofs.machine.DiagramRuns.{IsFresh, step_onward}
 use Rattle.sctp_safety.proofs.runs.Courses.{runs_have_worlds}
@@ -121,15 +121,15 @@ opening_still e own peer before sound =
     record { grown = λ s. (let same = ap (λ (r : ReceiverView). length (handed r s)) u in omega (arith, same)); told = λ s n is. absurd (cc) }
 
 now_sound : (w : World) (y : Side) → AreSound w → IsSound (end_now w y)
-now_sound w y s = (moment_keeps (end_of w y) w.clock (s y)).sound
+now_sound w y s = (moment_keeps (end_of w y) (clock_of w y) (s y)).sound
 
-receives_leaves : (w : World) (e : Event) (y : Side) (p : Option Packet) (t : EndView) (d : Verdict) → Brings w e y p → AreSound w → Receives (end_of w y) w.clock w.draw p t d → Counts (RequestArrives w e y t) (end_of w y).receiver t.receiver
+receives_leaves : (w : World) (e : Event) (y : Side) (p : Option Packet) (t : EndView) (d : Verdict) → Brings w e y p → AreSound w → Receives (end_of w y) (clock_of w y) w.draw p t d → Counts (RequestArrives w e y t) (end_of w y).receiver t.receiver
 receives_leaves w e y p t d brings s DroppedUnread = by_still (end_of w y).receiver t.receiver (still (end_of w y).receiver (end_of w y).receiver refl)
 receives_leaves w e y p t d brings s (ReadAs q _ _ arrives) =
     counts_among (end_of w y).receiver t.receiver
     (λ r c m k. InWhole q d brings arrives k) (arrives_count (end_now w y) w.draw q t d (now_sound w y s) arrives)
 
-cut_leaves : (w : World) (e : Event) (y : Side) (p : Option Packet) (t : EndView) → Brings w e y p → AreSound w → IsCutShort (end_of w y) w.clock w.draw p t → Counts (RequestArrives w e y t) (end_of w y).receiver t.receiver
+cut_leaves : (w : World) (e : Event) (y : Side) (p : Option Packet) (t : EndView) → Brings w e y p → AreSound w → IsCutShort (end_of w y) (clock_of w y) w.draw p t → Counts (RequestArrives w e y t) (end_of w y).receiver t.receiver
 cut_leaves w e y p t brings s (CutFirst _) = by_still (end_of w y).receiver t.receiver (still (end_of w y).receiver (end_of w y).receiver refl)
 cut_leaves w e y p t brings s (CutLater q z front back c _ d part arrives untold) =
     counts_among (end_of w y).receiver t.receiver
@@ -168,7 +168,10 @@ module _ (x : Side) where
   step_leaves : (w : World) (e : Event) (o : Option Outcome) (v : World) → IsFresh w → AreSound w → Step w e o v → LeavesIn e w v
   step_leaves w e o v f s (OpensBoth y z like may dx dy) = at_both w v e (opening_still w.a y z (ap is_before (f may).0) (s A)) (opening_still w.b z y (ap is_before (f may).1) (s B))
   step_leaves w e o v f s (OpenRefused y z closed) = calm w w e refl refl
-  step_leaves w e o v f s (TimePasses m small) = calm w v e (unheard_ticked w.a (max w.clock m)).receiver (unheard_ticked w.b (max w.clock m)).receiver
+  step_leaves w e o v f s (TimeGoesOn A m small) = calm w v e refl refl
+  step_leaves w e o v f s (TimeGoesOn B m small) = calm w v e refl refl
+  step_leaves w e o v f s (MomentComes y) = by_same w v e y _ None (at_log w y _ _) (unheard_ticked (end_of w y) (clock_of w y)).receiver
+  step_leaves w e o v f s (TimePasses m small) = calm w v e (unheard_ticked w.a (max w.clock_a m)).receiver (unheard_ticked w.b (max w.clock_b m)).receiver
   step_leaves w e o v f s (Draws d dd) = calm w v e refl refl
   step_leaves w e o v f s (Connects d dd answer) = calm w v e refl refl
   step_leaves w e o v f s (ConnectRefused d answer) = calm w w e refl refl

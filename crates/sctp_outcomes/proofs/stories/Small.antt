@@ -4,7 +4,7 @@ use Rattle.sctp_model.specs.world.Calls.{Call}
 use Rattle.sctp_model.specs.end.EndView.{Draw, Tags, IsDraw}
 use Rattle.sctp_model.specs.end.Configured.{IsConfiguration}
 use Rattle.sctp_model.specs.end.Opening.{opened}
-use Rattle.sctp_model.specs.end.UserCalls.{send_answer, send_leaves, abandoned_at}
+use Rattle.sctp_model.specs.end.UserCalls.{send_answer, send_leaves, abandoned_at, abandons}
 use Rattle.sctp_model.specs.world.World.{Side, A, B, are_alike, World, with_end, with_log, logged_one, Setup, configuration_of, start}
 use Rattle.sctp_model.specs.world.Events.{OpenBoth, Done}
 use Rattle.sctp_model.specs.world.Steps.{accepted, named_at, Step, OpensBoth}
@@ -110,4 +110,4 @@ abbrev pub after_send : World → Call → World
 after_send w c = with_log (with_end w A (send_leaves (send_answer w.a c) w.a c)) A (accepted w A (send_answer w.a c) c)
 
 abbrev pub after_abandon : World → ℕ → World
-after_abandon w k = with_log (with_end w A (abandoned_at w.a k)) A (named_at (logged_one w A k (abandoned_at w.a k)) k)
+after_abandon w k = with_log (with_end w A (abandoned_at w.a k)) A (named_at (logged_one w A k (abandoned_at w.a k)) (abandons w.a k) k)

@@ -95,11 +95,13 @@ module _ (f : Format) (p : Plan) (orderly : Orderly f p) (l : Lane) (n : ℕ) wh
     }
     from (suc d) k all = put k (omega (arith, all)) (from d (suc k) (omega (arith, all)))
 
-    pub held : (e : Exchange) (s : Sent) → e.held ≡ r.kept → s.call.lane ≡ l → bytes_of m ≡ s.call.bytes → IsHeld e s
-    held e s same lane bytes =
+    pub held : (e : Exchange) (of : Piece → ℕ) (s : Sent) → ((x : Piece) (c : ℕ) → entry_at p x.index ≡ Some (Part l n c) → of x ≡ s.ticket) →
+        e.held ≡ r.kept → s.call.lane ≡ l → bytes_of m ≡ s.call.bytes → IsHeld e of s
+    held e of s own same lane bytes =
         let all = from (length m.fragments) 0 (omega arith) in record {
           chunks = all.chunks;
           each = λ x has. (subst (λ (ps : List Piece). Has ps x) (sym same) (all.each x has).0, (all.each x has).1 ∙ sym lane);
+          own = λ x has. let c = all.places x has in own x c.0 c.2;
           rising = all.in_order;
           bytes = all.bytes ∙ bytes;
         }

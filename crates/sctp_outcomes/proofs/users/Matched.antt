@@ -79,6 +79,7 @@ module _ (w : World) (x : Side) (n : ℕ) where
       sent = ss;
       named = ts;
       time = now;
+      partial = a.partial;
       acknowledged = λ t. acknowledged a t;
       taken = hs;
       waiting = r.waiting n;

@@ -11,9 +11,9 @@ use Rattle.sctp_model.specs.world.Calls.{Call}
 use Rattle.sctp_model.specs.end.EndView.{Draw, EndView}
 use Rattle.sctp_model.specs.end.Opening.{opened}
 use Rattle.sctp_model.specs.end.UserCalls.{SendAnswer, Ticket, Refused, NotOpen, send_answer, abort_answer, abort_leaves, shut, reset_call, reset_leaves, reset_there, told_leaves}
-use Rattle.sctp_model.specs.world.World.{Side, A, B, Log, World, end_of, with_end, with_log}
-use Rattle.sctp_model.specs.world.Events.{message_told, Event, OpenBoth, At, Drawing, Connect, Build, Deliver, Foreign, Send, Abandon, Take, Shutdown, Abort, Outcome, Told, Reset, WasReset}
-use Rattle.sctp_model.specs.world.Steps.{Brings, FromBag, FromStranger, NoPacket, Step, OpensBoth, OpenRefused, TimePasses, Draws, Connects, ConnectRefused, BuildsOne, BuildsNone, PacketComes, IsAbsent, Sends, AbandonsOne, TakesOne, ShutsDown, AbortsIt, NoMemory, PacketCut, ResetsOne, TellsReset}
+use Rattle.sctp_model.specs.world.World.{Side, A, B, Log, World, end_of, with_end, with_log, clock_of}
+use Rattle.sctp_model.specs.world.Events.{message_told, Event, OpenBoth, At, Drawing, Connect, Build, Deliver, Foreign, Send, Abandon, Take, Shutdown, Abort, Outcome, Told, Reset, WasReset, Later, Moment}
+use Rattle.sctp_model.specs.world.Steps.{Brings, FromBag, FromStranger, NoPacket, Step, OpensBoth, OpenRefused, TimePasses, Draws, Connects, ConnectRefused, BuildsOne, BuildsNone, PacketComes, IsAbsent, Sends, AbandonsOne, TakesOne, ShutsDown, AbortsIt, NoMemory, PacketCut, ResetsOne, TellsReset, TimeGoesOn, MomentComes}
 use Rattle.sctp_safety.proofs.machine.OneEnd.{IsAt, at_end, at_log, at_packet, at_came, answer_of, at_verdict, abort_of, at_abort, both_ends}
 use Rattle.sctp_safety.proofs.machine.DiagramRuns.{IsFresh}
 use Rattle.sctp_outcomes.specs.Kept.{is_before, IsSound, KeepsLogs, AddsNumbers, SendNotes, TakeNotes}
@@ -41,6 +41,8 @@ quiet_packet w e s p (NoPacket _) x n o = record { taken = refl; sent = refl; na
 -- and where memory was wanted
 pub quiet_none : (e : Event) (x : Side) (n : ℕ) → IsQuiet x n e None
 quiet_none (OpenBoth a b) x n = record { taken = refl; sent = refl; named = refl }
+quiet_none (Later s m) x n = record { taken = refl; sent = refl; named = refl }
+quiet_none (Moment s) x n = record { taken = refl; sent = refl; named = refl }
 quiet_none (At m) x n = record { taken = refl; sent = refl; named = refl }
 quiet_none (Drawing d) x n = record { taken = refl; sent = refl; named = refl }
 quiet_none (Connect d) x n = record { taken = refl; sent = refl; named = refl }
@@ -156,16 +158,19 @@ module _ (x : Side) (n : ℕ) where
   pub step_noted : (w : World) (e : Event) (o : Option Outcome) (v : World) → IsFresh w → AreSound w → Step w e o v → Noted w v (taken_by x n e o) (length (sent_by x e o))
   step_noted w e o v f s (OpensBoth y z like may dx dy) = at_both w v (by_opening n w.a y z (ap is_before (f may).0) (s A)) (by_opening n w.b z y (ap is_before (f may).1) (s B))
   step_noted w e o v f s (OpenRefused y z closed) = same_world w
-  step_noted w e o v f s (TimePasses m small) = at_both w v (by_logs n w.a v.a (moments_keep_logs w.a (max w.clock m) (s A))) (by_logs n w.b v.b (moments_keep_logs w.b (max w.clock m) (s B)))
+  step_noted w e o v f s (TimeGoesOn A m small) = at_both w v (nothing n w.a w.a refl refl) (nothing n w.b w.b refl refl)
+  step_noted w e o v f s (TimeGoesOn B m small) = at_both w v (nothing n w.a w.a refl refl) (nothing n w.b w.b refl refl)
+  step_noted w e o v f s (MomentComes y) = at_one w v y _ None (at_log w y _ _) (by_logs n (end_of w y) _ (moments_keep_logs (end_of w y) (clock_of w y) (s y)))
+  step_noted w e o v f s (TimePasses m small) = at_both w v (by_logs n w.a v.a (moments_keep_logs w.a (max w.clock_a m) (s A))) (by_logs n w.b v.b (moments_keep_logs w.b (max w.clock_b m) (s B)))
   step_noted w e o v f s (Draws d dd) = at_both w v (nothing n w.a w.a refl refl) (nothing n w.b w.b refl refl)
-  step_noted w e o v f s (Connects d dd answer) = at_both w v (by_logs n w.a v.a (connect_keeps_logs w.a w.clock d (s A) answer)) (nothing n w.b w.b refl refl)
+  step_noted w e o v f s (Connects d dd answer) = at_both w v (by_logs n w.a v.a (connect_keeps_logs w.a w.clock_a d (s A) answer)) (nothing n w.b w.b refl refl)
   step_noted w e o v f s (ConnectRefused d answer) = same_world w
-  step_noted w e o v f s (BuildsOne y c cs t b) = at_one w v y t _ (at_packet w y t _) (by_numbers n (end_of w y) t (builds_add_numbers (end_of w y) w.clock (c ∷ cs) t (s y) b))
-  step_noted w e o v f s (BuildsNone y t b) = at_one w v y t None (at_end w y t) (by_numbers n (end_of w y) t (builds_add_numbers (end_of w y) w.clock [] t (s y) b))
+  step_noted w e o v f s (BuildsOne y c cs t b) = at_one w v y t _ (at_packet w y t _) (by_numbers n (end_of w y) t (builds_add_numbers (end_of w y) (clock_of w y) (c ∷ cs) t (s y) b))
+  step_noted w e o v f s (BuildsNone y t b) = at_one w v y t None (at_end w y t) (by_numbers n (end_of w y) t (builds_add_numbers (end_of w y) (clock_of w y) [] t (s y) b))
   step_noted w e o v f s (PacketComes _ y p t d brings received) =
-      quietly w v e o (quiet_packet w e y p brings x n o) (at_one w v y t (answer_of d) (at_verdict w y t d) (by_logs n (end_of w y) t (packets_keep_logs (end_of w y) w.clock w.draw p t d (s y) received)))
+      quietly w v e o (quiet_packet w e y p brings x n o) (at_one w v y t (answer_of d) (at_verdict w y t d) (by_logs n (end_of w y) t (packets_keep_logs (end_of w y) (clock_of w y) w.draw p t d (s y) received)))
   step_noted w e o v f s (PacketCut _ y p t brings cut) =
-      quietly w v e o (quiet_packet w e y p brings x n o) (at_one w v y t None (at_came w y t) (by_logs n (end_of w y) t (cut_packets_keep_logs (end_of w y) w.clock w.draw p t (s y) cut)))
+      quietly w v e o (quiet_packet w e y p brings x n o) (at_one w v y t None (at_came w y t) (by_logs n (end_of w y) t (cut_packets_keep_logs (end_of w y) (clock_of w y) w.draw p t (s y) cut)))
   step_noted w e o v f s (IsAbsent y k none) = same_world w
   step_noted w e o v f s (Sends y c) = by_send w y c (send_answer (end_of w y) c) _ _ (send_gives_tickets (end_of w y) c (s y))
   step_noted w e o v f s (AbandonsOne y k) = at_one w v y _ None (at_log w y _ _) (by_logs n (end_of w y) _ (abandon_keeps_logs (end_of w y) k (s y)))

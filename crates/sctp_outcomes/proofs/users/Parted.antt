@@ -16,7 +16,7 @@ use Rattle.sctp_model.specs.end.Closing.{hears}
 use Rattle.sctp_model.specs.end.UserCalls.{NotOpen, answer_for, is_established}
 use Rattle.sctp_model.specs.world.World.{Side, A, B, other, World, end_of, log_of, Setup, configuration_of}
 use Rattle.sctp_model.specs.world.Events.{Event, Send, Reset, Outcome, Told, Done}
-use Rattle.sctp_model.specs.world.Steps.{Step, OpensBoth, OpenRefused, TimePasses, Draws, Connects, ConnectRefused, BuildsOne, BuildsNone, PacketComes, IsAbsent, Sends, AbandonsOne, TakesOne, ResetsOne, TellsReset, ShutsDown, AbortsIt, NoMemory, PacketCut, PassesThrough, last_of}
+use Rattle.sctp_model.specs.world.Steps.{Step, OpensBoth, OpenRefused, TimePasses, Draws, Connects, ConnectRefused, BuildsOne, BuildsNone, PacketComes, IsAbsent, Sends, AbandonsOne, TakesOne, ResetsOne, TellsReset, ShutsDown, AbortsIt, NoMemory, PacketCut, PassesThrough, last_of, TimeGoesOn, MomentComes}
 use Rattle.sctp_safety.specs.Parted.{Asks}
 use Rattle.sctp_safety.proofs.machine.Ground.{IsFine}
 use Rattle.sctp_safety.proofs.machine.DiagramRuns.{IsFresh, step_onward}
@@ -44,6 +44,8 @@ accepted_sends v stream bytes none = (accepted v stream bytes none).sends
 sent_sends : (x : Side) (w : World) (e : Event) (o : Option Outcome) (v : World) → Step w e o v → (y : Sent) → Has (sent_by x e o) y → is_sending ((end_of w x).sender.resets.sending y.call.lane.stream) ≡ true
 sent_sends x w e o v (OpensBoth _ _ _ _ _ _) y has = absurd has
 sent_sends x w e o v (OpenRefused _ _ _) y has = absurd has
+sent_sends x w e o v (TimeGoesOn z m small) y has = absurd has
+sent_sends x w e o v (MomentComes z) y has = absurd has
 sent_sends x w e o v (TimePasses m small) y has = absurd has
 sent_sends x w e o v (Draws d dd) y has = absurd has
 sent_sends x w e o v (Connects d dd answer) y has = absurd has
@@ -183,7 +185,7 @@ module _ (s : Setup) (drawn : List ℕ) (within : (x : Side) → IsConfiguration
     sent_one : sent x (e ∷ []) (o ∷ []) ≡ new
     sent_one = append-nil new
 
-    adds : Adds x n w v (sent x (e ∷ []) (o ∷ [])) (named x (e ∷ []) (o ∷ [])) (taken x n (e ∷ []) (o ∷ [])) (time (e ∷ []) (o ∷ []))
+    adds : Adds x n w v (sent x (e ∷ []) (o ∷ [])) (named x (e ∷ []) (o ∷ [])) (taken x n (e ∷ []) (o ∷ [])) (time x (e ∷ []) (o ∷ []))
     adds = run_adds x n w (e ∷ []) (o ∷ []) (v ∷ []) (step, tt) i.fresh i.sound
 
     resets : StepResets d x n w e o v

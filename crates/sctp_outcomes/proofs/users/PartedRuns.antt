@@ -17,7 +17,7 @@ use Rattle.sctp_model.specs.end.Configured.{IsConfiguration}
 use Rattle.sctp_model.specs.end.UserCalls.{reset_there}
 use Rattle.sctp_model.specs.world.World.{Side, A, B, other, World, end_of, log_of, Setup, configuration_of, start}
 use Rattle.sctp_model.specs.world.Events.{Event, WasReset, Outcome, ResetThere, resets_told}
-use Rattle.sctp_model.specs.world.Steps.{Brings, FromBag, FromStranger, NoPacket, Step, OpensBoth, OpenRefused, TimePasses, Draws, Connects, ConnectRefused, BuildsOne, BuildsNone, PacketComes, IsAbsent, Sends, AbandonsOne, TakesOne, ResetsOne, TellsReset, ShutsDown, AbortsIt, NoMemory, PacketCut, PassesThrough, last_of}
+use Rattle.sctp_model.specs.world.Steps.{Brings, FromBag, FromStranger, NoPacket, Step, OpensBoth, OpenRefused, TimePasses, Draws, Connects, ConnectRefused, BuildsOne, BuildsNone, PacketComes, IsAbsent, Sends, AbandonsOne, TakesOne, ResetsOne, TellsReset, ShutsDown, AbortsIt, NoMemory, PacketCut, PassesThrough, last_of, TimeGoesOn, MomentComes}
 use Rattle.sctp_model.specs.world.Aged.{Aged}
 use Rattle.sctp_model.specs.world.Premises.{drawn_in, FreshAndUnforged, IsAllArrived, IsReachedInTime, IsReachable}
 use Rattle.sctp_model.proofs.sender.WordLaws.{found_is, has_left, has_right}
@@ -37,7 +37,7 @@ use Rattle.sctp_outcomes.specs.Users.{Sent, sent, named, taken, time, exchange, 
 use Rattle.sctp_outcomes.specs.Parted.{ResetAfter, IsTold, place_of, AreMatched, AreParted, ResetsPartMessages, TakesToldOnly}
 use Rattle.sctp_outcomes.proofs.AgedDates.{start_sound}
 use Rattle.sctp_outcomes.proofs.InOrder.{both_senders_are_in_order}
-use Rattle.sctp_outcomes.proofs.users.Accepted.{calls_of}
+use Rattle.sctp_outcomes.proofs.users.Accepted.{calls_of, clocks_begin}
 use Rattle.sctp_outcomes.proofs.users.Runs.{AreNumbered, Adds, run_adds}
 use Rattle.sctp_outcomes.proofs.users.Matched.{Right, Built, built, is_match, lane_for}
 use Rattle.sctp_outcomes.proofs.users.Matched.{IsTold as IsKnown}
@@ -120,6 +120,8 @@ step_tells : (w : World) (e : Event) (o : Option Outcome) (v : World) → Step w
     (reset_there (end_of w y) ≡ Some n) × (k ≡ old_waiting (end_of w y).receiver n)
 step_tells w e o v (OpensBoth _ _ _ _ _ _) y n k is told = absurd (cc)
 step_tells w e o v (OpenRefused _ _ _) y n k is told = absurd (cc)
+step_tells w e o v (TimeGoesOn z m small) y n k is told = absurd (cc)
+step_tells w e o v (MomentComes z) y n k is told = absurd (cc)
 step_tells w e o v (TimePasses m small) y n k is told = absurd (cc)
 step_tells w e o v (Draws d dd) y n k is told = absurd (cc)
 step_tells w e o v (Connects d dd answer) y n k is told = absurd (cc)
@@ -194,7 +196,7 @@ module _ (s : Setup) (es : List Event) (os : List (Option Outcome)) (vs : List W
   reachable : IsReachable s es w
   reachable = record { configured = configured; answers = os; run = passing_is_a_run (start s) es os vs passes; premises = premises }
 
-  adds : (y : Side) → Adds y n (start s) w (sent y es os) (named y es os) (taken y n es os) (time es os)
+  adds : (y : Side) → Adds y n (start s) w (sent y es os) (named y es os) (taken y n es os) (time y es os)
   adds y = run_adds y n (start s) es os vs passes (λ q. (refl, refl)) (start_sound s)
 
   arrives : (z y : Side) → (end_of w y).phase ≡ Over Completed → IsAllArrived (end_of w z).sender (end_of w (other z)).receiver
@@ -208,7 +210,7 @@ module _ (s : Setup) (es : List Event) (os : List (Option Outcome)) (vs : List W
       of_both A both = both.0
       of_both B both = both.1
 
-  known : IsKnown w x n (sent x es os) (named x es os) (time es os)
+  known : IsKnown w x n (sent x es os) (named x es os) (time x es os)
   known = record {
     safe = two_ends_are_safe s es w in_time x;
     orderly = (both_senders_are_in_order s es w reachable x).plan;
@@ -217,18 +219,18 @@ module _ (s : Setup) (es : List Event) (os : List (Option Outcome)) (vs : List W
     numbered = subst (λ (k : ℕ). AreNumbered k (sent x es os)) (start_tickets s x) (adds x).numbered;
     calls = (adds x).logged.calls ∙ ap (λ (cs : List Call). cs ++ calls_of (sent x es os)) (start_calls s x);
     named = λ t on. elim ((adds x).logged.named t on) [ inl before ↦ absurd (start_named s x t before) | inr has ↦ has ];
-    clock = (let same = (adds x).logged.clock in omega (arith, same));
+    clock = (let same = (adds x).logged.clock in let none = clocks_begin s x in omega (arith, same, none));
     closed = λ y over. (arrives x y over, drains x y over);
   }
 
-  abbrev all : Built w x n (sent x es os) (named x es os) (time es os) known (handed (end_of w (other x)).receiver n)
-  all = built w x n (sent x es os) (named x es os) (time es os) known
+  abbrev all : Built w x n (sent x es os) (named x es os) (time x es os) known (handed (end_of w (other x)).receiver n)
+  all = built w x n (sent x es os) (named x es os) (time x es os) known
 
   matched : AreMatched (exchange x n es os w) all.matches
   matched = record {
     all = all.all ∙ ap (λ (hs : List Handed). hs ++ (end_of w (other x)).receiver.waiting n)
         ((adds (other x)).noted.taken ∙ ap (λ (hs : List Handed). hs ++ taken (other x) n es os) (start_taken s (other x) n));
-    each = λ m has. is_match w x n (sent x es os) (named x es os) (time es os) known (taken (other x) n es os) m (all.each m has).0;
+    each = λ m has. is_match w x n (sent x es os) (named x es os) (time x es os) known (taken (other x) n es os) m (all.each m has).0;
     once = all.once;
     in_order = all.in_order;
   }

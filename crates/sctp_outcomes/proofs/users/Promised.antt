@@ -1,33 +1,40 @@
 -- THE HEADLINE IN USERS' WORDS: from SAFE, CLOSING, what logs have, and where each accepted message is.
-use Rattle.std.proofs.Common.{◌≡◌, ℕ, ◌<◌, ◌≤◌, ◌⊎◌, true, List, [], ◌++◌, Some, inl, inr, refl, sym, subst, ap, ◌∙◌, arith}
+use Rattle.std.proofs.Common.{◌≡◌, ℕ, ◌<◌, ◌≤◌, ◌⊎◌, true, List, [], ◌++◌, Some, inl, inr, refl, sym, subst, ap, ◌∙◌, arith, Option}
 use Rattle.std.proofs.lemmas.Bool.{cases_lt}
 use Rattle.sctp_model.specs.numbers.Lists.{Has, item_at}
 use Rattle.sctp_model.specs.messages.Format.{Ordered, Lane, ordered_lane}
 use Rattle.sctp_model.specs.messages.Plan.{Message, Entry, Part, End, entry_at, message_at, bytes_of, IsOf}
-use Rattle.sctp_model.specs.messages.Pieces.{IsNumberBelow}
+use Rattle.sctp_model.specs.messages.Pieces.{IsNumberBelow, Piece}
 use Rattle.sctp_model.specs.sender.SenderView.{Queued, IsDrained}
 use Rattle.sctp_model.specs.sender.Readers.{drained}
 use Rattle.sctp_model.specs.receiver.ReceiverView.{Handed, handed}
 use Rattle.sctp_model.specs.world.Calls.{Call}
 use Rattle.sctp_model.specs.world.Safe.{IsSent, WasHanded, IsHeldWhole, IsGivenUp as IsAskedUp}
 use Rattle.sctp_model.specs.end.EndView.{Ended, Completed, Phase, Idle, Listening, Calling, Echoing, Open, Over, ended_of, format_of}
-use Rattle.sctp_model.specs.world.World.{Side, A, B, other, World, end_of, log_of, Setup, start}
-use Rattle.sctp_model.specs.world.Steps.{last_of}
-use Rattle.sctp_model.specs.world.Premises.{IsAllArrived, IsReachedInTime, IsReachable}
+use Rattle.sctp_model.specs.world.World.{Side, A, B, other, World, end_of, log_of, Setup, start, configuration_of}
+use Rattle.sctp_model.specs.world.Steps.{last_of, PassesThrough}
+use Rattle.sctp_model.specs.world.Premises.{IsAllArrived, IsReachedInTime, IsReachable, FreshAndUnforged}
 use Rattle.sctp_safety.specs.Told.{WasAcknowledged}
 use Rattle.sctp_safety.specs.Placed.{IsPlaced, IsQueued, IsNumbered, WasNamed, WasLate}
 use Rattle.sctp_safety.proofs.runs.Courses.{passing_is_a_run}
-use Rattle.sctp_safety.proofs.runs.Directions.{senders_known}
-use Rattle.sctp_safety.proofs.runs.Safety.{two_ends_are_safe, nothing_is_missing, nothing_waits}
+use Rattle.sctp_safety.proofs.runs.Directions.{senders_known, known}
+use Rattle.sctp_safety.proofs.runs.Safety.{two_ends_are_safe, nothing_is_missing, nothing_waits, IsKept, kept_safe, kept_closed, kept_drained, kept_by_all}
 use Rattle.sctp_safety.proofs.sending.SenderCalls.{drained_is_told}
 use Rattle.sctp_safety.proofs.sending.ToldLemmas.{acknowledged_is_told}
-use Rattle.sctp_outcomes.specs.Users.{Sent, sent, named, taken, time, Exchange, WasSent, Match, IsDelivered, IsGivenUp, ByName, ByTime, ByLimit, IsHeld, IsFaithful, UsersTakeWhatWasSent}
+use Rattle.sctp_outcomes.specs.Users.{Sent, sent, named, taken, time, Exchange, WasSent, Match, IsDelivered, IsGivenUp, ByName, ByTime, ByLimit, IsHeld, IsFaithful, UsersTakeWhatWasSent, exchange, ShortRunsAreFaithful}
 use Rattle.sctp_outcomes.proofs.AgedDates.{start_sound}
 use Rattle.sctp_outcomes.proofs.InOrder.{both_senders_are_in_order}
-use Rattle.sctp_outcomes.proofs.users.Accepted.{calls_of}
+use Rattle.sctp_outcomes.proofs.users.Accepted.{calls_of, clocks_begin}
 use Rattle.sctp_outcomes.proofs.users.Runs.{AreNumbered, Adds, run_adds, call_of_sent}
 use Rattle.sctp_outcomes.proofs.users.Matched.{lane_for, handed_in, a, r, u, IsTold, Right, exchanged, sent_is, is_match, kind_is, built, delivered}
 use Rattle.sctp_outcomes.proofs.users.Held.{held}
+use Rattle.sctp_model.proofs.sender.AnswerLaws.{abandoned_is_agreed}
+use Rattle.std.specs.Prelude.{unwrap_or, option_map, option_and_then}
+use Rattle.sctp_model.specs.sender.Entries.{entry_message}
+use Rattle.sctp_safety.proofs.runs.Dating.{dates_of, AllKept, kept_in_time, kept_by_few}
+use Rattle.sctp_safety.proofs.runs.DatedBags.{Dates}
+use Rattle.sctp_model.specs.world.Events.{Event, Outcome}
+use Rattle.sctp_model.specs.end.Configured.{IsConfiguration}
 
 lane_is : (l : Lane) (n : ℕ) → l.stream ≡ n → l.kind ≡ Ordered → l ≡ ordered_lane n
 lane_is l n stream kind = ap (λ (s : ℕ). record { stream = s; kind = l.kind }) stream ∙ ap (λ k. record { stream = n; kind = k }) kind
@@ -39,18 +46,22 @@ module _ (w : World) (x : Side) (n : ℕ) (ss : List Sent) (ts : List ℕ) (now 
   abbrev matches : List Match
   matches = (built w x n ss ts now told).matches
 
+  -- the ticket of the message that a chunk belongs to
+  abbrev chunk_ticket : Piece → ℕ
+  chunk_ticket y = unwrap_or (option_and_then (λ d. option_map (λ (m : Message). m.ticket) (entry_message (a w x n).plan d)) (entry_at (a w x n).plan y.index)) 0
+
   -- what was given up was given up by the user
-  given_up : (l : Lane) (k : ℕ) (m : Message) (s : Sent) → handed_in l m ≡ s → IsAskedUp (a w x n) (u w x n) l k m → IsGivenUp e s
-  given_up l k m s is (inl name) = ByName (subst (λ (t : ℕ). Has ts t) (ap (λ (z : Sent). z.ticket) is) (told.named m.ticket name))
-  given_up l k m s is (inr (inl (until, has, late))) = ByTime until (subst (λ (z : Sent). z.call.until ≡ Some until) is has) (let clock = told.clock in omega (arith, late, clock))
-  given_up l k m s is (inr (inr (limit, has, often))) = ByLimit limit (subst (λ (z : Sent). z.call.limit ≡ Some limit) is has)
+  given_up : (l : Lane) (k : ℕ) (m : Message) (s : Sent) → handed_in l m ≡ s → (a w x n).partial ≡ true → IsAskedUp (a w x n) (u w x n) l k m → IsGivenUp e s
+  given_up l k m s is partial (inl name) = ByName (subst (λ (t : ℕ). Has ts t) (ap (λ (z : Sent). z.ticket) is) (told.named m.ticket name))
+  given_up l k m s is partial (inr (inl (until, has, late))) = ByTime until (subst (λ (z : Sent). z.call.until ≡ Some until) is has) (let clock = told.clock in omega (arith, late, clock))
+  given_up l k m s is partial (inr (inr (limit, has, often))) = ByLimit limit (subst (λ (z : Sent). z.call.limit ≡ Some limit) is has) partial
 
   -- one of the plan that was abandoned was given up
   abandoned_given : (l : Lane) (k : ℕ) (m : Message) (s : Sent) → message_at (a w x n).plan l k ≡ Some m → handed_in l m ≡ s → (a w x n).abandoned l k ≡ true → IsGivenUp e s
   abandoned_given l k m s there is gone =
       let g = told.safe.asked.abandoned l k gone in
       let same : g.0 ≡ m = let its = g.1 in cc in
-      given_up l k m s is (subst (λ (y : Message). IsAskedUp (a w x n) (u w x n) l k y) same g.2)
+      given_up l k m s is (abandoned_is_agreed (format_of (end_of w x)) (a w x n) told.reached l k gone) (subst (λ (y : Message). IsAskedUp (a w x n) (u w x n) l k y) same g.2)
 
   -- the call of a message that was sent
   called : (s : Sent) → WasSent e s → item_at (u w x n).calls s.ticket ≡ Some s.call
@@ -155,11 +166,16 @@ module _ (w : World) (x : Side) (n : ℕ) (ss : List Sent) (ts : List ℕ) (now 
 
   -- ---- one that was acknowledged
 
-  acknowledged_kept : (s : Sent) → WasSent e s → WasAcknowledged (a w x n) s.ticket → IsDelivered matches s ⊎ IsHeld e s
+  acknowledged_kept : (s : Sent) → WasSent e s → WasAcknowledged (a w x n) s.ticket → IsDelivered matches s ⊎ IsHeld e chunk_ticket s
   acknowledged_kept s was k = go (told.safe.kept k.has.lane k.has.number k.has.message k.complete covered k.kept)
     where
       is : handed_in k.has.lane k.has.message ≡ s
       is = sent_is w x n ss ts now told k.has.lane k.has.number k.has.message s k.has.named was.accepted k.has.ticket
+
+      owned : (y : Piece) (c : ℕ) → entry_at (a w x n).plan y.index ≡ Some (Part k.has.lane k.has.number c) → chunk_ticket y ≡ s.ticket
+      owned y c here =
+          ap (λ (o : Option Entry). unwrap_or (option_and_then (λ d. option_map (λ (m : Message). m.ticket) (entry_message (a w x n).plan d)) o) 0) here
+          ∙ ap (λ (o : Option Message). unwrap_or (option_map (λ (m : Message). m.ticket) o) 0) k.has.named ∙ k.has.ticket
 
       stream : k.has.lane.stream ≡ n
       stream = ap (λ (z : Sent). z.call.lane.stream) is ∙ was.stream
@@ -171,11 +187,11 @@ module _ (w : World) (x : Side) (n : ℕ) (ss : List Sent) (ts : List ℕ) (now 
           absurd (told.orderly.ended.apart k.has.lane k.has.number k.has.message k.complete i
           (subst (λ (z : Lane). entry_at (a w x n).plan i ≡ Some (End z k.has.number)) lane (subst (λ (z : ℕ). entry_at (a w x n).plan i ≡ Some (End l z)) number here)))
 
-      go : WasHanded (a w x n).plan (r w x n) k.has.lane k.has.number ⊎ IsHeldWhole (format_of (end_of w x)) (a w x n).plan (r w x n) k.has.lane k.has.number k.has.message → IsDelivered matches s ⊎ IsHeld e s
+      go : WasHanded (a w x n).plan (r w x n) k.has.lane k.has.number ⊎ IsHeldWhole (format_of (end_of w x)) (a w x n).plan (r w x n) k.has.lane k.has.number k.has.message → IsDelivered matches s ⊎ IsHeld e chunk_ticket s
       go (inl (h, has, lane, first)) =
           inl (delivered w x n ss ts now told h (subst (λ (i : ℕ). Has (handed (r w x n) i) h) stream has) k.has.lane k.has.number k.has.message k.has.named first s was.accepted k.has.ticket)
       go (inr whole) =
-          inr (held (format_of (end_of w x)) (a w x n).plan told.orderly k.has.lane k.has.number (r w x n) k.has.message whole e s refl (sym (ap (λ (z : Sent). z.call.lane) is)) (ap (λ (z : Sent). z.call.bytes) is))
+          inr (held (format_of (end_of w x)) (a w x n).plan told.orderly k.has.lane k.has.number (r w x n) k.has.message whole e chunk_ticket s owned refl (sym (ap (λ (z : Sent). z.call.lane) is)) (ap (λ (z : Sent). z.call.bytes) is))
 
   -- ---- once the association has completed
 
@@ -210,6 +226,7 @@ module _ (w : World) (x : Side) (n : ℕ) (ss : List Sent) (ts : List ℕ) (now 
         once = b.once;
         in_order = b.in_order;
         overtaken = λ s was ordered m has kind less. overtaken s was ordered m has kind less;
+        ticket_of = chunk_ticket;
         acknowledged = λ s was on. acknowledged_kept s was ((acknowledged_is_told (format_of (end_of w x)) (a w x n) s.ticket told.reached).0 on);
         completed = λ y is. let c = told.closed y (completed (end_of w y).phase is) in all_ended c.0 c.1;
       }
@@ -232,27 +249,32 @@ none_taken : (s : Setup) (x : Side) (n : ℕ) → (end_of (start s) x).receiver.
 none_taken s A n = refl
 none_taken s B n = refl
 
-pub users_take_what_was_sent : UsersTakeWhatWasSent
-users_take_what_was_sent s es os vs configured passes premises aged x n =
-    faithful w x n (sent x es os) (named x es os) (time es os) (taken (other x) n es os) told
+-- of a run whose packets come in time, by their dates
+faithful_when : (s : Setup) (es : List Event) (os : List (Option Outcome)) (vs : List World) → ((x : Side) → IsConfiguration (configuration_of s x)) → PassesThrough (start s) es os vs →
+    FreshAndUnforged s.sealing es → AllKept (dates_of (start s) vs) (start s) es vs → (x : Side) (n : ℕ) → IsFaithful (exchange x n es os (last_of (start s) vs))
+faithful_when s es os vs configured passes premises all x n =
+    faithful w x n (sent x es os) (named x es os) (time x es os) (taken (other x) n es os) told
     (there.noted.taken ∙ ap (λ (hs : List Handed). hs ++ taken (other x) n es os) (none_taken s (other x) n))
   where
     w : World
     w = last_of (start s) vs
 
-    in_time : IsReachedInTime s es w
-    in_time = record { configured = configured; answers = os; worlds = vs; run = passes; ends = refl; premises = premises; aged = aged }
+    d : Dates
+    d = dates_of (start s) vs
+
+    kept : IsKept d w
+    kept = kept_by_all s es os vs configured passes premises all
 
     reachable : IsReachable s es w
     reachable = record { configured = configured; answers = os; run = passing_is_a_run (start s) es os vs passes; premises = premises }
 
-    adds : (y : Side) → Adds y n (start s) w (sent y es os) (named y es os) (taken y n es os) (time es os)
+    adds : (y : Side) → Adds y n (start s) w (sent y es os) (named y es os) (taken y n es os) (time y es os)
     adds y = run_adds y n (start s) es os vs passes (λ q. (refl, refl)) (start_sound s)
 
-    here : Adds x n (start s) w (sent x es os) (named x es os) (taken x n es os) (time es os)
+    here : Adds x n (start s) w (sent x es os) (named x es os) (taken x n es os) (time x es os)
     here = adds x
 
-    there : Adds (other x) n (start s) w (sent (other x) es os) (named (other x) es os) (taken (other x) n es os) (time es os)
+    there : Adds (other x) n (start s) w (sent (other x) es os) (named (other x) es os) (taken (other x) n es os) (time (other x) es os)
     there = adds (other x)
 
     by_name : (t : ℕ) → ((log_of (start s) x).named t ≡ true) ⊎ Has (named x es os) t → Has (named x es os) t
@@ -260,25 +282,31 @@ users_take_what_was_sent s es os vs configured passes premises aged x n =
     by_name t (inr has) = has
 
     arrives : (z y : Side) → (end_of w y).phase ≡ Over Completed → IsAllArrived (end_of w z).sender (end_of w (other z)).receiver
-    arrives A y over = ((nothing_is_missing s es w in_time) y over).0
-    arrives B y over = ((nothing_is_missing s es w in_time) y over).1
+    arrives A y over = (kept_closed d w kept y over).0
+    arrives B y over = (kept_closed d w kept y over).1
 
     drains : (z y : Side) → (end_of w y).phase ≡ Over Completed → IsDrained (end_of w z).sender
-    drains z y over = (drained_is_told (format_of (end_of w z)) (end_of w z).sender (both_senders_are_in_order s es w reachable z).reached).0 (of_both z (nothing_waits s es w in_time y over))
+    drains z y over = (drained_is_told (format_of (end_of w z)) (end_of w z).sender (both_senders_are_in_order s es w reachable z).reached).0 (of_both z (kept_drained d w kept y over))
       where
         of_both : (z : Side) → (drained w.a.sender ≡ true) × (drained w.b.sender ≡ true) → drained (end_of w z).sender ≡ true
         of_both A both = both.0
         of_both B both = both.1
 
-    told : IsTold w x n (sent x es os) (named x es os) (time es os)
+    told : IsTold w x n (sent x es os) (named x es os) (time x es os)
     told = record {
-      safe = two_ends_are_safe s es w in_time x;
+      safe = kept_safe d w kept x;
       orderly = (both_senders_are_in_order s es w reachable x).plan;
       reached = (both_senders_are_in_order s es w reachable x).reached;
-      known = senders_known s es w in_time x;
+      known = known w d x kept;
       numbered = subst (λ (k : ℕ). AreNumbered k (sent x es os)) (no_tickets s x) here.numbered;
       calls = here.logged.calls ∙ ap (λ (cs : List Call). cs ++ calls_of (sent x es os)) (no_calls s x);
       named = λ t on. by_name t (here.logged.named t on);
-      clock = (let same = here.logged.clock in omega (arith, same));
+      clock = (let same = here.logged.clock in let none = clocks_begin s x in omega (arith, same, none));
       closed = λ y over. (arrives x y over, drains x y over);
     }
+
+pub users_take_what_was_sent : UsersTakeWhatWasSent
+users_take_what_was_sent s es os vs configured passes premises aged x n = faithful_when s es os vs configured passes premises (kept_in_time s es os vs passes aged) x n
+
+pub short_runs_are_faithful : ShortRunsAreFaithful
+short_runs_are_faithful s es os vs configured passes premises few x n = faithful_when s es os vs configured passes premises (kept_by_few s es os vs passes few) x n

@@ -10,7 +10,7 @@ use Rattle.sctp_model.specs.end.Closing.{hears}
 use Rattle.sctp_model.specs.sender.Queueing.{Refusal, refusal}
 use Rattle.sctp_model.specs.world.World.{Side, A, B, World, end_of, log_of}
 use Rattle.sctp_model.specs.world.Events.{Event, Send, Outcome, Told}
-use Rattle.sctp_model.specs.world.Steps.{Step, OpensBoth, OpenRefused, TimePasses, Draws, Connects, ConnectRefused, BuildsOne, BuildsNone, PacketComes, IsAbsent, Sends, AbandonsOne, TakesOne, ShutsDown, AbortsIt, NoMemory, PacketCut, ResetsOne, TellsReset, PassesThrough, last_of}
+use Rattle.sctp_model.specs.world.Steps.{Step, OpensBoth, OpenRefused, TimePasses, Draws, Connects, ConnectRefused, BuildsOne, BuildsNone, PacketComes, IsAbsent, Sends, AbandonsOne, TakesOne, ShutsDown, AbortsIt, NoMemory, PacketCut, ResetsOne, TellsReset, PassesThrough, last_of, TimeGoesOn, MomentComes}
 use Rattle.sctp_safety.proofs.machine.DiagramRuns.{IsFresh, step_onward}
 use Rattle.sctp_outcomes.specs.Users.{same_side, Sent, sent_by, sent, named_by, named, taken_by, taken, time_by, time}
 use Rattle.sctp_outcomes.proofs.AgedDates.{AreSound, step_goes_on}
@@ -55,6 +55,8 @@ next_ticket w s c x = by_state (hears is_established (end_of w s).phase)
 step_numbered : (x : Side) (w : World) (e : Event) (o : Option Outcome) (v : World) → Step w e o v → AreNumbered (end_of w x).sender.tickets (sent_by x e o)
 step_numbered x w e o v (OpensBoth y z like may dx dy) = tt
 step_numbered x w e o v (OpenRefused y z closed) = tt
+step_numbered x w e o v (TimeGoesOn y m small) = tt
+step_numbered x w e o v (MomentComes y) = tt
 step_numbered x w e o v (TimePasses m small) = tt
 step_numbered x w e o v (Draws d dd) = tt
 step_numbered x w e o v (Connects d dd answer) = tt
@@ -127,11 +129,11 @@ module _ (x : Side) (n : ℕ) where
           before (inr has) = inr (has_ahead ts ks t has)
 
   pub run_adds : (w : World) (es : List Event) (os : List (Option Outcome)) (vs : List World) → PassesThrough w es os vs → IsFresh w → AreSound w
-      → Adds x n w (last_of w vs) (sent x es os) (named x es os) (taken x n es os) (time es os)
+      → Adds x n w (last_of w vs) (sent x es os) (named x es os) (taken x n es os) (time x es os)
   run_adds w [] [] [] passes fresh sound = adds_nothing w
   run_adds w (e ∷ es) (o ∷ os) (v ∷ vs) (step, passes) fresh sound =
       let on = step_goes_on w e o v fresh sound step in
-      let here : Adds x n w v (sent_by x e o) (named_by x e o) (taken_by x n e o) (time_by e o) =
+      let here : Adds x n w v (sent_by x e o) (named_by x e o) (taken_by x n e o) (time_by x e o) =
       record { noted = step_noted x n w e o v fresh sound step; logged = step_logged x w e o v step; numbered = step_numbered x w e o v step } in
       adds_on w v (last_of v vs) _ _ _ _ _ _ _ _ here (run_adds v es os vs passes (step_onward w e o v fresh step).fresh (λ y. (on y).sound))
   run_adds w [] (o ∷ os) vs passes fresh sound = absurd passes

@@ -127,7 +127,7 @@ module _ (s : Setup) (drawn : List ℕ) (w : World) (ground : IsGrounded s drawn
 
   module _ (configured : (x : Side) → IsConfiguration (configuration_of s x)) where
     listener_well : IsWell s B (end_now w B)
-    listener_well = well_now s B w.b w.clock ground.clock (ground.ends B)
+    listener_well = well_now s B w.b w.clock_b (ground.clock B) (ground.ends B)
 
     -- the answer to an INIT
     given_ack : (q r : Packet) → From s drawn w B q → AnswersInit (end_now w B) w.draw q r → IsGiven r

@@ -6,9 +6,9 @@ use Rattle.sctp_model.specs.end.Strays.{Verdict, Taken, Dropped, Answer}
 use Rattle.sctp_model.specs.end.Moments.{ticked}
 use Rattle.sctp_model.specs.end.UserCalls.{reset_call, reset_leaves, reset_there, told_leaves, Called, connect_answer, called, send_answer, send_leaves, abandoned_at, shut, AbortAnswer, Aborts, NoPeer, TooLong, abort_answer, abort_leaves}
 use Rattle.sctp_model.specs.end.Arriving.{DroppedUnread, ReadAs, CutFirst, CutLater}
-use Rattle.sctp_model.specs.world.World.{Side, A, B, other, Log, World, end_of, with_end, with_packet, with_log, end_now, came, start}
+use Rattle.sctp_model.specs.world.World.{Side, A, B, other, Log, World, end_of, with_end, with_packet, with_log, end_now, came, start, clock_of}
 use Rattle.sctp_model.specs.world.Events.{with_verdict, with_abort, Event, Outcome}
-use Rattle.sctp_model.specs.world.Steps.{Step, OpensBoth, OpenRefused, TimePasses, Draws, Connects, ConnectRefused, BuildsOne, BuildsNone, PacketComes, IsAbsent, Sends, AbandonsOne, TakesOne, ResetsOne, TellsReset, ShutsDown, AbortsIt, NoMemory, Run, Rest, Then, PacketCut}
+use Rattle.sctp_model.specs.world.Steps.{Step, OpensBoth, OpenRefused, TimePasses, Draws, Connects, ConnectRefused, BuildsOne, BuildsNone, PacketComes, IsAbsent, Sends, AbandonsOne, TakesOne, ResetsOne, TellsReset, ShutsDown, AbortsIt, NoMemory, Run, Rest, Then, PacketCut, TimeGoesOn, MomentComes}
 use Rattle.sctp_safety.specs.States.{ClosedForGood, IsTurn, ByCall, ByInitAck, ByCookieAck, ByCookie, ByPair, ByStage, ByEnd, IsPath, Here, On, has_begun, IsLaterEnd, EndsFollowTheDiagram}
 use Rattle.sctp_safety.proofs.machine.Turns.{IsPlain, builds_plain}
 use Rattle.sctp_safety.proofs.machine.TurnsOfTime.{plain_ticked, plain_sent, plain_abandoned, plain_taken, plain_reset, plain_told, plain_shut, plain_aborted}
@@ -88,7 +88,7 @@ onward_plain w s t f p = onward_end w s t f (plain_later (end_of w s) t p) (plai
 
 onward_now : (w : World) (s : Side) (t : EndView) → IsFresh w → IsPlain (end_now w s) t → IsOnward w (with_end w s t)
 onward_now w s t f p =
-    onward_end w s t f (later_on (end_of w s) (end_now w s) t (later_now (end_of w s) w.clock) (plain_later (end_now w s) t p))
+    onward_end w s t f (later_on (end_of w s) (end_now w s) t (later_now (end_of w s) (clock_of w s)) (plain_later (end_now w s) t p))
     (plain_unbegun (end_of w s).phase t.phase p.turn)
 
 onward_came : (w : World) (s : Side) (t : EndView) → IsLaterEnd (end_of w s) t → IsOnward w (came w s t)
@@ -104,7 +104,7 @@ onward_came w B t l = record { later = later; fresh = λ q. absurd (cc) }
     later B = l
 
 onward_arrives : (w : World) (s : Side) (t : EndView) → IsLaterEnd (end_now w s) t → IsOnward w (came w s t)
-onward_arrives w s t l = onward_came w s t (later_on (end_of w s) (end_now w s) t (later_now (end_of w s) w.clock) l)
+onward_arrives w s t l = onward_came w s t (later_on (end_of w s) (end_now w s) t (later_now (end_of w s) (clock_of w s)) l)
 
 -- ---- both ends act
 
@@ -123,24 +123,29 @@ step_onward w e o v f (OpensBoth x y like may dx dy) = record { later = later; f
     later A = later_opened w.a x y w.a.phase refl (inl ((f may).0))
     later B = later_opened w.b y x w.b.phase refl (inr ((f may).1))
 step_onward w e o v f (OpenRefused x y closed) = onward_same w f
+step_onward w e o v f (TimeGoesOn A m small) = onward_kept w w v (onward_same w f) (record { a = refl; b = refl; openable = refl })
+step_onward w e o v f (TimeGoesOn B m small) = onward_kept w w v (onward_same w f) (record { a = refl; b = refl; openable = refl })
+step_onward w e o v f (MomentComes s) =
+    onward_kept w (with_end w s (ticked (end_of w s) (clock_of w s))) v (onward_now w s (ticked (end_of w s) (clock_of w s)) f (plain_ticked (end_of w s) (clock_of w s)))
+    (kept_log (with_end w s (ticked (end_of w s) (clock_of w s))) s _)
 step_onward w e o v f (TimePasses m small) = record { later = later; fresh = fresh }
   where
     later : (z : Side) → IsLaterEnd (end_of w z) (end_of v z)
-    later A = later_ticked w.a (max w.clock m)
-    later B = later_ticked w.b (max w.clock m)
+    later A = later_ticked w.a (max w.clock_a m)
+    later B = later_ticked w.b (max w.clock_b m)
 
     fresh : IsFresh v
     fresh q =
         let p = f q in
-        let a = plain_unbegun w.a.phase (ticked w.a (max w.clock m)).phase (plain_ticked w.a (max w.clock m)).turn (subst (λ (h : Phase). has_begun h ≡ false) (sym p.0) refl) in
-        let b = plain_unbegun w.b.phase (ticked w.b (max w.clock m)).phase (plain_ticked w.b (max w.clock m)).turn (subst (λ (h : Phase). has_begun h ≡ false) (sym p.1) refl) in
+        let a = plain_unbegun w.a.phase (ticked w.a (max w.clock_a m)).phase (plain_ticked w.a (max w.clock_a m)).turn (subst (λ (h : Phase). has_begun h ≡ false) (sym p.0) refl) in
+        let b = plain_unbegun w.b.phase (ticked w.b (max w.clock_b m)).phase (plain_ticked w.b (max w.clock_b m)).turn (subst (λ (h : Phase). has_begun h ≡ false) (sym p.1) refl) in
         (a ∙ p.0, b ∙ p.1)
 step_onward w e o v f (Draws d dd) = onward_kept w w v (onward_same w f) (record { a = refl; b = refl; openable = refl })
 step_onward w e o v f (Connects d dd answer) = record { later = later; fresh = λ q. absurd (cc) }
   where
     later : (z : Side) → IsLaterEnd (end_of w z) (end_of v z)
     later A =
-        later_on w.a (end_now w A) (called (end_now w A) d) (later_now w.a w.clock) (later_called (end_now w A) d (connect_idle w.a.phase answer))
+        later_on w.a (end_now w A) (called (end_now w A) d) (later_now w.a w.clock_a) (later_called (end_now w A) d (connect_idle w.a.phase answer))
     later B = later_same w.b
 step_onward w e o v f (ConnectRefused d answer) = onward_same w f
 step_onward w e o v f (BuildsOne s x xs t b) =
@@ -149,7 +154,7 @@ step_onward w e o v f (BuildsNone s t b) = onward_now w s t f (builds_plain (end
 step_onward w e o v f (PacketComes _ s _ t d brings (ReadAs p _ _ arrives)) =
     onward_kept w (came w s t) v (onward_arrives w s t (arrives_later (end_now w s) w.draw p t d arrives)) (kept_verdict (came w s t) s d)
 step_onward w e o v f (IsAbsent s n none) = onward_same w f
-step_onward w e o v f (PacketComes _ s _ _ _ brings DroppedUnread) = onward_came w s (end_now w s) (later_now (end_of w s) w.clock)
+step_onward w e o v f (PacketComes _ s _ _ _ brings DroppedUnread) = onward_came w s (end_now w s) (later_now (end_of w s) (clock_of w s))
 step_onward w e o v f (Sends s c) =
     onward_kept w (with_end w s (send_leaves (send_answer (end_of w s) c) (end_of w s) c)) v
     (onward_plain w s (send_leaves (send_answer (end_of w s) c) (end_of w s) c) f (plain_sent (end_of w s) c (send_answer (end_of w s) c)))
@@ -165,7 +170,7 @@ step_onward w e o v f (AbortsIt s r) =
     onward_kept w (with_end w s (abort_leaves (abort_answer (end_of w s) r) (end_of w s))) v
     (onward_plain w s (abort_leaves (abort_answer (end_of w s) r) (end_of w s)) f (plain_aborted (end_of w s) r))
     (kept_abort (with_end w s (abort_leaves (abort_answer (end_of w s) r) (end_of w s))) s (abort_answer (end_of w s) r))
-step_onward w e o v f (PacketCut _ s _ _ brings (CutFirst _)) = onward_came w s (end_now w s) (later_now (end_of w s) w.clock)
+step_onward w e o v f (PacketCut _ s _ _ brings (CutFirst _)) = onward_came w s (end_now w s) (later_now (end_of w s) (clock_of w s))
 step_onward w e o v f (PacketCut _ s _ t brings (CutLater p y front back x _ d part arrives untold)) = onward_arrives w s t (arrives_later (end_now w s) w.draw _ t d arrives)
 step_onward w e o v f (NoMemory _ other_event) = onward_same w f
 

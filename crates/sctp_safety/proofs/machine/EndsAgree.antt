@@ -1,10 +1,10 @@
 -- Over every run from START that meets the premises, two ends are apart or agree.
-use Rattle.std.proofs.Common.{◌≡◌, ℕ, true, false, List, [], ◌∷◌, ◌++◌, map, Option, inl, inr, refl, sym, subst, ap, arith}
+use Rattle.std.proofs.Common.{◌≡◌, ℕ, true, false, List, [], ◌∷◌, ◌++◌, map, Option, inl, inr, refl, sym, subst, ap, arith, ◌<◌, ◌^◌}
 use Rattle.sctp_model.specs.numbers.Lists.{Has, joined}
 use Rattle.sctp_model.specs.end.Sealing.{Sealing}
 use Rattle.sctp_model.specs.end.EndView.{Draw, Phase, Listener}
 use Rattle.sctp_model.specs.end.Configured.{IsConfiguration}
-use Rattle.sctp_model.specs.world.World.{Side, A, B, World, end_of, Setup, configuration_of, start}
+use Rattle.sctp_model.specs.world.World.{Side, A, B, World, end_of, Setup, configuration_of, start, clock_of}
 use Rattle.sctp_model.specs.world.Events.{Event, Outcome}
 use Rattle.sctp_model.specs.world.Steps.{Step, Run, Rest, Then}
 use Rattle.sctp_model.specs.world.Premises.{draws_of, drawn_in, FreshAndUnforged}
@@ -71,7 +71,7 @@ module _ (s : Setup) (drawn : List ℕ) (configured : (x : Side) → IsConfigura
 
 pub sound_start : (s : Setup) (drawn : List ℕ) → Has drawn 1 → IsSound s drawn (start s)
 sound_start s drawn one = record {
-  ground = record { ends = ends; clock = omega arith; draw = record { some = omega arith; tag = omega arith; tsn = omega arith }; draw_tag = one };
+  ground = record { ends = ends; clock = clocks; draw = record { some = omega arith; tag = omega arith; tsn = omega arith }; draw_tag = one };
   fresh = λ q. (refl, refl);
   story = StillApart (record {
     listens = refl;
@@ -90,6 +90,10 @@ sound_start s drawn one = record {
   });
 }
   where
+    clocks : (x : Side) → clock_of (start s) x < 2 ^ 64
+    clocks A = omega arith
+    clocks B = omega arith
+
     ends : (x : Side) → IsWell s x (end_of (start s) x)
     ends A = record { configuration = refl; seal = λ z q. absurd (cc); moment = omega arith }
     ends B = record { configuration = refl; seal = λ z q. let r : s.sealing ≡ z = cc in sym r; moment = omega arith }

@@ -15,9 +15,9 @@ use Rattle.sctp_model.specs.end.Wearing.{missed_below, wearing}
 use Rattle.sctp_model.specs.end.Opening.{begun, opened}
 use Rattle.sctp_model.specs.end.UserCalls.{reset_call, reset_leaves, reset_there, told_leaves, called, send_answer, shut, abort_answer, abort_leaves}
 use Rattle.sctp_model.specs.end.PeerFaults.{Unnoted}
-use Rattle.sctp_model.specs.world.World.{Side, A, B, World, end_of, end_now, Setup, configuration_of}
+use Rattle.sctp_model.specs.world.World.{Side, A, B, World, end_of, end_now, Setup, configuration_of, clock_of}
 use Rattle.sctp_model.specs.world.Events.{Event, Foreign, Outcome}
-use Rattle.sctp_model.specs.world.Steps.{Step, OpensBoth, OpenRefused, TimePasses, Draws, Connects, ConnectRefused, BuildsOne, BuildsNone, PacketComes, IsAbsent, Sends, AbandonsOne, TakesOne, ResetsOne, TellsReset, ShutsDown, AbortsIt, NoMemory, PacketCut}
+use Rattle.sctp_model.specs.world.Steps.{Step, OpensBoth, OpenRefused, TimePasses, Draws, Connects, ConnectRefused, BuildsOne, BuildsNone, PacketComes, IsAbsent, Sends, AbandonsOne, TakesOne, ResetsOne, TellsReset, ShutsDown, AbortsIt, NoMemory, PacketCut, TimeGoesOn, MomentComes}
 use Rattle.sctp_model.specs.world.Premises.{draws_of, IsStranger}
 use Rattle.sctp_safety.proofs.machine.Sides.{IsSameEnd, same_end, same_on, same_rested, goes_same, ends_same}
 use Rattle.sctp_safety.proofs.machine.Turns.{IsPlain, rested_has, builds_plain, replies_plain, goes_left, plain_ended}
@@ -85,7 +85,7 @@ module _ (s : Setup) (x : Side) where
 
 pub record IsGrounded (s : Setup) (drawn : List ℕ) (w : World) : Type 0 where
   pub ends : (x : Side) → IsWell s x (end_of w x)
-  pub clock : w.clock < 2 ^ 64
+  pub clock : (x : Side) → clock_of w x < 2 ^ 64
   pub draw : IsDraw w.draw
   pub draw_tag : Has drawn w.draw.tag
 
@@ -94,45 +94,81 @@ module _ (s : Setup) (drawn : List ℕ) where
   ground_at : (w v : World) (x : Side) (t : EndView) (given : Option Packet) → IsGrounded s drawn w → IsAt w v x t given → IsWell s x t → IsGrounded s drawn v
   ground_at w v x t given g at well = record {
     ends = both_ends (λ (y : Side) (e : EndView). IsWell s y e) w v x t given at g.ends well;
-    clock = subst (λ (n : ℕ). n < 2 ^ 64) (sym at.clock) g.clock;
+    clock = clocks;
     draw = subst IsDraw (sym at.draw) g.draw;
     draw_tag = subst (λ (d : Draw). Has drawn d.tag) (sym at.draw) g.draw_tag;
   }
+    where
+      clocks : (y : Side) → clock_of v y < 2 ^ 64
+      clocks A = subst (λ (n : ℕ). n < 2 ^ 64) (sym at.clock_a) (g.clock A)
+      clocks B = subst (λ (n : ℕ). n < 2 ^ 64) (sym at.clock_b) (g.clock B)
 
   ground_same : (w v : World) (x : Side) (t : EndView) (given : Option Packet) → IsGrounded s drawn w → IsAt w v x t given → IsSameEnd (end_of w x) t → IsGrounded s drawn v
   ground_same w v x t given g at k = ground_at w v x t given g at (well_same s x (end_of w x) t k (g.ends x))
 
   ground_now : (w v : World) (x : Side) (t : EndView) (given : Option Packet) → IsGrounded s drawn w → IsAt w v x t given → IsSameEnd (end_now w x) t → IsGrounded s drawn v
-  ground_now w v x t given g at k = ground_at w v x t given g at (well_same s x (end_now w x) t k (well_now s x (end_of w x) w.clock g.clock (g.ends x)))
+  ground_now w v x t given g at k = ground_at w v x t given g at (well_same s x (end_now w x) t k (well_now s x (end_of w x) (clock_of w x) (g.clock x) (g.ends x)))
 
   ticked_well : (w : World) (x : Side) (n : ℕ) → n < 2 ^ 64 → IsGrounded s drawn w → IsWell s x (ticked (end_of w x) n)
   ticked_well w x n b g =
       well_same s x (at_moment (end_of w x) n) (ticked (end_of w x) n) (plain_is_same _ _ (plain_ticked (end_of w x) n)) (well_now s x (end_of w x) n b (g.ends x))
 
   pub ground_step : (w : World) (e : Event) (o : Option Outcome) (v : World) → IsFine s drawn e → IsGrounded s drawn w → Step w e o v → IsGrounded s drawn v
-  ground_step w e o v fine g (OpensBoth x y like may dx dy) = record { ends = ends; clock = g.clock; draw = g.draw; draw_tag = g.draw_tag }
+  ground_step w e o v fine g (OpensBoth x y like may dx dy) = record { ends = ends; clock = clocks; draw = g.draw; draw_tag = g.draw_tag }
     where
+      clocks : (z : Side) → clock_of v z < 2 ^ 64
+      clocks A = g.clock A
+      clocks B = g.clock B
+
       ends : (z : Side) → IsWell s z (end_of v z)
       ends A = well_opened s A w.a x y (g.ends A)
       ends B = well_opened s B w.b y x (g.ends B)
   ground_step w e o v fine g (OpenRefused x y closed) = g
-  ground_step w e o v fine g (TimePasses m small) = record { ends = ends; clock = later; draw = g.draw; draw_tag = g.draw_tag }
+  ground_step w e o v fine g (TimeGoesOn A m small) = record { ends = ends; clock = clocks; draw = g.draw; draw_tag = g.draw_tag }
     where
-      later : max w.clock m < 2 ^ 64
-      later = let c = g.clock in omega (arith, c, small)
+      clocks : (z : Side) → clock_of v z < 2 ^ 64
+      clocks A = let c = g.clock A in omega (arith, c, small)
+      clocks B = g.clock B
 
-      ends : (z : Side) → IsWell s z (end_of v z)
-      ends A = ticked_well w A (max w.clock m) later g
-      ends B = ticked_well w B (max w.clock m) later g
-  ground_step w e o v fine g (Draws d dd) = record { ends = ends; clock = g.clock; draw = dd; draw_tag = fine.draws d.tag (inl refl) }
-    where
       ends : (z : Side) → IsWell s z (end_of v z)
       ends A = g.ends A
       ends B = g.ends B
-  ground_step w e o v fine g (Connects d dd answer) = record { ends = ends; clock = g.clock; draw = g.draw; draw_tag = g.draw_tag }
+  ground_step w e o v fine g (TimeGoesOn B m small) = record { ends = ends; clock = clocks; draw = g.draw; draw_tag = g.draw_tag }
     where
+      clocks : (z : Side) → clock_of v z < 2 ^ 64
+      clocks A = g.clock A
+      clocks B = let c = g.clock B in omega (arith, c, small)
+
       ends : (z : Side) → IsWell s z (end_of v z)
-      ends A = well_same s A (end_now w A) (called (end_now w A) d) (record { configuration = refl; role = refl; moment = refl }) (well_now s A w.a w.clock g.clock (g.ends A))
+      ends A = g.ends A
+      ends B = g.ends B
+  ground_step w e o v fine g (MomentComes x) = ground_at w v x _ None g (at_log w x _ _) (ticked_well w x (clock_of w x) (g.clock x) g)
+  ground_step w e o v fine g (TimePasses m small) = record { ends = ends; clock = clocks; draw = g.draw; draw_tag = g.draw_tag }
+    where
+      clocks : (z : Side) → clock_of v z < 2 ^ 64
+      clocks A = let c = g.clock A in omega (arith, c, small)
+      clocks B = let c = g.clock B in omega (arith, c, small)
+
+      ends : (z : Side) → IsWell s z (end_of v z)
+      ends A = ticked_well w A (max w.clock_a m) (clocks A) g
+      ends B = ticked_well w B (max w.clock_b m) (clocks B) g
+  ground_step w e o v fine g (Draws d dd) = record { ends = ends; clock = clocks; draw = dd; draw_tag = fine.draws d.tag (inl refl) }
+    where
+      clocks : (z : Side) → clock_of v z < 2 ^ 64
+      clocks A = g.clock A
+      clocks B = g.clock B
+
+      ends : (z : Side) → IsWell s z (end_of v z)
+      ends A = g.ends A
+      ends B = g.ends B
+  ground_step w e o v fine g (Connects d dd answer) = record { ends = ends; clock = clocks; draw = g.draw; draw_tag = g.draw_tag }
+    where
+      clocks : (z : Side) → clock_of v z < 2 ^ 64
+      clocks A = g.clock A
+      clocks B = g.clock B
+
+      ends : (z : Side) → IsWell s z (end_of v z)
+      ends A = well_same s A (end_now w A) (called (end_now w A) d) (record { configuration = refl; role = refl; moment = refl }) (well_now s A w.a w.clock_a (g.clock A) (g.ends A))
       ends B = g.ends B
   ground_step w e o v fine g (ConnectRefused d answer) = g
   ground_step w e o v fine g (BuildsOne x y ys t b) = ground_now w v x t _ g (at_packet w x t _) (plain_is_same _ t (builds_plain (end_now w x) (y ∷ ys) t b))

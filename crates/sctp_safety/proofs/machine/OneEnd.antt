@@ -17,24 +17,25 @@ pub record IsAt (w v : World) (s : Side) (t : EndView) (given : Option Packet) :
   pub there : end_of v (other s) ≡ end_of w (other s)
   pub bag : bag_of v s ≡ bag_with (bag_of w s) given
   pub bag_there : bag_of v (other s) ≡ bag_of w (other s)
-  pub clock : v.clock ≡ w.clock
+  pub clock_a : v.clock_a ≡ w.clock_a
+  pub clock_b : v.clock_b ≡ w.clock_b
   pub draw : v.draw ≡ w.draw
 
 pub at_end : (w : World) (s : Side) (t : EndView) → IsAt w (with_end w s t) s t None
-at_end w A t = record { here = refl; there = refl; bag = refl; bag_there = refl; clock = refl; draw = refl }
-at_end w B t = record { here = refl; there = refl; bag = refl; bag_there = refl; clock = refl; draw = refl }
+at_end w A t = record { here = refl; there = refl; bag = refl; bag_there = refl; clock_a = refl; clock_b = refl; draw = refl }
+at_end w B t = record { here = refl; there = refl; bag = refl; bag_there = refl; clock_a = refl; clock_b = refl; draw = refl }
 
 pub at_log : (w : World) (s : Side) (t : EndView) (l : Log) → IsAt w (with_log (with_end w s t) s l) s t None
-at_log w A t l = record { here = refl; there = refl; bag = refl; bag_there = refl; clock = refl; draw = refl }
-at_log w B t l = record { here = refl; there = refl; bag = refl; bag_there = refl; clock = refl; draw = refl }
+at_log w A t l = record { here = refl; there = refl; bag = refl; bag_there = refl; clock_a = refl; clock_b = refl; draw = refl }
+at_log w B t l = record { here = refl; there = refl; bag = refl; bag_there = refl; clock_a = refl; clock_b = refl; draw = refl }
 
 pub at_packet : (w : World) (s : Side) (t : EndView) (p : Packet) → IsAt w (with_packet (with_end w s t) s p) s t (Some p)
-at_packet w A t p = record { here = refl; there = refl; bag = refl; bag_there = refl; clock = refl; draw = refl }
-at_packet w B t p = record { here = refl; there = refl; bag = refl; bag_there = refl; clock = refl; draw = refl }
+at_packet w A t p = record { here = refl; there = refl; bag = refl; bag_there = refl; clock_a = refl; clock_b = refl; draw = refl }
+at_packet w B t p = record { here = refl; there = refl; bag = refl; bag_there = refl; clock_a = refl; clock_b = refl; draw = refl }
 
 pub at_came : (w : World) (s : Side) (t : EndView) → IsAt w (came w s t) s t None
-at_came w A t = record { here = refl; there = refl; bag = refl; bag_there = refl; clock = refl; draw = refl }
-at_came w B t = record { here = refl; there = refl; bag = refl; bag_there = refl; clock = refl; draw = refl }
+at_came w A t = record { here = refl; there = refl; bag = refl; bag_there = refl; clock_a = refl; clock_b = refl; draw = refl }
+at_came w B t = record { here = refl; there = refl; bag = refl; bag_there = refl; clock_a = refl; clock_b = refl; draw = refl }
 
 -- the packet of an answer
 abbrev pub answer_of : Verdict → Option Packet
@@ -45,10 +46,10 @@ answer_of (Answer p) = Some p
 pub at_verdict : (w : World) (s : Side) (t : EndView) (v : Verdict) → IsAt w (with_verdict (came w s t) s v) s t (answer_of v)
 at_verdict w A t Taken = at_came w A t
 at_verdict w A t (Dropped n) = at_came w A t
-at_verdict w A t (Answer p) = record { here = refl; there = refl; bag = refl; bag_there = refl; clock = refl; draw = refl }
+at_verdict w A t (Answer p) = record { here = refl; there = refl; bag = refl; bag_there = refl; clock_a = refl; clock_b = refl; draw = refl }
 at_verdict w B t Taken = at_came w B t
 at_verdict w B t (Dropped n) = at_came w B t
-at_verdict w B t (Answer p) = record { here = refl; there = refl; bag = refl; bag_there = refl; clock = refl; draw = refl }
+at_verdict w B t (Answer p) = record { here = refl; there = refl; bag = refl; bag_there = refl; clock_a = refl; clock_b = refl; draw = refl }
 
 -- the packet of an abort
 abbrev pub abort_of : AbortAnswer → Option Packet

@@ -12,10 +12,10 @@ use Rattle.sctp_model.specs.end.Building.{Builds, Sleeps, Waits, Calls, Echoes, 
 use Rattle.sctp_model.specs.end.Building.{EndsFull}
 use Rattle.sctp_model.specs.end.Moments.{ticked}
 use Rattle.sctp_model.specs.end.UserCalls.{reset_call, reset_leaves, reset_there, told_leaves, send_answer, shut, Aborts, TooLong, abort_answer, abort_answer_to, abort_leaves, abort_packet, peer_tag}
-use Rattle.sctp_model.specs.world.World.{Side, A, B, World, end_of, end_now, came, Setup, configuration_of}
+use Rattle.sctp_model.specs.world.World.{Side, A, B, World, end_of, end_now, came, Setup, configuration_of, clock_of}
 use Rattle.sctp_model.specs.world.Events.{Event, Outcome, with_verdict}
 use Rattle.sctp_model.specs.end.Opening.{opened}
-use Rattle.sctp_model.specs.world.Steps.{Step, OpensBoth, OpenRefused, TimePasses, Draws, Connects, ConnectRefused, BuildsOne, BuildsNone, PacketComes, IsAbsent, Sends, AbandonsOne, TakesOne, ResetsOne, TellsReset, ShutsDown, AbortsIt, NoMemory, PacketCut}
+use Rattle.sctp_model.specs.world.Steps.{Step, OpensBoth, OpenRefused, TimePasses, Draws, Connects, ConnectRefused, BuildsOne, BuildsNone, PacketComes, IsAbsent, Sends, AbandonsOne, TakesOne, ResetsOne, TellsReset, ShutsDown, AbortsIt, NoMemory, PacketCut, TimeGoesOn, MomentComes}
 use Rattle.sctp_safety.specs.States.{has_begun, has_agreed}
 use Rattle.sctp_safety.specs.Strangers.{IsDrawn}
 use Rattle.sctp_safety.specs.Agreement.{AreAgreed, AreEachOthers, was_open}
@@ -171,11 +171,14 @@ module _ (s : Setup) (drawn : List ℕ) (w : World) (ground : IsGrounded s drawn
     apart_step : (e : Event) (o : Option Outcome) (v : World) → IsFine s drawn e → Step w e o v → IsStory s drawn v
     apart_step e o v fine (OpensBoth x y like may dx dy) = HaveMet (opens s drawn w ground configured (alike_is w.a.configuration w.b.configuration like) x y (fine.draws x.tag (inl refl)) (fine.draws y.tag (inr (inl refl))))
     apart_step e o v fine (OpenRefused x y closed) = AreApart apart
+    apart_step e o v fine (TimeGoesOn A m small) = AreApart apart
+    apart_step e o v fine (TimeGoesOn B m small) = AreApart apart
+    apart_step e o v fine (MomentComes x) = now_plain v x _ None (at_log w x _ _) (plain_ticked (end_of w x) (clock_of w x)) tt
     apart_step e o v fine (TimePasses m small) = AreApart (record {
-      listens = plain_unbegun w.b.phase _ (plain_ticked w.b (max w.clock m)).turn (subst (λ (h : Phase). has_begun h ≡ false) (sym apart.listens) refl) ∙ apart.listens;
+      listens = plain_unbegun w.b.phase _ (plain_ticked w.b (max w.clock_b m)).turn (subst (λ (h : Phase). has_begun h ≡ false) (sym apart.listens) refl) ∙ apart.listens;
       caller =
-          let p = plain_ticked w.a (max w.clock m) in
-          caller_turns s drawn w.from_a w.from_b w.a (ticked w.a (max w.clock m)) p.configuration p.terms p.turn apart.caller;
+          let p = plain_ticked w.a (max w.clock_a m) in
+          caller_turns s drawn w.from_a w.from_b w.a (ticked w.a (max w.clock_a m)) p.configuration p.terms p.turn apart.caller;
       answers = apart.answers;
     })
     apart_step e o v fine (Draws d dd) = AreApart apart

@@ -11,11 +11,11 @@ use Rattle.sctp_model.specs.end.Strays.{Verdict}
 use Rattle.sctp_model.specs.end.Arriving.{AllAct, Arrives, Elsewhere, NotOurs, Stray, CookieBegins, Heard, DroppedUnread, ReadAs, CutFirst, CutLater, cut_to, Notes, no_notes, noted, packet_ended, urged}
 use Rattle.sctp_model.specs.end.Building.{Builds, packet_of}
 use Rattle.sctp_model.specs.end.Moments.{ticked}
-use Rattle.sctp_model.specs.end.UserCalls.{reset_call, reset_leaves, reset_there, told_leaves, called, abandoned_at, shut, abort_answer, abort_leaves}
+use Rattle.sctp_model.specs.end.UserCalls.{reset_call, reset_leaves, reset_there, told_leaves, called, abandoned_at, shut, abort_answer, abort_leaves, abandons}
 use Rattle.sctp_model.specs.end.PeerFaults.{Unnoted}
-use Rattle.sctp_model.specs.world.World.{Side, A, B, World, end_of, bag_of, log_of, with_end, end_now, came, logged, logged_one, Setup}
+use Rattle.sctp_model.specs.world.World.{Side, A, B, World, end_of, bag_of, log_of, with_end, end_now, came, logged, logged_one, Setup, clock_of}
 use Rattle.sctp_model.specs.world.Events.{Event, with_verdict, Outcome}
-use Rattle.sctp_model.specs.world.Steps.{named_at, Step, OpensBoth, OpenRefused, TimePasses, Draws, Connects, ConnectRefused, BuildsOne, BuildsNone, PacketComes, IsAbsent, Sends, AbandonsOne, TakesOne, ResetsOne, TellsReset, ShutsDown, AbortsIt, NoMemory, PacketCut}
+use Rattle.sctp_model.specs.world.Steps.{named_at, Step, OpensBoth, OpenRefused, TimePasses, Draws, Connects, ConnectRefused, BuildsOne, BuildsNone, PacketComes, IsAbsent, Sends, AbandonsOne, TakesOne, ResetsOne, TellsReset, ShutsDown, AbortsIt, NoMemory, PacketCut, TimeGoesOn, MomentComes}
 use Rattle.sctp_model.specs.world.Premises.{asked_at}
 use Rattle.sctp_safety.specs.Agreement.{IsOpening}
 use Rattle.sctp_safety.proofs.machine.Alike.{alike_is}
@@ -38,7 +38,7 @@ use Rattle.sctp_safety.proofs.runs.Unmet.{IsUnmet}
 use Rattle.sctp_safety.proofs.runs.Waiting.{waits_ticked, waits_built, waits_abandoned, waits_taken, waits_reset, waits_told, waits_shut, waits_aborted, waits_called, waits_longer}
 use Rattle.sctp_safety.proofs.runs.Meeting.{IsUnclosed, unmet_unclosed, ends_meet}
 use Rattle.sctp_safety.proofs.runs.MetWorld.{Before, IsMetWorld, told_of, only_came}
-use Rattle.sctp_safety.proofs.runs.ApartWorld.{Stands, IsApartWorld, apart_end, apart_same, apart_came, apart_log, apart_packet, apart_verdict, apart_abort, now_unmet, stands_on, stands_now, apart_sent, AreSetUp, some_fragment, dated_opening, opened_meet}
+use Rattle.sctp_safety.proofs.runs.ApartWorld.{Stands, IsApartWorld, apart_end, apart_same, apart_came, apart_log, apart_packet, apart_verdict, apart_abort, now_unmet, stands_on, stands_now, apart_sent, AreSetUp, some_fragment, dated_opening, opened_meet, apart_clock}
 
 -- ---- the listener
 
@@ -93,7 +93,7 @@ module _ (s : Setup) (drawn : List ℕ) (d : Dates) (w : World) (opening : IsOpe
           (ends_meet w.a (begun b (end_now w B)) (asked_at w A) (asked_at w B) (dated_bag d w A) (dated_bag d w B) (k.calls A) (k.calls B)
           (k.ends A).blank (record { rwnd = b.rwnd; sender = refl; receiver = refl }) fits.1 fits.0 refl
           (k.ends A).moment (now_unmet w B k).moment (some_fragment s w A set) (some_fragment s w B set) (dated_opening d w A k) (dated_opening d w B k)
-          (unmet_unclosed w.clock w.a (k.ends A)) begun_unclosed)
+          (unmet_unclosed w.clock_a w.a (k.ends A)) begun_unclosed)
 
   -- The listener opens a cookie of the caller's: the two have met, and what stands behind the cookie acts.
   meets : (p q : Packet) (i : ℕ) (b : Body) (t : EndView) (n : Notes) (gap : Bool) (v : Verdict) → item_at w.from_a i ≡ Some q → IsYoungIn w A (d A i) → IsWithin p.chunks q.chunks →
@@ -116,10 +116,10 @@ module _ (s : Setup) (drawn : List ℕ) (d : Dates) (w : World) (opening : IsOpe
 
   -- the end is apart from its peer still, or they have met
   abbrev Left : Side → EndView → Type 0
-  Left x t = (IsUnmet w.clock t × Stands x t.phase) ⊎ Before d w x t
+  Left x t = (IsUnmet (clock_of w x) t × Stands x t.phase) ⊎ Before d w x t
 
   as_it_was : (x : Side) (t : EndView) → t ≡ end_now w x → Left x t
-  as_it_was x t same = inl (subst (IsUnmet w.clock) (sym same) (now_unmet w x k), subst (λ (e : EndView). Stands x e.phase) (sym same) (stands_now w x k))
+  as_it_was x t same = inl (subst (IsUnmet (clock_of w x)) (sym same) (now_unmet w x k), subst (λ (e : EndView). Stands x e.phase) (sym same) (stands_now w x k))
 
   hears : (caller : w.a.phase ≡ Listening → ⊥) (e : Event) (after : World) → AreKept d w e after → (x : Side) (p : Packet) (t : EndView) (v : Verdict) → Brought s drawn w e x p →
       Arrives (end_now w x) w.draw p t v → Left x t
@@ -127,7 +127,7 @@ module _ (s : Setup) (drawn : List ℕ) (d : Dates) (w : World) (opening : IsOpe
       as_it_was x t (stranger_stays s.sealing drawn (end_now w x) w.draw p t v strange alone (opening.drawn_tags x) (opening.one_seal x) arrives)
   hears caller e after dates A p t v (ByPeer q i is found front) arrives =
       inl (
-        unmet_arrives w.clock (end_now w A) w.draw p t v (now_unmet w A k) caller
+        unmet_arrives w.clock_a (end_now w A) w.draw p t v (now_unmet w A k) caller
             (λ y h. k.opening B y (chunk_of_bag w.from_b q y (item_has w.from_b i q found) (front.chunks y h))) arrives,
         tt,
       )
@@ -149,23 +149,27 @@ module _ (s : Setup) (drawn : List ℕ) (d : Dates) (w : World) (opening : IsOpe
   -- ---- steps
 
   passes : (n : ℕ) → IsApartWorld (record w {
-    a = ticked w.a (max w.clock n);
-    b = ticked w.b (max w.clock n);
-    log_a = logged w A (ticked w.a (max w.clock n));
-    log_b = logged w B (ticked w.b (max w.clock n));
-    clock = max w.clock n;
+    a = ticked w.a (max w.clock_a n);
+    b = ticked w.b (max w.clock_b n);
+    log_a = logged w A (ticked w.a (max w.clock_a n));
+    log_b = logged w B (ticked w.b (max w.clock_b n));
+    clock_a = max w.clock_a n;
+    clock_b = max w.clock_b n;
   })
-  passes n = record { listens = stands_on w B (ticked w.b now).phase k (plain_ticked w.b now).turn; ends = ends; calls = calls; opening = bags }
+  passes n = record { listens = stands_on w B (ticked w.b there).phase k (plain_ticked w.b there).turn; ends = ends; calls = calls; opening = bags }
     where
-      now : ℕ
-      now = max w.clock n
+      here : ℕ
+      here = max w.clock_a n
+
+      there : ℕ
+      there = max w.clock_b n
 
       later : World
-      later = record w { a = ticked w.a now; b = ticked w.b now; log_a = logged w A (ticked w.a now); log_b = logged w B (ticked w.b now); clock = now }
+      later = record w { a = ticked w.a here; b = ticked w.b there; log_a = logged w A (ticked w.a here); log_b = logged w B (ticked w.b there); clock_a = here; clock_b = there }
 
-      ends : (x : Side) → IsUnmet now (end_of later x)
-      ends A = waits_ticked now w.a now (waits_longer w.clock now w.a (omega arith) (k.ends A)) (omega arith)
-      ends B = waits_ticked now w.b now (waits_longer w.clock now w.b (omega arith) (k.ends B)) (omega arith)
+      ends : (x : Side) → IsUnmet (clock_of later x) (end_of later x)
+      ends A = waits_ticked here w.a here (waits_longer w.clock_a here w.a (omega arith) (k.ends A)) (omega arith)
+      ends B = waits_ticked there w.b there (waits_longer w.clock_b there w.b (omega arith) (k.ends B)) (omega arith)
 
       calls : (x : Side) → (log_of later x).calls ≡ []
       calls A = k.calls A
@@ -175,19 +179,24 @@ module _ (s : Setup) (drawn : List ℕ) (d : Dates) (w : World) (opening : IsOpe
       bags A = k.opening A
       bags B = k.opening B
 
-  builds : (x : Side) (zs : List ChunkMeaning) (t : EndView) → Builds (end_now w x) zs t → IsUnmet w.clock t × AreOpening zs × Stands x t.phase
+  builds : (x : Side) (zs : List ChunkMeaning) (t : EndView) → Builds (end_now w x) zs t → IsUnmet (clock_of w x) t × AreOpening zs × Stands x t.phase
   builds x zs t b =
-      let m = waits_built w.clock (end_now w x) zs t (now_unmet w x k) b in
+      let m = waits_built (clock_of w x) (end_now w x) zs t (now_unmet w x k) b in
       (m.0, m.1, stands_on w x t.phase k (builds_plain (end_now w x) zs t b).turn)
 
   pub apart_step : (caller : w.a.phase ≡ Listening → ⊥) (e : Event) (o : Option Outcome) (v : World) → AreKept d w e v → IsFine s drawn e → Step w e o v → IsApartWorld v ⊎ IsMetWorld d v
   apart_step caller e o v dates fine (OpensBoth x y like may dx dy) = inr (opened_meet s d w x y set (alike_is w.a.configuration w.b.configuration like) k)
   apart_step caller e o v dates fine (OpenRefused x y off) = inl k
+  apart_step caller e o v dates fine (TimeGoesOn x n small) = inl (apart_clock w x n k)
+  apart_step caller e o v dates fine (MomentComes x) =
+      inl (apart_log (with_end w x (ticked (end_of w x) (clock_of w x))) x (logged w x (ticked (end_of w x) (clock_of w x))) (k.calls x)
+      (apart_end w x (ticked (end_of w x) (clock_of w x)) k (waits_ticked (clock_of w x) (end_of w x) (clock_of w x) (k.ends x) (omega arith))
+      (stands_on w x _ k (plain_ticked (end_of w x) (clock_of w x)).turn)))
   apart_step caller e o v dates fine (TimePasses n small) = inl (passes n)
-  apart_step caller e o v dates fine (Draws c dd) = inl (apart_same w v refl refl refl refl refl refl refl k)
+  apart_step caller e o v dates fine (Draws c dd) = inl (apart_same w v refl refl refl refl refl refl refl refl k)
   apart_step caller e o v dates fine (Connects c dd answer) =
-      inl (apart_same (with_end w A (called (end_now w A) c)) v refl refl refl refl refl refl refl
-      (apart_end w A (called (end_now w A) c) k (waits_called w.clock (end_now w A) c (now_unmet w A k)) tt))
+      inl (apart_same (with_end w A (called (end_now w A) c)) v refl refl refl refl refl refl refl refl
+      (apart_end w A (called (end_now w A) c) k (waits_called w.clock_a (end_now w A) c (now_unmet w A k)) tt))
   apart_step caller e o v dates fine (ConnectRefused c answer) = inl k
   apart_step caller e o v dates fine (BuildsOne x y ys t b) =
       let m = builds x (y ∷ ys) t b in
@@ -199,19 +208,19 @@ module _ (s : Setup) (drawn : List ℕ) (d : Dates) (w : World) (opening : IsOpe
   apart_step caller e o v dates fine (PacketComes _ x _ _ _ brings DroppedUnread) = inl (apart_came w x (end_now w x) k (now_unmet w x k) (stands_now w x k))
   apart_step caller e o v dates fine (Sends x c) = inl (apart_sent w x c k)
   apart_step caller e o v dates fine (AbandonsOne x n) =
-      inl (apart_log (with_end w x (abandoned_at (end_of w x) n)) x (named_at (logged_one w x n (abandoned_at (end_of w x) n)) n) (k.calls x)
-      (apart_end w x (abandoned_at (end_of w x) n) k (waits_abandoned w.clock (end_of w x) n (k.ends x)) (stands_on w x _ k (plain_abandoned (end_of w x) n).turn)))
+      inl (apart_log (with_end w x (abandoned_at (end_of w x) n)) x (named_at (logged_one w x n (abandoned_at (end_of w x) n)) (abandons (end_of w x) n) n) (k.calls x)
+      (apart_end w x (abandoned_at (end_of w x) n) k (waits_abandoned (clock_of w x) (end_of w x) n (k.ends x)) (stands_on w x _ k (plain_abandoned (end_of w x) n).turn)))
   apart_step caller e o v dates fine (TakesOne x n h t takes) =
-      inl (apart_end w x t k (waits_taken w.clock (end_of w x) n h t (k.ends x) takes) (stands_on w x t.phase k (plain_taken (end_of w x) n h t takes).turn))
+      inl (apart_end w x t k (waits_taken (clock_of w x) (end_of w x) n h t (k.ends x) takes) (stands_on w x t.phase k (plain_taken (end_of w x) n h t takes).turn))
   apart_step caller e o v dates fine (ResetsOne x n) =
-      inl (apart_end w x (reset_leaves (reset_call (end_of w x) n) (end_of w x) n) k (waits_reset w.clock (end_of w x) n (k.ends x)) (stands_on w x _ k (plain_reset (end_of w x) (reset_call (end_of w x) n) n).turn))
+      inl (apart_end w x (reset_leaves (reset_call (end_of w x) n) (end_of w x) n) k (waits_reset (clock_of w x) (end_of w x) n (k.ends x)) (stands_on w x _ k (plain_reset (end_of w x) (reset_call (end_of w x) n) n).turn))
   apart_step caller e o v dates fine (TellsReset x) =
-      inl (apart_end w x (told_leaves (reset_there (end_of w x)) (end_of w x)) k (waits_told w.clock (end_of w x) (k.ends x)) (stands_on w x _ k (plain_told (end_of w x) (reset_there (end_of w x))).turn))
+      inl (apart_end w x (told_leaves (reset_there (end_of w x)) (end_of w x)) k (waits_told (clock_of w x) (end_of w x) (k.ends x)) (stands_on w x _ k (plain_told (end_of w x) (reset_there (end_of w x))).turn))
   apart_step caller e o v dates fine (ShutsDown x) =
-      inl (apart_end w x (shut (end_of w x)) k (waits_shut w.clock (end_of w x) (k.ends x)) (stands_on w x _ k (plain_shut (end_of w x)).turn))
+      inl (apart_end w x (shut (end_of w x)) k (waits_shut (clock_of w x) (end_of w x) (k.ends x)) (stands_on w x _ k (plain_shut (end_of w x)).turn))
   apart_step caller e o v dates fine (AbortsIt x r) =
       inl (apart_abort (with_end w x (abort_leaves (abort_answer (end_of w x) r) (end_of w x))) x (end_of w x) r
-      (apart_end w x _ k (waits_aborted w.clock (end_of w x) (abort_answer (end_of w x) r) (k.ends x)) (stands_on w x _ k (plain_aborted (end_of w x) r).turn)))
+      (apart_end w x _ k (waits_aborted (clock_of w x) (end_of w x) (abort_answer (end_of w x) r) (k.ends x)) (stands_on w x _ k (plain_aborted (end_of w x) r).turn)))
   apart_step caller e o v dates fine (PacketCut _ x _ _ brings (CutFirst _)) = inl (apart_came w x (end_now w x) k (now_unmet w x k) (stands_now w x k))
   apart_step caller e o v dates fine (PacketCut _ x _ t brings (CutLater p y front back z _ c parts arrives silent)) =
       untold x t (hears caller e v dates x (cut_to p (y ∷ front)) t c (brought_cut s drawn w e x p y front back z fine brings parts) arrives)

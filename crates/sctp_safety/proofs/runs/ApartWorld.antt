@@ -1,5 +1,5 @@
 -- A world in which the two ends are apart: the listener listens, the caller isn't open, nothing was said of a direction.
-use Rattle.std.proofs.Common.{◌≡◌, ℕ, ◌<◌, min, nat_le, Bool, true, false, List, [], ◌∷◌, ◌++◌, Option, Some, None, inl, inr, refl, sym, subst, ap, arith, ◌⊎◌, ◌∙◌, if◌then◌else◌}
+use Rattle.std.proofs.Common.{◌≡◌, ℕ, ◌<◌, min, nat_le, Bool, true, false, List, [], ◌∷◌, ◌++◌, Option, Some, None, inl, inr, refl, sym, subst, ap, arith, ◌⊎◌, ◌∙◌, if◌then◌else◌, max}
 use Rattle.sctp_model.specs.numbers.Lists.{Has}
 use Rattle.sctp_model.specs.wire.Chunk.{ChunkMeaning}
 use Rattle.sctp_model.specs.wire.Packet.{Packet, size_of_packet}
@@ -8,7 +8,7 @@ use Rattle.sctp_model.specs.end.EndView.{Draw, Configuration, Phase, Listening, 
 use Rattle.sctp_model.specs.end.Configured.{IsConfiguration}
 use Rattle.sctp_model.specs.end.Strays.{Verdict, Taken, Dropped, Answer}
 use Rattle.sctp_model.specs.end.UserCalls.{Aborts, TooLong, peer_tag, abort_packet, abort_answer_to, abort_answer, SendAnswer, send_answer, send_leaves}
-use Rattle.sctp_model.specs.world.World.{Side, A, B, Log, World, end_of, bag_of, log_of, with_end, with_packet, with_log, end_now, came, Setup, configuration_of}
+use Rattle.sctp_model.specs.world.World.{Side, A, B, Log, World, end_of, bag_of, log_of, with_end, with_packet, with_log, end_now, came, Setup, configuration_of, clock_of, with_clock}
 use Rattle.sctp_model.specs.world.Events.{with_verdict, with_abort}
 use Rattle.sctp_model.specs.end.Opening.{opened}
 use Rattle.sctp_model.specs.world.Steps.{accepted}
@@ -25,7 +25,7 @@ use Rattle.sctp_safety.proofs.runs.DatedBags.{Dates, dated_bag, undated_bag}
 use Rattle.sctp_safety.proofs.runs.Pair.{opens_or_ends, AreOpening}
 use Rattle.sctp_safety.proofs.runs.Answers.{OpensOrEnds, one_opening}
 use Rattle.sctp_safety.proofs.runs.Unmet.{IsUnmet}
-use Rattle.sctp_safety.proofs.runs.Waiting.{waits_now, nothing_sent}
+use Rattle.sctp_safety.proofs.runs.Waiting.{waits_now, nothing_sent, waits_longer}
 use Rattle.sctp_safety.proofs.runs.Meeting.{IsUnclosed, ends_meet}
 use Rattle.sctp_safety.proofs.runs.MetWorld.{IsMetWorld}
 
@@ -36,16 +36,16 @@ Stands B h = h ≡ Listening
 
 pub record IsApartWorld (w : World) : Type 0 where
   pub listens : w.b.phase ≡ Listening
-  pub ends : (x : Side) → IsUnmet w.clock (end_of w x)
+  pub ends : (x : Side) → IsUnmet (clock_of w x) (end_of w x)
   pub calls : (x : Side) → (log_of w x).calls ≡ []
   pub opening : (x : Side) → AreOpening (chunks_in (bag_of w x))
 
 -- ---- what a step puts into the world
 
-pub apart_end : (w : World) (x : Side) (t : EndView) → IsApartWorld w → IsUnmet w.clock t → Stands x t.phase → IsApartWorld (with_end w x t)
+pub apart_end : (w : World) (x : Side) (t : EndView) → IsApartWorld w → IsUnmet (clock_of w x) t → Stands x t.phase → IsApartWorld (with_end w x t)
 apart_end w A t k m s = record { listens = k.listens; ends = ends; calls = calls; opening = opening }
   where
-    ends : (x : Side) → IsUnmet w.clock (end_of (with_end w A t) x)
+    ends : (x : Side) → IsUnmet (clock_of (with_end w A t) x) (end_of (with_end w A t) x)
     ends A = m
     ends B = k.ends B
 
@@ -58,7 +58,7 @@ apart_end w A t k m s = record { listens = k.listens; ends = ends; calls = calls
     opening B = k.opening B
 apart_end w B t k m s = record { listens = s; ends = ends; calls = calls; opening = opening }
   where
-    ends : (x : Side) → IsUnmet w.clock (end_of (with_end w B t) x)
+    ends : (x : Side) → IsUnmet (clock_of (with_end w B t) x) (end_of (with_end w B t) x)
     ends A = k.ends A
     ends B = m
 
@@ -70,14 +70,14 @@ apart_end w B t k m s = record { listens = s; ends = ends; calls = calls; openin
     opening A = k.opening A
     opening B = k.opening B
 
--- the same ends, bags, logs and clock
-pub apart_same : (w v : World) → v.a ≡ w.a → v.b ≡ w.b → v.from_a ≡ w.from_a → v.from_b ≡ w.from_b → v.log_a.calls ≡ w.log_a.calls → v.log_b.calls ≡ w.log_b.calls → v.clock ≡ w.clock →
+-- the same ends, bags, logs and clocks
+pub apart_same : (w v : World) → v.a ≡ w.a → v.b ≡ w.b → v.from_a ≡ w.from_a → v.from_b ≡ w.from_b → v.log_a.calls ≡ w.log_a.calls → v.log_b.calls ≡ w.log_b.calls → v.clock_a ≡ w.clock_a → v.clock_b ≡ w.clock_b →
     IsApartWorld w → IsApartWorld v
-apart_same w v a b from_a from_b log_a log_b clock k = record { listens = ap (λ (e : EndView). e.phase) b ∙ k.listens; ends = ends; calls = calls; opening = opening }
+apart_same w v a b from_a from_b log_a log_b clock_a clock_b k = record { listens = ap (λ (e : EndView). e.phase) b ∙ k.listens; ends = ends; calls = calls; opening = opening }
   where
-    ends : (x : Side) → IsUnmet v.clock (end_of v x)
-    ends A = subst (λ (n : ℕ). IsUnmet n v.a) (sym clock) (subst (λ (e : EndView). IsUnmet w.clock e) (sym a) (k.ends A))
-    ends B = subst (λ (n : ℕ). IsUnmet n v.b) (sym clock) (subst (λ (e : EndView). IsUnmet w.clock e) (sym b) (k.ends B))
+    ends : (x : Side) → IsUnmet (clock_of v x) (end_of v x)
+    ends A = subst (λ (n : ℕ). IsUnmet n v.a) (sym clock_a) (subst (λ (e : EndView). IsUnmet w.clock_a e) (sym a) (k.ends A))
+    ends B = subst (λ (n : ℕ). IsUnmet n v.b) (sym clock_b) (subst (λ (e : EndView). IsUnmet w.clock_b e) (sym b) (k.ends B))
 
     calls : (x : Side) → (log_of v x).calls ≡ []
     calls A = log_a ∙ k.calls A
@@ -87,13 +87,13 @@ apart_same w v a b from_a from_b log_a log_b clock k = record { listens = ap (λ
     opening A = subst (λ (ps : List Packet). AreOpening (chunks_in ps)) (sym from_a) (k.opening A)
     opening B = subst (λ (ps : List Packet). AreOpening (chunks_in ps)) (sym from_b) (k.opening B)
 
-pub apart_came : (w : World) (x : Side) (t : EndView) → IsApartWorld w → IsUnmet w.clock t → Stands x t.phase → IsApartWorld (came w x t)
-apart_came w A t k m s = apart_same (with_end w A t) (came w A t) refl refl refl refl refl refl refl (apart_end w A t k m s)
-apart_came w B t k m s = apart_same (with_end w B t) (came w B t) refl refl refl refl refl refl refl (apart_end w B t k m s)
+pub apart_came : (w : World) (x : Side) (t : EndView) → IsApartWorld w → IsUnmet (clock_of w x) t → Stands x t.phase → IsApartWorld (came w x t)
+apart_came w A t k m s = apart_same (with_end w A t) (came w A t) refl refl refl refl refl refl refl refl (apart_end w A t k m s)
+apart_came w B t k m s = apart_same (with_end w B t) (came w B t) refl refl refl refl refl refl refl refl (apart_end w B t k m s)
 
 pub apart_log : (w : World) (x : Side) (l : Log) → l.calls ≡ [] → IsApartWorld w → IsApartWorld (with_log w x l)
-apart_log w A l none k = apart_same w (with_log w A l) refl refl refl refl (none ∙ sym (k.calls A)) refl refl k
-apart_log w B l none k = apart_same w (with_log w B l) refl refl refl refl refl (none ∙ sym (k.calls B)) refl k
+apart_log w A l none k = apart_same w (with_log w A l) refl refl refl refl (none ∙ sym (k.calls A)) refl refl refl k
+apart_log w B l none k = apart_same w (with_log w B l) refl refl refl refl refl (none ∙ sym (k.calls B)) refl refl k
 
 -- the chunks of a bag with one packet more
 opening_more : (ps : List Packet) (p : Packet) → AreOpening (chunks_in ps) → AreOpening p.chunks → AreOpening (chunks_in (ps ++ p ∷ []))
@@ -106,7 +106,7 @@ opening_more ps p all more y has = go (Has-cases (chunks_in ps) p.chunks y (subs
 pub apart_packet : (w : World) (x : Side) (p : Packet) → AreOpening p.chunks → IsApartWorld w → IsApartWorld (with_packet w x p)
 apart_packet w A p more k = record { listens = k.listens; ends = ends; calls = calls; opening = opening }
   where
-    ends : (x : Side) → IsUnmet w.clock (end_of (with_packet w A p) x)
+    ends : (x : Side) → IsUnmet (clock_of (with_packet w A p) x) (end_of (with_packet w A p) x)
     ends A = k.ends A
     ends B = k.ends B
 
@@ -119,7 +119,7 @@ apart_packet w A p more k = record { listens = k.listens; ends = ends; calls = c
     opening B = k.opening B
 apart_packet w B p more k = record { listens = k.listens; ends = ends; calls = calls; opening = opening }
   where
-    ends : (x : Side) → IsUnmet w.clock (end_of (with_packet w B p) x)
+    ends : (x : Side) → IsUnmet (clock_of (with_packet w B p) x) (end_of (with_packet w B p) x)
     ends A = k.ends A
     ends B = k.ends B
 
@@ -147,10 +147,39 @@ apart_abort w x e r k = go (peer_tag e.phase)
     go None = k
     go (Some n) = by n (nat_le (size_of_packet (abort_packet e n r).chunks) e.configuration.limit)
 
+-- the clock of one end goes on
+pub apart_clock : (w : World) (x : Side) (m : ℕ) → IsApartWorld w → IsApartWorld (with_clock w x m)
+apart_clock w A m k = record { listens = k.listens; ends = ends; calls = calls; opening = opening }
+  where
+    ends : (x : Side) → IsUnmet (clock_of (with_clock w A m) x) (end_of (with_clock w A m) x)
+    ends A = waits_longer w.clock_a (max w.clock_a m) w.a (omega arith) (k.ends A)
+    ends B = k.ends B
+
+    calls : (x : Side) → (log_of (with_clock w A m) x).calls ≡ []
+    calls A = k.calls A
+    calls B = k.calls B
+
+    opening : (x : Side) → AreOpening (chunks_in (bag_of (with_clock w A m) x))
+    opening A = k.opening A
+    opening B = k.opening B
+apart_clock w B m k = record { listens = k.listens; ends = ends; calls = calls; opening = opening }
+  where
+    ends : (x : Side) → IsUnmet (clock_of (with_clock w B m) x) (end_of (with_clock w B m) x)
+    ends A = k.ends A
+    ends B = waits_longer w.clock_b (max w.clock_b m) w.b (omega arith) (k.ends B)
+
+    calls : (x : Side) → (log_of (with_clock w B m) x).calls ≡ []
+    calls A = k.calls A
+    calls B = k.calls B
+
+    opening : (x : Side) → AreOpening (chunks_in (bag_of (with_clock w B m) x))
+    opening A = k.opening A
+    opening B = k.opening B
+
 -- ---- what an end does
 
-pub now_unmet : (w : World) (x : Side) → IsApartWorld w → IsUnmet w.clock (end_now w x)
-now_unmet w x k = waits_now w.clock (end_of w x) w.clock (k.ends x) (omega arith)
+pub now_unmet : (w : World) (x : Side) → IsApartWorld w → IsUnmet (clock_of w x) (end_now w x)
+now_unmet w x k = waits_now (clock_of w x) (end_of w x) (clock_of w x) (k.ends x) (omega arith)
 
 -- a plain turn of the listener leads nowhere
 pub stands_on : (w : World) (x : Side) (h : Phase) → IsApartWorld w → IsPlainTurn (end_of w x).phase h → Stands x h
@@ -164,7 +193,7 @@ stands_now w B k = k.listens
 -- a message is refused
 pub apart_sent : (w : World) (x : Side) (c : Call) → IsApartWorld w →
     IsApartWorld (with_log (with_end w x (send_leaves (send_answer (end_of w x) c) (end_of w x) c)) x (accepted w x (send_answer (end_of w x) c) c))
-apart_sent w x c k = subst (λ (o : SendAnswer). IsApartWorld (with_log (with_end w x (send_leaves o (end_of w x) c)) x (accepted w x o c))) (sym (nothing_sent w.clock (end_of w x) c (k.ends x)))
+apart_sent w x c k = subst (λ (o : SendAnswer). IsApartWorld (with_log (with_end w x (send_leaves o (end_of w x) c)) x (accepted w x o c))) (sym (nothing_sent (clock_of w x) (end_of w x) c (k.ends x)))
     (apart_log (with_end w x (end_of w x)) x (log_of w x) (k.calls x) (apart_end w x (end_of w x) k (k.ends x) (stands_now w x k)))
 
 -- ---- `open`: both ends are set up alike

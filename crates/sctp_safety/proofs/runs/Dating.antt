@@ -9,7 +9,7 @@ use Rattle.sctp_model.specs.wire.Packet.{Packet}
 use Rattle.sctp_model.specs.end.EndView.{EndView}
 use Rattle.sctp_model.specs.world.World.{Side, A, B, other, World, bag_of, start, Setup}
 use Rattle.sctp_model.specs.world.Events.{Event, Deliver, Outcome}
-use Rattle.sctp_model.specs.world.Steps.{Step, OpensBoth, OpenRefused, TimePasses, Draws, Connects, ConnectRefused, BuildsOne, BuildsNone, PacketComes, IsAbsent, Sends, AbandonsOne, TakesOne, ResetsOne, TellsReset, ShutsDown, AbortsIt, NoMemory, PacketCut, PassesThrough}
+use Rattle.sctp_model.specs.world.Steps.{Step, OpensBoth, OpenRefused, TimePasses, Draws, Connects, ConnectRefused, BuildsOne, BuildsNone, PacketComes, IsAbsent, Sends, AbandonsOne, TakesOne, ResetsOne, TellsReset, ShutsDown, AbortsIt, NoMemory, PacketCut, PassesThrough, TimeGoesOn, MomentComes}
 use Rattle.sctp_model.specs.world.Aged.{ComesInTime, AllComeInTime, Aged}
 use Rattle.sctp_safety.specs.Runs.{AssignFewer}
 use Rattle.sctp_safety.proofs.lists.Basics.{item_at-above, item_at-within}
@@ -41,6 +41,9 @@ same_bags w v a b B = let e = ap length b in omega (arith, e)
 pub bags_grow : (w : World) (e : Event) (o : Option Outcome) (v : World) → Step w e o v → IsLonger w v
 bags_grow w e o v (OpensBoth x y like may dx dy) = same_bags w v refl refl
 bags_grow w e o v (OpenRefused x y off) = same_bags w w refl refl
+bags_grow w e o v (TimeGoesOn A n small) = same_bags w v refl refl
+bags_grow w e o v (TimeGoesOn B n small) = same_bags w v refl refl
+bags_grow w e o v (MomentComes x) = longer_at w v x _ _ (at_log w x _ _)
 bags_grow w e o v (TimePasses n small) = same_bags w v refl refl
 bags_grow w e o v (Draws d dd) = same_bags w v refl refl
 bags_grow w e o v (Connects d dd answer) = same_bags w v refl refl

@@ -61,7 +61,7 @@ module _ (w : World) where
   met d A m = by_way A m.met.met.going.bags m.met.met.going.usual
   met d B m = by_way B m.met.met.coming.bags m.met.met.coming.usual
 
-  known : (d : Dates) (x : Side) → IsKept d w → IsKnown (end_of w x).sender (asked_at w x) (end_of w (other x)).receiver
+  pub known : (d : Dates) (x : Side) → IsKept d w → IsKnown (end_of w x).sender (asked_at w x) (end_of w (other x)).receiver
   known d x (inl k) = apart x k
   known d x (inr m) = met d x m
 

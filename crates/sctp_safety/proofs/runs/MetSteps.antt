@@ -11,7 +11,7 @@ use Rattle.sctp_model.specs.end.UserCalls.{reset_call, reset_leaves, reset_there
 use Rattle.sctp_model.specs.world.World.{Side, A, B, other, World, end_of, bag_of, with_end, with_packet, end_now, Setup}
 use Rattle.sctp_model.specs.world.Events.{Event, Deliver, Outcome}
 use Rattle.sctp_model.specs.world.Aged.{assigned}
-use Rattle.sctp_model.specs.world.Steps.{Step, OpensBoth, OpenRefused, TimePasses, Draws, Connects, ConnectRefused, BuildsOne, BuildsNone, PacketComes, IsAbsent, Sends, AbandonsOne, TakesOne, ResetsOne, TellsReset, ShutsDown, AbortsIt, NoMemory, PacketCut}
+use Rattle.sctp_model.specs.world.Steps.{Step, OpensBoth, OpenRefused, TimePasses, Draws, Connects, ConnectRefused, BuildsOne, BuildsNone, PacketComes, IsAbsent, Sends, AbandonsOne, TakesOne, ResetsOne, TellsReset, ShutsDown, AbortsIt, NoMemory, PacketCut, TimeGoesOn, MomentComes}
 use Rattle.sctp_model.specs.world.Premises.{asked_at}
 use Rattle.sctp_safety.specs.States.{has_agreed}
 use Rattle.sctp_safety.specs.Agreement.{IsOpening}
@@ -23,7 +23,7 @@ use Rattle.sctp_safety.proofs.runs.DatedBags.{Dates, dated_bag, bag_has, date_in
 use Rattle.sctp_safety.proofs.runs.Acted.{Comes}
 use Rattle.sctp_safety.proofs.runs.Pairs.{IsPair, date_at, pair_arrives, pair_built, pair_taken, pair_reset, pair_told, pair_shut, pair_aborted}
 use Rattle.sctp_safety.proofs.runs.Answers.{answer_opens}
-use Rattle.sctp_safety.proofs.runs.MetWorld.{MetAt, MetWith, Before, IsMetWorld, at_side, from_side, now_at, put_end, put_both, told_of, only_came, put_abort, sent_at, abandoned_there, passes_at, closed_abort, closed_end, closed_packet, closed_log}
+use Rattle.sctp_safety.proofs.runs.MetWorld.{MetAt, MetWith, Before, IsMetWorld, at_side, from_side, now_at, put_end, put_both, told_of, only_came, put_abort, sent_at, abandoned_there, passes_at, closed_abort, closed_end, closed_packet, closed_log, goes_on, moment_at}
 
 -- What comes is a packet of the end across, or its beginning, and it comes young; or a stranger's, which changes nothing.
 module _ (s : Setup) (drawn : List ℕ) (d : Dates) (w : World) (e : Event) (v : World) (dates : AreKept d w e v) (opening : IsOpening s drawn w) where
@@ -98,6 +98,9 @@ module _ (s : Setup) (drawn : List ℕ) (d : Dates) (w : World) (opening : IsOpe
   pub met_step : (e : Event) (o : Option Outcome) (v : World) → AreKept d w e v → IsFine s drawn e → Step w e o v → IsMetWorld d v
   met_step e o v dates fine (OpensBoth x y like may dx dy) = absurd (let q = m.closed in cc)
   met_step e o v dates fine (OpenRefused x y off) = m
+  met_step e o v dates fine (TimeGoesOn A n small) = record { closed = m.closed; met = goes_on d w A n (at A) }
+  met_step e o v dates fine (TimeGoesOn B n small) = record { closed = m.closed; met = from_side d v B (goes_on d w B n (at B)) }
+  met_step e o v dates fine (MomentComes x) = record { closed = closed_log w x _ _ ∙ m.closed; met = from_side d v x (moment_at d w x (at x)) }
   met_step e o v dates fine (TimePasses n small) = record { closed = m.closed; met = passes_at d w n m.met }
   met_step e o v dates fine (Draws c dd) = record { closed = m.closed; met = m.met }
   met_step e o v dates fine (Connects c dd answer) = absurd (no_call w.a.phase answer m.met.met.phase)

@@ -6,8 +6,8 @@ use Rattle.sctp_model.specs.world.Calls.{Call, Asked}
 use Rattle.sctp_model.specs.end.EndView.{EndView}
 use Rattle.sctp_model.specs.end.Strays.{Verdict, Taken, Dropped, Answer}
 use Rattle.sctp_model.specs.end.Moments.{ticked}
-use Rattle.sctp_model.specs.end.UserCalls.{SendAnswer, Ticket, Refused, NotOpen, send_answer, send_leaves, abandoned_at, AbortAnswer, Aborts, NoPeer, TooLong, peer_tag, abort_packet, abort_answer_to, abort_answer}
-use Rattle.sctp_model.specs.world.World.{Side, A, B, other, Log, World, end_of, bag_of, with_end, with_packet, with_log, end_now, came, logged, logged_one}
+use Rattle.sctp_model.specs.end.UserCalls.{SendAnswer, Ticket, Refused, NotOpen, send_answer, send_leaves, abandoned_at, AbortAnswer, Aborts, NoPeer, TooLong, peer_tag, abort_packet, abort_answer_to, abort_answer, abandons}
+use Rattle.sctp_model.specs.world.World.{Side, A, B, other, Log, World, end_of, bag_of, with_end, with_packet, with_log, end_now, came, logged, logged_one, clock_of, with_clock}
 use Rattle.sctp_model.specs.world.Events.{with_verdict, with_abort}
 use Rattle.sctp_model.specs.world.Steps.{accepted, named_at}
 use Rattle.sctp_model.specs.world.Premises.{asked_at}
@@ -79,7 +79,7 @@ module _ (d : Dates) where
   Before w x t = IsPair t (end_of w (other x)) (asked_at w x) (asked_at w (other x)) (dated_bag d w x) (dated_bag d w (other x))
 
   pub now_at : (w : World) (x : Side) → MetAt w x → Before w x (end_now w x)
-  now_at w x m = pair_now (end_of w (other x)) (asked_at w x) (asked_at w (other x)) (dated_bag d w x) (dated_bag d w (other x)) (end_of w x) w.clock m (omega arith)
+  now_at w x m = pair_now (end_of w (other x)) (asked_at w x) (asked_at w (other x)) (dated_bag d w x) (dated_bag d w (other x)) (end_of w x) (clock_of w x) m (omega arith)
 
   -- ---- putting an end back into the world
 
@@ -151,31 +151,35 @@ module _ (d : Dates) where
       go NotOpen k = k
 
   pub abandoned_there : (w : World) (x : Side) (k : ℕ) → MetAt w x →
-      MetAt (with_log (with_end w x (abandoned_at (end_of w x) k)) x (named_at (logged_one w x k (abandoned_at (end_of w x) k)) k)) x
+      MetAt (with_log (with_end w x (abandoned_at (end_of w x) k)) x (named_at (logged_one w x k (abandoned_at (end_of w x) k)) (abandons (end_of w x) k) k)) x
   abandoned_there w A k m = pair_abandoned w.a w.b (asked_at w A) (asked_at w B) (dated_bag d w A) (dated_bag d w B) k m
   abandoned_there w B k m = pair_abandoned w.b w.a (asked_at w B) (asked_at w A) (dated_bag d w B) (dated_bag d w A) k m
 
   -- ---- a moment
 
+  -- the clock of one end goes on
+  pub goes_on : (w : World) (x : Side) (m : ℕ) → MetAt w x → MetAt (with_clock w x m) x
+  goes_on w A m k = pair_clock w.a w.b (asked_at w A) (asked_at w B) (dated_bag d w A) (dated_bag d w B) m k
+  goes_on w B m k = pair_clock w.b w.a (asked_at w B) (asked_at w A) (dated_bag d w B) (dated_bag d w A) m k
+
+  -- an end is asked what is due by its clock
+  pub moment_at : (w : World) (x : Side) → MetAt w x →
+      MetAt (with_log (with_end w x (ticked (end_of w x) (clock_of w x))) x (logged w x (ticked (end_of w x) (clock_of w x)))) x
+  moment_at w A k = pair_ticked w.b (asked_at w A) (asked_at w B) (dated_bag d w A) (dated_bag d w B) w.a w.clock_a k (omega arith)
+  moment_at w B k = pair_ticked w.a (asked_at w B) (asked_at w A) (dated_bag d w B) (dated_bag d w A) w.b w.clock_b k (omega arith)
+
+  -- both of it at both ends, which is the same as one after the other
   pub passes_at : (w : World) (m : ℕ) → MetAt w A → MetAt (record w {
-    a = ticked w.a (max w.clock m);
-    b = ticked w.b (max w.clock m);
-    log_a = logged w A (ticked w.a (max w.clock m));
-    log_b = logged w B (ticked w.b (max w.clock m));
-    clock = max w.clock m;
+    a = ticked w.a (max w.clock_a m);
+    b = ticked w.b (max w.clock_b m);
+    log_a = logged w A (ticked w.a (max w.clock_a m));
+    log_b = logged w B (ticked w.b (max w.clock_b m));
+    clock_a = max w.clock_a m;
+    clock_b = max w.clock_b m;
   }) A
   passes_at w m k =
-      pair_round (ticked w.b now) (ticked w.a now) v u (dated_bag d w B) (dated_bag d w A)
-      (pair_ticked (ticked w.a now) v u (dated_bag d w B) (dated_bag d w A) w.b now
-      (pair_round (ticked w.a now) w.b u v (dated_bag d w A) (dated_bag d w B)
-      (pair_ticked w.b u v (dated_bag d w A) (dated_bag d w B) w.a now
-      (pair_clock w.a w.b (asked_at w A) (asked_at w B) (dated_bag d w A) (dated_bag d w B) m k) (omega arith))) (omega arith))
-    where
-      now : ℕ
-      now = max w.clock m
-
-      u : Asked
-      u = record (asked_at w A) { clock = now }
-
-      v : Asked
-      v = record (asked_at w B) { clock = now }
+      let here = with_clock w A m in
+      let late = with_clock here B m in
+      let told = with_log (with_end late A (ticked late.a late.clock_a)) A (logged late A (ticked late.a late.clock_a)) in
+      from_side (with_log (with_end told B (ticked told.b told.clock_b)) B (logged told B (ticked told.b told.clock_b))) B
+      (moment_at told B (at_side told B (moment_at late A (from_side late B (goes_on here B m (at_side here B (goes_on w A m k)))))))

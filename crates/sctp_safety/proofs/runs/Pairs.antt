@@ -14,7 +14,7 @@ use Rattle.sctp_model.specs.end.Closing.{rested}
 use Rattle.sctp_model.specs.end.Moments.{ticked}
 use Rattle.sctp_model.specs.end.PeerFaults.{GoesOn, Ends, Replies, Note}
 use Rattle.sctp_model.specs.end.Acting.{Acts}
-use Rattle.sctp_model.specs.end.UserCalls.{send_answer, send_leaves, abandoned_at, UserTakes, ResetCall, reset_leaves, told_leaves, shut, AbortAnswer, abort_leaves}
+use Rattle.sctp_model.specs.end.UserCalls.{send_answer, send_leaves, abandoned_at, UserTakes, ResetCall, reset_leaves, told_leaves, shut, AbortAnswer, abort_leaves, abandons}
 use Rattle.sctp_model.specs.end.Strays.{Verdict}
 use Rattle.sctp_model.specs.end.Wearing.{missed_below, wearing}
 use Rattle.sctp_model.specs.end.Arriving.{Arrives, Elsewhere, NotOurs, Stray, CookieBegins, Heard, Notes, no_notes, packet_ended, urged}
@@ -31,6 +31,8 @@ use Rattle.sctp_safety.proofs.runs.Ending.{is_shutting, AreEnding, ending_round,
 use Rattle.sctp_safety.proofs.runs.EndingActs.{goes, ends, replies, ending_ended}
 use Rattle.sctp_safety.proofs.runs.EndingBuilds.{ending_built}
 use Rattle.sctp_safety.proofs.runs.EndingTimes.{ending_worn, ending_now, ending_ticked, ending_sent, ending_abandoned, ending_taken, ending_reset, ending_told, ending_shut, ending_aborted}
+use Rattle.sctp_model.specs.sender.Abandoning.{gives_up}
+use Rattle.std.specs.Prelude.{if◌then◌else◌}
 
 pub record IsPair (e p : EndView) (u v : Asked) (out back : List Dated) : Type 0 where
   pub met : IsMet e p u v out back
@@ -179,12 +181,12 @@ pub pair_sent : (e p : EndView) (u v : Asked) (out back : List Dated) (c : Call)
 pair_sent e p u v out back c k = record { met = met_sent e p u v out back c k.met; ending = ending_sent p (undated out) (undated back) e c k.ending }
 
 pub pair_abandoned : (e p : EndView) (u v : Asked) (out back : List Dated) (n : ℕ) → IsPair e p u v out back →
-    IsPair (abandoned_at e n) p (record u { named = at u.named n true }) v out back
+    IsPair (abandoned_at e n) p (record u { named = if gives_up (abandons e n) then at u.named n true else u.named }) v out back
 pair_abandoned e p u v out back n k = record {
   met = met_abandoned e p u v out back n k.met;
   ending = ending_abandoned p (undated out) (undated back) e n (reached_by e p u v out back k) k.ending;
 }
 
 pub pair_clock : (e p : EndView) (u v : Asked) (out back : List Dated) (m : ℕ) → IsPair e p u v out back →
-    IsPair e p (record u { clock = max u.clock m }) (record v { clock = max v.clock m }) out back
+    IsPair e p (record u { clock = max u.clock m }) v out back
 pair_clock e p u v out back m k = record { met = met_clock e p u v out back m k.met; ending = k.ending }

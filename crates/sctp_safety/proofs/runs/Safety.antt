@@ -8,7 +8,7 @@ use Rattle.sctp_model.specs.world.Calls.{Asked}
 use Rattle.sctp_model.specs.world.Safe.{Safe}
 use Rattle.sctp_model.specs.end.EndView.{Over, Completed, Phase, Listening, EndView, format_of}
 use Rattle.sctp_model.specs.end.Configured.{IsConfiguration}
-use Rattle.sctp_model.specs.world.World.{Side, A, B, World, end_of, bag_of, log_of, Setup, configuration_of, start}
+use Rattle.sctp_model.specs.world.World.{Side, A, B, World, end_of, bag_of, log_of, Setup, configuration_of, start, clock_of}
 use Rattle.sctp_model.specs.world.Events.{Event, Outcome}
 use Rattle.sctp_model.specs.world.Steps.{Step, PassesThrough, last_of}
 use Rattle.sctp_model.specs.world.Aged.{Aged}
@@ -80,7 +80,7 @@ kept_closed d w (inr m) s over = arrived (done s over)
     )
 
 -- once an end has completed both are drained
-kept_drained : (d : Dates) (w : World) → IsKept d w → (x : Side) → (end_of w x).phase ≡ Over Completed → (drained w.a.sender ≡ true) × (drained w.b.sender ≡ true)
+pub kept_drained : (d : Dates) (w : World) → IsKept d w → (x : Side) → (end_of w x).phase ≡ Over Completed → (drained w.a.sender ≡ true) × (drained w.b.sender ≡ true)
 kept_drained d w (inl k) x over = absurd (let q : never_opened (Over Completed) ≡ true = subst (λ (h : Phase). never_opened h ≡ true) over (k.ends x).unopened in cc)
 kept_drained d w (inr m) x over = both (done x over)
   where
@@ -109,7 +109,7 @@ listens_from h k (On _ m _ turn rest) e = absurd (no_listener h m turn (listens_
 pub kept_start : (s : Setup) (d : Dates) → IsKept d (start s)
 kept_start s d = inl (record { listens = refl; ends = ends; calls = calls; opening = opening })
   where
-    ends : (x : Side) → IsUnmet 0 (end_of (start s) x)
+    ends : (x : Side) → IsUnmet (clock_of (start s) x) (end_of (start s) x)
     ends A = record { blank = record { rwnd = 0; sender = refl; receiver = refl }; unopened = refl; home = record { shutdown = λ on. absurd (cc); ack = λ on. absurd (cc); shutdown_runs = λ n on. absurd (cc); ack_runs = λ n on. absurd (cc) }; moment = omega arith }
     ends B = record { blank = record { rwnd = 0; sender = refl; receiver = refl }; unopened = refl; home = record { shutdown = λ on. absurd (cc); ack = λ on. absurd (cc); shutdown_runs = λ n on. absurd (cc); ack_runs = λ n on. absurd (cc) }; moment = omega arith }
 
@@ -181,6 +181,13 @@ all_safe : (s : Setup) (es : List Event) (os : List (Option Outcome)) (vs : List
     FreshAndUnforged s.sealing es → AllKept (dates_of (start s) vs) (start s) es vs → KeepBothPromises (start s ∷ vs)
 all_safe s es os vs within passes premises kept =
     all_steady s (drawn_in es) within (dates_of (start s) vs) (start s) es os vs (fine_by s es premises) passes kept
+    (record { sound = sound_start s (drawn_in es) (inl refl); caller = λ q. absurd (cc); kept = kept_start s (dates_of (start s) vs) })
+
+-- the last world of a run whose dates are kept: its ends are apart, or have met
+pub kept_by_all : (s : Setup) (es : List Event) (os : List (Option Outcome)) (vs : List World) → ((x : Side) → IsConfiguration (configuration_of s x)) → PassesThrough (start s) es os vs →
+    FreshAndUnforged s.sealing es → AllKept (dates_of (start s) vs) (start s) es vs → IsKept (dates_of (start s) vs) (last_of (start s) vs)
+kept_by_all s es os vs within passes premises kept =
+    last_kept s (drawn_in es) within (dates_of (start s) vs) (start s) es os vs (fine_by s es premises) passes kept
     (record { sound = sound_start s (drawn_in es) (inl refl); caller = λ q. absurd (cc); kept = kept_start s (dates_of (start s) vs) })
 
 -- ---- SAFE and CLOSING

@@ -5,7 +5,7 @@ use Rattle.sctp_model.specs.sender.SenderView.{SenderView}
 use Rattle.sctp_model.specs.receiver.ReceiverView.{Handed}
 use Rattle.sctp_model.specs.world.Calls.{Call, Asked}
 use Rattle.sctp_model.specs.sender.Queueing.{Refusal, refusal, queued}
-use Rattle.sctp_model.specs.sender.Abandoning.{abandon_after, expired, worn, timed_out}
+use Rattle.sctp_model.specs.sender.Abandoning.{gives_up, abandon_after, expired, worn, timed_out}
 use Rattle.sctp_model.specs.sender.Readers.{point}
 use Rattle.sctp_model.specs.end.EndView.{TimedOut, Established, ShutdownPending, ShutdownSent, ShutdownReceived, ShutdownAckSent, AbortedHere, Phase, Idle, Listening, Calling, Echoing, Open, Over, Alarm, InitAlarm, CookieAlarm, DataAlarm, ShutdownAlarm, AckAlarm, ResetAlarm, EndView, format_of, has_association}
 use Rattle.sctp_model.specs.end.Clock.{repeats_of, is_over_at, with_timer, turned, closed, at_moment, settled}
@@ -14,7 +14,7 @@ use Rattle.sctp_model.specs.end.Closing.{hears}
 use Rattle.sctp_model.specs.end.Moments.{after_abandoning, is_data_due, given_up, due_again, rung, ring, rung_all, all_alarms, passed, ticked, waited_in}
 use Rattle.sctp_model.specs.end.Wearing.{wearing}
 use Rattle.sctp_model.proofs.PacedEnds.{worn_cases}
-use Rattle.sctp_model.specs.end.UserCalls.{SendAnswer, Ticket, Refused, NotOpen, is_established, answer_for, send_answer, send_leaves, is_open, abandoned_at, UserTakes, ResetCall, Begun, NotAgreed, NoStream, reset_leaves, told_leaves, shut_in, shut, AbortAnswer, Aborts, NoPeer, TooLong, abort_leaves}
+use Rattle.sctp_model.specs.end.UserCalls.{SendAnswer, Ticket, Refused, NotOpen, is_established, answer_for, send_answer, send_leaves, is_open, abandoned_at, UserTakes, ResetCall, Begun, NotAgreed, NoStream, reset_leaves, told_leaves, shut_in, shut, AbortAnswer, Aborts, NoPeer, TooLong, abort_leaves, abandons}
 use Rattle.sctp_model.specs.sender.Resetting.{resetting}
 use Rattle.sctp_model.specs.receiver.ResetTaken.{told_of}
 use Rattle.sctp_safety.proofs.runs.Asking.{after_resetting}
@@ -25,6 +25,7 @@ use Rattle.sctp_safety.proofs.runs.Direction.{Direction}
 use Rattle.sctp_safety.proofs.runs.Sending.{after_queue, after_abandon, after_expiry, after_wear, after_marking, after_tick}
 use Rattle.sctp_safety.proofs.runs.Hearing.{after_take}
 use Rattle.sctp_safety.proofs.runs.Pair.{met_views, IsMet, AreViews, met_same, met_rested}
+use Rattle.sctp_model.proofs.sender.AnswerLaws.{gives_nothing}
 
 module _ (p : EndView) (u v : Asked) (out back : List Dated) where
   abbrev Met : EndView → Type 0
@@ -184,14 +185,21 @@ met_sent e p u v out back c m = go (hears is_established e.phase)
     go false = m
 
 pub met_abandoned : (e p : EndView) (u v : Asked) (out back : List Dated) (k : ℕ) → IsMet e p u v out back →
-    IsMet (abandoned_at e k) p (record u { named = at u.named k true }) v out back
+    IsMet (abandoned_at e k) p (record u { named = if gives_up (abandons e k) then at u.named k true else u.named }) v out back
 met_abandoned e p u v out back k m = go (is_open e.phase)
   where
     x : Asked
-    x = record u { named = at u.named k true }
+    x = record u { named = if gives_up (abandons e k) then at u.named k true else u.named }
+
+    -- where nothing is given up, nothing changes
+    by_answer : (b : Bool) → gives_up (abandons e k) ≡ b →
+        Direction (format_of e) e.terms.outbound (abandon_after e.sender k) (record u { named = if b then at u.named k true else u.named }) p.receiver out back
+    by_answer true on = after_abandon (format_of e) e.terms.outbound e.sender u p.receiver out back m.going k
+    by_answer false off =
+        subst (λ (a : SenderView). Direction (format_of e) e.terms.outbound a u p.receiver out back) (sym (gives_nothing (format_of e) e.sender k m.going.reached off)) m.going
 
     d : Direction (format_of e) e.terms.outbound (abandon_after e.sender k) x p.receiver out back
-    d = after_abandon (format_of e) e.terms.outbound e.sender u p.receiver out back m.going k
+    d = by_answer (gives_up (abandons e k)) refl
 
     less : IsMet (record e { sender = abandon_after e.sender k }) p x v out back
     less = met_asked e p u x v (abandon_after e.sender k) out back m refl d
@@ -204,15 +212,15 @@ met_abandoned e p u v out back k m = go (is_open e.phase)
 
 -- ---- the clock
 
--- the world's clock goes on for both
+-- the end's clock goes on
 pub met_clock : (e p : EndView) (u v : Asked) (out back : List Dated) (m : ℕ) → IsMet e p u v out back →
-    IsMet e p (record u { clock = max u.clock m }) (record v { clock = max v.clock m }) out back
+    IsMet e p (record u { clock = max u.clock m }) v out back
 met_clock e p u v out back n m = record {
   going = after_tick (format_of e) e.terms.outbound e.sender u p.receiver out back m.going n;
-  coming = after_tick (format_of p) p.terms.outbound p.sender v e.receiver back out m.coming n;
+  coming = m.coming;
   format = m.format;
   phase = m.phase;
   phase_there = m.phase_there;
   moment = let b = m.moment in omega (arith, b);
-  moment_there = let b = m.moment_there in omega (arith, b);
+  moment_there = m.moment_there;
 }

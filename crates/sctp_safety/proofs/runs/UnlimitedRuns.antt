@@ -8,7 +8,7 @@ use Rattle.sctp_model.specs.end.Strays.{Verdict, Taken, Dropped, Answer}
 use Rattle.sctp_model.specs.end.UserCalls.{SendAnswer, Ticket, Refused, NotOpen, send_answer, AbortAnswer, Aborts, NoPeer, TooLong, abort_answer}
 use Rattle.sctp_model.specs.world.World.{Side, A, B, other, Log, World, end_of, log_of, with_end, with_packet, with_log, came, start, Setup}
 use Rattle.sctp_model.specs.world.Events.{Event, Send, Outcome, with_verdict, with_abort}
-use Rattle.sctp_model.specs.world.Steps.{Step, OpensBoth, OpenRefused, TimePasses, Draws, Connects, ConnectRefused, BuildsOne, BuildsNone, PacketComes, IsAbsent, Sends, AbandonsOne, TakesOne, ResetsOne, TellsReset, ShutsDown, AbortsIt, NoMemory, PacketCut, accepted, PassesThrough, last_of}
+use Rattle.sctp_model.specs.world.Steps.{Step, OpensBoth, OpenRefused, TimePasses, Draws, Connects, ConnectRefused, BuildsOne, BuildsNone, PacketComes, IsAbsent, Sends, AbandonsOne, TakesOne, ResetsOne, TellsReset, ShutsDown, AbortsIt, NoMemory, PacketCut, accepted, PassesThrough, last_of, TimeGoesOn, MomentComes}
 use Rattle.sctp_model.specs.world.Premises.{asked_at}
 use Rattle.sctp_safety.specs.Unlimited.{NoneIsLimited, NoneHasLimit, UnlimitedRunsAreSafe}
 use Rattle.sctp_safety.proofs.lists.Basics.{Has-cases}
@@ -88,6 +88,9 @@ by_answer w s t c NotOpen none u = unlimited_still w (with_log (with_end w s t) 
 unlimited_step : (w : World) (e : Event) (o : Option Outcome) (v : World) → ((x : Side) (c : Call) → e ≡ Send x c → c.limit ≡ None) → Unlimited w → Step w e o v → Unlimited v
 unlimited_step w e o v none u (OpensBoth y z like may dx dy) = unlimited_still w v (both w v refl refl) u
 unlimited_step w e o v none u (OpenRefused y z closed) = u
+unlimited_step w e o v none u (TimeGoesOn A m small) = unlimited_still w v (both w v refl refl) u
+unlimited_step w e o v none u (TimeGoesOn B m small) = unlimited_still w v (both w v refl refl) u
+unlimited_step w e o v none u (MomentComes y) = unlimited_still w v (of_log w y _ _ refl) u
 unlimited_step w e o v none u (TimePasses m small) = unlimited_still w v (both w v refl refl) u
 unlimited_step w e o v none u (Draws d dd) = unlimited_still w v (both w v refl refl) u
 unlimited_step w e o v none u (Connects d dd answer) = unlimited_still w v (both w v refl refl) u

@@ -15,9 +15,9 @@ use Rattle.sctp_model.specs.end.PeerFaults.{Unnoted}
 use Rattle.sctp_model.specs.end.Strays.{Verdict}
 use Rattle.sctp_model.specs.end.Arriving.{AllAct, Arrives, Elsewhere, NotOurs, Stray, CookieBegins, Heard, Notes, no_notes, noted, urged, packet_ended, DroppedUnread, ReadAs, CutFirst, CutLater, cut_to}
 use Rattle.sctp_model.specs.end.UserCalls.{ResetCall, Begun, NotAgreed, NoStream, reset_call, reset_leaves, reset_there, told_leaves, abort_answer, abort_leaves, abandoned_at, called, shut}
-use Rattle.sctp_model.specs.world.World.{Side, A, B, other, World, end_of, bag_of, end_now, Setup}
+use Rattle.sctp_model.specs.world.World.{Side, A, B, other, World, end_of, bag_of, end_now, Setup, clock_of}
 use Rattle.sctp_model.specs.world.Events.{Event, Reset, Outcome}
-use Rattle.sctp_model.specs.world.Steps.{Step, OpensBoth, OpenRefused, TimePasses, Draws, Connects, ConnectRefused, BuildsOne, BuildsNone, PacketComes, IsAbsent, Sends, AbandonsOne, TakesOne, ResetsOne, TellsReset, ShutsDown, AbortsIt, NoMemory, PacketCut}
+use Rattle.sctp_model.specs.world.Steps.{Step, OpensBoth, OpenRefused, TimePasses, Draws, Connects, ConnectRefused, BuildsOne, BuildsNone, PacketComes, IsAbsent, Sends, AbandonsOne, TakesOne, ResetsOne, TellsReset, ShutsDown, AbortsIt, NoMemory, PacketCut, TimeGoesOn, MomentComes}
 use Rattle.sctp_model.specs.world.Premises.{asked_at}
 use Rattle.sctp_safety.specs.Agreement.{IsOpening}
 use Rattle.sctp_safety.proofs.machine.Fronts.{item_has, Brought, ByPeer, ByStranger, brought_whole, brought_cut}
@@ -105,7 +105,7 @@ module _ (s : Setup) (drawn : List ℕ) (d : Dates) (w : World) (opening : IsOpe
   hears caller e after dates x p t v (ByStranger strange alone) arrives =
       subst (λ (c : EndView). IsUnreset c n) (sym (stranger_stays s.sealing drawn (end_now w x) w.draw p t v strange alone (opening.drawn_tags x) (opening.one_seal x) arrives)) (now_unreset x)
   hears caller e after dates A p t v (ByPeer q i is found front) arrives =
-      blank_unreset t n (unmet_arrives w.clock (end_now w A) w.draw p t v (now_unmet w A k) caller
+      blank_unreset t n (unmet_arrives w.clock_a (end_now w A) w.draw p t v (now_unmet w A k) caller
       (λ y h. k.opening B y (chunk_of_bag w.from_b q y (item_has w.from_b i q found) (front.chunks y h))) arrives).blank
   hears caller e after dates B p t v (ByPeer q i is found front) arrives = listener_hears p q i t v found (dates.young A i q is found) front.chunks arrives
 
@@ -123,15 +123,20 @@ module _ (s : Setup) (drawn : List ℕ) (d : Dates) (w : World) (opening : IsOpe
   pub step_unreset : (caller : w.a.phase ≡ Listening → ⊥) (e : Event) (o : Option Outcome) (v : World) → AreKept d w e v → IsFine s drawn e → Step w e o v → (x : Side) → IsUnreset (end_of v x) n
   step_unreset caller e o v dates fine (OpensBoth y z like may dx dy) = both v (record { sends = refl; untold = refl }) (record { sends = refl; untold = refl })
   step_unreset caller e o v dates fine (OpenRefused y z off) = unreset
+  step_unreset caller e o v dates fine (TimeGoesOn A m small) = both v (unreset A) (unreset B)
+  step_unreset caller e o v dates fine (TimeGoesOn B m small) = both v (unreset A) (unreset B)
+  step_unreset caller e o v dates fine (MomentComes z) =
+      at_one v z _ None (at_log w z _ _) (by_blank (clock_of w z) (ticked (end_of w z) (clock_of w z)) (waits_ticked (clock_of w z) (end_of w z) (clock_of w z) (k.ends z) (omega arith)))
   step_unreset caller e o v dates fine (TimePasses m small) =
-      let now = max w.clock m in
-      both v (by_blank now (ticked w.a now) (waits_ticked now w.a now (waits_longer w.clock now w.a (omega arith) (k.ends A)) (omega arith)))
-      (by_blank now (ticked w.b now) (waits_ticked now w.b now (waits_longer w.clock now w.b (omega arith) (k.ends B)) (omega arith)))
+      let here = max w.clock_a m in
+      let there = max w.clock_b m in
+      both v (by_blank here (ticked w.a here) (waits_ticked here w.a here (waits_longer w.clock_a here w.a (omega arith) (k.ends A)) (omega arith)))
+      (by_blank there (ticked w.b there) (waits_ticked there w.b there (waits_longer w.clock_b there w.b (omega arith) (k.ends B)) (omega arith)))
   step_unreset caller e o v dates fine (Draws c dd) = both v (unreset A) (unreset B)
-  step_unreset caller e o v dates fine (Connects c dd answer) = both v (by_blank w.clock (called (end_now w A) c) (waits_called w.clock (end_now w A) c (now_unmet w A k))) (unreset B)
+  step_unreset caller e o v dates fine (Connects c dd answer) = both v (by_blank w.clock_a (called (end_now w A) c) (waits_called w.clock_a (end_now w A) c (now_unmet w A k))) (unreset B)
   step_unreset caller e o v dates fine (ConnectRefused c answer) = unreset
-  step_unreset caller e o v dates fine (BuildsOne z y ys t b) = at_one v z t _ (at_packet w z t _) (by_blank w.clock t (waits_built w.clock (end_now w z) (y ∷ ys) t (now_unmet w z k) b).0)
-  step_unreset caller e o v dates fine (BuildsNone z t b) = at_one v z t None (at_end w z t) (by_blank w.clock t (waits_built w.clock (end_now w z) [] t (now_unmet w z k) b).0)
+  step_unreset caller e o v dates fine (BuildsOne z y ys t b) = at_one v z t _ (at_packet w z t _) (by_blank (clock_of w z) t (waits_built (clock_of w z) (end_now w z) (y ∷ ys) t (now_unmet w z k) b).0)
+  step_unreset caller e o v dates fine (BuildsNone z t b) = at_one v z t None (at_end w z t) (by_blank (clock_of w z) t (waits_built (clock_of w z) (end_now w z) [] t (now_unmet w z k) b).0)
   step_unreset caller e o v dates fine (PacketComes _ z _ t c brings (ReadAs p _ _ arrives)) =
       at_one v z t (answer_of c) (at_verdict w z t c) (hears caller e v dates z p t c (brought_whole s drawn w e z p fine brings) arrives)
   step_unreset caller e o v dates fine (PacketComes _ z _ _ c brings DroppedUnread) = at_one v z (end_now w z) None (at_came w z (end_now w z)) (now_unreset z)
@@ -140,13 +145,13 @@ module _ (s : Setup) (drawn : List ℕ) (d : Dates) (w : World) (opening : IsOpe
       at_one v z t None (at_came w z t) (hears caller e v dates z (cut_to p (y ∷ front)) t g (brought_cut s drawn w e z p y front back c fine brings part) arrives)
   step_unreset caller e o v dates fine (IsAbsent z i none) = unreset
   step_unreset caller e o v dates fine (Sends z c) = of_apart v (apart_sent w z c k)
-  step_unreset caller e o v dates fine (AbandonsOne z i) = at_one v z _ None (at_log w z _ _) (by_blank w.clock (abandoned_at (end_of w z) i) (waits_abandoned w.clock (end_of w z) i (k.ends z)))
-  step_unreset caller e o v dates fine (TakesOne z i h t takes) = at_one v z t None (at_end w z t) (by_blank w.clock t (waits_taken w.clock (end_of w z) i h t (k.ends z) takes))
+  step_unreset caller e o v dates fine (AbandonsOne z i) = at_one v z _ None (at_log w z _ _) (by_blank (clock_of w z) (abandoned_at (end_of w z) i) (waits_abandoned (clock_of w z) (end_of w z) i (k.ends z)))
+  step_unreset caller e o v dates fine (TakesOne z i h t takes) = at_one v z t None (at_end w z t) (by_blank (clock_of w z) t (waits_taken (clock_of w z) (end_of w z) i h t (k.ends z) takes))
   step_unreset caller e o v dates fine (ResetsOne z i) =
-      at_one v z _ None (at_end w z _) (by_blank w.clock (reset_leaves (reset_call (end_of w z) i) (end_of w z) i) (waits_reset w.clock (end_of w z) i (k.ends z)))
-  step_unreset caller e o v dates fine (TellsReset z) = at_one v z _ None (at_end w z _) (by_blank w.clock (told_leaves (reset_there (end_of w z)) (end_of w z)) (waits_told w.clock (end_of w z) (k.ends z)))
-  step_unreset caller e o v dates fine (ShutsDown z) = at_one v z _ None (at_end w z _) (by_blank w.clock (shut (end_of w z)) (waits_shut w.clock (end_of w z) (k.ends z)))
+      at_one v z _ None (at_end w z _) (by_blank (clock_of w z) (reset_leaves (reset_call (end_of w z) i) (end_of w z) i) (waits_reset (clock_of w z) (end_of w z) i (k.ends z)))
+  step_unreset caller e o v dates fine (TellsReset z) = at_one v z _ None (at_end w z _) (by_blank (clock_of w z) (told_leaves (reset_there (end_of w z)) (end_of w z)) (waits_told (clock_of w z) (end_of w z) (k.ends z)))
+  step_unreset caller e o v dates fine (ShutsDown z) = at_one v z _ None (at_end w z _) (by_blank (clock_of w z) (shut (end_of w z)) (waits_shut (clock_of w z) (end_of w z) (k.ends z)))
   step_unreset caller e o v dates fine (AbortsIt z why) =
       let a = abort_answer (end_of w z) why in
-      at_one v z (abort_leaves a (end_of w z)) (abort_of a) (at_abort w z _ a) (by_blank w.clock (abort_leaves a (end_of w z)) (waits_aborted w.clock (end_of w z) a (k.ends z)))
+      at_one v z (abort_leaves a (end_of w z)) (abort_of a) (at_abort w z _ a) (by_blank (clock_of w z) (abort_leaves a (end_of w z)) (waits_aborted (clock_of w z) (end_of w z) a (k.ends z)))
   step_unreset caller e o v dates fine (NoMemory _ other_event) = unreset

@@ -18,9 +18,9 @@ use Rattle.sctp_model.specs.end.Moments.{ticked}
 use Rattle.sctp_model.specs.end.UserCalls.{Called, connect_answer, ResetCall, Begun, NotAgreed, NoStream, reset_call, reset_leaves, reset_there, told_leaves, abort_answer, abort_leaves, shut}
 use Rattle.sctp_model.specs.sender.Outgoing.{Resets}
 use Rattle.sctp_model.specs.sender.Resetting.{resetting}
-use Rattle.sctp_model.specs.world.World.{Side, A, B, other, World, end_of, end_now, Setup}
+use Rattle.sctp_model.specs.world.World.{Side, A, B, other, World, end_of, end_now, Setup, clock_of}
 use Rattle.sctp_model.specs.world.Events.{Event, Reset, Outcome, Done, reset_told}
-use Rattle.sctp_model.specs.world.Steps.{Step, OpensBoth, OpenRefused, TimePasses, Draws, Connects, ConnectRefused, BuildsOne, BuildsNone, PacketComes, IsAbsent, Sends, AbandonsOne, TakesOne, ResetsOne, TellsReset, ShutsDown, AbortsIt, NoMemory, PacketCut}
+use Rattle.sctp_model.specs.world.Steps.{Step, OpensBoth, OpenRefused, TimePasses, Draws, Connects, ConnectRefused, BuildsOne, BuildsNone, PacketComes, IsAbsent, Sends, AbandonsOne, TakesOne, ResetsOne, TellsReset, ShutsDown, AbortsIt, NoMemory, PacketCut, TimeGoesOn, MomentComes}
 use Rattle.sctp_model.specs.world.Premises.{asked_at}
 use Rattle.sctp_safety.specs.Agreement.{IsOpening}
 use Rattle.sctp_safety.proofs.lists.Basics.{at_cases, item_at-left}
@@ -142,19 +142,19 @@ module _ (s : Setup) (drawn : List ℕ) (d : Dates) (w : World) (opening : IsOpe
     at_one B t given is l A = receiving A t is.there is.here l
 
     -- time passes at both
-    at_both : (x : Side) (now : ℕ) → end_of v x ≡ ticked (end_of w x) now → end_of v (other x) ≡ ticked (end_of w (other x)) now → StepGoes x w e o v
-    at_both x now here there =
+    at_both : (x : Side) (now then : ℕ) → end_of v x ≡ ticked (end_of w x) now → end_of v (other x) ≡ ticked (end_of w (other x)) then → StepGoes x w e o v
+    at_both x now then here there =
         let p = end_of w x in
         let q = end_of w (other x) in
         let own = ticked_later q p now in
-        let across = ticked_later (ticked p now) q now in
+        let across = ticked_later (ticked p now) q then in
         subst (λ (y : EndView). GoesOnBy x e o p.sender q.receiver y.sender (end_of v (other x)).receiver) (sym here)
         (subst (λ (y : EndView). GoesOnBy x e o p.sender q.receiver (ticked p now).sender y.receiver) (sym there)
         (record {
-          ongoing = ongoing_on p.sender q.receiver (ticked p now).sender q.receiver (ticked p now).sender (ticked q now).receiver (grows x (ticked p now).sender own.sender.since)
-              (by_receiver (ticked p now).sender q.receiver (ticked q now).receiver across.receiver);
+          ongoing = ongoing_on p.sender q.receiver (ticked p now).sender q.receiver (ticked p now).sender (ticked q then).receiver (grows x (ticked p now).sender own.sender.since)
+              (by_receiver (ticked p now).sender q.receiver (ticked q then).receiver across.receiver);
           shut = λ k h. inl (own.sender.shut k h);
-          told = λ k n is. inl (subst (λ (c : ReceiverView). c.resets.told k ≡ Some n) (ticked_receiver q now) is);
+          told = λ k n is. inl (subst (λ (c : ReceiverView). c.resets.told k ≡ Some n) (ticked_receiver q then) is);
         }))
 
     arrived : (z : Side) (q : Packet) (t : EndView) (k : Verdict) → AreKept d w e v → Brought s drawn w e z q → Arrives (end_now w z) w.draw q t k → LaterEnd (end_of w (other z)) (end_of w z) t
@@ -214,8 +214,11 @@ module _ (s : Setup) (drawn : List ℕ) (d : Dates) (w : World) (opening : IsOpe
   pub step_goes : (e : Event) (o : Option Outcome) (v : World) → AreKept d w e v → IsFine s drawn e → Step w e o v → (x : Side) → StepGoes x w e o v
   step_goes e o v dates fine (OpensBoth y z like may dx dy) x = absurd (let q = m.closed in cc)
   step_goes e o v dates fine (OpenRefused y z off) x = same e o v x refl refl
-  step_goes e o v dates fine (TimePasses n small) A = at_both e o v A (max w.clock n) refl refl
-  step_goes e o v dates fine (TimePasses n small) B = at_both e o v B (max w.clock n) refl refl
+  step_goes e o v dates fine (TimeGoesOn A n small) x = same e o v x refl refl
+  step_goes e o v dates fine (TimeGoesOn B n small) x = same e o v x refl refl
+  step_goes e o v dates fine (MomentComes z) x = at_one e o v z _ None (at_log w z _ _) (ticked_later (end_of w (other z)) (end_of w z) (clock_of w z)) x
+  step_goes e o v dates fine (TimePasses n small) A = at_both e o v A (max w.clock_a n) (max w.clock_b n) refl refl
+  step_goes e o v dates fine (TimePasses n small) B = at_both e o v B (max w.clock_b n) (max w.clock_a n) refl refl
   step_goes e o v dates fine (Draws c dd) x = same e o v x refl refl
   step_goes e o v dates fine (Connects c dd answer) x = absurd (no_call w.a.phase answer m.met.met.phase)
   step_goes e o v dates fine (ConnectRefused c answer) x = same e o v x refl refl
