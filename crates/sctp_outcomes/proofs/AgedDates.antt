@@ -12,7 +12,7 @@ use Rattle.sctp_model.specs.end.UserCalls.{SendAnswer, Ticket, Refused, NotOpen,
 use Rattle.sctp_model.specs.world.World.{Side, A, B, World, end_of, bag_of, start, Setup, clock_of}
 use Rattle.sctp_model.specs.world.Events.{Event, OpenBoth, At, Drawing, Connect, Build, Deliver, Foreign, Send, Abandon, Take, Shutdown, Abort, Outcome, Reset, WasReset, Later, Moment}
 use Rattle.sctp_model.specs.world.Steps.{Step, OpensBoth, OpenRefused, TimePasses, Draws, Connects, ConnectRefused, BuildsOne, BuildsNone, PacketComes, IsAbsent, Sends, AbandonsOne, TakesOne, ShutsDown, AbortsIt, NoMemory, PacketCut, PassesThrough, ResetsOne, TellsReset, Run, Rest, Then, TimeGoesOn, MomentComes}
-use Rattle.sctp_model.specs.world.Aged.{assigned, ComesInTime, AllComeInTime, Aged}
+use Rattle.sctp_model.specs.world.Aged.{assigned_tsns, ComesInTime, AllComeInTime, Aged}
 use Rattle.std.specs.Prelude.{slice_get}
 use Rattle.sctp_safety.proofs.runs.Dating.{IsLonger, bags_grow}
 use Rattle.sctp_safety.proofs.runs.Direction.{entry_there}
@@ -121,19 +121,19 @@ built_later s n w v vs lt = let off : nat_le n (length (bag_of w s)) ≡ false =
 
 -- what is known at a world of a run: of each packet that there is, no fewer TSNs are assigned by now than when it was built; each other one is built from here on
 record IsHere (f : World) (all : List World) (w : World) (vs : List World) : Type 0 where
-  past : (s : Side) (n : ℕ) → n ≤ length (bag_of w s) → (x : Side) → assigned (built_in s n f all) x ≤ assigned w x
+  past : (s : Side) (n : ℕ) → n ≤ length (bag_of w s) → (x : Side) → assigned_tsns (built_in s n f all) x ≤ assigned_tsns w x
   next : (s : Side) (n : ℕ) → length (bag_of w s) < n → built_in s n f all ≡ built_in s n w vs
 
-here_on : (f : World) (all : List World) (w v : World) (vs : List World) → IsHere f all w (v ∷ vs) → IsLonger w v → ((x : Side) → assigned w x ≤ assigned v x) → IsHere f all v vs
+here_on : (f : World) (all : List World) (w v : World) (vs : List World) → IsHere f all w (v ∷ vs) → IsLonger w v → ((x : Side) → assigned_tsns w x ≤ assigned_tsns v x) → IsHere f all v vs
 here_on f all w v vs h longer grown = record {
   past = λ s n le x. past s n le x (cases_lt (length (bag_of w s)) n);
   next = λ s n lt. (let more = longer s in let before : length (bag_of w s) < n = omega (arith, lt, more) in h.next s n before ∙ built_later s n w v vs before);
 }
   where
-    past : (s : Side) (n : ℕ) → n ≤ length (bag_of v s) → (x : Side) → (length (bag_of w s) < n) ⊎ (n ≤ length (bag_of w s)) → assigned (built_in s n f all) x ≤ assigned v x
+    past : (s : Side) (n : ℕ) → n ≤ length (bag_of v s) → (x : Side) → (length (bag_of w s) < n) ⊎ (n ≤ length (bag_of w s)) → assigned_tsns (built_in s n f all) x ≤ assigned_tsns v x
     past s n le x (inl lt) =
         let is = h.next s n lt ∙ built_later s n w v vs lt ∙ built_here s n v vs le in
-        let same = ap (λ (u : World). assigned u x) is in omega (arith, same)
+        let same = ap (λ (u : World). assigned_tsns u x) is in omega (arith, same)
     past s n le x (inr old) = let a = h.past s n old x in let b = grown x in omega (arith, a, b)
 
 -- ---- what was built by this world comes in time
@@ -155,7 +155,7 @@ item_there : {T : Type 0} (xs : List T) (n : ℕ) → 0 < n → n ≤ length xs 
 item_there xs zero some le = absurd (omega arith)
 item_there xs (suc i) some le = entry_there xs i (omega arith)
 
-module _ (f : World) (all : List World) (u : World) (past : (s : Side) (n : ℕ) → n ≤ length (bag_of u s) → (x : Side) → assigned (built_in s n f all) x ≤ assigned u x) where
+module _ (f : World) (all : List World) (u : World) (past : (s : Side) (n : ℕ) → n ≤ length (bag_of u s) → (x : Side) → assigned_tsns (built_in s n f all) x ≤ assigned_tsns u x) where
   one_in_time : (w : World) (e : Event) → IsLonger u w → IsTimely f all w e → ComesInTime u w e
   one_in_time w (Deliver s n) longer timely = λ p there x.
       let within = item_at-within (bag_of u s) n p there in
@@ -206,7 +206,7 @@ module _ (f : World) (all : List World) where
 -- at the start nothing was built but the packets that are numbered 0, which are none
 start_here : (w : World) (vs : List World) → IsHere w vs w vs
 start_here w vs = record {
-  past = λ s n le x. (let same = ap (λ (u : World). assigned u x) (built_here s n w vs le) in omega (arith, same));
+  past = λ s n le x. (let same = ap (λ (u : World). assigned_tsns u x) (built_here s n w vs le) in omega (arith, same));
   next = λ s n lt. refl;
 }
 
@@ -300,7 +300,7 @@ well_run : (w : World) (es : List Event) (os : List (Option Outcome)) (v : World
 well_run w es os v i (Rest _) = i
 well_run w es os v i (Then _ mid _ e rest o others step run) = well_run mid rest others v (well_step w e o mid i step) run
 
-run_grows : (w : World) (es : List Event) (os : List (Option Outcome)) (v : World) → IsWell w → Run w es os v → (x : Side) → assigned w x ≤ assigned v x
+run_grows : (w : World) (es : List Event) (os : List (Option Outcome)) (v : World) → IsWell w → Run w es os v → (x : Side) → assigned_tsns w x ≤ assigned_tsns v x
 run_grows w es os v i (Rest _) x = omega arith
 run_grows w es os v i (Then _ mid _ e rest o others step run) x =
     let here = (step_goes_on w e o mid i.fresh i.sound step x).grown in

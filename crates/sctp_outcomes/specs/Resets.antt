@@ -34,7 +34,7 @@ NoRequestIsForgotten = (s : Setup) (events : List Event) (answers : List (Option
     ((end_of w x).due.request ≡ true) ⊎ (is_some ((end_of w x).timers ResetAlarm).expiry ≡ true)
 
 -- Something is due at this endpoint, and its chunk has no room behind these.
-pub record IsFilled (xs : List ChunkMeaning) (t : EndView) : Type 0 where
+pub record IsPacketFull (xs : List ChunkMeaning) (t : EndView) : Type 0 where
   pub slot : Slot
   pub chunk : ChunkMeaning
   pub due : is_due slot t ≡ true
@@ -44,7 +44,7 @@ pub record IsFilled (xs : List ChunkMeaning) (t : EndView) : Type 0 where
 -- The packet has this request, with its number and its last TSN, and repeats the number of the last one of the peer that is finished; or it is full without it: then it is due still.
 pub data IsSaidOrDue (e : EndView) (q : Request) (xs : List ChunkMeaning) (t : EndView) : Type 0 where
   IsInPacket : Has xs (reconfig_chunk (reset_item (last_finished e.receiver) (request_said (asked e.sender) q) ∷ [])) → IsSaidOrDue e q xs t
-  IsDueStill : IsFilled xs t → t.due.request ≡ true → IsSaidOrDue e q xs t
+  IsDueStill : IsPacketFull xs t → t.due.request ≡ true → IsSaidOrDue e q xs t
 
 -- This endpoint builds this packet, and is left so: it makes this request, for the streams that are ready, up to the last index assigned; that is outstanding, and said or due.
 pub record AsksFor (e : EndView) (q : Request) (xs : List ChunkMeaning) (t : EndView) : Type 0 where

@@ -139,10 +139,10 @@ IsDelivered matches s = (m : Match) × Has matches m × (m.sent ≡ s)
 
 -- Its application gave it up: by `abandon`, which answered so; or the lifetime that it gave the message is over; or it limited how often a fragment may
 -- be retransmitted, and partial reliability was agreed on. (That a fragment really went out again so often is in SAFE: no event shows it.)
-pub data IsGivenUp (e : Exchange) (s : Sent) : Type 0 where
-  ByName : Has e.named s.ticket → IsGivenUp e s
-  ByTime : (until : ℕ) → s.call.until ≡ Some until → until ≤ e.time → IsGivenUp e s
-  ByLimit : (limit : ℕ) → s.call.limit ≡ Some limit → e.partial ≡ true → IsGivenUp e s
+pub data WasGivenUp (e : Exchange) (s : Sent) : Type 0 where
+  ByName : Has e.named s.ticket → WasGivenUp e s
+  ByTime : (until : ℕ) → s.call.until ≡ Some until → until ≤ e.time → WasGivenUp e s
+  ByLimit : (limit : ℕ) → s.call.limit ≡ Some limit → e.partial ≡ true → WasGivenUp e s
 
 -- The endpoint holds the whole message: chunks of its stream and kind, of rising TSN, whose bytes joined are its bytes. Each of them has the message's
 -- ticket, and so is a chunk of no other message.
@@ -165,12 +165,12 @@ pub record IsFaithful (e : Exchange) : Type 0 where
   pub in_order : AreInOrder (λ (m k : Match). m.message.lane.kind ≡ Ordered → k.message.lane.kind ≡ Ordered → m.sent.ticket < k.sent.ticket) matches
   -- An ordered message that was sent before one of these is one of these, or was given up.
   pub overtaken : (s : Sent) → WasSent e s → s.call.lane.kind ≡ Ordered → (m : Match) → Has matches m → m.message.lane.kind ≡ Ordered → s.ticket < m.sent.ticket →
-      IsDelivered matches s ⊎ IsGivenUp e s
+      IsDelivered matches s ⊎ WasGivenUp e s
   -- A message that is reported acknowledged is one of these, or is held whole; each chunk that is held has one ticket.
   pub ticket_of : Piece → ℕ
   pub acknowledged : (s : Sent) → WasSent e s → e.acknowledged s.ticket ≡ true → IsDelivered matches s ⊎ IsHeld e ticket_of s
   -- Once either endpoint has completed the association, every message that was sent is one of these, or was given up.
-  pub completed : (x : Side) → e.ended x ≡ Some Completed → (s : Sent) → WasSent e s → IsDelivered matches s ⊎ IsGivenUp e s
+  pub completed : (x : Side) → e.ended x ≡ Some Completed → (s : Sent) → WasSent e s → IsDelivered matches s ⊎ WasGivenUp e s
 
 -- So it is at the end of every run that meets the three premises, of each stream in each direction: and at each moment on the way, since the beginning of a run is a run.
 abbrev pub UsersTakeWhatWasSent : Type 0

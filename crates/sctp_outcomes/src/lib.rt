@@ -32,8 +32,8 @@
 //! |---|---|
 //! | `matches`, `all`, `each`, `once` | each message that was taken or waits for `take` is matched with one that the peer's user passed to `send` and that was accepted: on this stream, ordered or unordered as it was sent, with its payload protocol identifier and its bytes; none with two |
 //! | `in_order` | ordered ones are in the order of their tickets |
-//! | `overtaken` | an ordered message that was sent before a delivered one was delivered, or was given up: named in `abandon`, past its lifetime, or with a limit of retransmissions |
-//! | `acknowledged` | a message that `acknowledged` reports was delivered, or the peer holds all its bytes: chunks of its stream and kind, of rising TSN |
+//! | `overtaken` | an ordered message that was sent before a delivered one was delivered, or was given up: by `abandon`, which answered so; past its lifetime, by the sender's clock; or with a limit of retransmissions, if partial reliability was agreed on |
+//! | `ticket_of`, `acknowledged` | a message that `acknowledged` reports was delivered, or the peer holds all its bytes: chunks of its stream and kind, of rising TSN, each with this message's ticket and no other |
 //! | `completed` | once either endpoint has completed the association, each accepted message was delivered or given up: none is left in a queue |
 //!
 //! That an ordered message is given up only after a fragment went out again as often as its limit says is in SAFE: no event shows it. The proof: over
@@ -41,7 +41,17 @@
 //! chunks are the message's bytes (`Held`); and where each accepted message is, by `each_message_is_placed` of `sctp_safety` (`Promised`).
 //!
 //! AGED in the same words: it asks just that each packet is delivered before either endpoint has assigned 2^31 - 65,536 more TSNs than when it was
-//! built, as the number of TSNs that an endpoint has assigned only grows (`aged_asks_no_more`, clauses `more`, `less`, `grows`).
+//! built, as the number of TSNs that an endpoint has assigned only grows (`aged_asks_no_more`, clauses `more`, `less`, `grows`). A run in which each
+//! endpoint assigns fewer than 2^31 TSNs needs it not at all (`short_runs_are_faithful`).
+//!
+//! ## Clocks
+//!
+//! Each endpoint has a clock of its own; nothing compares the two (`specs/Clocks`).
+//!
+//! | statement | contract |
+//! |---|---|
+//! | in every run without an event of one clock alone both clocks show the same time; each run is a run, to the same world, in which an event that tells both the time is four events of one clock alone | `one_clock_is_a_case_of_two`, clauses `same`, `each` |
+//! | there is a run in which the clocks differ: B hands in what arrived at the time of its clock, 5, and asks what is due then; A's data timer expires at 7,000 by A's clock | `a_message_arrives_by_two_clocks` |
 //!
 //! ## Stream reset
 //!

@@ -11,7 +11,7 @@ use Rattle.sctp_model.specs.end.EndView.{Completed, Over}
 use Rattle.sctp_model.specs.world.World.{Side, World, end_of, Setup, configuration_of, start}
 use Rattle.sctp_model.specs.world.Events.{Event, Outcome}
 use Rattle.sctp_model.specs.world.Steps.{Run, PassesThrough, last_of}
-use Rattle.sctp_model.specs.world.Aged.{assigned, Aged}
+use Rattle.sctp_model.specs.world.Aged.{assigned_tsns, Aged}
 use Rattle.sctp_model.specs.world.Premises.{FreshAndUnforged, IsReachedInTime, IsSafeWorld, IsClosedWorld}
 
 -- Both directions are safe in every world that a run reaches in time.
@@ -98,7 +98,7 @@ EachWorldIsSafe = (s : Setup) (before events : List Event) (answers others : Lis
 
 -- neither end has assigned so many TSNs in any of these worlds
 abbrev pub AssignFewer : (limit : ℕ) → List World → Type 0
-AssignFewer limit worlds = (w : World) → Has worlds w → (x : Side) → assigned w x < limit
+AssignFewer limit worlds = (w : World) → Has worlds w → (x : Side) → assigned_tsns w x < limit
 
 -- A run of fewer TSNs than a packet may come late by is AGED, however late packets come.
 abbrev pub ShortRunsAreAged : Type 0

@@ -23,7 +23,7 @@ abbrev pub HasPart : Plan → ℕ → Type 0
 HasPart p i = (l : Lane) × (n : ℕ) × (k : ℕ) × (entry_at p i ≡ Some (Part l n k))
 
 -- An end mark stands behind every fragment of its message, what is marked for repeating is a fragment, and each ticket is of an accepted call.
-pub record IsInOrder (w : Way) : Type 0 where
+pub record IsSenderOrderly (w : Way) : Type 0 where
   pub ends : (i j : ℕ) (l : Lane) (n k : ℕ) → entry_at w.sender.plan i ≡ Some (Part l n k) → entry_at w.sender.plan j ≡ Some (End l n) → i < j
   pub marked : (i : ℕ) → w.sender.marked i ≡ true → HasPart w.sender.plan i
   pub tickets : w.sender.tickets ≡ length w.asked.calls
@@ -40,12 +40,12 @@ pub record IsUsual (w : Way) : Type 0 where
   pub origin : Way
   pub started : IsStart origin
   pub led : Leads origin w
-  pub order : IsInOrder w
+  pub order : IsSenderOrderly w
 
 -- What a call of the sender leaves: moves lead there, and it is in order still, with its constants.
 pub record IsMoved (w v : Way) : Type 0 where
   pub leads : Leads w v
-  pub order : IsInOrder v
+  pub order : IsSenderOrderly v
   pub constants : HasConstants w.sender v.sender
 
 -- ---- filling

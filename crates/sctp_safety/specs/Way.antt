@@ -85,8 +85,8 @@ numbered p l m count = record {
 }
 
 -- the plan after a message in part took its next `count` fragments, from fragment k on
-abbrev pub continued : Plan → Lane → ℕ → ℕ → ℕ → Plan
-continued p l n k count = record p { entries = p.entries ++ parts_from l n k count }
+abbrev pub with_next_part : Plan → Lane → ℕ → ℕ → ℕ → Plan
+with_next_part p l n k count = record p { entries = p.entries ++ parts_from l n k count }
 
 -- the next ordered number of the stream is done with
 abbrev pub past : ReceiverView → ℕ → ReceiverView
@@ -138,7 +138,7 @@ Step w (Continue l n k count) v =
     (m : Message) × (message_at w.sender.plan l n ≡ Some m) × (0 < count)
     × IsAssigned w.sender.plan l n k × (IsAssigned w.sender.plan l n (suc k) → ⊥) × (HasEnd w.sender.plan l n → ⊥)
     × (suc k + count ≤ length m.fragments)
-    × (v ≡ with_sender w (record w.sender { plan = continued w.sender.plan l n (suc k) count }))
+    × (v ≡ with_sender w (record w.sender { plan = with_next_part w.sender.plan l n (suc k) count }))
 -- A message without a number leaves the queue only if it is given up.
 Step w (Withdraw before q rest) v =
     (w.sender.queue ≡ before ++ q ∷ rest) × IsLetGo w.asked q.message × (v ≡ with_sender w (record w.sender { queue = before ++ rest }))

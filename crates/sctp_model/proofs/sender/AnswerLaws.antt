@@ -6,7 +6,7 @@ use Rattle.std.proofs.lemmas.Bool.Decides.{nat_tests}
 use Rattle.sctp_model.specs.messages.Format.{Format, Lane}
 use Rattle.sctp_model.specs.sender.SenderView.{Queued, SenderView}
 use Rattle.sctp_model.specs.sender.Words.{when, first_there}
-use Rattle.sctp_model.specs.sender.Abandoning.{Name, name_of, waits, without, is_abandoned, is_covered, AbandonAnswer, Withdrawn, Abandoned, Acknowledged, Reliable, Unknown, answer_for, abandon_answer, with_abandoned, abandon_named, abandon_after, gives_up}
+use Rattle.sctp_model.specs.sender.Abandoning.{Name, name_of, waits, without, is_abandoned, is_covered, AbandonAnswer, Withdrawn, Abandoned, Acknowledged, Reliable, Unknown, numbered_answer, abandon_answer, with_abandoned, abandon_named, abandon_after, gives_up}
 use Rattle.sctp_model.specs.sender.Reached.{IsReached, Begins, Queues, Goes, Covers, Closes, Abandons, Repeats, Rebases}
 use Rattle.sctp_model.specs.sender.Filling.{standing, gone}
 use Rattle.sctp_model.proofs.sender.AbandonCases.{without_none, may_be_given}
@@ -37,7 +37,7 @@ module _ (v : SenderView) (t : ℕ) where
       absurd (cc)
 
   by_name : IsTicketed v → (o : Option Name) → name_of v t ≡ o →
-      gives_up (unwrap_or (first_there (option_map (answer_for v) o ∷ when (nat_lt 0 t && nat_le t v.tickets) Withdrawn ∷ [])) Unknown) ≡ false →
+      gives_up (unwrap_or (first_there (option_map (numbered_answer v) o ∷ when (nat_lt 0 t && nat_le t v.tickets) Withdrawn ∷ [])) Unknown) ≡ false →
       option_map_or (abandon_named v) o (record v { queue = without t v.queue }) ≡ v
   by_name h None is off = by_range h is (waits t v.queue) (nat_lt 0 t && nat_le t v.tickets) refl refl off
   by_name h (Some n) is off = by_tests n (is_abandoned v n) (is_covered v n) v.partial off

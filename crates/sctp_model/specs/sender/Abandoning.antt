@@ -71,12 +71,12 @@ gives_up Unknown = false
 gives_up Reliable = false
 
 -- of a message with a number: abandoned already; else acknowledged; else not to be abandoned; and else it is abandoned now
-abbrev pub answer_for : SenderView → Name → AbandonAnswer
-answer_for v n = unwrap_or (first_there (when (is_abandoned v n) Abandoned ∷ when (is_covered v n) Acknowledged ∷ when (not v.partial) Reliable ∷ [])) Abandoned
+abbrev pub numbered_answer : SenderView → Name → AbandonAnswer
+numbered_answer v n = unwrap_or (first_there (when (is_abandoned v n) Abandoned ∷ when (is_covered v n) Acknowledged ∷ when (not v.partial) Reliable ∷ [])) Abandoned
 
 -- What `abandon` answers: for a message with a number as above; a ticket that was given has a message without a number; no other has one.
 abbrev pub abandon_answer : SenderView → (ticket : ℕ) → AbandonAnswer
-abandon_answer v t = unwrap_or (first_there (option_map (answer_for v) (name_of v t) ∷ when (nat_lt 0 t && nat_le t v.tickets) Withdrawn ∷ [])) Unknown
+abandon_answer v t = unwrap_or (first_there (option_map (numbered_answer v) (name_of v t) ∷ when (nat_lt 0 t && nat_le t v.tickets) Withdrawn ∷ [])) Unknown
 
 -- ---- what abandoning does
 

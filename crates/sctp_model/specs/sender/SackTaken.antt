@@ -30,13 +30,13 @@ abbrev pub is_beyond : SenderView → (c : ℕ) → List BlockMeaning → Bool
 is_beyond v c blocks = nat_lt (length v.plan.entries) c || some_ends_past (length v.plan.entries) c blocks
 
 -- a block that doesn't begin behind this offset, or that ends before it begins
-abbrev pub is_bad_behind : (offset : ℕ) → BlockMeaning → Bool
-is_bad_behind offset b = nat_le b.start offset || nat_lt b.end b.start
+abbrev pub is_bad_after : (offset : ℕ) → BlockMeaning → Bool
+is_bad_after offset b = nat_le b.start offset || nat_lt b.end b.start
 
 -- one of the blocks is bad behind the one before it, the first one behind the cumulative index
 abbrev pub some_is_bad : (offset : ℕ) → List BlockMeaning → Bool
 some_is_bad offset [] = false
-some_is_bad offset (b ∷ bs) = is_bad_behind offset b || some_is_bad b.end bs
+some_is_bad offset (b ∷ bs) = is_bad_after offset b || some_is_bad b.end bs
 
 -- ---- what is covered
 

@@ -7,12 +7,12 @@ use Rattle.sctp_model.specs.world.World.{Side, World, end_of, bag_of}
 use Rattle.sctp_model.specs.world.Events.{Event, Deliver}
 
 -- the TSNs that an end has assigned so far (RFC 9260, 6.1; RFC 3758, 3.5)
-abbrev pub assigned : World → Side → ℕ
-assigned w x = length (end_of w x).sender.plan.entries
+abbrev pub assigned_tsns : World → Side → ℕ
+assigned_tsns w x = length (end_of w x).sender.plan.entries
 
 -- What comes was in its bag already in an earlier world, and since then neither end has assigned AGE_LIMIT more (RFC 9260, 2.6). Whether it comes whole or cut is no matter.
 abbrev pub ComesInTime : (earlier now : World) → Event → Type 0
-ComesInTime u w (Deliver s n) = (p : Packet) → item_at (bag_of u s) n ≡ Some p → (x : Side) → assigned w x < assigned u x + AGE_LIMIT
+ComesInTime u w (Deliver s n) = (p : Packet) → item_at (bag_of u s) n ≡ Some p → (x : Side) → assigned_tsns w x < assigned_tsns u x + AGE_LIMIT
 ComesInTime u w e = Unit {0}
 
 -- so it is of each packet of an earlier world that comes in one of these steps

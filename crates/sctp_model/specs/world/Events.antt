@@ -73,12 +73,12 @@ abbrev pub next_number : World → Side → ℕ
 next_number w s = suc (length (bag_of w s))
 
 -- a packet that an end answers with: told by its place in that end's own bag
-abbrev pub told_answer : World → Side → Packet → Outcome
-told_answer w s p = Answered (next_number w s) (size_of_packet p.chunks)
+abbrev pub answer_outcome : World → Side → Packet → Outcome
+answer_outcome w s p = Answered (next_number w s) (size_of_packet p.chunks)
 
 -- what is told of a packet that came to an end
 abbrev pub told : World → Side → Verdict → Outcome
-told w s (Answer p) = told_answer w s p
+told w s (Answer p) = answer_outcome w s p
 told w s (Dropped reason) = NotActed reason
 told w s Taken = Acted
 
@@ -90,7 +90,7 @@ with_verdict w s Taken = w
 
 -- what is told of the user's abort
 abbrev pub abort_told : World → Side → AbortAnswer → Outcome
-abort_told w s (Aborts p) = told_answer w s p
+abort_told w s (Aborts p) = answer_outcome w s p
 abort_told w s NoPeer = RefusedState
 abort_told w s TooLong = AbortTooLong
 

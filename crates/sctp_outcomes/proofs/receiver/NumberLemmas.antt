@@ -6,7 +6,7 @@ use Rattle.sctp_model.specs.numbers.Lists.{Has}
 use Rattle.sctp_model.specs.messages.Format.{Format, Lane, same_lane}
 use Rattle.sctp_model.specs.messages.Pieces.{Piece, same_number}
 use Rattle.sctp_model.specs.receiver.Receiving.{IsNumberOf, IsWholeNumber, IsLowest, HasNoWhole, IsWholeWith}
-use Rattle.sctp_outcomes.specs.receiver.Wholes.{wholes, is_number_of, first_index, lower, lowest, whole_number, same_piece, has_piece, first_with, whole_with}
+use Rattle.sctp_outcomes.specs.receiver.Wholes.{wholes, is_number_of, first_index, lower, lowest_first, whole_number, same_piece, has_piece, first_with, whole_with}
 use Rattle.sctp_outcomes.proofs.receiver.MemberLemmas.{filtered_has, has_filtered}
 use Rattle.sctp_outcomes.proofs.receiver.SameLemmas.{both, lane_is, lane_same, number_is, number_same, piece_is, piece_same}
 use Rattle.sctp_outcomes.proofs.receiver.WholesLemmas.{wholes_are, has_wholes}
@@ -22,11 +22,11 @@ below_false a b e = grind (arith, nat_tests)
 abbrev IsLowestOf : List (List Piece) → List Piece → Type 0
 IsLowestOf ws w = Has ws w × ((v : List Piece) → Has ws v → first_index w ≤ first_index v)
 
-lowest_none : (ws : List (List Piece)) → lowest ws ≡ None → (w : List Piece) → Has ws w → ⊥
+lowest_none : (ws : List (List Piece)) → lowest_first ws ≡ None → (w : List Piece) → Has ws w → ⊥
 lowest_none [] e w h = h
 lowest_none (x ∷ ws) e w h = absurd (cc)
 
-lower_is : (x : List Piece) (ws : List (List Piece)) (o : Option (List Piece)) → lowest ws ≡ o → ((v : List Piece) → lowest ws ≡ Some v → IsLowestOf ws v) →
+lower_is : (x : List Piece) (ws : List (List Piece)) (o : Option (List Piece)) → lowest_first ws ≡ o → ((v : List Piece) → lowest_first ws ≡ Some v → IsLowestOf ws v) →
     IsLowestOf (x ∷ ws) (lower x o)
 lower_is x ws None e more = (inl refl, only)
   where
@@ -50,11 +50,11 @@ lower_is x ws (Some u) e more =
         least v (inl s) = let same : first_index x ≡ first_index v = ap first_index s in omega arith
         least v (inr k) = let b = below_false (first_index u) (first_index x) t in let l = low v k in omega arith
 
-lowest_is : (ws : List (List Piece)) (w : List Piece) → lowest ws ≡ Some w → IsLowestOf ws w
+lowest_is : (ws : List (List Piece)) (w : List Piece) → lowest_first ws ≡ Some w → IsLowestOf ws w
 lowest_is [] w e = absurd (cc)
 lowest_is (x ∷ ws) w e =
-    let same : lower x (lowest ws) ≡ w = cc in
-    subst (IsLowestOf (x ∷ ws)) same (lower_is x ws (lowest ws) refl (lowest_is ws))
+    let same : lower x (lowest_first ws) ≡ w = cc in
+    subst (IsLowestOf (x ∷ ws)) same (lower_is x ws (lowest_first ws) refl (lowest_is ws))
 
 -- ---- the whole message of a number
 

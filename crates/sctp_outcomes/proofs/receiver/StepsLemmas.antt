@@ -11,7 +11,7 @@ use Rattle.sctp_model.specs.receiver.Reading.{piece_at}
 use Rattle.sctp_model.specs.receiver.PieceTaken.{PieceAnswer, Duplicate, Ahead, NoSuchStream, Passed, NoRoom, Kept, PieceTaken, Leaves, answer_to}
 use Rattle.sctp_model.specs.receiver.ForwardTaken.{ForwardAnswer, OutOfDate, Bad, Moved, ForwardTaken, ForwardLeaves, forward_answer, jumped, let_go}
 use Rattle.sctp_outcomes.specs.receiver.Wholes.{whole_number, whole_with}
-use Rattle.sctp_outcomes.specs.receiver.Steps.{next_if, cumulative_from, IsBound, cumulative, Due, due_at, due_from, past, numbers, due, gives_ordered, gives_all, handed_if, gives_unordered, gives, after_piece, piece_step, after_forward, forward_step}
+use Rattle.sctp_outcomes.specs.receiver.Steps.{next_if, cumulative_from, IsBound, cumulative, DueOnStream, due_at, due_from, past_number, numbers, due, gives_ordered, gives_all, handed_if, gives_unordered, gives, after_piece, piece_step, after_forward, forward_step}
 use Rattle.sctp_outcomes.proofs.receiver.NumberLemmas.{below_true, below_false, whole_is, none_whole, with_is, none_with}
 
 -- ---- the cumulative index
@@ -43,20 +43,20 @@ module _ (r : ReceiverView) (bound : ℕ) (within : IsBound r bound) where
 
 -- ---- what is due
 
-below_numbers : (kept : List Piece) (x : Piece) → Has kept x → past x.number ≤ numbers kept
+below_numbers : (kept : List Piece) (x : Piece) → Has kept x → past_number x.number ≤ numbers kept
 below_numbers [] x h = absurd h
-below_numbers (y ∷ kept) x (inl e) = let same : past y.number ≡ past x.number = ap (λ (z : Piece). past z.number) e in omega arith
+below_numbers (y ∷ kept) x (inl e) = let same : past_number y.number ≡ past_number x.number = ap (λ (z : Piece). past_number z.number) e in omega arith
 below_numbers (y ∷ kept) x (inr h) = let l = below_numbers kept x h in omega arith
 
 none_above : (f : Format) (kept : List Piece) (l : Lane) (n : ℕ) → numbers kept ≤ n → HasNoWhole f kept l n
 none_above f kept l n high [] (whole, within, number) = number
 none_above f kept l n high (x ∷ xs) (whole, within, number) =
     let a = below_numbers kept x (within x (inl refl)) in
-    let b : past x.number ≡ suc n = ap past number.1 in
+    let b : past_number x.number ≡ suc n = ap past_number number.1 in
     omega arith
 
 module _ (f : Format) (r : ReceiverView) (s : ℕ) where
-  one_number : (n : ℕ) (o : Option (List Piece)) (b : Bool) (more : ℕ → Due) → whole_number f r.kept (ordered_lane s) n ≡ o → nat_lt n (r.skip (ordered_lane s)) ≡ b →
+  one_number : (n : ℕ) (o : Option (List Piece)) (b : Bool) (more : ℕ → DueOnStream) → whole_number f r.kept (ordered_lane s) n ≡ o → nat_lt n (r.skip (ordered_lane s)) ≡ b →
       IsDue f r s (suc n) (more (suc n)).messages (more (suc n)).next → IsDue f r s n (due_at f o b n more).messages (due_at f o b n more).next
   one_number n (Some (x ∷ xs)) b more e skipped rest =
       let w = whole_is f r.kept (ordered_lane s) n (x ∷ xs) e in

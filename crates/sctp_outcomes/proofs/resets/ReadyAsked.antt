@@ -13,7 +13,7 @@ use Rattle.sctp_model.specs.end.Reconfiguring.{asking, asking_now}
 use Rattle.sctp_model.specs.end.Building.{Slot, EchoSlot, CookieAckSlot, HeartbeatSlot, ErrorSlot, SackSlot, ForwardSlot, AnswerSlot, RequestSlot, ShutdownSlot, ShutdownAckSlot, open_slots, is_due, Wants, AskReset, once_built, Puts, NoMore, NotDue, Put, IsFull, Builds, Sleeps, Waits, Calls, Echoes, EndsFull, Fills, fragments, room_behind, sent}
 use Rattle.sctp_model.proofs.sender.WordLaws.{has_left, has_right}
 use Rattle.sctp_outcomes.proofs.resets.AskingEnds.{filled_resets}
-use Rattle.sctp_outcomes.specs.Resets.{IsFilled, IsSaidOrDue, IsInPacket, IsDueStill, AsksFor, ReadyIsAskedFor}
+use Rattle.sctp_outcomes.specs.Resets.{IsPacketFull, IsSaidOrDue, IsInPacket, IsDueStill, AsksFor, ReadyIsAskedFor}
 
 -- what is in a packet stays in it
 puts_keep : (ss : List Slot) (e : EndView) (xs zs : List ChunkMeaning) (full : Bool) (t : EndView) → Puts ss e xs zs full t → (x : ChunkMeaning) → Has xs x → Has zs x
@@ -71,7 +71,7 @@ asks_with o q = reconfig_chunk (reset_item (answered o) (request_said o.sender q
 module _ (o : EndView) (q : Request) (pending : o.sender.resets.pending ≡ Some q) where
   -- it is in the packet, or due still, if that is full
   abbrev IsSaid : List ChunkMeaning → Bool → EndView → Type 0
-  IsSaid zs full t = Has zs (asks_with o q) ⊎ ((full ≡ true) × (IsFilled zs t × (t.due.request ≡ true)))
+  IsSaid zs full t = Has zs (asks_with o q) ⊎ ((full ≡ true) × (IsPacketFull zs t × (t.due.request ≡ true)))
 
   waits_at : (e : EndView) → IsAskingAs o e → e.sender.resets.pending ≡ Some q
   waits_at e k = subst (λ (v : SenderView). v.resets.pending ≡ Some q) (sym k.sender) pending

@@ -7,7 +7,7 @@ use Rattle.sctp_model.specs.numbers.Serial.{tsn}
 use Rattle.sctp_model.specs.sender.SenderView.{SenderView}
 use Rattle.sctp_model.specs.sender.Words.{when, first_there}
 use Rattle.sctp_model.specs.sender.SackTaken.{SackFault, Stale, Beyond, BadBlock, is_stale, index_of, is_beyond, some_is_bad, sack_fault, sack_taken, sack_after, shutdown_fault, shutdown_taken, shutdown_after}
-use Rattle.sctp_outcomes.specs.sender.Sacks.{IsReadAs, IsFaulty, Comes_late, Says_more, Is_mixed, IsShutdownFaulty, IsTaken, IsShutdownTaken}
+use Rattle.sctp_outcomes.specs.sender.Sacks.{IsReadAs, IsFaulty, Comes_late, Says_more, Is_mixed, IsShutdownFaulty, IsSackTaken, IsShutdownTaken}
 use Rattle.sctp_outcomes.specs.sender.SackLaws.{SackFaultIsTold, SackIsTaken, TakenHasNoFault, FaultyIsDropped, ShutdownFaultIsTold, ShutdownIsTaken, FaultyShutdownIsDropped}
 use Rattle.sctp_outcomes.proofs.sender.SackCases.{or_way, read_is, not_before, ahead_is, beyond_is, past_is, blocks_are, are_blocks, covers_is, mark_stays}
 
@@ -97,7 +97,7 @@ sack_fault_told v x a low = (λ is. forth (is_stale v x.cumulative) refl (is_bey
         rw (r.fresh, near_c, bad) refl
 
 pub sack_is_taken : SackIsTaken
-sack_is_taken v x low none = subst (λ (u : SenderView). IsTaken v x u) (sym after) taken
+sack_is_taken v x low none = subst (λ (u : SenderView). IsSackTaken v x u) (sym after) taken
   where
     after : sack_after v x ≡ sack_taken v x
     after = rw none refl
@@ -105,7 +105,7 @@ sack_is_taken v x low none = subst (λ (u : SenderView). IsTaken v x u) (sym aft
     off : AreNone (is_stale v x.cumulative) (is_beyond v (index_of v x.cumulative) x.blocks) (some_is_bad 0 x.blocks)
     off = none_told (is_stale v x.cumulative) (is_beyond v (index_of v x.cumulative) x.blocks) (some_is_bad 0 x.blocks) none
 
-    taken : IsTaken v x (sack_taken v x)
+    taken : IsSackTaken v x (sack_taken v x)
     taken = record {
       c = index_of v x.cumulative;
       read = read_is v x.cumulative low off.old;

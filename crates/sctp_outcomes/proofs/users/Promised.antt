@@ -9,7 +9,7 @@ use Rattle.sctp_model.specs.sender.SenderView.{Queued, IsDrained}
 use Rattle.sctp_model.specs.sender.Readers.{drained}
 use Rattle.sctp_model.specs.receiver.ReceiverView.{Handed, handed}
 use Rattle.sctp_model.specs.world.Calls.{Call}
-use Rattle.sctp_model.specs.world.Safe.{IsSent, WasHanded, IsHeldWhole, IsGivenUp as IsAskedUp}
+use Rattle.sctp_model.specs.world.Safe.{IsSent, WasHanded, IsHeldWhole, WasGivenUp as IsAskedUp}
 use Rattle.sctp_model.specs.end.EndView.{Ended, Completed, Phase, Idle, Listening, Calling, Echoing, Open, Over, ended_of, format_of}
 use Rattle.sctp_model.specs.world.World.{Side, A, B, other, World, end_of, log_of, Setup, start, configuration_of}
 use Rattle.sctp_model.specs.world.Steps.{last_of, PassesThrough}
@@ -21,7 +21,7 @@ use Rattle.sctp_safety.proofs.runs.Directions.{senders_known, known}
 use Rattle.sctp_safety.proofs.runs.Safety.{two_ends_are_safe, nothing_is_missing, nothing_waits, IsKept, kept_safe, kept_closed, kept_drained, kept_by_all}
 use Rattle.sctp_safety.proofs.sending.SenderCalls.{drained_is_told}
 use Rattle.sctp_safety.proofs.sending.ToldLemmas.{acknowledged_is_told}
-use Rattle.sctp_outcomes.specs.Users.{Sent, sent, named, taken, time, Exchange, WasSent, Match, IsDelivered, IsGivenUp, ByName, ByTime, ByLimit, IsHeld, IsFaithful, UsersTakeWhatWasSent, exchange, ShortRunsAreFaithful}
+use Rattle.sctp_outcomes.specs.Users.{Sent, sent, named, taken, time, Exchange, WasSent, Match, IsDelivered, WasGivenUp, ByName, ByTime, ByLimit, IsHeld, IsFaithful, UsersTakeWhatWasSent, exchange, ShortRunsAreFaithful}
 use Rattle.sctp_outcomes.proofs.AgedDates.{start_sound}
 use Rattle.sctp_outcomes.proofs.InOrder.{both_senders_are_in_order}
 use Rattle.sctp_outcomes.proofs.users.Accepted.{calls_of, clocks_begin}
@@ -51,13 +51,13 @@ module _ (w : World) (x : Side) (n : ℕ) (ss : List Sent) (ts : List ℕ) (now 
   chunk_ticket y = unwrap_or (option_and_then (λ d. option_map (λ (m : Message). m.ticket) (entry_message (a w x n).plan d)) (entry_at (a w x n).plan y.index)) 0
 
   -- what was given up was given up by the user
-  given_up : (l : Lane) (k : ℕ) (m : Message) (s : Sent) → handed_in l m ≡ s → (a w x n).partial ≡ true → IsAskedUp (a w x n) (u w x n) l k m → IsGivenUp e s
+  given_up : (l : Lane) (k : ℕ) (m : Message) (s : Sent) → handed_in l m ≡ s → (a w x n).partial ≡ true → IsAskedUp (a w x n) (u w x n) l k m → WasGivenUp e s
   given_up l k m s is partial (inl name) = ByName (subst (λ (t : ℕ). Has ts t) (ap (λ (z : Sent). z.ticket) is) (told.named m.ticket name))
   given_up l k m s is partial (inr (inl (until, has, late))) = ByTime until (subst (λ (z : Sent). z.call.until ≡ Some until) is has) (let clock = told.clock in omega (arith, late, clock))
   given_up l k m s is partial (inr (inr (limit, has, often))) = ByLimit limit (subst (λ (z : Sent). z.call.limit ≡ Some limit) is has) partial
 
   -- one of the plan that was abandoned was given up
-  abandoned_given : (l : Lane) (k : ℕ) (m : Message) (s : Sent) → message_at (a w x n).plan l k ≡ Some m → handed_in l m ≡ s → (a w x n).abandoned l k ≡ true → IsGivenUp e s
+  abandoned_given : (l : Lane) (k : ℕ) (m : Message) (s : Sent) → message_at (a w x n).plan l k ≡ Some m → handed_in l m ≡ s → (a w x n).abandoned l k ≡ true → WasGivenUp e s
   abandoned_given l k m s there is gone =
       let g = told.safe.asked.abandoned l k gone in
       let same : g.0 ≡ m = let its = g.1 in cc in
@@ -69,7 +69,7 @@ module _ (w : World) (x : Side) (n : ℕ) (ss : List Sent) (ts : List ℕ) (now 
 
   -- a message of the plan that was handed over, or abandoned
   ended_so : (l : Lane) (k : ℕ) (m : Message) (s : Sent) → WasSent e s → message_at (a w x n).plan l k ≡ Some m → m.ticket ≡ s.ticket
-      → ((a w x n).abandoned l k ≡ true) ⊎ WasHanded (a w x n).plan (r w x n) l k → IsDelivered matches s ⊎ IsGivenUp e s
+      → ((a w x n).abandoned l k ≡ true) ⊎ WasHanded (a w x n).plan (r w x n) l k → IsDelivered matches s ⊎ WasGivenUp e s
   ended_so l k m s was there ticket (inl gone) = inr (abandoned_given l k m s there (sent_is w x n ss ts now told l k m s there was.accepted ticket) gone)
   ended_so l k m s was there ticket (inr (h, has, lane, first)) =
       let is = sent_is w x n ss ts now told l k m s there was.accepted ticket in
@@ -109,7 +109,7 @@ module _ (w : World) (x : Side) (n : ℕ) (ss : List Sent) (ts : List ℕ) (now 
         absurd (let less = less_ticket in omega (arith, low, less, ticket))
 
     -- with a number it has a lower one, which was passed
-    passed : (l : Lane) (k : ℕ) (y : Message) → message_at (a w x n).plan l k ≡ Some y → y.ticket ≡ s.ticket → IsDelivered matches s ⊎ IsGivenUp e s
+    passed : (l : Lane) (k : ℕ) (y : Message) → message_at (a w x n).plan l k ≡ Some y → y.ticket ≡ s.ticket → IsDelivered matches s ⊎ WasGivenUp e s
     passed l k y there ticket =
         by_passing (told.safe.passed_rightly n k (let low = lower (cases_lt k later.number) in let high = below in omega (arith, low, high)))
       where
@@ -147,7 +147,7 @@ module _ (w : World) (x : Side) (n : ℕ) (ss : List Sent) (ts : List ℕ) (now 
                 let tickets = ap (λ (z : Message). z.ticket) same in
                 absurd (omega (arith, low, ticket, tickets))
 
-        by_passing : ((h : Handed) × Has (handed (r w x n) n) h × (h.lane.kind ≡ Ordered) × (h.number ≡ Some k)) ⊎ ((a w x n).abandoned (ordered_lane n) k ≡ true) → IsDelivered matches s ⊎ IsGivenUp e s
+        by_passing : ((h : Handed) × Has (handed (r w x n) n) h × (h.lane.kind ≡ Ordered) × (h.number ≡ Some k)) ⊎ ((a w x n).abandoned (ordered_lane n) k ≡ true) → IsDelivered matches s ⊎ WasGivenUp e s
         by_passing (inr gone) = inr (abandoned_given (ordered_lane n) k y s its (ap (λ (j : Lane). handed_in j y) (sym own) ∙ is) gone)
         by_passing (inl (h, there, sort, number)) =
             let z = told.safe.in_order.sent n h there sort in
@@ -155,13 +155,13 @@ module _ (w : World) (x : Side) (n : ℕ) (ss : List Sent) (ts : List ℕ) (now 
             let same : z.0.number ≡ k = cc in
             inl (delivered w x n ss ts now told h there (ordered_lane n) k y its (subst (λ (i : ℕ). entry_at (a w x n).plan h.first ≡ Some (Part (ordered_lane n) i 0)) same z.0.first) s was.accepted ticket)
 
-    by_place : IsPlaced (a w x n) (u w x n) s.ticket s.call → IsDelivered matches s ⊎ IsGivenUp e s
+    by_place : IsPlaced (a w x n) (u w x n) s.ticket s.call → IsDelivered matches s ⊎ WasGivenUp e s
     by_place (IsQueued y waits ticket) = absurd (not_queued y waits ticket)
     by_place (IsNumbered l k y there ticket) = passed l k y there ticket
     by_place (WasNamed name) = inr (ByName (told.named s.ticket name))
     by_place (WasLate until has late) = inr (ByTime until has (let clock = told.clock in omega (arith, late, clock)))
 
-    pub overtaken : IsDelivered matches s ⊎ IsGivenUp e s
+    pub overtaken : IsDelivered matches s ⊎ WasGivenUp e s
     overtaken = by_place (told.known.placed s.ticket s.call (called s was))
 
   -- ---- one that was acknowledged
@@ -203,10 +203,10 @@ module _ (w : World) (x : Side) (n : ℕ) (ss : List Sent) (ts : List ℕ) (now 
   completed (Open t g) is = absurd (cc)
   completed (Over why) is = let same : why ≡ Completed = cc in ap (λ (z : Ended). Over z) same
 
-  all_ended : IsAllArrived (a w x n) (r w x n) → IsDrained (a w x n) → (s : Sent) → WasSent e s → IsDelivered matches s ⊎ IsGivenUp e s
+  all_ended : IsAllArrived (a w x n) (r w x n) → IsDrained (a w x n) → (s : Sent) → WasSent e s → IsDelivered matches s ⊎ WasGivenUp e s
   all_ended arrived drained s was = by_place (told.known.placed s.ticket s.call (called s was))
     where
-      by_place : IsPlaced (a w x n) (u w x n) s.ticket s.call → IsDelivered matches s ⊎ IsGivenUp e s
+      by_place : IsPlaced (a w x n) (u w x n) s.ticket s.call → IsDelivered matches s ⊎ WasGivenUp e s
       by_place (IsQueued y waits ticket) = absurd (let none : Has [] y = subst (λ (qs : List Queued). Has qs y) drained.queue waits in none)
       by_place (IsNumbered l k y there ticket) =
           let begun = told.orderly.numbered.begun l k y there in

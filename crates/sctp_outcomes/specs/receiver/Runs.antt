@@ -8,9 +8,9 @@ abbrev pub block : ℕ → ℕ → BlockMeaning
 block start past = record { start = start; end = past - 1 }
 
 -- the run that is open when the walk ends
-abbrev pub closed : Option ℕ → ℕ → List BlockMeaning
-closed None k = []
-closed (Some start) k = block start k ∷ []
+abbrev pub run_closed : Option ℕ → ℕ → List BlockMeaning
+run_closed None k = []
+run_closed (Some start) k = block start k ∷ []
 
 -- one offset: a run opens or goes on if the index is recorded, and ends if it isn't
 abbrev pub walked : Bool → Option ℕ → ℕ → (Option ℕ → ℕ → List BlockMeaning) → List BlockMeaning
@@ -21,7 +21,7 @@ walked false (Some start) k more = block start k ∷ more None (suc k)
 
 -- the runs that are found over so many offsets from the k-th on; if one is open, it started at that offset
 abbrev pub runs_from : (ℕ → Bool) → (c : ℕ) → (depth : ℕ) → Option ℕ → ℕ → List BlockMeaning
-runs_from seen c zero begun k = closed begun k
+runs_from seen c zero begun k = run_closed begun k
 runs_from seen c (suc depth) begun k = walked (seen (c + k)) begun k (runs_from seen c depth)
 
 -- all runs above c, if no index above the bound was recorded

@@ -34,38 +34,38 @@ cumulative r bound = cumulative_from r.seen bound r.jump
 -- ---- what is due on a stream
 
 -- what is handed over on a stream, in order, and the next number after it
-pub record Due : Type 0 where
+pub record DueOnStream : Type 0 where
   pub messages : List Handed
   pub next : ℕ
 
 -- the same with one more message in front
-abbrev pub with_message : Handed → Due → Due
-with_message h d = record { messages = h ∷ d.messages; next = d.next }
+abbrev pub with_due_message : Handed → DueOnStream → DueOnStream
+with_due_message h d = record { messages = h ∷ d.messages; next = d.next }
 
 -- what is done with one number: a whole message is handed over, a skipped number passed over, and at another one it ends
-abbrev pub due_at : Format → Option (List Piece) → Bool → ℕ → (ℕ → Due) → Due
-due_at f (Some (x ∷ xs)) skipped n more = with_message (message_of f x xs) (more (suc n))
+abbrev pub due_at : Format → Option (List Piece) → Bool → ℕ → (ℕ → DueOnStream) → DueOnStream
+due_at f (Some (x ∷ xs)) skipped n more = with_due_message (message_of f x xs) (more (suc n))
 due_at f (Some []) skipped n more = record { messages = []; next = n }
 due_at f None true n more = more (suc n)
 due_at f None false n more = record { messages = []; next = n }
 
 -- from number n on, over at most so many numbers; those below `skip` may be passed over
-abbrev pub due_from : Format → List Piece → (stream skip : ℕ) → (depth : ℕ) → ℕ → Due
+abbrev pub due_from : Format → List Piece → (stream skip : ℕ) → (depth : ℕ) → ℕ → DueOnStream
 due_from f kept s skip zero n = record { messages = []; next = n }
 due_from f kept s skip (suc depth) n = due_at f (whole_number f kept (ordered_lane s) n) (nat_lt n skip) n (due_from f kept s skip depth)
 
 -- one past the number
-abbrev pub past : Option ℕ → ℕ
-past None = 0
-past (Some n) = suc n
+abbrev pub past_number : Option ℕ → ℕ
+past_number None = 0
+past_number (Some n) = suc n
 
 -- one past the largest number
 abbrev pub numbers : List Piece → ℕ
 numbers [] = 0
-numbers (x ∷ xs) = max (past x.number) (numbers xs)
+numbers (x ∷ xs) = max (past_number x.number) (numbers xs)
 
 -- what is due on a stream from its next number on
-abbrev pub due : Format → ReceiverView → ℕ → Due
+abbrev pub due : Format → ReceiverView → ℕ → DueOnStream
 due f r s = due_from f r.kept s (r.skip (ordered_lane s)) (max (r.skip (ordered_lane s)) (numbers r.kept)) (r.next s)
 
 -- ---- handing over

@@ -5,14 +5,14 @@ use Rattle.sctp_model.specs.messages.Format.{Format, Plain, Interleaved, Lane, s
 use Rattle.sctp_model.specs.messages.Pieces.{Piece, fragment_of, same_number}
 
 -- a message begins with this chunk
-abbrev pub is_first : Format → Piece → Bool
-is_first Plain x = x.begin
-is_first Interleaved x = fragment_of x == 0
+abbrev pub is_first_chunk : Format → Piece → Bool
+is_first_chunk Plain x = x.begin
+is_first_chunk Interleaved x = fragment_of x == 0
 
 -- what rises by one from a fragment to the next
-abbrev pub place_of : Format → Piece → ℕ
-place_of Plain x = x.index
-place_of Interleaved x = fragment_of x
+abbrev pub place_on_wire : Format → Piece → ℕ
+place_on_wire Plain x = x.index
+place_on_wire Interleaved x = fragment_of x
 
 -- the second may go on where the first stops: under DATA a chunk that begins a message doesn't
 abbrev pub may_follow : Format → Piece → Bool
@@ -22,27 +22,27 @@ may_follow Interleaved y = true
 -- the second is the fragment after the first
 abbrev pub follows : Format → Piece → Piece → Bool
 follows f x y =
-    same_lane y.lane x.lane && (same_number y.number x.number && ((place_of f y == suc (place_of f x)) && may_follow f y))
+    same_lane y.lane x.lane && (same_number y.number x.number && ((place_on_wire f y == suc (place_on_wire f x)) && may_follow f y))
 
 -- one past the largest place
 abbrev pub places : Format → List Piece → ℕ
 places f [] = 0
-places f (x ∷ xs) = max (suc (place_of f x)) (places f xs)
+places f (x ∷ xs) = max (suc (place_on_wire f x)) (places f xs)
 
 -- the lists that begin with this chunk, if it is wanted
-abbrev pub beginning : Bool → Piece → (Bool → Piece → List (List Piece)) → List (List Piece)
-beginning false y more = []
-beginning true y more = map (λ (ys : List Piece). y ∷ ys) (more y.end y)
+abbrev pub first_chunks : Bool → Piece → (Bool → Piece → List (List Piece)) → List (List Piece)
+first_chunks false y more = []
+first_chunks true y more = map (λ (ys : List Piece). y ∷ ys) (more y.end y)
 
 -- all lists of kept chunks that go on after this one to the end of its message; no more than `depth` of them. The truth value is its flag E.
 abbrev pub rows : Format → List Piece → (depth : ℕ) → Bool → Piece → List (List Piece)
 rows f kept depth true x = [] ∷ []
 rows f kept zero false x = []
-rows f kept (suc depth) false x = flat_map (λ (y : Piece). beginning (follows f x y) y (rows f kept depth)) kept
+rows f kept (suc depth) false x = flat_map (λ (y : Piece). first_chunks (follows f x y) y (rows f kept depth)) kept
 
 -- all lists of kept chunks that are a whole message
 abbrev pub wholes : Format → List Piece → List (List Piece)
-wholes f kept = flat_map (λ (x : Piece). beginning (is_first f x) x (rows f kept (places f kept))) kept
+wholes f kept = flat_map (λ (x : Piece). first_chunks (is_first_chunk f x) x (rows f kept (places f kept))) kept
 
 -- ---- among them
 
@@ -62,13 +62,13 @@ lower w None = w
 lower w (Some v) = if nat_lt (first_index v) (first_index w) then v else w
 
 -- of several lists the one whose first index is lowest
-abbrev pub lowest : List (List Piece) → Option (List Piece)
-lowest [] = None
-lowest (w ∷ ws) = Some (lower w (lowest ws))
+abbrev pub lowest_first : List (List Piece) → Option (List Piece)
+lowest_first [] = None
+lowest_first (w ∷ ws) = Some (lower w (lowest_first ws))
 
 -- the whole message of a lane and number, of several the one with the lowest index
 abbrev pub whole_number : Format → List Piece → Lane → ℕ → Option (List Piece)
-whole_number f kept l n = lowest (filter (is_number_of l n) (wholes f kept))
+whole_number f kept l n = lowest_first (filter (is_number_of l n) (wholes f kept))
 
 -- two lists of bytes, and two chunks, are the same
 abbrev pub same_bytes : List ℕ → List ℕ → Bool

@@ -3,7 +3,7 @@ use Rattle.std.specs.Prelude.{◌≡◌, ◌↔◌, ◌^◌, ◌<◌, ℕ, Some,
 use Rattle.sctp_model.specs.wire.Chunk.{SackMeaning}
 use Rattle.sctp_model.specs.sender.SenderView.{SenderView}
 use Rattle.sctp_model.specs.sender.SackTaken.{SackFault, sack_fault, sack_after, shutdown_fault, shutdown_after}
-use Rattle.sctp_outcomes.specs.sender.Sacks.{IsFaulty, IsShutdownFaulty, IsTaken, IsShutdownTaken}
+use Rattle.sctp_outcomes.specs.sender.Sacks.{IsFaulty, IsShutdownFaulty, IsSackTaken, IsShutdownTaken}
 
 -- ---- a SACK whose cumulative TSN has 32 bits
 
@@ -13,11 +13,11 @@ SackFaultIsTold = (v : SenderView) (x : SackMeaning) (a : SackFault) → x.cumul
 
 -- without one it is taken
 abbrev pub SackIsTaken : Type 0
-SackIsTaken = (v : SenderView) (x : SackMeaning) → x.cumulative < 2 ^ 32 → sack_fault v x ≡ None → IsTaken v x (sack_after v x)
+SackIsTaken = (v : SenderView) (x : SackMeaning) → x.cumulative < 2 ^ 32 → sack_fault v x ≡ None → IsSackTaken v x (sack_after v x)
 
 -- what is taken had no fault
 abbrev pub TakenHasNoFault : Type 0
-TakenHasNoFault = (v u : SenderView) (x : SackMeaning) → x.cumulative < 2 ^ 32 → IsTaken v x u → sack_fault v x ≡ None
+TakenHasNoFault = (v u : SenderView) (x : SackMeaning) → x.cumulative < 2 ^ 32 → IsSackTaken v x u → sack_fault v x ≡ None
 
 -- one with a fault changes nothing
 abbrev pub FaultyIsDropped : Type 0

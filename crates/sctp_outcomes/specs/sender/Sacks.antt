@@ -52,7 +52,7 @@ abbrev pub KeepsMark : (v u : SenderView) → (index : ℕ) → Type 0
 KeepsMark v u i = (u.marked i ≡ true) ↔ ((v.marked i ≡ true) × (u.covered i ≡ true → ⊥))
 
 -- A SACK without a fault is taken: CUM is its index, just what it acknowledges is covered, and the window is the one that it says.
-pub record IsTaken (v : SenderView) (x : SackMeaning) (u : SenderView) : Type 0 where
+pub record IsSackTaken (v : SenderView) (x : SackMeaning) (u : SenderView) : Type 0 where
   pub c : ℕ
   pub read : IsReadAs v x.cumulative c
   pub inside : IsPast v c x.blocks → ⊥

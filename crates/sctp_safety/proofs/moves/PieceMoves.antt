@@ -7,7 +7,7 @@ use Rattle.sctp_model.specs.messages.Plan.{Part, Plan, entry_at}
 use Rattle.sctp_model.specs.messages.Pieces.{Piece, fragment_of, IsFragment, IsNumberBelow}
 use Rattle.sctp_model.specs.sender.SenderView.{SenderView}
 use Rattle.sctp_model.specs.receiver.ReceiverView.{ReceiverView}
-use Rattle.sctp_model.specs.receiver.Receiving.{IsPassed, IsBehind}
+use Rattle.sctp_model.specs.receiver.Receiving.{IsPassed, IsDeliveredNumber}
 use Rattle.sctp_model.specs.world.Safe.{WasHanded}
 use Rattle.sctp_safety.specs.Way.{Way, Keep_piece, Drop_piece, Step}
 use Rattle.sctp_safety.proofs.moves.Facts.{IsDone, IsOver, IsSettled, MayPass, IsOrderedPlan, Held, Good}
@@ -122,7 +122,7 @@ module _ (f : Format) (a : SenderView) (r : ReceiverView) (x : Piece) (y : IsFra
   over d (inl h) = inl h
   over d (inr h) = inr (h, d)
 
-  when_behind : (k : Kind) → x.lane.kind ≡ k → IsBehind r k x → IsOver f a r x.lane y.number
+  when_behind : (k : Kind) → x.lane.kind ≡ k → IsDeliveredNumber r k x → IsOver f a r x.lane y.number
   when_behind Unordered e b = absurd b
   when_behind Ordered e b = over (inr (inr (e, below))) (subst (λ (l : Lane). WasHanded a.plan r l y.number ⊎ (a.abandoned l y.number ≡ true)) lane
       (held.told.passed x.lane.stream y.number below))

@@ -4,7 +4,7 @@ use Rattle.sctp_model.specs.messages.Plan.{Plan}
 use Rattle.sctp_model.specs.sender.SenderView.{SenderView}
 use Rattle.sctp_safety.specs.Way.{Way, Change_sending, with_sender}
 use Rattle.sctp_safety.specs.Exact.{Leads}
-use Rattle.sctp_safety.specs.SenderLaws.{HasPart, IsInOrder, HasConstants, IsUsual, IsMoved}
+use Rattle.sctp_safety.specs.SenderLaws.{HasPart, IsSenderOrderly, HasConstants, IsUsual, IsMoved}
 use Rattle.sctp_safety.proofs.moves.Facts.{Good}
 use Rattle.sctp_safety.proofs.moves.Always.{kept_by-Run}
 use Rattle.sctp_safety.proofs.moves.GoodStart.{good_start}
@@ -17,7 +17,7 @@ leads_good w v g (es, run) = kept_by-Run w v es g run
 pub good_usual : (w : Way) → IsUsual w → Good w
 good_usual w u = leads_good u.origin w (good_start u.origin u.started) u.led
 
-pub usual_on : (w v : Way) → IsUsual w → Leads w v → IsInOrder v → IsUsual v
+pub usual_on : (w v : Way) → IsUsual w → Leads w v → IsSenderOrderly v → IsUsual v
 usual_on w v u leads order = record { origin = u.origin; started = u.started; led = leads_on u.origin w v u.led leads; order = order }
 
 pub constants_same : (v : SenderView) → HasConstants v v
@@ -41,7 +41,7 @@ moved_on w v x a b = record {
 pub usual_moved : (w v : Way) → IsUsual w → IsMoved w v → IsUsual v
 usual_moved w v u m = usual_on w v u m.leads m.order
 
-pub nothing_moved : (w : Way) → IsInOrder w → IsMoved w w
+pub nothing_moved : (w : Way) → IsSenderOrderly w → IsMoved w w
 nothing_moved w order = record { leads = ([], refl); order = order; constants = constants_same w.sender }
 
 -- a change of what moves don't speak of
@@ -52,7 +52,7 @@ retuned w b queue plan cum covered abandoned repeats = leads_by w (with_sender w
 
 -- the same plan and tickets, and no mark more
 pub order_fewer : (w v : Way) → v.sender.plan ≡ w.sender.plan → ((i : ℕ) → v.sender.marked i ≡ true → w.sender.marked i ≡ true) →
-    v.sender.tickets ≡ w.sender.tickets → v.asked.calls ≡ w.asked.calls → IsInOrder w → IsInOrder v
+    v.sender.tickets ≡ w.sender.tickets → v.asked.calls ≡ w.asked.calls → IsSenderOrderly w → IsSenderOrderly v
 order_fewer w v plan fewer tickets calls order = record {
   ends = subst AreEndsLast (sym plan) order.ends;
   marked = λ i h. subst (λ (p : Plan). HasPart p i) (sym plan) (order.marked i (fewer i h));

@@ -4,7 +4,7 @@ use Rattle.std.proofs.lemmas.Bool.{cases_lt}
 use Rattle.sctp_model.specs.numbers.Lists.{Has}
 use Rattle.sctp_model.specs.messages.Format.{Format, Lane}
 use Rattle.sctp_model.specs.messages.Plan.{Message, Part, Plan, entry_at, message_at, IsClosed}
-use Rattle.sctp_model.specs.messages.Orderly.{IsNumbered, IsBefore, IsCounted, Orderly}
+use Rattle.sctp_model.specs.messages.Orderly.{IsNumbered, IsBefore, IsByNumber, Orderly}
 use Rattle.sctp_safety.proofs.moves.Facts.{IsOrderedPlan}
 use Rattle.sctp_safety.proofs.plan.PlanLemmas.{message_of}
 
@@ -44,7 +44,7 @@ module _ (f : Format) (p : Plan) (a : IsOrderedPlan f p) where
     filled = λ l n k m h b. (a.filled l n m h).1 (slice_index_or m.fragments k []) (Has-index m.fragments k [] b);
   }
 
-  counted : IsCounted p
+  counted : IsByNumber p
   counted l n o lt i j d e hd od he oe =
       let r = message_of f p a i d l n hd od in
       let z = message_of f p a j e l o he oe in

@@ -8,7 +8,7 @@ use Rattle.sctp_model.specs.wire.Chunk.{PieceMeaning}
 use Rattle.sctp_model.specs.messages.Format.{Format, Plain, Interleaved, Kind, Ordered, Unordered, is_numbered, same_lane}
 use Rattle.sctp_model.specs.messages.Pieces.{Piece, same_number, fragment_of, IsNumberBelow}
 use Rattle.sctp_model.specs.receiver.ReceiverView.{ReceiverView}
-use Rattle.sctp_model.specs.receiver.Receiving.{IsBehind, IsPassed}
+use Rattle.sctp_model.specs.receiver.Receiving.{IsDeliveredNumber, IsPassed}
 use Rattle.sctp_model.specs.receiver.Reading.{offset, is_behind, is_ahead, lowest_in, is_late, piece_at}
 use Rattle.sctp_model.specs.receiver.PieceTaken.{PieceAnswer, Duplicate, Ahead, NoSuchStream, Passed, NoRoom, Kept, are_one_fragment, is_held, is_repeated, is_passed, is_duplicate, is_too_much, answer_to}
 use Rattle.sctp_model.proofs.receiver.RowLemmas.{row_fails, row_holds, row_lacks}
@@ -80,13 +80,13 @@ held_is (y ∷ ys) x h = go (or_cases (are_one_fragment y x) (is_held ys x) h) (
         (y, inl refl, same_lane-true y.lane x.lane lane.0, numbers y.number x.number number.0, eqb-true (fragment_of y) (fragment_of x) number.1)
 
 -- a late number is below the stream's next, or skipped
-late_is : (r : ReceiverView) (x : Piece) (n : ℕ) → x.number ≡ Some n → is_late r x.lane x.number ≡ true → IsBehind r x.lane.kind x ⊎ IsNumberBelow (r.skip x.lane) x.number
+late_is : (r : ReceiverView) (x : Piece) (n : ℕ) → x.number ≡ Some n → is_late r x.lane x.number ≡ true → IsDeliveredNumber r x.lane.kind x ⊎ IsNumberBelow (r.skip x.lane) x.number
 late_is r x n has late = go x.lane.kind (subst (λ (o : Option ℕ). is_late r x.lane o ≡ true) has late)
   where
     below : (m : ℕ) → n < m → IsNumberBelow m x.number
     below m less = subst (IsNumberBelow m) (sym has) less
 
-    go : (k : Kind) → nat_lt n (lowest_in r x.lane k) ≡ true → IsBehind r k x ⊎ IsNumberBelow (r.skip x.lane) x.number
+    go : (k : Kind) → nat_lt n (lowest_in r x.lane k) ≡ true → IsDeliveredNumber r k x ⊎ IsNumberBelow (r.skip x.lane) x.number
     go Unordered h = inr (below (r.skip x.lane) (grind (arith, h, nat_tests)))
     go Ordered h = elim (cases_lt n (r.next x.lane.stream)) [
       | inl less ↦ inl (below (r.next x.lane.stream) less)
@@ -100,7 +100,7 @@ passed_by f r x n has h = elim (or_cases (is_numbered f x.lane.kind && is_late r
   | inr again ↦ by_fragment f again
 ]
   where
-    by_number : (g : Format) → IsBehind r x.lane.kind x ⊎ IsNumberBelow (r.skip x.lane) x.number → IsPassed g r x
+    by_number : (g : Format) → IsDeliveredNumber r x.lane.kind x ⊎ IsNumberBelow (r.skip x.lane) x.number → IsPassed g r x
     by_number Plain late = late
     by_number Interleaved (inl behind) = inl behind
     by_number Interleaved (inr below) = inr (inl below)

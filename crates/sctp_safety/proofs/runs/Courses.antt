@@ -8,7 +8,7 @@ use Rattle.sctp_model.specs.end.Sealing.{Sealing}
 use Rattle.sctp_model.specs.world.World.{Side, World, FIRST_DRAW, start}
 use Rattle.sctp_model.specs.world.Events.{Event, Deliver, Foreign, Outcome}
 use Rattle.sctp_model.specs.world.Steps.{Rest, Then, PassesThrough, last_of}
-use Rattle.sctp_model.specs.world.Aged.{assigned, ComesInTime, AllComeInTime}
+use Rattle.sctp_model.specs.world.Aged.{assigned_tsns, ComesInTime, AllComeInTime}
 use Rattle.sctp_model.specs.world.Premises.{draws_of, drawn_in, IsTheirs}
 use Rattle.sctp_model.proofs.sender.WordLaws.{has_left}
 use Rattle.sctp_safety.specs.Runs.{PassingIsARun, RunsHaveWorlds, RunsGoOn, BeginningsAreRuns, BeginningsMeetThePremises, PassingGoesOn, BeginningsAreAged, KeepBothPromises, EachWorldIsSafe, AssignFewer, ShortRunsAreAged}
@@ -112,7 +112,7 @@ beginnings_are_aged w (e ∷ es) more [] vs beyond p aged = absurd p
 beginnings_are_aged w (e ∷ es) more (o ∷ os) [] beyond p aged = absurd p
 
 -- in a world of few TSNs everything comes in time
-few_in_time : (u w : World) (e : Event) → ((x : Side) → assigned w x < AGE_LIMIT) → ComesInTime u w e
+few_in_time : (u w : World) (e : Event) → ((x : Side) → assigned_tsns w x < AGE_LIMIT) → ComesInTime u w e
 few_in_time u w (Deliver s n) few = λ p there x. let f = few x in omega (arith, f)
 few_in_time u w e few = tt
 

@@ -5,7 +5,7 @@ use Rattle.sctp_model.specs.wire.Chunk.{ChunkMeaning}
 use Rattle.sctp_model.specs.wire.Packet.{Packet}
 use Rattle.sctp_model.specs.world.World.{Side, other, World, bag_of}
 use Rattle.sctp_model.specs.world.Events.{Event, Deliver}
-use Rattle.sctp_model.specs.world.Aged.{assigned}
+use Rattle.sctp_model.specs.world.Aged.{assigned_tsns}
 use Rattle.sctp_safety.proofs.lists.Basics.{Has-left, Has-right}
 use Rattle.sctp_safety.proofs.runs.Bags.{chunks_in}
 use Rattle.sctp_safety.proofs.runs.Dates.{Date, IsYoung, Dated, dated, all_dated, undated, undated_joined, undated_packet, has_dated}
@@ -73,12 +73,12 @@ undated_bag d n (p ∷ ps) =
 
 -- what both ends have assigned in a world, for a packet that an end of this side built
 abbrev pub date_in : World → Side → Date
-date_in w s = record { own = assigned w s; there = assigned w (other s) }
+date_in w s = record { own = assigned_tsns w s; there = assigned_tsns w (other s) }
 
 -- A packet of this side that is in the bag comes while it is young, at both ends.
 pub record IsYoungIn (w : World) (s : Side) (k : Date) : Type 0 where
-  pub own : IsYoung k.own (assigned w s)
-  pub there : IsYoung k.there (assigned w (other s))
+  pub own : IsYoung k.own (assigned_tsns w s)
+  pub there : IsYoung k.there (assigned_tsns w (other s))
 
 -- What the dates are to a step: what comes is young, and what is built has the date of the world that the step leaves.
 pub record AreKept (d : Dates) (w : World) (e : Event) (v : World) : Type 0 where

@@ -15,7 +15,7 @@ use Rattle.sctp_model.specs.sender.Reached.{Begins}
 use Rattle.sctp_model.specs.end.EndView.{Completed, Phase, Idle, Listening, Calling, Echoing, Open, Over, EndView, format_for, format_of}
 use Rattle.sctp_model.specs.end.Closing.{hears, awaits_ack}
 use Rattle.sctp_safety.specs.Way.{Way, IsStart}
-use Rattle.sctp_safety.specs.SenderLaws.{IsInOrder}
+use Rattle.sctp_safety.specs.SenderLaws.{IsSenderOrderly}
 use Rattle.sctp_safety.specs.States.{has_agreed}
 use Rattle.sctp_safety.specs.Agreement.{AreAgreed}
 use Rattle.sctp_safety.proofs.moves.GoodStart.{new_ends_start}
@@ -80,7 +80,7 @@ module _ (f : Format) (tsn peer_tsn outbound inbound fragment rwnd buffer : ℕ)
   begins : IsStart way
   begins = new_ends_start way tsn outbound fragment rwnd partial peer_tsn inbound buffer refl refl none refl refl refl refl
 
-  ordered : IsInOrder way
+  ordered : IsSenderOrderly way
   ordered = record {
     ends = λ i j l n k here there. absurd (nothing_stands i _ here);
     marked = λ i h. absurd (cc);

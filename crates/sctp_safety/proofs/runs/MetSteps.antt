@@ -10,7 +10,7 @@ use Rattle.sctp_model.specs.end.Building.{Builds, packet_of}
 use Rattle.sctp_model.specs.end.UserCalls.{reset_call, reset_leaves, reset_there, told_leaves, connect_answer, Called, abort_answer, abort_leaves, shut}
 use Rattle.sctp_model.specs.world.World.{Side, A, B, other, World, end_of, bag_of, with_end, with_packet, end_now, Setup}
 use Rattle.sctp_model.specs.world.Events.{Event, Deliver, Outcome}
-use Rattle.sctp_model.specs.world.Aged.{assigned}
+use Rattle.sctp_model.specs.world.Aged.{assigned_tsns}
 use Rattle.sctp_model.specs.world.Steps.{Step, OpensBoth, OpenRefused, TimePasses, Draws, Connects, ConnectRefused, BuildsOne, BuildsNone, PacketComes, IsAbsent, Sends, AbandonsOne, TakesOne, ResetsOne, TellsReset, ShutsDown, AbortsIt, NoMemory, PacketCut, TimeGoesOn, MomentComes}
 use Rattle.sctp_model.specs.world.Premises.{asked_at}
 use Rattle.sctp_safety.specs.States.{has_agreed}
@@ -37,7 +37,7 @@ module _ (s : Setup) (drawn : List ℕ) (d : Dates) (w : World) (e : Event) (v :
         has = bag_has (d (other x)) (bag_of w (other x)) n p y found has;
         same = refl;
         own = young.own;
-        there = subst (λ (z : Side). IsYoung (d (other x) n).there (assigned w z)) (back_again x) young.there;
+        there = subst (λ (z : Side). IsYoung (d (other x) n).there (assigned_tsns w z)) (back_again x) young.there;
       }
 
   arrived : (x : Side) (q : Packet) (t : EndView) (o : Verdict) → MetAt d w x → Brought s drawn w e x q → Arrives (end_now w x) w.draw q t o → Before d w x t

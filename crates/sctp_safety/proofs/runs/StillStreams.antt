@@ -5,7 +5,7 @@ use Rattle.sctp_model.specs.messages.Format.{Lane}
 use Rattle.sctp_model.specs.messages.Plan.{Message, Entry, End, Plan, entry_at, message_at, IsOf, IsClosed, parts_from}
 use Rattle.sctp_model.specs.sender.SenderView.{Queued, SenderView}
 use Rattle.sctp_model.specs.sender.Entries.{entry_lane}
-use Rattle.sctp_safety.specs.Way.{Way, Move, Send, Name, Time_passes, Number, Continue, Withdraw, Abandon, Mark, Change_sending, Sack_comes, Shutdown_comes, Put_piece, Put_forward, Put_sack, Put_shutdown, Keep_piece, Drop_piece, Forward_comes, Hand_over, Hand_unordered, Pass_over, Drop_below_next, Let_go, Take, Note_duplicates, Step, Run, HasNone, IsAllClosed, numbered, continued}
+use Rattle.sctp_safety.specs.Way.{Way, Move, Send, Name, Time_passes, Number, Continue, Withdraw, Abandon, Mark, Change_sending, Sack_comes, Shutdown_comes, Put_piece, Put_forward, Put_sack, Put_shutdown, Keep_piece, Drop_piece, Forward_comes, Hand_over, Hand_unordered, Pass_over, Drop_below_next, Let_go, Take, Note_duplicates, Step, Run, HasNone, IsAllClosed, numbered, with_next_part}
 use Rattle.sctp_safety.specs.Exact.{Leads}
 use Rattle.sctp_safety.proofs.lists.Basics.{Has-right, Has-around, at_lane_cases, item_at-left, item_at-cases, slice_get-left}
 use Rattle.sctp_safety.proofs.plan.PlanLemmas.{parts_get}
@@ -19,7 +19,7 @@ data IsTurnOf (w v : Way) : Type 0 where
   Numbered : (before : List Queued) (q : Queued) (rest : List Queued) (count : ℕ) → w.sender.queue ≡ before ++ q ∷ rest → v.sender.queue ≡ before ++ rest →
       v.sender.plan ≡ numbered w.sender.plan q.lane q.message count → v.asked.calls ≡ w.asked.calls → IsTurnOf w v
   Continued : (l : Lane) (n k count : ℕ) (m : Message) → message_at w.sender.plan l n ≡ Some m → (IsClosed w.sender.plan l n → ⊥) →
-      v.sender.plan ≡ continued w.sender.plan l n k count → v.sender.queue ≡ w.sender.queue → v.asked.calls ≡ w.asked.calls → IsTurnOf w v
+      v.sender.plan ≡ with_next_part w.sender.plan l n k count → v.sender.queue ≡ w.sender.queue → v.asked.calls ≡ w.asked.calls → IsTurnOf w v
   Left : (before : List Queued) (q : Queued) (rest : List Queued) → w.sender.queue ≡ before ++ q ∷ rest → v.sender.queue ≡ before ++ rest →
       v.sender.plan ≡ w.sender.plan → v.asked.calls ≡ w.asked.calls → IsTurnOf w v
   Ended : (l : Lane) (n : ℕ) (m : Message) → message_at w.sender.plan l n ≡ Some m → (IsClosed w.sender.plan l n → ⊥) →

@@ -9,7 +9,7 @@ use Rattle.sctp_model.specs.sender.Entries.{continued}
 use Rattle.sctp_model.specs.sender.Assigning.{with_message, with_entry, is_on, first_on, without_first, stream_after}
 use Rattle.sctp_model.proofs.sender.WishCases.{IsAssigned, Whole, Begun, Continued}
 use Rattle.sctp_safety.specs.Way.{Way, Number, Continue, IsAllClosed, HasNone, with_sender}
-use Rattle.sctp_safety.specs.SenderLaws.{HasPart, IsInOrder, IsMoved}
+use Rattle.sctp_safety.specs.SenderLaws.{HasPart, IsSenderOrderly, IsMoved}
 use Rattle.sctp_safety.proofs.lists.Basics.{at_lane_same, slice_get-end, slice_get-within, item_at-left, item_at-right, item_at-cases}
 use Rattle.sctp_safety.proofs.moves.Facts.{Good}
 use Rattle.sctp_safety.proofs.plan.PlanGrows.{grown}
@@ -41,8 +41,8 @@ ends_stay p ms l n k d ends unended i j b o c part mark = by_parts (new_or_old p
         let number : o ≡ n = cc in
         absurd (unended (j, renamed (λ (y : Lane) (z : ℕ). entry_at p j ≡ Some (End y z)) b l o n lane number second))
 
-order_stays : (w : Way) (u : SenderView) (l : Lane) (n k d : ℕ) → IsInOrder w → (HasEnd w.sender.plan l n → ⊥) → u.plan ≡ grown w.sender.plan u.plan.messages (parts_from l n k d)
-    → u.marked ≡ w.sender.marked → u.tickets ≡ w.sender.tickets → IsInOrder (with_sender w u)
+order_stays : (w : Way) (u : SenderView) (l : Lane) (n k d : ℕ) → IsSenderOrderly w → (HasEnd w.sender.plan l n → ⊥) → u.plan ≡ grown w.sender.plan u.plan.messages (parts_from l n k d)
+    → u.marked ≡ w.sender.marked → u.tickets ≡ w.sender.tickets → IsSenderOrderly (with_sender w u)
 order_stays w u l n k d order unended plan marks tickets = record {
   ends = subst AreEndsLast (sym plan) (ends_stay w.sender.plan u.plan.messages l n k d order.ends unended);
   marked = λ i on. fragment i (order.marked i (subst (λ (test : ℕ → Bool). test i ≡ true) marks on));
@@ -79,7 +79,7 @@ record MayBegin (w : Way) (before : List Queued) (q : Queued) (rest : List Queue
   within : suc d ≤ length q.message.fragments
   all : w.format ≡ Plain → suc d ≡ length q.message.fragments
 
-begins : (w : Way) (before : List Queued) (q : Queued) (rest : List Queued) (d turn : ℕ) → Good w → IsInOrder w → MayBegin w before q rest d
+begins : (w : Way) (before : List Queued) (q : Queued) (rest : List Queued) (d turn : ℕ) → Good w → IsSenderOrderly w → MayBegin w before q rest d
     → Assigns w (record w.sender { plan = with_message w.sender.plan q (suc d); queue = before ++ rest; turn = turn })
 begins w before q rest d turn g order may = record {
   moved = record {
@@ -115,7 +115,7 @@ begins w before q rest d turn g order may = record {
         (item_at-right w.sender.plan.entries (parts_from q.lane n 0 (suc d)) 0 (Part q.lane n 0) refl)
 
 -- the message in part of a stream takes its next index
-continues : (w : Way) (s turn : ℕ) (e : Entry) → IsInOrder w → GoesOnWith w.sender.plan s e → Assigns w (record w.sender { plan = with_entry w.sender.plan e; turn = turn })
+continues : (w : Way) (s turn : ℕ) (e : Entry) → IsSenderOrderly w → GoesOnWith w.sender.plan s e → Assigns w (record w.sender { plan = with_entry w.sender.plan e; turn = turn })
 continues w s turn e order m = subst (λ (x : Entry). Assigns w (after x)) m.same (record {
   moved = record {
     leads = leads_on w longer (with_sender w (after part))
@@ -152,7 +152,7 @@ some_fragments w g before q rest queue = (g.waits.filled q (subst (λ (qs : List
     among [] = inl refl
     among (b ∷ bs) = inr (among bs)
 
-whole_begins : (w : Way) (q : Queued) (rest : List Queued) (d : ℕ) → Good w → IsInOrder w → w.format ≡ Plain → w.sender.queue ≡ q ∷ rest → length q.message.fragments ≡ d → 0 < d
+whole_begins : (w : Way) (q : Queued) (rest : List Queued) (d : ℕ) → Good w → IsSenderOrderly w → w.format ≡ Plain → w.sender.queue ≡ q ∷ rest → length q.message.fragments ≡ d → 0 < d
     → Assigns w (record w.sender { plan = with_message w.sender.plan q d; queue = rest })
 whole_begins w q rest zero g order plain queue long some = absurd (omega arith)
 whole_begins w q rest (suc d) g order plain queue long some = begins w [] q rest d w.sender.turn g order (record {
@@ -164,7 +164,7 @@ whole_begins w q rest (suc d) g order plain queue long some = begins w [] q rest
 })
 
 -- the first message of an idle stream begins, with one fragment
-turn_begins : (w : Way) (s : ℕ) (q : Queued) → Good w → IsInOrder w → w.format ≡ Interleaved → continued w.sender.plan s ≡ None → first_on s w.sender.queue ≡ Some q
+turn_begins : (w : Way) (s : ℕ) (q : Queued) → Good w → IsSenderOrderly w → w.format ≡ Interleaved → continued w.sender.plan s ≡ None → first_on s w.sender.queue ≡ Some q
     → Assigns w (record w.sender { plan = with_message w.sender.plan q 1; queue = without_first (is_on s) w.sender.queue; turn = stream_after w.sender s })
 turn_begins w s q g order turns idle first = by_place (first_meant (is_on s) w.sender.queue q first)
   where
@@ -182,7 +182,7 @@ turn_begins w s q g order turns idle first = by_place (first_meant (is_on s) w.s
         stream : q.lane.stream ≡ s
         stream = eqb-true q.lane.stream s r.is
 
-pub assigns : (w : Way) (f : Format) (u : SenderView) → Good w → IsInOrder w → w.format ≡ f → IsAssigned w.sender f u → Assigns w u
+pub assigns : (w : Way) (f : Format) (u : SenderView) → Good w → IsSenderOrderly w → w.format ≡ f → IsAssigned w.sender f u → Assigns w u
 assigns w _ _ g order plain (Whole q rest queue) = whole_begins w q rest (length q.message.fragments) g order plain queue refl (some_fragments w g [] q rest queue)
 assigns w _ _ g order turns (Begun s q low idle first) = turn_begins w s q g order turns idle first
 assigns w _ _ g order turns (Continued s e low on) = continues w s (stream_after w.sender s) e order (goes_on_with w.format w.sender.plan g.arranged order.ends s e on)

@@ -12,7 +12,7 @@ use Rattle.sctp_model.proofs.sender.WordLaws.{some_is}
 use Rattle.sctp_model.proofs.sender.WishCases.{assigned_cases, IsWished, Repeated, Unsent, New, wished_ways}
 use Rattle.sctp_model.proofs.sender.FillLaws.{goes_parts}
 use Rattle.sctp_safety.specs.Way.{Way, Put_piece, with_sender}
-use Rattle.sctp_safety.specs.SenderLaws.{HasPart, IsInOrder, IsMoved, IsPut, IsFilled, FillIsMoves}
+use Rattle.sctp_safety.specs.SenderLaws.{HasPart, IsSenderOrderly, IsMoved, IsPut, IsFilled, FillIsMoves}
 use Rattle.sctp_safety.proofs.lists.Basics.{at_cases}
 use Rattle.sctp_safety.proofs.moves.Facts.{Good}
 use Rattle.sctp_safety.proofs.moves.Taken.{leads_on, leads_by}
@@ -65,7 +65,7 @@ sent_on w x l n k m moved here named = record {
     out = record w { sender = gone x; pieces = p ∷ w.pieces }
 
 -- a fragment that has its index
-stands : (w : Way) (i : ℕ) → Good w → IsInOrder w → HasPart w.sender.plan i → Goes w (standing w.sender i)
+stands : (w : Way) (i : ℕ) → Good w → IsSenderOrderly w → HasPart w.sender.plan i → Goes w (standing w.sender i)
 stands w i g order (l, n, k, here) = let m = g.arranged.within i l n k here in sent_on w (standing w.sender i) l n k m.0 (nothing_moved w order) here m.1
 
 -- what is wanted is a fragment: the message of an end mark was given up
@@ -76,7 +76,7 @@ wanted_part w g i (End l n) here wanted =
     let lost : not true ≡ true = subst (λ (b : Bool). not b ≡ true) (g.sound.ended i l n here) kept in
     absurd (cc)
 
-wish_goes : (w : Way) (x : Wish) → Good w → IsInOrder w → next_wish w.format w.sender ≡ Some x → Goes w x
+wish_goes : (w : Way) (x : Wish) → Good w → IsSenderOrderly w → next_wish w.format w.sender ≡ Some x → Goes w x
 wish_goes w x g order next = by_way x (wished_ways w.format w.sender x next)
   where
     by_way : (y : Wish) → IsWished w.format w.sender y → Goes w y
@@ -119,7 +119,7 @@ then_filled w x xs u r m = record {
     puts z (inl this) = subst (IsPut w.format m.pieces) this put_still
     puts z (inr later) = m.puts z later
 
-follows_filled : (w : Way) (room : ℕ) (xs : List Wish) (u : SenderView) → Good w → IsInOrder w → Follows w.format w.sender room xs u → IsFilled w xs u
+follows_filled : (w : Way) (room : ℕ) (xs : List Wish) (u : SenderView) → Good w → IsSenderOrderly w → Follows w.format w.sender room xs u → IsFilled w xs u
 follows_filled w room [] u g order same =
     subst (IsFilled w []) (sym same) (record { pieces = w.pieces; moved = nothing_moved w order; same = λ x has. absurd has; puts = λ x has. absurd has; still = λ y has. has })
 follows_filled w room (x ∷ xs) u g order (first, rest) =

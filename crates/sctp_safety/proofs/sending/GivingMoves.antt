@@ -17,7 +17,7 @@ use Rattle.sctp_model.proofs.sender.AbandonCases.{after_abandon}
 use Rattle.sctp_model.specs.world.Safe.{IsGivenUp}
 use Rattle.sctp_safety.specs.Way.{Way, IsLetGo, Name, Withdraw, Abandon, Mark, with_sender}
 use Rattle.sctp_safety.specs.Exact.{Leads}
-use Rattle.sctp_safety.specs.SenderLaws.{HasPart, IsInOrder, IsMoved, AbandonIsMoves, ExpireIsMoves, WearIsMoves, MarkingIsMoves}
+use Rattle.sctp_safety.specs.SenderLaws.{HasPart, IsSenderOrderly, IsMoved, AbandonIsMoves, ExpireIsMoves, WearIsMoves, MarkingIsMoves}
 use Rattle.sctp_safety.proofs.lists.Basics.{Has-right, at_same, at_lane_same, item_at-left, item_at-cases, item_at-within}
 use Rattle.sctp_safety.proofs.moves.Facts.{IsQueue, Good}
 use Rattle.sctp_safety.proofs.moves.Taken.{leads_on, leads_by}
@@ -53,7 +53,7 @@ part_still : (p : Plan) (l : Lane) (n i : ℕ) → HasPart p i → HasPart (with
 part_still p l n i (b, o, c, here) = (b, o, c, item_at-left p.entries (End l n ∷ []) i (Part b o c) here)
 
 -- A message that the user may give up: abandoned; its marks end; and its end mark takes an index where it is in part.
-pub abandoned_moved : (w : Way) (n : Named) (m : Message) → Good w → IsInOrder w → message_at w.sender.plan n.lane n.number ≡ Some m → IsGivenUp w.sender w.asked n.lane n.number m → IsMoved w (with_sender w (with_abandoned w.sender n))
+pub abandoned_moved : (w : Way) (n : Named) (m : Message) → Good w → IsSenderOrderly w → message_at w.sender.plan n.lane n.number ≡ Some m → IsGivenUp w.sender w.asked n.lane n.number m → IsMoved w (with_sender w (with_abandoned w.sender n))
 abandoned_moved w n m g order named asked = by_part (is_in_part w.sender n.lane n.number) refl
   where
     lost : Lane → ℕ → Bool
@@ -101,7 +101,7 @@ abbrev MayWithdraw : Way → ℕ → Type 0
 MayWithdraw w t = (q : Queued) → Has w.sender.queue q → q.message.ticket ≡ t → IsLetGo w.asked q.message
 
 -- the message that waits leaves the queue by a move
-pub withdrawn_moved : (w : Way) (t : ℕ) → IsInOrder w → MayWithdraw w t → waits t w.sender.queue ≡ true → IsMoved w (with_sender w (record w.sender { queue = without t w.sender.queue }))
+pub withdrawn_moved : (w : Way) (t : ℕ) → IsSenderOrderly w → MayWithdraw w t → waits t w.sender.queue ≡ true → IsMoved w (with_sender w (record w.sender { queue = without t w.sender.queue }))
 withdrawn_moved w t order may waiting = by_place (some_meant (λ q. q.message.ticket == t) w.sender.queue waiting)
   where
     by_place : (q : Queued) × IsFirstMeant (λ x. x.message.ticket == t) w.sender.queue q → IsMoved w (with_sender w (record w.sender { queue = without t w.sender.queue }))
@@ -131,7 +131,7 @@ name_bears v t n is = by_found (find (λ e. has_ticket t (entry_message v.plan e
 abbrev MayAbandon : Way → ℕ → Type 0
 MayAbandon w t = (l : Lane) (n : ℕ) (m : Message) → message_at w.sender.plan l n ≡ Some m → m.ticket ≡ t → IsGivenUp w.sender w.asked l n m
 
-abandon_moved : (w : Way) (t : ℕ) → Good w → IsInOrder w → MayAbandon w t → MayWithdraw w t → IsMoved w (with_sender w (abandon_after w.sender t))
+abandon_moved : (w : Way) (t : ℕ) → Good w → IsSenderOrderly w → MayAbandon w t → MayWithdraw w t → IsMoved w (with_sender w (abandon_after w.sender t))
 abandon_moved w t g order may let_go = after_abandon (λ (v : SenderView). IsMoved w (with_sender w v)) w.sender t (nothing_moved w order) (λ waiting. withdrawn_moved w t order let_go waiting)
     (λ n is kept. let b = name_bears w.sender t n is in abandoned_moved w n b.message g order b.named (may n.lane n.number b.message b.named b.ticket))
 
@@ -226,7 +226,7 @@ due_let_go w now t g clock due q has ticket = by_found (find (λ y. y.message.ti
         inr (until.0, subst (λ (y : Queued). y.message.until ≡ Some until.0) same until.1, omega (arith, low, clock))
 
 -- one ticket after the other
-expire_moved : (w : Way) (now : ℕ) (ts : List ℕ) → Good w → IsInOrder w → now ≤ w.asked.clock → IsMoved w (with_sender w (fold (expire_one now) w.sender ts))
+expire_moved : (w : Way) (now : ℕ) (ts : List ℕ) → Good w → IsSenderOrderly w → now ≤ w.asked.clock → IsMoved w (with_sender w (fold (expire_one now) w.sender ts))
 expire_moved w now [] g order clock = nothing_moved w order
 expire_moved w now (t ∷ ts) g order clock =
     let first = one (is_overdue w.sender now t) refl in
@@ -282,7 +282,7 @@ worn_let_go w test i g out q has ticket = by_entry here.0 here.1 here.2
         absurd (g.waits.different q (entry_lane e) (entry_number e) used.0 has used.1 (sym own ∙ sym ticket))
 
 -- one index after the other
-wear_moved : (w : Way) (test : ℕ → Bool) (is : List ℕ) → Good w → IsInOrder w → IsMoved w (with_sender w (fold (wear_one test) w.sender is))
+wear_moved : (w : Way) (test : ℕ → Bool) (is : List ℕ) → Good w → IsSenderOrderly w → IsMoved w (with_sender w (fold (wear_one test) w.sender is))
 wear_moved w test [] g order = nothing_moved w order
 wear_moved w test (i ∷ is) g order =
     let first = one (is_worn_at test w.sender i) refl in

@@ -8,7 +8,7 @@ use Rattle.sctp_model.specs.messages.Plan.{Message, IsComplete, IsClosed}
 use Rattle.sctp_model.specs.sender.SenderView.{SenderView}
 use Rattle.sctp_model.specs.sender.Words.{when, first_there, some_passes}
 use Rattle.sctp_model.specs.sender.Entries.{is_in_part}
-use Rattle.sctp_model.specs.sender.Abandoning.{Name, name_of, has_uncovered, is_covered, is_abandoned, Withdrawn, Abandoned, Acknowledged, Unknown, Reliable, answer_for, abandon_answer}
+use Rattle.sctp_model.specs.sender.Abandoning.{Name, name_of, has_uncovered, is_covered, is_abandoned, Withdrawn, Abandoned, Acknowledged, Unknown, Reliable, numbered_answer, abandon_answer}
 use Rattle.sctp_model.specs.sender.Readers.{is_acknowledged, acknowledged, abandoned}
 use Rattle.sctp_model.specs.sender.Reached.{IsReached}
 use Rattle.sctp_model.proofs.sender.EndLaws.{end_given}
@@ -114,7 +114,7 @@ module _ (f : Format) (v : SenderView) (reached : IsReached f v) (t : ℕ) where
   -- ---- what `abandon` answers
 
   -- of a message with a name
-  answer_named : (n : Name) → name_of v t ≡ Some n → IsAnswered v t (answer_for v n)
+  answer_named : (n : Name) → name_of v t ≡ Some n → IsAnswered v t (numbered_answer v n)
   answer_named n is = by_tests (is_abandoned v n) refl (is_covered v n) refl (v.partial) refl
     where
       not_given : is_abandoned v n ≡ false → WasAbandoned v t → ⊥
@@ -134,7 +134,7 @@ module _ (f : Format) (v : SenderView) (reached : IsReached f v) (t : ℕ) where
   answered = by_name (name_of v t) refl (nat_lt 0 t && nat_le t v.tickets) refl
     where
       by_name : (x : Option Name) → name_of v t ≡ x → (b : Bool) → (nat_lt 0 t && nat_le t v.tickets) ≡ b
-          → IsAnswered v t (unwrap_or (first_there (option_map (answer_for v) x ∷ when b Withdrawn ∷ [])) Unknown)
+          → IsAnswered v t (unwrap_or (first_there (option_map (numbered_answer v) x ∷ when b Withdrawn ∷ [])) Unknown)
       by_name (Some n) some b ticket = answer_named n some
       by_name None none true ticket =
           let parts = and_parts (nat_lt 0 t) (nat_le t v.tickets) ticket in
