@@ -14,7 +14,7 @@ use Rattle.sctp_model.specs.world.Calls.{Call}
 use Rattle.sctp_model.specs.end.EndView.{EndView}
 use Rattle.sctp_model.specs.end.UserCalls.{Ticket, Refused, NotOpen}
 use Rattle.sctp_model.specs.world.World.{Side, other, World, end_of, Setup, start}
-use Rattle.sctp_model.specs.world.Events.{Event, OpenBoth, At, Drawing, Connect, Build, Deliver, Foreign, Send, Abandon, Take, Reset, WasReset, Shutdown, Abort, Outcome, Done, RefusedState, Sent, Quiet, Acted, Absent, Answered, NotActed, Told, Fate, Message, NoMessage, NoSuchReset, ResetThere, NoReset, AbortTooLong}
+use Rattle.sctp_model.specs.world.Events.{Event, OpenBoth, Later, Moment, At, Drawing, Connect, Build, Deliver, Foreign, Send, Abandon, Take, Reset, WasReset, Shutdown, Abort, Outcome, Done, RefusedState, Sent, Quiet, Acted, Absent, Answered, NotActed, Told, Fate, Message, NoMessage, NoSuchReset, ResetThere, NoReset, AbortTooLong}
 use Rattle.sctp_model.specs.world.Steps.{PassesThrough, last_of}
 use Rattle.sctp_safety.proofs.machine.DiagramRuns.{IsFresh, step_onward}
 use Rattle.sctp_outcomes.specs.Users.{same_side, sent_by, sent, taken_by, taken, Match}
@@ -67,6 +67,8 @@ some_is a b is = cc is
 
 quiet_sent : (y : Side) (e : Event) (o : Option Outcome) → is_call y e ≡ false → sent_by y e o ≡ []
 quiet_sent y (OpenBoth a b) o off = refl
+quiet_sent y (Later s m) o off = refl
+quiet_sent y (Moment s) o off = refl
 quiet_sent y (At m) o off = refl
 quiet_sent y (Drawing d) o off = refl
 quiet_sent y (Connect d) o off = refl
@@ -101,6 +103,8 @@ quiet_sent y (Send s c) (Some AbortTooLong) off = refl
 
 quiet_taken : (y : Side) (n : ℕ) (e : Event) (o : Option Outcome) → is_call y e ≡ false → taken_by y n e o ≡ []
 quiet_taken y n (OpenBoth a b) o off = refl
+quiet_taken y n (Later s m) o off = refl
+quiet_taken y n (Moment s) o off = refl
 quiet_taken y n (At m) o off = refl
 quiet_taken y n (Drawing d) o off = refl
 quiet_taken y n (Connect d) o off = refl

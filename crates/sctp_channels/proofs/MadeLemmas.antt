@@ -6,7 +6,7 @@ use Rattle.sctp_model.specs.wire.Packet.{Packet}
 use Rattle.sctp_model.specs.end.EndView.{EndView}
 use Rattle.sctp_model.specs.end.UserCalls.{SendAnswer, send_answer, send_leaves, ResetCall, reset_call, reset_leaves, reset_there, told_leaves}
 use Rattle.sctp_model.specs.world.Calls.{Call}
-use Rattle.sctp_model.specs.world.World.{Side, A, B, other, World, end_of, bag_of, start}
+use Rattle.sctp_model.specs.world.World.{Side, A, B, other, World, end_of, bag_of, clock_of, start}
 use Rattle.sctp_model.specs.world.Events.{Event, Send, Reset, WasReset, Outcome, Told, reset_told, resets_told}
 use Rattle.sctp_model.specs.world.Steps as steps
 use Rattle.sctp_model.specs.world.Steps.{Step, PassesThrough, last_of}
@@ -67,7 +67,8 @@ module _ (y : Side) (w : World) (x : Table) where
     there = refl;
     bag = sym (append-nil (bag_of w y));
     bag_there = refl;
-    clock = refl;
+    clock_a = refl;
+    clock_b = refl;
     draw = refl;
   }
 
@@ -90,7 +91,8 @@ module _ (y : Side) (w : World) (x : Table) where
     there = ap (λ (v : World). end_of v (other y)) on ∙ n.there ∙ m.there;
     bag = ap (λ (v : World). bag_of v y) on ∙ n.bag ∙ ap (λ (all : List Packet). all ++ qs) m.bag ∙ append_assoc (bag_of w y) ps qs;
     bag_there = ap (λ (v : World). bag_of v (other y)) on ∙ n.bag_there ∙ m.bag_there;
-    clock = ap (λ (v : World). v.clock) on ∙ n.clock ∙ m.clock;
+    clock_a = ap (λ (v : World). v.clock_a) on ∙ n.clock_a ∙ m.clock_a;
+    clock_b = ap (λ (v : World). v.clock_b) on ∙ n.clock_b ∙ m.clock_b;
     draw = ap (λ (v : World). v.draw) on ∙ n.draw ∙ m.draw;
   }
     where
@@ -117,9 +119,16 @@ module _ (y : Side) (w : World) (x : Table) where
     there = is.there;
     bag = bag_is v t given is;
     bag_there = is.bag_there;
-    clock = is.clock;
+    clock_a = is.clock_a;
+    clock_b = is.clock_b;
     draw = is.draw;
   }
+
+  -- no clock goes on
+  pub makes_no_time : (others : List Event) (told : List Report) (ps : List Packet) (u : EndView) (z : Table) → (m : Makes y w x others told ps u z) → (s : Side) →
+      clock_of (last_of w m.worlds) s ≡ clock_of w s
+  makes_no_time others told ps u z m A = m.clock_a
+  makes_no_time others told ps u z m B = m.clock_b
 
   -- the same, of another view of the end after it
   pub makes_same : (others : List Event) (told : List Report) (ps : List Packet) (u t : EndView) (z q : Table) → u ≡ t → z ≡ q → Makes y w x others told ps u z → Makes y w x others told ps t q

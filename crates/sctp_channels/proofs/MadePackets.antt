@@ -9,7 +9,7 @@ use Rattle.sctp_model.specs.end.Clock.{at_moment}
 use Rattle.sctp_model.specs.end.Building.{Builds, packet_of}
 use Rattle.sctp_model.specs.end.Strays as model
 use Rattle.sctp_model.specs.end.UserCalls.{reset_there, told_leaves}
-use Rattle.sctp_model.specs.world.World.{Side, other, World, end_of, end_now}
+use Rattle.sctp_model.specs.world.World.{Side, other, World, end_of, clock_of, end_now}
 use Rattle.sctp_model.specs.world.Events.{Event, Build, Outcome}
 use Rattle.sctp_model.specs.world.Steps as steps
 use Rattle.sctp_model.specs.world.Steps.{Step, Brings, FromBag, FromStranger, NoPacket, last_of}
@@ -30,7 +30,7 @@ use Rattle.sctp_channels.specs.Making.{Makes, IsReached, IsAllNoted, IsMade}
 use Rattle.sctp_channels.specs.MadeByCalls.{IsAnsweredBy, PacketsAreMade, IsSentAs, TransmitsAreMade}
 use Rattle.sctp_channels.proofs.AllNoted.{resets_are_all_noted}
 use Rattle.sctp_channels.proofs.StreamsThere.{waits_there, builds_noted}
-use Rattle.sctp_channels.proofs.MadeLemmas.{packets_in, makes_nothing, makes_more, makes_one, no_call, makes_told, reached_on}
+use Rattle.sctp_channels.proofs.MadeLemmas.{packets_in, makes_nothing, makes_more, makes_one, makes_no_time, no_call, makes_told, reached_on}
 use Rattle.sctp_channels.proofs.MadeRuns.{noted_same}
 use Rattle.sctp_channels.proofs.MadeSettled.{any_made, all_receiver}
 
@@ -46,19 +46,19 @@ module _ (y : Side) (w : World) (x : Table) where
   abbrev w1 : World
   w1 = last_of w m.worlds
 
-  built_there : (xs : List ChunkMeaning) (t : EndView) → Builds (at_moment S.view w.clock) xs t → Builds (end_now w1 y) xs t
-  built_there xs t b = subst (λ (n : ℕ). Builds (at_moment (end_of w1 y) n) xs t) (sym m.clock) (subst (λ (e : EndView). Builds (at_moment e w.clock) xs t) (sym m.here) b)
+  built_there : (xs : List ChunkMeaning) (t : EndView) → Builds (at_moment S.view (clock_of w y)) xs t → Builds (end_now w1 y) xs t
+  built_there xs t b = subst (λ (n : ℕ). Builds (at_moment (end_of w1 y) n) xs t) (sym (makes_no_time y w x [] [] [] S.view S.table m y)) (subst (λ (e : EndView). Builds (at_moment e (clock_of w y)) xs t) (sym m.here) b)
 
-  still_noted : (xs : List ChunkMeaning) (t : EndView) → Builds (at_moment S.view w.clock) xs t → IsAllNoted (end_of w y) → IsAllNoted t
-  still_noted xs t b all = builds_noted (at_moment S.view w.clock) xs t b (noted_same (end_of w y) (at_moment S.view w.clock) (all_receiver (end_of w y) 0 (take (length x.streams) x.streams)) all)
+  still_noted : (xs : List ChunkMeaning) (t : EndView) → Builds (at_moment S.view (clock_of w y)) xs t → IsAllNoted (end_of w y) → IsAllNoted t
+  still_noted xs t b all = builds_noted (at_moment S.view (clock_of w y)) xs t b (noted_same (end_of w y) (at_moment S.view (clock_of w y)) (all_receiver (end_of w y) 0 (take (length x.streams) x.streams)) all)
 
-  none_made : (t : EndView) → Builds (at_moment S.view w.clock) [] t → Makes y w x (Build y ∷ []) [] [] t S.table
+  none_made : (t : EndView) → Builds (at_moment S.view (clock_of w y)) [] t → Makes y w x (Build y ∷ []) [] [] t S.table
   none_made t b =
       makes_more y w x [] (Build y ∷ []) [] [] [] [] S.view t S.table S.table m
       (makes_one y w1 S.table (Build y ∷ []) (Build y) _ _ t None [] S.table refl (at_end w1 y t) (steps.BuildsNone y t (built_there [] t b)) (Elsewhere (Build y) _ refl) refl)
 
-  some_made : (c : ChunkMeaning) (cs : List ChunkMeaning) (t : EndView) → Builds (at_moment S.view w.clock) (c ∷ cs) t →
-      Makes y w x (Build y ∷ []) [] (packet_of (at_moment S.view w.clock) (c ∷ cs) ∷ []) t S.table
+  some_made : (c : ChunkMeaning) (cs : List ChunkMeaning) (t : EndView) → Builds (at_moment S.view (clock_of w y)) (c ∷ cs) t →
+      Makes y w x (Build y ∷ []) [] (packet_of (at_moment S.view (clock_of w y)) (c ∷ cs) ∷ []) t S.table
   some_made c cs t b =
       subst (λ (e : EndView). Makes y w x (Build y ∷ []) [] (packet_of e (c ∷ cs) ∷ []) t S.table) m.here
       (makes_more y w x [] (Build y ∷ []) [] [] [] (packet_of (end_of w1 y) (c ∷ cs) ∷ []) S.view t S.table S.table m
@@ -79,12 +79,12 @@ transmits_made y w x (Ok None) c ((t, b, stands), is) = (
 )
 transmits_made y w x (Ok (Some sent)) c (s, is) = go s.chunks s.some s.builds s.packet
   where
-    go : (xs : List ChunkMeaning) → (xs ≡ [] → ⊥) → Builds (at_moment (settled_all (end_of w y) x).view w.clock) xs s.after →
-        WritesPacket sent.packet.items (packet_of (at_moment (settled_all (end_of w y) x).view w.clock) xs) → (ps : List Packet) × IsSentAs (Ok (Some sent)) ps × IsMade y w x (Build y ∷ []) [] ps c
+    go : (xs : List ChunkMeaning) → (xs ≡ [] → ⊥) → Builds (at_moment (settled_all (end_of w y) x).view (clock_of w y)) xs s.after →
+        WritesPacket sent.packet.items (packet_of (at_moment (settled_all (end_of w y) x).view (clock_of w y)) xs) → (ps : List Packet) × IsSentAs (Ok (Some sent)) ps × IsMade y w x (Build y ∷ []) [] ps c
     go [] some b writes = absurd (some refl)
     go (k ∷ ks) some b writes = (
-      packet_of (at_moment (settled_all (end_of w y) x).view w.clock) (k ∷ ks) ∷ [],
-      (packet_of (at_moment (settled_all (end_of w y) x).view w.clock) (k ∷ ks), refl, writes),
+      packet_of (at_moment (settled_all (end_of w y) x).view (clock_of w y)) (k ∷ ks) ∷ [],
+      (packet_of (at_moment (settled_all (end_of w y) x).view (clock_of w y)) (k ∷ ks), refl, writes),
       record {
         view = s.after;
         table = (settled_all (end_of w y) x).table;

@@ -1,8 +1,8 @@
--- What calls make that are passed on to the endpoint: its steps; and time passes at both ends.
+-- What calls make that are passed on to the endpoint: its steps; and time passes at one end.
 use Rattle.std.proofs.Common.{◌≡◌, ℕ, max, List, [], ◌∷◌, None, Ok, Err, refl, sym, subst}
 use Rattle.sctp_model.specs.end.Moments.{ticked}
 use Rattle.sctp_model.specs.end.UserCalls.{abandoned_at, called, shut, AbortAnswer, Aborts, NoPeer, TooLong, abort_answer, abort_leaves}
-use Rattle.sctp_model.specs.world.World.{Side, A, B, World, end_of, bag_of, end_now}
+use Rattle.sctp_model.specs.world.World.{Side, A, B, World, end_of, bag_of, clock_of, with_end, with_log, with_clock, logged, end_now}
 use Rattle.sctp_model.specs.world.Events.{Abandon, Connect, Shutdown, Abort}
 use Rattle.sctp_model.specs.world.Steps as steps
 use Rattle.sctp_safety.proofs.machine.OneEnd.{at_end, at_log, abort_of, at_abort}
@@ -30,7 +30,7 @@ pub connects_are_made : ConnectsAreMade
 connects_are_made w x d (Ok _) c drawn answer stands = record {
   view = called (end_now w A) d;
   table = x;
-  makes = makes_one A w x (Connect d ∷ []) (Connect d) _ _ (called (end_now w A) d) None [] x refl (record { here = refl; there = refl; bag = refl; bag_there = refl; clock = refl; draw = refl })
+  makes = makes_one A w x (Connect d ∷ []) (Connect d) _ _ (called (end_now w A) d) None [] x refl (record { here = refl; there = refl; bag = refl; bag_there = refl; clock_a = refl; clock_b = refl; draw = refl })
       (steps.Connects d drawn (sym answer)) (Elsewhere (Connect d) _ refl) refl;
   stands = stands;
   noted = λ r all. noted_same w.a (called (end_now w A) d) refl all;
@@ -38,7 +38,7 @@ connects_are_made w x d (Ok _) c drawn answer stands = record {
 connects_are_made w x d (Err fault) c drawn answer stands = record {
   view = w.a;
   table = x;
-  makes = makes_one A w x (Connect d ∷ []) (Connect d) _ w w.a None [] x refl (record { here = refl; there = refl; bag = refl; bag_there = refl; clock = refl; draw = refl })
+  makes = makes_one A w x (Connect d ∷ []) (Connect d) _ w w.a None [] x refl (record { here = refl; there = refl; bag = refl; bag_there = refl; clock_a = refl; clock_b = refl; draw = refl })
       (steps.ConnectRefused d (sym answer)) (Elsewhere (Connect d) _ refl) refl;
   stands = stands;
   noted = λ r all. all;
@@ -75,29 +75,28 @@ aborts_are_made y w x reason (Err fault.NoMemory) c is stands = (
   record {
     view = end_of w y;
     table = x;
-    makes = makes_one y w x (Abort y reason ∷ []) (Abort y reason) None w (end_of w y) None [] x refl (record { here = refl; there = refl; bag = refl; bag_there = refl; clock = refl; draw = refl })
+    makes = makes_one y w x (Abort y reason ∷ []) (Abort y reason) None w (end_of w y) None [] x refl (record { here = refl; there = refl; bag = refl; bag_there = refl; clock_a = refl; clock_b = refl; draw = refl })
         (steps.NoMemory (Abort y reason) refl) (Elsewhere (Abort y reason) None refl) refl;
     stands = stands;
     noted = λ r all. all;
   },
 )
 
+-- the clock of one end has gone on, and it was asked what is due
+abbrev after_time : World → Side → ℕ → World
+after_time w y m =
+    let u = with_clock w y m in
+    let t = ticked (end_of u y) (clock_of u y) in
+    with_log (with_end u y t) y (logged u y t)
+
 pub times_are_made : TimesAreMade
-times_are_made w m x c small stands = (v, steps.TimePasses m small, both, bags, refl)
+times_are_made A w m x c small stands = (with_clock w A m, _, steps.TimeGoesOn A m small, steps.MomentComes A, stands, refl, bags, refl, refl)
   where
-    v : World
-    v = record w {
-      a = ticked w.a (max w.clock m);
-      b = ticked w.b (max w.clock m);
-      log_a = Rattle.sctp_model.specs.world.World.logged w A (ticked w.a (max w.clock m));
-      log_b = Rattle.sctp_model.specs.world.World.logged w B (ticked w.b (max w.clock m));
-      clock = max w.clock m;
-    }
-
-    both : (y : Side) → ChannelsStand (c y) (end_of v y) (x y)
-    both A = stands A
-    both B = stands B
-
-    bags : (y : Side) → bag_of v y ≡ bag_of w y
+    bags : (z : Side) → bag_of (after_time w A m) z ≡ bag_of w z
+    bags A = refl
+    bags B = refl
+times_are_made B w m x c small stands = (with_clock w B m, _, steps.TimeGoesOn B m small, steps.MomentComes B, stands, refl, bags, refl, refl)
+  where
+    bags : (z : Side) → bag_of (after_time w B m) z ≡ bag_of w z
     bags A = refl
     bags B = refl

@@ -7,7 +7,7 @@ use Rattle.sctp_model.specs.end.EndView.{EndView}
 use Rattle.sctp_model.specs.end.Moments.{ticked}
 use Rattle.sctp_model.specs.world.World.{Side, A, B, other, World, end_of, Setup, start}
 use Rattle.sctp_model.specs.world.Events.{Event, Outcome}
-use Rattle.sctp_model.specs.world.Steps.{Step, OpensBoth, OpenRefused, TimePasses, Draws, NoMemory, PassesThrough, last_of}
+use Rattle.sctp_model.specs.world.Steps.{Step, OpensBoth, OpenRefused, TimeGoesOn, MomentComes, TimePasses, Draws, NoMemory, PassesThrough, last_of}
 use Rattle.sctp_model.specs.world.Steps as steps
 use Rattle.sctp_outcomes.proofs.Unheard.{unheard_ticked}
 use Rattle.sctp_channels.specs.declared.channels.Channels.{Channels}
@@ -86,6 +86,8 @@ module _ (s : Setup) (roles : Side → DtlsRole) (many : Side → ℕ) where
     -- what happens beside
     off_call : (y : Side) (e : Event) → IsBeside e → is_call y e ≡ false
     off_call y e (made.OpensBoth _ _) = refl
+    off_call y e (made.GoesOn _ _) = refl
+    off_call y e (made.Comes _) = refl
     off_call y e (made.Passes _) = refl
     off_call y e (made.Draws _) = refl
 
@@ -94,14 +96,28 @@ module _ (s : Setup) (roles : Side → DtlsRole) (many : Side → ℕ) where
     still_noted e o v (made.OpensBoth _ _) (OpensBoth _ _ like may dx dy) B = λ k some. absurd (some refl)
     still_noted e o v (made.OpensBoth _ _) (OpenRefused _ _ off) y = d.noted y
     still_noted e o v (made.OpensBoth _ _) (NoMemory _ calm) y = d.noted y
-    still_noted e o v (made.Passes _) (TimePasses m small) A = noted_same w.a (ticked w.a (max w.clock m)) (unheard_ticked w.a (max w.clock m)).receiver (d.noted A)
-    still_noted e o v (made.Passes _) (TimePasses m small) B = noted_same w.b (ticked w.b (max w.clock m)) (unheard_ticked w.b (max w.clock m)).receiver (d.noted B)
+    still_noted e o v (made.GoesOn _ _) (TimeGoesOn A m small) A = d.noted A
+    still_noted e o v (made.GoesOn _ _) (TimeGoesOn A m small) B = d.noted B
+    still_noted e o v (made.GoesOn _ _) (TimeGoesOn B m small) A = d.noted A
+    still_noted e o v (made.GoesOn _ _) (TimeGoesOn B m small) B = d.noted B
+    still_noted e o v (made.GoesOn _ _) (NoMemory _ calm) y = d.noted y
+    still_noted e o v (made.Comes _) (MomentComes A) A = noted_same w.a (ticked w.a w.clock_a) (unheard_ticked w.a w.clock_a).receiver (d.noted A)
+    still_noted e o v (made.Comes _) (MomentComes A) B = d.noted B
+    still_noted e o v (made.Comes _) (MomentComes B) A = d.noted A
+    still_noted e o v (made.Comes _) (MomentComes B) B = noted_same w.b (ticked w.b w.clock_b) (unheard_ticked w.b w.clock_b).receiver (d.noted B)
+    still_noted e o v (made.Comes _) (NoMemory _ calm) y = d.noted y
+    still_noted e o v (made.Passes _) (TimePasses m small) A = noted_same w.a (ticked w.a (max w.clock_a m)) (unheard_ticked w.a (max w.clock_a m)).receiver (d.noted A)
+    still_noted e o v (made.Passes _) (TimePasses m small) B = noted_same w.b (ticked w.b (max w.clock_b m)) (unheard_ticked w.b (max w.clock_b m)).receiver (d.noted B)
     still_noted e o v (made.Passes _) (NoMemory _ calm) y = d.noted y
     still_noted e o v (made.Draws _) (Draws _ dd) A = d.noted A
     still_noted e o v (made.Draws _) (Draws _ dd) B = d.noted B
     still_noted e o v (made.Draws _) (NoMemory _ calm) y = d.noted y
     still_noted e o v (made.OpensBoth _ _) (steps.PacketComes _ _ _ _ _ brings received) y = elim brings [ ]
     still_noted e o v (made.OpensBoth _ _) (steps.PacketCut _ _ _ _ brings cut) y = elim brings [ ]
+    still_noted e o v (made.GoesOn _ _) (steps.PacketComes _ _ _ _ _ brings received) y = elim brings [ ]
+    still_noted e o v (made.GoesOn _ _) (steps.PacketCut _ _ _ _ brings cut) y = elim brings [ ]
+    still_noted e o v (made.Comes _) (steps.PacketComes _ _ _ _ _ brings received) y = elim brings [ ]
+    still_noted e o v (made.Comes _) (steps.PacketCut _ _ _ _ brings cut) y = elim brings [ ]
     still_noted e o v (made.Passes _) (steps.PacketComes _ _ _ _ _ brings received) y = elim brings [ ]
     still_noted e o v (made.Passes _) (steps.PacketCut _ _ _ _ brings cut) y = elim brings [ ]
     still_noted e o v (made.Draws _) (steps.PacketComes _ _ _ _ _ brings received) y = elim brings [ ]

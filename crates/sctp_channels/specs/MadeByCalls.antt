@@ -6,8 +6,8 @@ use Rattle.sctp_model.specs.wire.Packet.{Packet}
 use Rattle.sctp_model.specs.end.EndView.{Draw, IsDraw}
 use Rattle.sctp_model.specs.end.Moments.{ticked}
 use Rattle.sctp_model.specs.end.UserCalls.{connect_answer, abandoned_at, shut}
-use Rattle.sctp_model.specs.world.World.{Side, A, World, end_of, bag_of, Setup, start}
-use Rattle.sctp_model.specs.world.Events.{Event, OpenBoth, At, Drawing, Connect, Build, Abandon, Shutdown, Abort, Outcome, Done}
+use Rattle.sctp_model.specs.world.World.{Side, A, other, World, end_of, bag_of, clock_of, Setup, start}
+use Rattle.sctp_model.specs.world.Events.{Event, OpenBoth, Later, Moment, At, Drawing, Connect, Build, Abandon, Shutdown, Abort, Outcome, Done}
 use Rattle.sctp_model.specs.world.Steps.{Step, Brings, last_of}
 use Rattle.sctp_packet.specs.PacketBytes.{WritesPacket}
 use Rattle.sctp_values.specs.declared.no_memory.NoMemory.{NoMemory}
@@ -85,9 +85,9 @@ IsAnsweredBy (Ok (Dropped reason)) ps = ps ≡ []
 IsAnsweredBy (Ok (Answer bytes)) ps = (p : Packet) × (ps ≡ p ∷ []) × WritesPacket bytes.items p
 IsAnsweredBy (Err why) ps = ps ≡ []
 
--- `handle_packet`, at the world's time and with its random numbers, of a packet that an event brings
+-- `handle_packet`, at the time of the endpoint's clock and with the world's random numbers, of a packet that an event brings
 abbrev pub PacketsAreMade : Type 0
-PacketsAreMade = (y : Side) (w : World) (x : Table) (e : Event) (o : Option Packet) (r : Result Verdict NoMemory) (c : Channels) → Brings w e y o → Hears (end_of w y) x w.clock w.draw o r c →
+PacketsAreMade = (y : Side) (w : World) (x : Table) (e : Event) (o : Option Packet) (r : Result Verdict NoMemory) (c : Channels) → Brings w e y o → Hears (end_of w y) x (clock_of w y) w.draw o r c →
     (ps : List Packet) × IsAnsweredBy r ps × IsMade y w x (e ∷ []) [] ps c
 
 -- the packet whose bytes are sent, if there is one
@@ -101,9 +101,9 @@ abbrev pub building : Side → Result (Option Sent) NoMemory → List Event
 building y (Ok sent) = Build y ∷ []
 building y (Err why) = []
 
--- `poll_transmit`, at the world's time
+-- `poll_transmit`, at the time of the endpoint's clock
 abbrev pub TransmitsAreMade : Type 0
-TransmitsAreMade = (y : Side) (w : World) (x : Table) (r : Result (Option Sent) NoMemory) (c : Channels) → Transmit (end_of w y) x w.clock r c →
+TransmitsAreMade = (y : Side) (w : World) (x : Table) (r : Result (Option Sent) NoMemory) (c : Channels) → Transmit (end_of w y) x (clock_of w y) r c →
     (ps : List Packet) × IsSentAs r ps × IsMade y w x (building y r) [] ps c
 
 -- ---- calls that are passed on
@@ -111,7 +111,7 @@ TransmitsAreMade = (y : Side) (w : World) (x : Table) (r : Result (Option Sent) 
 -- `connect`, at the end that calls (RFC 9260, 5.1); at the other it is refused, and changes nothing
 abbrev pub ConnectsAreMade : Type 0
 ConnectsAreMade = (w : World) (x : Table) (d : Draw) (r : Result (Unit {0}) ConnectFault) (c : Channels) → IsDraw d → connect_meaning r ≡ connect_answer w.a.phase →
-    ChannelsStand c (connected w.a w.clock d r) x → IsMade A w x (Connect d ∷ []) [] [] c
+    ChannelsStand c (connected w.a w.clock_a d r) x → IsMade A w x (Connect d ∷ []) [] [] c
 
 -- `abandon` (RFC 3758, 3.5)
 abbrev pub AbandonsAreMade : Type 0
@@ -133,14 +133,17 @@ AbortsAreMade = (y : Side) (w : World) (x : Table) (reason : List ℕ) (r : Resu
 
 -- ---- both ends
 
--- `on_moment` at both ends: a time of the world
+-- `on_moment` at one end: its clock goes on to that time, if that is later, and it is asked what is due. Nothing happens at the other end, and no packet is built.
 abbrev pub TimesAreMade : Type 0
-TimesAreMade = (w : World) (m : ℕ) (x : Side → Table) (c : Side → Channels) → m < 2 ^ 64 → ((y : Side) → ChannelsStand (c y) (ticked (end_of w y) (max w.clock m)) (x y)) →
-    (v : World) × Step w (At m) (Some Done) v × ((y : Side) → ChannelsStand (c y) (end_of v y) (x y)) × ((y : Side) → bag_of v y ≡ bag_of w y) × (v.clock ≡ max w.clock m)
+TimesAreMade = (y : Side) (w : World) (m : ℕ) (x : Table) (c : Channels) → m < 2 ^ 64 → ChannelsStand c (ticked (end_of w y) (max (clock_of w y) m)) x →
+    (u v : World) × Step w (Later y m) (Some Done) u × Step u (Moment y) (Some Done) v × ChannelsStand c (end_of v y) x × (end_of v (other y) ≡ end_of w (other y))
+    × ((z : Side) → bag_of v z ≡ bag_of w z) × (clock_of v y ≡ max (clock_of w y) m) × (clock_of v (other y) ≡ clock_of w (other y))
 
--- both ends are opened without packets, time passes, or there are new random numbers
+-- both ends are opened without packets, a clock goes on, an end is asked what is due, both of these happen at both ends, or there are new random numbers
 pub data IsBeside : Event → Type 0 where
   OpensBoth : (d e : Draw) → IsBeside (OpenBoth d e)
+  GoesOn : (y : Side) (m : ℕ) → IsBeside (Later y m)
+  Comes : (y : Side) → IsBeside (Moment y)
   Passes : (m : ℕ) → IsBeside (At m)
   Draws : (d : Draw) → IsBeside (Drawing d)
 

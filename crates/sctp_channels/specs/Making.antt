@@ -19,7 +19,7 @@ abbrev pub others_in : Side → List Event → List Event
 others_in y es = filter (λ (e : Event). not (is_call y e)) es
 
 -- From a world on, events that are steps of it drive the table of an end, whose user is told these reports. Beside calls of that user they are these events. They leave this view of the end and this
--- table, with these packets more in the end's bag; and the other end and its bag as they were, whatever its table. No time passes, and the random numbers stay.
+-- table, with these packets more in the end's bag; and the other end and its bag as they were, whatever its table. Neither clock goes on, and the random numbers stay.
 pub record Makes (y : Side) (w : World) (x : Table) (others : List Event) (told : List Report) (packets : List Packet) (u : EndView) (z : Table) : Type 0 where
   pub events : List Event
   pub outcomes : List (Option Outcome)
@@ -32,7 +32,8 @@ pub record Makes (y : Side) (w : World) (x : Table) (others : List Event) (told 
   pub there : end_of (last_of w worlds) (other y) ≡ end_of w (other y)
   pub bag : bag_of (last_of w worlds) y ≡ bag_of w y ++ packets
   pub bag_there : bag_of (last_of w worlds) (other y) ≡ bag_of w (other y)
-  pub clock : (last_of w worlds).clock ≡ w.clock
+  pub clock_a : (last_of w worlds).clock_a ≡ w.clock_a
+  pub clock_b : (last_of w worlds).clock_b ≡ w.clock_b
   pub draw : (last_of w worlds).draw ≡ w.draw
 
 -- A run leads to this world.

@@ -23,8 +23,8 @@ pub fn events_are_made()
 {}
 
 // law
-/// A packet that is received, at the time of the world and with its random numbers, makes the step that brings it, and each reset of the peer's is noted. Before a packet is
-/// sent, what is due of the channels is queued, stream by stream; an allocation that fails leaves what was queued until then. What is sent, or answers, is in the bag of the
+/// A packet that is received, at the time of the endpoint's clock and with the world's random numbers, makes the step that brings it, and each reset of the peer's is noted.
+/// Before a packet is sent, what is due of the channels is queued, stream by stream; an allocation that fails leaves what was queued until then. What is sent, or answers, is in the bag of the
 /// endpoint (RFC 8831, 6.7; RFC 6525, 5.2.2).
 pub fn packets_are_made()
     ensures hears { PacketsAreMade }
@@ -32,7 +32,7 @@ pub fn packets_are_made()
 {}
 
 // law
-/// Calls that are passed on to the endpoint make its steps. A time of the world is `on_moment` at both endpoints.
+/// Calls that are passed on to the endpoint make its steps. `on_moment` makes two: the endpoint's clock goes on to that time, and the endpoint is asked what is due.
 pub fn passed_calls_are_made()
     ensures connects { ConnectsAreMade }
     ensures abandons { AbandonsAreMade }

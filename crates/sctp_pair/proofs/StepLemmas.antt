@@ -10,7 +10,7 @@ use Rattle.sctp_model.specs.end.Strays.{Verdict, Taken, Dropped, Answer}
 use Rattle.sctp_model.specs.end.Arriving.{Receives, IsCutShort}
 use Rattle.sctp_model.specs.end.Building.{Builds, packet_of}
 use Rattle.sctp_model.specs.end.UserCalls.{SendAnswer, send_answer, send_leaves, abandons, abandoned_at, UserTakes, ResetCall, reset_call, reset_leaves, reset_there, told_leaves, shutdown_answer, shut, AbortAnswer, Aborts, NoPeer, TooLong, abort_answer, abort_leaves}
-use Rattle.sctp_model.specs.world.World.{Side, A, B, World, Log, end_of, bag_of, log_of, with_end, with_packet, with_log, came, logged_one, logged_packet}
+use Rattle.sctp_model.specs.world.World.{Side, A, B, World, Log, end_of, bag_of, log_of, clock_of, with_end, with_packet, with_log, came, logged_one, logged_packet}
 use Rattle.sctp_model.specs.world.Events.{Event, Build, Abandon, Send, Take, Reset, WasReset, Shutdown, Abort, Outcome, Sent, Quiet, Fate, Told, Acted, NotActed, Answered, RefusedState, AbortTooLong, next_number, told, with_verdict, abort_told, with_abort, message_told, reset_told, resets_told, shutdown_told}
 use Rattle.sctp_model.specs.world.Steps as steps
 use Rattle.sctp_model.specs.world.Steps.{Step, Brings, accepted, named_at}
@@ -61,7 +61,7 @@ no_memory w e s step = subst (λ (v : World). Step w e None v) (sym (same_side w
 sent_so : (n m : ℕ) (size long : ℕ) → n ≡ m → size ≡ long → Some (Sent n size) ≡ Some (Sent m long)
 sent_so n m size long a b = ap (λ (k : ℕ). Some (Sent k size)) a ∙ ap (λ (k : ℕ). Some (Sent m k)) b
 
-pub builds : (w : World) (s : Side) (clock : ℕ) (xs : List ChunkMeaning) (t : EndView) (number long : ℕ) → w.clock ≡ clock → (xs ≡ [] → ⊥) →
+pub builds : (w : World) (s : Side) (clock : ℕ) (xs : List ChunkMeaning) (t : EndView) (number long : ℕ) → clock_of w s ≡ clock → (xs ≡ [] → ⊥) →
     next_number w s ≡ number → size_of_packet xs ≡ long → Builds (at_moment (end_of w s) clock) xs t →
     Step w (Build s) (Some (Sent number long)) (with_side w s (side t (bag_of w s ++ packet_of (end_of w s) xs ∷ []) (log_of w s)))
 builds w s clock [] t number long c some n l b = absurd (some refl)
@@ -69,7 +69,7 @@ builds w s clock (x ∷ xs) t number long c some n l b =
     moved w _ _ (Build s) _ _ (sent_so _ _ _ _ n l) (packet_here w s t (packet_of (end_of w s) (x ∷ xs)))
     (steps.BuildsOne s x xs t (subst (λ (k : ℕ). Builds (at_moment (end_of w s) k) (x ∷ xs) t) (sym c) b))
 
-pub builds_none : (w : World) (s : Side) (clock : ℕ) (t : EndView) → w.clock ≡ clock → Builds (at_moment (end_of w s) clock) [] t →
+pub builds_none : (w : World) (s : Side) (clock : ℕ) (t : EndView) → clock_of w s ≡ clock → Builds (at_moment (end_of w s) clock) [] t →
     Step w (Build s) (Some Quiet) (with_side w s (side t (bag_of w s) (log_of w s)))
 builds_none w s clock t c b =
     subst (λ (v : World). Step w (Build s) (Some Quiet) v) (end_here w s t)
@@ -77,19 +77,19 @@ builds_none w s clock t c b =
 
 -- ---- something comes
 
-arrived : (w : World) (e : Event) (s : Side) (clock : ℕ) (d : Draw) (p : Option Packet) (t : EndView) (v : Verdict) → Brings w e s p → w.clock ≡ clock → w.draw ≡ d →
+arrived : (w : World) (e : Event) (s : Side) (clock : ℕ) (d : Draw) (p : Option Packet) (t : EndView) (v : Verdict) → Brings w e s p → clock_of w s ≡ clock → w.draw ≡ d →
     Receives (end_of w s) clock d p t v → Step w e (Some (told w s v)) (with_verdict (came w s t) s v)
 arrived w e s clock d p t v brings c r a =
     steps.PacketComes e s p t v brings
     (subst (λ (n : ℕ). Receives (end_of w s) n w.draw p t v) (sym c) (subst (λ (x : Draw). Receives (end_of w s) clock x p t v) (sym r) a))
 
-pub acts : (w : World) (e : Event) (s : Side) (clock : ℕ) (d : Draw) (p : Option Packet) (t : EndView) (v : Verdict) → Brings w e s p → w.clock ≡ clock → w.draw ≡ d →
+pub acts : (w : World) (e : Event) (s : Side) (clock : ℕ) (d : Draw) (p : Option Packet) (t : EndView) (v : Verdict) → Brings w e s p → clock_of w s ≡ clock → w.draw ≡ d →
     Receives (end_of w s) clock d p t v → v ≡ Taken → Step w e (Some Acted) (left w s (side t (bag_of w s) (logged_packet w s t)))
 acts w e s clock d p t v brings c r a is =
     subst (λ (x : World). Step w e (Some Acted) x) (came_here w s t)
     (subst (λ (u : Verdict). Step w e (Some (told w s u)) (with_verdict (came w s t) s u)) is (arrived w e s clock d p t v brings c r a))
 
-pub drops : (w : World) (e : Event) (s : Side) (clock : ℕ) (d : Draw) (p : Option Packet) (t : EndView) (v : Verdict) (n : ℕ) → Brings w e s p → w.clock ≡ clock → w.draw ≡ d →
+pub drops : (w : World) (e : Event) (s : Side) (clock : ℕ) (d : Draw) (p : Option Packet) (t : EndView) (v : Verdict) (n : ℕ) → Brings w e s p → clock_of w s ≡ clock → w.draw ≡ d →
     Receives (end_of w s) clock d p t v → v ≡ Dropped n → Step w e (Some (NotActed n)) (left w s (side t (bag_of w s) (logged_packet w s t)))
 drops w e s clock d p t v n brings c r a is =
     subst (λ (x : World). Step w e (Some (NotActed n)) x) (came_here w s t)
@@ -98,14 +98,14 @@ drops w e s clock d p t v n brings c r a is =
 answered_so : (n m : ℕ) (size long : ℕ) → n ≡ m → size ≡ long → Some (Answered n size) ≡ Some (Answered m long)
 answered_so n m size long a b = ap (λ (k : ℕ). Some (Answered k size)) a ∙ ap (λ (k : ℕ). Some (Answered m k)) b
 
-pub answers : (w : World) (e : Event) (s : Side) (clock : ℕ) (d : Draw) (p : Option Packet) (t : EndView) (q : Packet) (number long : ℕ) → Brings w e s p → w.clock ≡ clock →
+pub answers : (w : World) (e : Event) (s : Side) (clock : ℕ) (d : Draw) (p : Option Packet) (t : EndView) (q : Packet) (number long : ℕ) → Brings w e s p → clock_of w s ≡ clock →
     w.draw ≡ d → next_number w s ≡ number → size_of_packet q.chunks ≡ long → Receives (end_of w s) clock d p t (Answer q) →
     Step w e (Some (Answered number long)) (left w s (side t (bag_of w s ++ q ∷ []) (logged_packet w s t)))
 answers w e s clock d p t q number long brings c r n l a =
     moved w _ _ e _ _ (answered_so _ _ _ _ n l) (answer_here w s t q) (arrived w e s clock d p t (Answer q) brings c r a)
 
 -- memory was wanted
-pub is_cut : (w : World) (e : Event) (s : Side) (clock : ℕ) (d : Draw) (p : Option Packet) (t : EndView) → Brings w e s p → w.clock ≡ clock → w.draw ≡ d →
+pub is_cut : (w : World) (e : Event) (s : Side) (clock : ℕ) (d : Draw) (p : Option Packet) (t : EndView) → Brings w e s p → clock_of w s ≡ clock → w.draw ≡ d →
     IsCutShort (end_of w s) clock d p t → Step w e None (left w s (side t (bag_of w s) (logged_packet w s t)))
 is_cut w e s clock d p t brings c r cut =
     subst (λ (x : World). Step w e None x) (came_here w s t)
@@ -123,7 +123,7 @@ sends w s c a is =
 
 -- what the log says of a call of abandon
 abbrev pub log_after : World → Side → ℕ → Log
-log_after w s k = named_at (logged_one w s k (abandoned_at (end_of w s) k)) k
+log_after w s k = named_at (logged_one w s k (abandoned_at (end_of w s) k)) (abandons (end_of w s) k) k
 
 pub abandons_at : (w : World) (s : Side) (k : ℕ) →
     Step w (Abandon s k) (Some (Fate (abandons (end_of w s) k))) (with_side w s (side (abandoned_at (end_of w s) k) (bag_of w s) (log_after w s k)))

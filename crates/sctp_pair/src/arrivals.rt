@@ -4,7 +4,7 @@ ghost use Rattle.std.specs.Prelude.{◌≡◌, List, Option, None, MatchOption};
 ghost use Rattle.sctp_model.specs.numbers.Lists.{item_at};
 ghost use Rattle.sctp_model.specs.wire.Packet.{Packet};
 ghost use Rattle.sctp_model.specs.world.World as world;
-ghost use Rattle.sctp_model.specs.world.World.{World};
+ghost use Rattle.sctp_model.specs.world.World.{World, clock_of};
 ghost use Rattle.sctp_model.specs.world.Events as meaning;
 ghost use Rattle.sctp_model.specs.world.Steps.{Step, Brings};
 ghost use Rattle.sctp_endpoint.specs.Handled.{IsRead};
@@ -43,7 +43,7 @@ pub(crate) fn arrive(
     bytes: &[u8],
 ) -> Result<Outcome, NoMemory>
     ensures { (w : World) (s : world.Side) (e : meaning.Event) (p : Option Packet) → SideStands side.old (side_of w s) → Brings w e s p → IsRead bytes.now p
-        → w.clock ≡ clock → w.draw ≡ draw
+        → clock_of w s ≡ clock → w.draw ≡ draw
         → (h : SideView) × Step w e (answer_of result) (left w s h) × SideStands side.new h }
 {
     // laws: a packet that was written reads back; the endpoint is sound, and its sender's view is one that calls reach

@@ -12,7 +12,6 @@ ghost use Rattle.sctp_pair.specs.PairStands.{PairStands};
 
 use crate::alike::are_alike;
 use crate::arrivals::{arrive, packet_at};
-use crate::moments::{make_room, tick};
 use crate::one_side::{build_at, refused};
 use crate::pair::Pair;
 use sctp_endpoint::{Endpoint, one_packet};
@@ -59,25 +58,6 @@ impl Pair {
         self.openable && are_alike(self.a.end.config(), self.b.end.config())
     }
 
-    /// Advances the clock and notifies both endpoints; the messages that they abandon then are logged. A time before the clock counts as
-    /// the clock's. Space for both logs is reserved before either endpoint is notified.
-    ///
-    /// # Errors
-    /// An allocation failed; nothing has changed.
-    pub(crate) fn pass_time(&mut self, moment: u64) -> Result<Outcome, NoMemory>
-        ensures step { (w : World) → PairStands self.old w
-            → (x : World) × Step w (meaning.At moment) (answer_of result) x × PairStands self.new x }
-        ensures memory { (w : World) → PairStands self.old w → OnErr result (TakesMemory w (meaning.At moment)) }
-    {
-        let now = self.clock.max(moment);
-        let of_a = make_room(self.alloc, &mut self.a, now)?;
-        let of_b = make_room(self.alloc, &mut self.b, now)?;
-        self.clock = now;
-        tick(&mut self.a, &of_a, now);
-        tick(&mut self.b, &of_b, now);
-        Ok(Outcome::Done)
-    }
-
     /// Sets the random values (tag and initial TSN) for INITs that arrive from now on.
     pub(crate) fn set_draw(&mut self, draw: Draw) -> Outcome
         ensures { (w : World) → PairStands self.old w
@@ -96,7 +76,7 @@ impl Pair {
         // law: the endpoint is sound
         self.a.end.sound();
         let _tag = draw.tag();
-        match self.a.end.connect(self.clock, draw) {
+        match self.a.end.connect(self.clock_a, draw) {
             Ok(()) => {
                 self.openable = false;
                 Outcome::Done
@@ -116,8 +96,8 @@ impl Pair {
             → (x : World) × Step w (meaning.Build (side_meaning side)) (answer_of result) x × PairStands self.new x }
     {
         match side {
-            Side::A => build_at(&mut self.a, self.clock),
-            Side::B => build_at(&mut self.b, self.clock),
+            Side::A => build_at(&mut self.a, self.clock_a),
+            Side::B => build_at(&mut self.b, self.clock_b),
         }
     }
 
@@ -136,14 +116,14 @@ impl Pair {
                     return Ok(Outcome::Absent);
                 };
                 self.openable = false;
-                arrive(self.alloc, &mut self.b, self.clock, self.draw, packet)
+                arrive(self.alloc, &mut self.b, self.clock_b, self.draw, packet)
             }
             Side::B => {
                 let Some(packet) = packet_at(&self.b.bag, number) else {
                     return Ok(Outcome::Absent);
                 };
                 self.openable = false;
-                arrive(self.alloc, &mut self.a, self.clock, self.draw, packet)
+                arrive(self.alloc, &mut self.a, self.clock_a, self.draw, packet)
             }
         }
     }
@@ -161,8 +141,8 @@ impl Pair {
         one_packet();
         self.openable = false;
         match side {
-            Side::A => arrive(self.alloc, &mut self.a, self.clock, self.draw, bytes),
-            Side::B => arrive(self.alloc, &mut self.b, self.clock, self.draw, bytes),
+            Side::A => arrive(self.alloc, &mut self.a, self.clock_a, self.draw, bytes),
+            Side::B => arrive(self.alloc, &mut self.b, self.clock_b, self.draw, bytes),
         }
     }
 }

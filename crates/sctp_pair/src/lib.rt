@@ -4,7 +4,7 @@
 //! `Pair` is the model's world of two ends (`sctp_model/specs/world`) in code. Every contract speaks of all worlds that a pair stands for
 //! (`PairStands`): each endpoint stands for that world's end; the packets in each *bag*, which are those that an endpoint has given to
 //! the network, are byte for byte what was written for that world's packets and read as these (`Carries` of `specs/Sides`); and so it is of
-//! the logs, the clock, the random values for INITs that arrive, and whether both endpoints may still be opened without packets.
+//! the logs, the clocks, the random values for INITs that arrive, and whether both endpoints may still be opened without packets.
 //!
 //! # Promises
 //!
@@ -27,13 +27,14 @@
 //! - `premises_are_the_keys` states the first two premises in the words of the listener's key.
 //! - `Pair::report` is the report of the world, byte for byte: for A and then for B the state and how the association ended, the tickets that
 //!   were given TSNs, those abandoned, and what was delivered on each stream, taken or not.
-//! - `Pair::end`, `packet` and `clock` are an endpoint, a packet of a bag, the time.
+//! - `Pair::end`, `packet` and `clock` are an endpoint, a packet of a bag, the time of an endpoint's clock.
 //!
 //! `docs/proofs/sctp_pair.md` has these promises in full, how they are proved, and what a body may still get away with.
 #![tactic(auto)]
 
 mod alike;
 mod arrivals;
+mod clocks;
 mod happening;
 mod hearing;
 mod laws;

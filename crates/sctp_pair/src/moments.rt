@@ -4,7 +4,7 @@ ghost use Rattle.std.specs.Prelude.{◌≡◌, ℕ, ◌+◌, ◌≤◌, ◌++◌
 ghost use Rattle.sctp_model.specs.sender.Readers.{abandoned};
 ghost use Rattle.sctp_model.specs.end.EndView.{EndView};
 ghost use Rattle.sctp_model.specs.world.World as world;
-ghost use Rattle.sctp_model.specs.world.World.{World};
+ghost use Rattle.sctp_model.specs.world.World.{World, clock_of};
 ghost use Rattle.sctp_model.specs.world.Events as meaning;
 ghost use Rattle.sctp_model.specs.world.Steps.{Step};
 ghost use Rattle.sctp_endpoint.specs.EndpointStands.{EndpointStands};
@@ -76,6 +76,22 @@ pub(crate) fn tick(side: &mut OneSide, before: &[Ticket], now: u64)
     side.end.gives_up_alone();
     side.end.on_moment(now);
     note(&side.end, &mut side.abandoned, before);
+}
+
+/// Notifies the endpoint of the time of its clock and logs what that abandons. Space for the log is reserved first.
+///
+/// # Errors
+/// An allocation failed; nothing has changed.
+#[tactic(auto, unfolding(crate::specs::Sides::SideStands))]
+pub(crate) fn notify_at(alloc: Global, side: &mut OneSide, clock: u64) -> Result<Outcome, NoMemory>
+    ensures step { (w : World) (s : world.Side) → SideStands side.old (side_of w s) → clock_of w s ≡ clock
+        → (h : SideView) × Step w (meaning.Moment s) (answer_of result) (with_side w s h) × SideStands side.new h }
+    ensures memory { (w : World) (s : world.Side) → SideStands side.old (side_of w s) → clock_of w s ≡ clock
+        → OnErr result (TakesMemory w (meaning.Moment s)) }
+{
+    let before = make_room(alloc, side, clock)?;
+    tick(side, &before, clock);
+    Ok(Outcome::Done)
 }
 
 /// Logs which of these tickets are abandoned now; space for all of them is reserved.

@@ -4,7 +4,7 @@ ghost use Rattle.std.specs.Prelude.{◌≡◌, ◌<◌, ◌+◌, ◌++◌, ◌�
 ghost use Rattle.sctp_model.specs.wire.Packet.{Packet};
 ghost use Rattle.sctp_model.specs.end.EndView.{EndView};
 ghost use Rattle.sctp_model.specs.world.World as world;
-ghost use Rattle.sctp_model.specs.world.World.{World, no_log};
+ghost use Rattle.sctp_model.specs.world.World.{World, no_log, clock_of};
 ghost use Rattle.sctp_model.specs.world.Events as meaning;
 ghost use Rattle.sctp_model.specs.world.Steps.{Step};
 ghost use Rattle.sctp_outcomes.specs.Kept.{HasNoLogs};
@@ -90,7 +90,7 @@ pub(crate) fn put_packet(bag: &mut Vec<Vec<u8>>, packet: Vec<u8>)
 /// An allocation failed; nothing has changed.
 #[tactic(auto, unfolding(crate::specs::Sides::SideStands))]
 pub(crate) fn build_at(side: &mut OneSide, clock: u64) -> Result<Outcome, NoMemory>
-    ensures { (w : World) (s : world.Side) → SideStands side.old (side_of w s) → w.clock ≡ clock
+    ensures { (w : World) (s : world.Side) → SideStands side.old (side_of w s) → clock_of w s ≡ clock
         → (h : SideView) × Step w (meaning.Build s) (answer_of result) (with_side w s h) × SideStands side.new h }
 {
     // law: a packet that was written reads back

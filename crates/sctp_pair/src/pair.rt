@@ -3,7 +3,7 @@
 ghost use Rattle.std.specs.Prelude.{◌≡◌, None, MatchOption, IfOk, OnErr};
 ghost use Rattle.sctp_model.specs.numbers.Lists.{item_at};
 ghost use Rattle.sctp_model.specs.end.Sealing.{Sealing};
-ghost use Rattle.sctp_model.specs.world.World.{World, start, end_of, bag_of};
+ghost use Rattle.sctp_model.specs.world.World.{World, start, end_of, bag_of, clock_of};
 ghost use Rattle.sctp_model.specs.world.Events as meaning;
 ghost use Rattle.sctp_model.specs.world.Steps.{Step, last_of};
 ghost use Rattle.sctp_cookie.specs.Seals.{IsUnder};
@@ -36,14 +36,15 @@ const PAIR_KEY: [u8; 32] = [
     26, 27, 28, 29, 30, 31,
 ];
 
-/// Two endpoints, the packets that either has given to the network, the logs of their users' messages, the clock, the random values for
+/// Two endpoints, the packets that either has given to the network, the logs of their users' messages, a clock for each, the random values for
 /// INITs that arrive, and whether both may still be opened without packets: A hasn't called and nothing has arrived.
 #[derive(Drop)]
 pub struct Pair {
     pub(crate) alloc: Global,
     pub(crate) a: OneSide,
     pub(crate) b: OneSide,
-    pub(crate) clock: u64,
+    pub(crate) clock_a: u64,
+    pub(crate) clock_b: u64,
     pub(crate) draw: Draw,
     pub(crate) openable: bool,
 }
@@ -98,7 +99,8 @@ impl Pair {
                 alloc,
                 a,
                 b,
-                clock: 0,
+                clock_a: 0,
+                clock_b: 0,
                 draw,
                 openable: true,
             }),
@@ -136,6 +138,8 @@ impl Pair {
         users_take_what_was_sent();
         match event {
             Event::Open { a, b } => self.open(*a, *b),
+            Event::Later { side, moment } => Ok(self.go_on(*side, *moment)),
+            Event::Moment { side } => self.notify(*side),
             Event::At { moment } => self.pass_time(*moment),
             Event::Drawing { draw } => Ok(self.set_draw(*draw)),
             Event::Connect { draw } => Ok(self.connect(*draw)),
@@ -233,11 +237,14 @@ impl Pair {
         }
     }
 
-    /// The clock, in milliseconds.
+    /// The clock of an endpoint, in milliseconds.
     #[tactic(auto, unfolding(crate::specs::PairStands::PairStands))]
-    pub fn clock(&self) -> u64
-        ensures { (w : World) → PairStands self.now w → result ≡ w.clock }
+    pub fn clock(&self, side: Side) -> u64
+        ensures { (w : World) → PairStands self.now w → result ≡ clock_of w (side_meaning side) }
     {
-        self.clock
+        match side {
+            Side::A => self.clock_a,
+            Side::B => self.clock_b,
+        }
     }
 }

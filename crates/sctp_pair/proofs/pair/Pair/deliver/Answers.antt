@@ -25,16 +25,16 @@ unfolding PairStands SideStands
 returns-in-Some-clause-step c = λ w stands.
     let n = c.args.number in
     let item = c.in-Some.ensures (bag_of w A) (rw c.deref.ensures.value stands.a.bag) in
-    let done = c.arrive.ensures w B (meaning.Deliver A n) (Some item.packet) stands.b (steps.FromBag A n item.packet item.here) item.reads stands.clock stands.draw in
-    rw c.in-A.is (left w B done.0, done.1, record { a = stands.a; b = done.2; clock = stands.clock; draw = stands.draw; openable = refl; on_time = on_time w _ _ _ stands.on_time done.1 })
+    let done = c.arrive.ensures w B (meaning.Deliver A n) (Some item.packet) stands.b (steps.FromBag A n item.packet item.here) item.reads stands.clock_b stands.draw in
+    rw c.in-A.is (left w B done.0, done.1, record { a = stands.a; b = done.2; clock_a = stands.clock_a; clock_b = stands.clock_b; draw = stands.draw; openable = refl; on_time = on_time w _ _ _ stands.on_time done.1 })
 
 pub returns-in-Some-packet_at-clause-step : goal.returns-in-Some-packet_at-clause-step
 unfolding PairStands SideStands
 returns-in-Some-packet_at-clause-step c = λ w stands.
     let n = c.args.number in
     let item = c.in-Some-packet_at.ensures (bag_of w B) (rw c.deref-in-B.ensures.value stands.b.bag) in
-    let done = c.arrive-in-B.ensures w A (meaning.Deliver B n) (Some item.packet) stands.a (steps.FromBag B n item.packet item.here) item.reads stands.clock stands.draw in
-    rw c.in-B.is (left w A done.0, done.1, record { a = done.2; b = stands.b; clock = stands.clock; draw = stands.draw; openable = refl; on_time = on_time w _ _ _ stands.on_time done.1 })
+    let done = c.arrive-in-B.ensures w A (meaning.Deliver B n) (Some item.packet) stands.a (steps.FromBag B n item.packet item.here) item.reads stands.clock_a stands.draw in
+    rw c.in-B.is (left w A done.0, done.1, record { a = done.2; b = stands.b; clock_a = stands.clock_a; clock_b = stands.clock_b; draw = stands.draw; openable = refl; on_time = on_time w _ _ _ stands.on_time done.1 })
 
 pub returns-in-Some-clause-memory : goal.returns-in-Some-clause-memory
 unfolding PairStands SideStands

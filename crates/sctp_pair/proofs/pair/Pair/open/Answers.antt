@@ -46,7 +46,8 @@ returns-clause-step c = λ w stands.
       record {
         a = c.put_in-2.ensures (side_of w A) (opened w.a.configuration x y) stands.a a (new w.a.configuration x y);
         b = c.put_in.ensures (side_of w B) (opened w.b.configuration y x) stands.b b (new w.b.configuration y x);
-        clock = stands.clock;
+        clock_a = stands.clock_a;
+        clock_b = stands.clock_b;
         draw = stands.draw;
         openable = refl;
         on_time = on_time w _ _ _ stands.on_time step;
