@@ -120,8 +120,7 @@ impl Pair {
     /// the run, has an INIT that proposes one, or has a COOKIE ECHO with a cookie that the listener's key seals; that the contract's premises
     /// say this is the law [`premises_are_the_keys`](crate::premises_are_the_keys). And a packet is delivered only before either endpoint has
     /// assigned 2^31 - 65,536 more TSNs than when it was built (RFC 9260, 2.6). A run with fewer TSNs meets this premise by itself, by
-    /// `sctp_safety::a_short_run_is_aged`; if neither endpoint assigns 2^31 TSNs in all it isn't needed, by
-    /// `sctp_safety::a_run_of_half_the_tsns_is_safe`.
+    /// `sctp_safety::a_short_run_is_aged`; if each endpoint assigns fewer than 2^31 it isn't needed (`a_run_of_half_the_tsns_is_safe`).
     ///
     /// # Errors
     /// An allocation failed, which is possible only for an event that allocates. Of an arriving packet the chunks before the failing one have

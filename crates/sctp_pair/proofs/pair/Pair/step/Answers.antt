@@ -16,6 +16,22 @@ returns-in-Open-clause-step c = λ w stands.
     let step = s.1 in
     (e, s.0, means, step, promised_step c.a_run_passes_its_worlds.ensures.passes_on c.each_world_on_the_way_is_safe.ensures c.users_take_what_was_sent.ensures w s.0 e _ step, s.2)
 
+pub returns-in-Later-clause-step : goal.returns-in-Later-clause-step
+returns-in-Later-clause-step c = λ w stands.
+    let s = c.go_on.ensures w stands in
+    let e : meaning.Event = meaning.Later (side_meaning c.in-Later.side) c.in-Later.moment in
+    let means : Means c.args.event.now e = rw c.in-Later.is refl in
+    let step = s.1 in
+    (e, s.0, means, step, promised_step c.a_run_passes_its_worlds.ensures.passes_on c.each_world_on_the_way_is_safe.ensures c.users_take_what_was_sent.ensures w s.0 e _ step, s.2)
+
+pub returns-in-Moment-clause-step : goal.returns-in-Moment-clause-step
+returns-in-Moment-clause-step c = λ w stands.
+    let s = c.notify.ensures.step w stands in
+    let e : meaning.Event = meaning.Moment (side_meaning c.in-Moment.side) in
+    let means : Means c.args.event.now e = rw c.in-Moment.is refl in
+    let step = s.1 in
+    (e, s.0, means, step, promised_step c.a_run_passes_its_worlds.ensures.passes_on c.each_world_on_the_way_is_safe.ensures c.users_take_what_was_sent.ensures w s.0 e _ step, s.2)
+
 pub returns-in-At-clause-step : goal.returns-in-At-clause-step
 returns-in-At-clause-step c = λ w stands.
     let s = c.pass_time.ensures.step w stands in
@@ -135,6 +151,11 @@ pub returns-in-Open-clause-memory : goal.returns-in-Open-clause-memory
 returns-in-Open-clause-memory c = λ w e stands means.
     let is : e ≡ meaning.OpenBoth c.in-Open.a c.in-Open.b = rw c.in-Open.is at means in
     meant_takes w _ e _ is (c.open.ensures.memory w stands)
+
+pub returns-in-Moment-clause-memory : goal.returns-in-Moment-clause-memory
+returns-in-Moment-clause-memory c = λ w e stands means.
+    let is : e ≡ meaning.Moment (side_meaning c.in-Moment.side) = rw c.in-Moment.is at means in
+    meant_takes w _ e _ is (c.notify.ensures.memory w stands)
 
 pub returns-in-At-clause-memory : goal.returns-in-At-clause-memory
 returns-in-At-clause-memory c = λ w e stands means.
