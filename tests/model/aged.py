@@ -40,6 +40,7 @@ class Schedule(Run):
         super().__init__()
         self.random, self.apart, self.ages = random.Random(seed), random.Random('options %d' % seed), ages
         self.has_resets = random.Random('resets %d' % seed).random() < resets
+        self.timed, self.has_two_clocks = random.Random('clocks %d' % seed), False
         self.limit = min(ages.stop, WIDTHS.age)
         self.fresh = {'A': [], 'B': []}       # packets that were neither delivered nor lost
         self.loss = self.pick((0, 0.05, 0.2, 0.4))
@@ -79,7 +80,7 @@ class Schedule(Run):
                     self.line('deliver', x, len(self.pair.bags[x]))
                 self.take(x)
             if turn % 2 and not self.is_over():
-                self.line('at', self.pair.clock + 60_000)
+                self.line('at', max(self.pair.clocks.values()) + 60_000)
         waits = [x for x, end in self.pair.ends.items() if end.sender.resets.pending or end.sender.resets.resetting()]
         if waits and not self.is_over():
             self.fault, self.faulty_line = 'a stream of end %s is reset for ever' % waits[0], len(self.lines)
@@ -110,6 +111,9 @@ class Schedule(Run):
         if self.has_resets:
             self.line('options', 'both', 'reset')
         self.random = plain
+        if self.pair.configs['A'].reset and self.timed.random() < 0.3:
+            self.has_two_clocks = True
+            self.line('later', self.timed.choice('AB'), self.timed.choice((0, 1, 60_000, 2**32, 2**63)))
 
     # ---- Acts ----
 
@@ -120,7 +124,7 @@ class Schedule(Run):
         for _ in range(self.pick(self.bursts) if len(sender.queue) < 40 else 0):
             ticket = len(sender.messages) + 1
             data = b''.join(struct.pack('>BHB', unit, ticket, ord(x)) for unit in range(self.pick(self.sizes)))
-            until = self.pair.clock + self.pick((0, 100, 2_000)) if self.chance(0.1) else '-'
+            until = self.pair.clocks[x] + self.pick((0, 100, 2_000)) if self.chance(0.1) else '-'
             self.line('send', x, self.random.randrange(self.streams), self.pick(self.kinds), ticket, until, data.hex())
 
     def exchange(self):
@@ -150,7 +154,14 @@ class Schedule(Run):
             self.line('abandon', x, max(1, last - self.random.randrange(20)))
 
     def pass_time(self):
-        self.line('at', self.pair.clock + self.pick((10, 200, 1_000, 1_000, 3_000)))
+        passed = self.pick((10, 200, 1_000, 1_000, 3_000))
+        if not self.has_two_clocks:
+            self.line('at', self.pair.clocks['A'] + passed)
+            return
+        for x in self.timed.choice(('A', 'B', 'AB', 'BA')):
+            self.line('later', x, self.pair.clocks[x] + passed)
+            if self.timed.random() < 0.7:
+                self.line('moment', x)
 
     def take(self, x=None):
         x = x or self.pick('AB')

@@ -23,6 +23,7 @@ class Edges(scripts.Maker):
         most = min(1400, (limit - 32) // 4 * 4)
         self.line('pair', limit, self.pick((4, most)), self.pick(self.buffers), self.pick(self.streams), self.pick(self.modes), *self.delay())
         self.options()
+        self.choose_clocks()
         if self.chance(0.4):
             self.line('at', LAST_MOMENT - self.pick((0, 1, 199, 200, 201, 999, 1000, 1001, 59999, 60000, 60001, 61000, 10**6)))
         way = self.random.random()
@@ -50,7 +51,7 @@ class Edges(scripts.Maker):
         return self.pick((1, 1, edge, fragment - 1, fragment, fragment + 1, 2 * fragment, 2 * fragment + 1))
 
     def until(self):
-        clock = self.pair.clock
+        clock = self.clock
         moments = [0, clock, clock + 1, clock + 1000, LAST_MOMENT - 1, LAST_MOMENT]
         moment = self.pick(('-', '-', '-', *[m for m in moments if m <= LAST_MOMENT]))
         if moment != '-':
@@ -78,7 +79,8 @@ class Edges(scripts.Maker):
         due = [self.end(x).next_moment() for x in scripts.SIDES]
         due = [moment for moment in due if moment is not None]
         near = [moment + n for moment in due + self.untils[-2:] for n in (-1, 0, 0, 0, 1)]
-        near += [0, self.pair.clock, self.pair.clock + 1]
+        clock = self.clock
+        near += [0, clock, clock + 1]
         if self.chance(0.05):
             near += [LAST_MOMENT - 1, LAST_MOMENT, 2**63, 2**63 - 1]
         return [moment for moment in near if 0 <= moment <= LAST_MOMENT]

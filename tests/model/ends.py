@@ -84,10 +84,9 @@ class RecordedPair(model.Pair):
         word = outcome.split(' ')[0]
         return '%s %s' % (word, self.bags[x][-1].hex()) if word in ('sent', 'answer') else self.without_side(outcome)
 
-    def at(self, moment):
-        outcome = super().at(moment)
-        for x in 'AB':
-            self.note(x, 'at %d' % self.clock, 'ok')
+    def moment(self, x):
+        outcome = super().moment(x)
+        self.note(x, 'at %d' % self.clocks[x], 'ok')
         return outcome
 
     def draw(self, drawn_tag, tsn):
@@ -156,13 +155,20 @@ class RecordedPair(model.Pair):
 
 
 class OneEnd:
-    """A maker of scripts without `open`, which one end alone has no line for, and of ends with as many streams each way."""
+    """
+    A maker of scripts without `open`, which one end alone has no line for, and of ends with as many streams each way. An end whose clock goes on
+    is notified of it at once, as by `at` of `sctp-end`.
+    """
 
     def streams_words(self):
         return [self.pick(self.streams)] * 2
 
     def wrong_options(self, named):
         return self.right_options(named)
+
+    def goes_on(self, x, moment):
+        self.line('later', x, moment)
+        self.line('moment', x)
 
     def open(self):
         if self.pair is not None and self.pair.may_open:

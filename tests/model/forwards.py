@@ -54,7 +54,7 @@ class Forwards(scripts.Maker):
         # an endpoint may be configured without a stream to send on; then it opens no association
         streams, kinds, fragment = max(1, self.outbound('A')), self.pick(('o', 'u', 'ou')), self.pair.configs['A'].fragment
         for _ in range(count):
-            until = '-' if self.chance(0.8) else self.pair.clock + self.pick((0, 1, 500, 5000))
+            until = '-' if self.chance(0.8) else self.clock + self.pick((0, 1, 500, 5000))
             size = self.pick((1, 1, 1, fragment, 2 * fragment + 1))
             self.line('send', 'A', self.random.randrange(streams), self.pick(kinds), 0, until, '61' * size)
 
@@ -74,7 +74,7 @@ class Forwards(scripts.Maker):
             self.line('abandon', 'A', ticket)
 
     def lifetimes(self):
-        self.line('at', self.pair.clock + self.pick((0, 1, 500, 5000)))
+        self.time(self.clock + self.pick((0, 1, 500, 5000)))
 
     def moves(self):
         sender = self.end('A').sender
@@ -114,7 +114,7 @@ class Forwards(scripts.Maker):
     def timer(self):
         moment = self.end('A').next_moment()
         if moment is not None:
-            self.line('at', moment)
+            self.time(moment)
 
     def builds(self):
         for _ in range(self.pick((1, 3, 30))):

@@ -86,12 +86,12 @@ class Limited(scripts.Maker):
                 break
 
     def waits(self):
-        self.line('at', self.pair.clock + self.pick((0, 1, 10, 40, 100, 300, 999)))
+        self.time(self.clock + self.pick((0, 1, 10, 40, 100, 300, 999)))
 
     def expires(self):
         moment = self.end(self.x).next_moment()
         if moment is not None:
-            self.line('at', max(0, moment + self.pick((0, 0, 0, 0, -1, 1, 70000))))
+            self.time(max(0, moment + self.pick((0, 0, 0, 0, -1, 1, 70000))))
 
     def gives_up(self):
         for _ in range(self.pick((1, 3))):

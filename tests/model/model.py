@@ -95,9 +95,11 @@ COMMANDS = {
 }
 MAY_BE_LEFT_OUT = (DELAY,)
 # Behind a line `options` these are commands too.
-RESET_COMMANDS = {
+FURTHER_COMMANDS = {
     b'reset': (SIDE, N16),
     b'resets': (SIDE,),
+    b'later': (SIDE, N64),
+    b'moment': (SIDE,),
 }
 
 # What a line `options` may set at the ends that it names, with the words of each.
@@ -139,7 +141,7 @@ def split_options(words):
 
 
 class Pair:
-    """Two ends, a bag of packets for each, the clock and the draw."""
+    """Two ends, a bag of packets and a clock for each, and the draw."""
 
     def __init__(self, limit, fragment, buffer, streams, mode, delay=None):
         if not in_range(limit, fragment, buffer, streams):
@@ -150,7 +152,7 @@ class Pair:
         self.ends = {'A': Endpoint(self.configs['A']), 'B': Endpoint(self.configs['B'], KEY)}
         self.bags = {'A': [], 'B': []}
         self.tickets = {'A': [], 'B': []}
-        self.clock, self.next_draw = 0, (1, 1)
+        self.clocks, self.next_draw = {'A': 0, 'B': 0}, (1, 1)
         self.may_open = True
 
     # ---- A line `options` ----
@@ -189,9 +191,17 @@ class Pair:
         return 'ok'
 
     def at(self, moment):
-        self.clock = max(self.clock, moment)
         for x in 'AB':
-            self.ends[x].on_moment(self.clock)
+            self.later(x, moment)
+            self.moment(x)
+        return 'ok'
+
+    def later(self, x, moment):
+        self.clocks[x] = max(self.clocks[x], moment)
+        return 'ok'
+
+    def moment(self, x):
+        self.ends[x].on_moment(self.clocks[x])
         return 'ok'
 
     def draw(self, drawn_tag, tsn):
@@ -199,7 +209,7 @@ class Pair:
         return 'ok'
 
     def connect(self, drawn_tag, tsn):
-        if not self.ends['A'].connect(self.clock, (drawn_tag, tsn)):
+        if not self.ends['A'].connect(self.clocks['A'], (drawn_tag, tsn)):
             return 'refused 1'
         self.may_open = False
         return 'ok'
@@ -209,13 +219,13 @@ class Pair:
         return '%s %s %d %d' % (word, x, len(self.bags[x]), len(packet))
 
     def build(self, x):
-        packet, tickets = self.ends[x].poll_transmit(self.clock)
+        packet, tickets = self.ends[x].poll_transmit(self.clocks[x])
         self.tickets[x] += tickets
         return 'quiet %s' % x if packet is None else self.into_bag(x, 'sent', packet)
 
     def arrive(self, y, packet):
         self.may_open = False
-        verdict, *rest = self.ends[y].handle_packet(self.clock, packet, self.next_draw)
+        verdict, *rest = self.ends[y].handle_packet(self.clocks[y], packet, self.next_draw)
         if verdict == 'answer':
             return self.into_bag(y, 'answer', rest[0])
         return ' '.join([verdict, y] + [str(reason) for reason in rest])
@@ -304,7 +314,7 @@ class Script:
             self.pair.set_options(*options)
             self.has_options = True
             return
-        commands = {**COMMANDS, **RESET_COMMANDS} if self.has_options else COMMANDS
+        commands = {**COMMANDS, **FURTHER_COMMANDS} if self.has_options else COMMANDS
         if command not in commands:
             raise LineFault(UNKNOWN_COMMAND)
         readers = commands[command]

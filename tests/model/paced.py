@@ -64,7 +64,7 @@ class Paced(limited.Limited):
             if self.sender is None or self.end(self.x).ended or self.sender.last_sent() == self.sender.cum:
                 break
             if trip:
-                self.line('at', self.pair.clock + trip)
+                self.time(self.clock + trip)
             self.sack_packet(min(self.sender.last_sent(), self.sender.cum + step * self.pick((1, 1, 1, 2))))
         if self.chance(0.5):
             self.builds()

@@ -2,8 +2,8 @@
 """Random scripts over all lines: `scripts.py FOLDER N [SEED]` writes N of them into the folder.
 
 Each script is written beside a run of the model, so that it can name real tickets, packets of the
-bags, tags and moments. Half of them have lines `options`, by which the two ends differ. The same seed
-gives the same scripts.
+bags, tags and moments. Half of them have lines `options`, by which the two ends differ; in a third of
+those each end has a clock of its own. The same seed gives the same scripts.
 """
 
 import copy
@@ -23,6 +23,12 @@ EDGE_32 = (0, 1, 2, 2**31 - 1, 2**31, 2**31 + 1, 2**32 - 2, 2**32 - 1)
 UNKNOWN_TYPES = (12, 13, 15, 0x3f, 0x40 + 1, 0x7f, 0x80, 0x82, 0xbf, 0xc1, 0xc3, 0xff)
 UNKNOWN_PARAMETERS = (1, 2, 0x3fff, 0x4000, 0x7fff, 0x8000, 0x8002, 0xbfff, 0xc001, 0xc006, 0xffff)
 SILENT = (5, 6, 9, 11, 12)
+# How far one clock is ahead of the other at first.
+LEADS = (0, 1, 500, 60_000, 60_001, 3_600_000, 2**32, 2**63, 2**64 - 10**6)
+# Lines of one clock that are faulty behind a line `options`; elsewhere `later` and `moment` are no commands.
+CLOCK_FAULTS = (('later',), ('later', 'A'), ('later', 'C', 5), ('later', 'B', 2**64), ('later', 'A', '01'), ('later', 'A', '-'), ('later', 5, 'A'),
+                ('later', 'A', 5, 5), ('later', 'A', ''), ('Later', 'A', 5), ('moment',), ('moment', 'a'), ('moment', 'AB'), ('moment', 'A', 5),
+                ('moment', ''), ('moments', 'A'))
 
 
 class Maker:
@@ -38,6 +44,7 @@ class Maker:
     def __init__(self, seed, share=0.5):
         """`share` of the scripts have lines `options`, which are chosen apart from all else."""
         self.random, self.apart = random.Random(seed), random.Random('options %d' % seed)
+        self.timed, self.has_two_clocks = random.Random('clocks %d' % seed), False
         self.share, self.differs = share, False
         self.lines, self.outcome = [], None
         self.script = model.Script(self.heard)
@@ -118,6 +125,7 @@ class Maker:
         self.line('pair', limit, min(fragment, most), self.pick(self.buffers), self.pick(self.streams), self.pick(self.modes),
                   *self.delay())
         self.options()
+        self.choose_clocks()
         way = self.random.random()
         if way < 0.5:
             self.open()
@@ -203,6 +211,46 @@ class Maker:
             (named, 'delay', 'delay'), (named, 'limit', 600, 'fragment', 568), (named, 'limit', 600, 'fragment', 569),
         ))
 
+    # ---- Two clocks ----
+
+    def choose_clocks(self):
+        """In a third of the scripts with a line `options` each end has a clock of its own, one often far ahead."""
+        if not self.faulty and self.script.has_options and self.timed.random() < 1 / 3:
+            self.has_two_clocks = True
+            lead = self.timed.choice(LEADS)
+            if lead:
+                self.goes_on(self.timed.choice(SIDES), lead)
+
+    @property
+    def clock(self):
+        """The time that a moment is chosen from: that of one of the clocks."""
+        clocks = list(self.pair.clocks.values())
+        return self.timed.choice(clocks) if self.has_two_clocks else clocks[0]
+
+    def time(self, moment):
+        """The time goes on: to this moment at both ends, or where each has its own clock as far at one, or at one by one."""
+        if not self.has_two_clocks:
+            self.line('at', moment)
+            return
+        if self.timed.random() < 0.05:
+            self.line('at', min(moment, *self.pair.clocks.values()) + self.timed.choice((0, 1, 1000)))
+            return
+        passed = min((moment - clock for clock in self.pair.clocks.values()), key=abs)
+        for x in self.timed.choice(('A', 'B', 'AB', 'AB', 'BA', 'BA')):
+            now, due = self.pair.clocks[x], self.end(x).next_moment()
+            some = self.timed.choice((now + passed, now + passed, now + passed, due, due, now + 1, now + 250, now - 5))
+            if self.timed.random() < 0.01:
+                some = now + self.timed.choice(LEADS)
+            self.goes_on(x, min(max(0, now + passed if some is None else some), 2**64 - 1))
+
+    def goes_on(self, x, moment):
+        """The clock of one end goes on, and the end is notified of it: both, or one of them."""
+        way = self.timed.random()
+        if way < 0.8:
+            self.line('later', x, moment)
+        if way > 0.25:
+            self.line('moment', x)
+
     def outbound(self, x):
         """How many streams an end has to its peer: as configured, or as agreed on where the two differ."""
         sender = self.end(x).sender if self.differs else None
@@ -271,8 +319,10 @@ class Maker:
     def until(self):
         if self.chance(0.7):
             return '-'
-        clock = self.pair.clock
+        clock = self.clock
         moment = self.pick((0, clock, clock + 1, clock + 100, clock + 1000, clock + 5000, 2**64 - 1))
+        if self.has_two_clocks:
+            moment = min(moment, 2**64 - 1)
         self.untils.append(moment)
         return moment
 
@@ -370,11 +420,11 @@ class Maker:
         for _ in range(self.pick((3, 9, 12))):
             moment = self.end(x).next_moment()
             if moment is not None:
-                self.line('at', moment)
+                self.time(moment)
             self.line('build', x)
 
     def moments(self):
-        clock = self.pair.clock
+        clock = self.clock
         moments = [clock, clock + 1, clock + 200, clock + 1000, max(0, clock - 5)] + self.untils[-3:]
         for x in SIDES:
             expiry = self.end(x).next_moment()
@@ -386,7 +436,7 @@ class Maker:
 
     def at(self):
         for _ in range(self.pick((1, 1, 1, 2, 12 if self.chance(0.1) else 1))):
-            self.line('at', self.pick(self.moments()))
+            self.time(self.pick(self.moments()))
             if self.chance(0.5):
                 self.build()
 
@@ -633,7 +683,7 @@ class Maker:
                 cookie = cookie[:-1]
             return chunk(wire.COOKIE_ECHO, bytes(cookie))
         end = self.end('B')
-        clock = self.pair.clock
+        clock = self.pair.clocks['B']
         tags = [(end.own_tag, end.peer_tag)] if end.own_tag is not None and end.peer_tag is not None else []
         own_tag, peer_tag = self.pick(tags * 3 + [(self.tag(), self.tag())])
         made = wire.Cookie(self.pick((0, clock, clock, max(0, clock - 60000), max(0, clock - 60001), min(clock + 5, 2**64 - 1))),
@@ -645,6 +695,9 @@ class Maker:
     # ---- Faulty lines ----
 
     def fault(self):
+        if self.has_two_clocks and self.timed.random() < 0.5:
+            self.line(*self.timed.choice(CLOCK_FAULTS))
+            return
         x = self.side()
         self.line(*self.pick((
             ('bild', x), ('build',), ('build', x, 'A'), ('build', 'C'), ('build', 'a'), ('deliver', x, '-1'),

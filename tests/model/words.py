@@ -105,7 +105,8 @@ class Words:
     def alone(self):
         """A line of such words, the first of which is no command."""
         self.put(self.somewhere(), self.pick((self.option(), [self.word(), self.word()], [self.word()], [self.pick('AB'), *self.option()],
-                                              ['reset', self.pick('AB'), self.pick('01')], ['resets', self.pick('AB')])))
+                                              ['reset', self.pick('AB'), self.pick('01')], ['resets', self.pick('AB')],
+                                              ['later', self.pick('AB'), self.pick('01')], ['moment', self.pick('AB')])))
 
     def wrong(self):
         """A line `options` behind the pair, not of its form."""

@@ -76,6 +76,11 @@ fn put_deed(deed: &Deed, words: &mut String) -> Result<(), AllocError> {
             let moment = *moment;
             write!(words, "at {moment}")
         }
+        Deed::Later { moment } => {
+            let moment = *moment;
+            write!(words, "later {moment}")
+        }
+        Deed::Moment => words.push_str("moment"),
         Deed::Call(call) => put_call(call, words),
         Deed::Refused { call, refusal } => {
             put_call(call, words)?;

@@ -41,7 +41,7 @@ impl Recording {
     /// # Errors
     /// An allocation failed.
     pub(crate) fn begin(&mut self) -> Result<(), AllocError> {
-        self.rows.push(&self.pair, None, None, None)
+        self.rows.push(&self.pair, Side::A, None, None, None)
     }
 
     /// The allocator.
@@ -83,6 +83,10 @@ impl Recording {
         match event {
             Event::Drawing { .. } => Ok(()),
             Event::At { moment } => self.wait(*moment),
+            Event::Later { side, moment } => {
+                self.show(*side, Some(Deed::Later { moment: *moment }), None)
+            }
+            Event::Moment { side } => self.show(*side, Some(Deed::Moment), None),
             Event::Open { .. } => self.call(Side::A, Call::Open, &outcome),
             Event::Connect { .. } => self.call(Side::A, Call::Connect, &outcome),
             Event::Build { side } => self.build(*side, &outcome),
@@ -105,7 +109,7 @@ impl Recording {
     /// Shows the time, at both endpoints.
     fn wait(&mut self, moment: u64) -> Result<(), AllocError> {
         let deed = Some(Deed::At { moment });
-        self.rows.push(&self.pair, deed, deed, None)
+        self.rows.push(&self.pair, Side::A, deed, deed, None)
     }
 
     /// Shows a call of an endpoint's user.
@@ -164,7 +168,7 @@ impl Recording {
                     number: *number,
                 };
                 let bytes = packet.bytes(&self.pair);
-                let wait = self.waits.left(side, bytes, self.pair.clock());
+                let wait = self.waits.left(side, bytes, self.pair.clock(side));
                 self.leave(side, *number, wait.map(|wait| Deed::Waited { wait }))
             }
             _ => self.show(side, Some(Deed::Quiet), None),
@@ -183,7 +187,7 @@ impl Recording {
         let deed = Deed::of_drop(outcome);
         if deed.is_none() {
             let bytes = packet.bytes(&self.pair);
-            self.waits.came(to, bytes, self.pair.clock());
+            self.waits.came(to, bytes, self.pair.clock(to));
         }
         if self.rows.has_just_left(packet) {
             self.rows.join(&self.pair, packet, deed);
@@ -196,7 +200,7 @@ impl Recording {
     /// Shows that a third party's packet arrives at an endpoint.
     fn meet(&mut self, to: Side, bytes: &[u8], outcome: &Outcome) -> Result<(), AllocError> {
         if Deed::of_drop(outcome).is_none() {
-            self.waits.came(to, bytes, self.pair.clock());
+            self.waits.came(to, bytes, self.pair.clock(to));
         }
         let bytes = Vec::from_slice(self.alloc, bytes)?;
         let index = self.strange.len();

@@ -6,9 +6,9 @@ use sctp_terms::{End, State};
 /// A row: an event, or the packet with which an endpoint answered it.
 #[derive(Clone, Copy)]
 pub(crate) struct Row {
-    /// The time, in milliseconds.
+    /// The time, in milliseconds, of the clock of the endpoint that acts; of A's if both do.
     pub(crate) moment: u64,
-    /// Whether it is the first row of its time.
+    /// Whether the row before has another time.
     pub(crate) begins: bool,
     pub(crate) at_a: Note,
     pub(crate) at_b: Note,
@@ -33,6 +33,9 @@ pub(crate) struct Standing {
 #[derive(Clone, Copy)]
 pub(crate) enum Deed {
     At { moment: u64 },
+    Later { moment: u64 },
+    /// It was notified of the time of its clock.
+    Moment,
     Call(Call),
     Refused { call: Call, refusal: Refusal },
     /// A packet leaves with a SACK that was delayed by this many milliseconds.

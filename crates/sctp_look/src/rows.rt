@@ -32,18 +32,19 @@ impl Rows {
         self.rows.len()
     }
 
-    /// Appends a row: the time of the pair, what both endpoints did, their states if these are new, and what goes between them.
+    /// Appends a row: the time of this endpoint's clock, what both endpoints did, their states if these are new, and what goes between them.
     ///
     /// # Errors
     /// An allocation failed.
     pub(crate) fn push(
         &mut self,
         pair: &Pair,
+        by: Side,
         at_a: Option<Deed>,
         at_b: Option<Deed>,
         arrow: Option<Arrow>,
     ) -> Result<(), AllocError> {
-        let moment = pair.clock();
+        let moment = pair.clock(by);
         let begins = self.rows.last().is_none_or(|row| row.moment != moment);
         let row = Row {
             moment,
@@ -56,7 +57,7 @@ impl Rows {
         Ok(())
     }
 
-    /// Appends a row in which one endpoint did something.
+    /// Appends a row in which one endpoint did something, at the time of its clock.
     ///
     /// # Errors
     /// An allocation failed.
@@ -68,8 +69,8 @@ impl Rows {
         arrow: Option<Arrow>,
     ) -> Result<(), AllocError> {
         match side {
-            Side::A => self.push(pair, deed, None, arrow),
-            Side::B => self.push(pair, None, deed, arrow),
+            Side::A => self.push(pair, side, deed, None, arrow),
+            Side::B => self.push(pair, side, None, deed, arrow),
         }
     }
 

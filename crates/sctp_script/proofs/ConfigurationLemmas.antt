@@ -28,7 +28,7 @@ of_alike c right = record {
   of_b = record { own_port = right.peer_port; peer_port = right.own_port; faultless = turned_fault c right.own_port right.peer_port ∙ right.faultless };
 }
 
--- a line about resets makes no pair
+-- a line of a further command makes no pair
 unlimited_pairs : (line : List ℕ) (c : Configuration) → SaysUnlimited line (Plain (Pairs c)) → Says true line (Pairs c)
 unlimited_pairs line c (inl (r, args, is, says)) = absurd says
 unlimited_pairs line c (inr (none, says)) = says

@@ -9,7 +9,7 @@ mod OptionNames
 mod OptionWords
 mod OptionsLeave
 mod OptionsDecided
-mod ResetLemmas
+mod FurtherLemmas
 mod PlacedLemmas
 mod ConfigurationLemmas
 mod PlaceLemmas

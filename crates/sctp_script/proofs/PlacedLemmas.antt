@@ -11,7 +11,7 @@ use Rattle.sctp_script.specs.Grammar.{LineMeaning, Silent, Pairs, Acts, Fault, S
 use Rattle.sctp_script.specs.declared.command.Command.TheVariants as command
 use Rattle.sctp_script.specs.Commands.{name_of}
 use Rattle.sctp_script.specs.LimitedSends.{LimitedValues, limited_fields, limited_send, AreLimited, IsLimitedSend, HasNoLimit}
-use Rattle.sctp_script.specs.ResetLines.{IsNoReset, SaysReset}
+use Rattle.sctp_script.specs.FurtherLines.{IsNotFurther, SaysFurther}
 use Rattle.sctp_script.specs.Options.{option_fields, set_option}
 use Rattle.sctp_script.specs.OptionLines.{GivenOption, Leave, IsOptionsLine, LeaveAt, LeaveBoth}
 use Rattle.sctp_script.specs.Places.{Place, Unpaired, Behind, Acted, PlacedMeaning, Plain, Configures, IsPlain, SaysPlain, SaysUnlimited, SaysPaired, OptionsSay, SaysAt, SaysOneThingAt}
@@ -20,7 +20,7 @@ use Rattle.sctp_script.proofs.LineLemmas.{first_and_others, first_of, others_of}
 use Rattle.sctp_text.proofs.WordValues.{same_or_not}
 use Rattle.sctp_text.specs.declared.limits.TheConstants.{LONGEST_LINE}
 use Rattle.sctp_script.proofs.EachLineSays.{says_one_thing}
-use Rattle.sctp_script.proofs.ResetLemmas.{reset_or_not, one_reset}
+use Rattle.sctp_script.proofs.FurtherLemmas.{further_or_not, one_further}
 use Rattle.sctp_script.proofs.OptionsLeave.{one_set, one_left}
 use Rattle.sctp_script.proofs.OptionsDecided.{is_or_not, one_ends_line, one_options_line}
 
@@ -94,23 +94,23 @@ one_limited : (say : WordsSay) (line : List ℕ) (us vs : LimitedValues) → IsL
 one_limited say line us vs a b =
     one_values say limited_fields b.args us vs (subst (λ (ws : List (List ℕ)). AreLimited ws us) (ap others_of (sym a.line_is ∙ b.line_is)) a.values) b.values
 
--- a line about resets says what its words say, and no other line about them does
+-- a line of a further command says what its words say, and it says nothing else
 unlimited_says_one : (say : WordsSay) (line : List ℕ) → (m : PlacedMeaning) × SaysUnlimited line m × ((n : PlacedMeaning) → SaysUnlimited line n → n ≡ m)
 unlimited_says_one say line =
-    elim (reset_or_not say line) [
-      | inl is ↦ (Plain is.0, inl is.1, reset_alone is.0 is.1)
+    elim (further_or_not say line) [
+      | inl is ↦ (Plain is.0, inl is.1, further_alone is.0 is.1)
       | inr none ↦ (Plain plain.meaning, inr (none, plain.says), plain_alone_here none)
     ]
   where
     plain : SaysOneThing true line
     plain = says_one_thing say true line
 
-    reset_alone : (m : LineMeaning) → SaysReset line m → (n : PlacedMeaning) → SaysUnlimited line n → n ≡ Plain m
-    reset_alone m is (Plain n) (inl says) = ap Plain (one_reset say line n m says is)
-    reset_alone m is (Plain n) (inr other) = absurd (other.0 is.0 is.1 is.2)
-    reset_alone m is (Configures c d) says = absurd says
+    further_alone : (m : LineMeaning) → SaysFurther line m → (n : PlacedMeaning) → SaysUnlimited line n → n ≡ Plain m
+    further_alone m is (Plain n) (inl says) = ap Plain (one_further say line n m says is)
+    further_alone m is (Plain n) (inr other) = absurd (other.0 is.0 is.1 is.2)
+    further_alone m is (Configures c d) says = absurd says
 
-    plain_alone_here : IsNoReset line → (n : PlacedMeaning) → SaysUnlimited line n → n ≡ Plain plain.meaning
+    plain_alone_here : IsNotFurther line → (n : PlacedMeaning) → SaysUnlimited line n → n ≡ Plain plain.meaning
     plain_alone_here none (Plain n) (inl says) = absurd (none says.0 says.1 says.2)
     plain_alone_here none (Plain n) (inr other) = ap Plain (plain.only n other.1)
     plain_alone_here none (Configures c d) says = absurd says

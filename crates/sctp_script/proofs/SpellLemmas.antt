@@ -23,9 +23,9 @@ use Rattle.sctp_script.proofs.FieldLemmas.{Given, AreGiven, first_value, other_v
 use Rattle.sctp_script.specs.Fields.{ATag, ANumber}
 use Rattle.sctp_script.specs.LimitedSends.{limited_send}
 use Rattle.sctp_script.specs.Places.{Place, Unpaired, Behind, Acted, Plain, SaysUnlimited, SaysPaired, SaysAt, is_paired}
-use Rattle.sctp_script.specs.ResetLines.{ResetValues, reset_wanted}
-use Rattle.sctp_script.specs.declared.reset_line.ResetCommand.{ResetCommand}
-use Rattle.sctp_script.specs.declared.reset_line.ResetCommand.TheVariants as reset_command
+use Rattle.sctp_script.specs.FurtherLines.{FurtherValues, further_wanted, AreOfFurther}
+use Rattle.sctp_script.specs.declared.further_line.FurtherCommand.{FurtherCommand}
+use Rattle.sctp_script.specs.declared.further_line.FurtherCommand.TheVariants as further_command
 
 -- ---- what is wanted may be
 
@@ -92,12 +92,14 @@ pub follows : (paired : Bool) (line : List ℕ) (w : Wanted) → Says paired lin
 follows true line w says = refl
 follows false line w says = absurd (says.0 PairOrder (says.1.0, says.1.1, says.1.2, not_pair says.1.0 says.1.1 w says.1.3))
 
-reset_can_be : (c : ResetCommand) (vs : ResetValues c) → CanBe (reset_wanted c vs)
-reset_can_be reset_command.Reset vs = tt
-reset_can_be reset_command.Resets vs = tt
+further_can_be : (c : FurtherCommand) (args : List (List ℕ)) (vs : FurtherValues c) → AreOfFurther c args vs → CanBe (further_wanted c vs)
+further_can_be further_command.Reset args vs are = tt
+further_can_be further_command.Resets args vs are = tt
+further_can_be further_command.Later args (x, (moment, rest)) (w, ws, is, side, (v, vs, at, number, others)) = number.1
+further_can_be further_command.Moment args vs are = tt
 
 unlimited_can_be : (line : List ℕ) (w : Wanted) → SaysUnlimited line (Plain (Acts w)) → CanBe w
-unlimited_can_be line w (inl (c, args, is, asks)) = subst CanBe (sym asks.2) (reset_can_be c asks.0)
+unlimited_can_be line w (inl (c, args, is, asks)) = subst CanBe (sym asks.2) (further_can_be c args asks.0 asks.1)
 unlimited_can_be line w (inr (none, says)) = can_be true line w says
 
 paired_can_be : (o : Bool) (line : List ℕ) (w : Wanted) → SaysPaired o line (Plain (Acts w)) → CanBe w

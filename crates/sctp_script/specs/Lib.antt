@@ -11,7 +11,7 @@ pub mod Options
 pub mod OptionLines
 pub mod OptionsAnswer
 pub mod LimitedSends
-pub mod ResetLines
+pub mod FurtherLines
 pub mod Places
 pub mod PlacedAnswer
 pub mod inner

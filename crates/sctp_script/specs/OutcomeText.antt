@@ -5,7 +5,7 @@ use Rattle.sctp_model.specs.sender.Abandoning as fate
 use Rattle.sctp_model.specs.sender.Abandoning.{AbandonAnswer}
 use Rattle.sctp_model.specs.end.UserCalls.{SendAnswer, Ticket, Refused, NotOpen}
 use Rattle.sctp_model.specs.world.World.{Side, A, B, other}
-use Rattle.sctp_model.specs.world.Events.{Build, Deliver, Send, Abandon, Take, Reset, WasReset, Shutdown, Abort, Outcome, Done, RefusedState, Sent, Quiet, Acted, Absent, Answered, NotActed, Told, Fate, Message, NoMessage, NoSuchReset, ResetThere, NoReset, AbortTooLong}
+use Rattle.sctp_model.specs.world.Events.{Later, Moment, Build, Deliver, Send, Abandon, Take, Reset, WasReset, Shutdown, Abort, Outcome, Done, RefusedState, Sent, Quiet, Acted, Absent, Answered, NotActed, Told, Fate, Message, NoMessage, NoSuchReset, ResetThere, NoReset, AbortTooLong}
 use Rattle.sctp_events.specs.Events.{Wanted, Happens, BringsBytes}
 use Rattle.sctp_words.specs.Fields.{kind_word}
 use Rattle.sctp_words.specs.Names.{number_word}
@@ -21,6 +21,8 @@ side_word B = codes "B"
 
 -- the endpoint that answers: for a packet that is delivered, the one at which it arrives; A for an event of neither, whose line names none
 abbrev pub end_named : Wanted → Side
+end_named (Happens (Later x m)) = x
+end_named (Happens (Moment x)) = x
 end_named (Happens (Build x)) = x
 end_named (Happens (Deliver x n)) = other x
 end_named (Happens (Send x c)) = x

@@ -5,7 +5,7 @@ use Rattle.sctp_words.specs.declared.line_fault.LineFault.TheVariants.{BadValue}
 use Rattle.sctp_script.specs.declared.option_name.Ends.{Ends}
 use Rattle.sctp_script.specs.Grammar.{LineMeaning, Silent, Pairs, Acts, Fault, Says}
 use Rattle.sctp_script.specs.LimitedSends.{LimitedValues, limited_send, IsLimitedSend, HasNoLimit}
-use Rattle.sctp_script.specs.ResetLines.{IsNoReset, SaysReset}
+use Rattle.sctp_script.specs.FurtherLines.{IsNotFurther, SaysFurther}
 use Rattle.sctp_script.specs.OptionLines.{GivenOption, IsOptionsLine, LeaveBoth}
 
 -- The place of a line: before the `pair` line; directly after the pair, whose endpoints have these configurations, and of which no line has asked
@@ -43,10 +43,11 @@ SaysPlain paired line (Configures a b) = ⊥
 
 -- What a line says that is neither one of options nor a `send` with a limit of retransmissions, in a script with a line of options.
 abbrev pub SaysUnlimited : List ℕ → PlacedMeaning → Type 0
-SaysUnlimited line (Plain m) = SaysReset line m ⊎ (IsNoReset line × Says true line m)
+SaysUnlimited line (Plain m) = SaysFurther line m ⊎ (IsNotFurther line × Says true line m)
 SaysUnlimited line (Configures a b) = ⊥
 
--- What a line says that isn't one of options, after the `pair` line. Only a script with a line of options has limits of retransmissions and resets.
+-- What a line says that isn't one of options, after the `pair` line. Only a script with a line of options has limits of retransmissions and the further
+-- commands.
 abbrev pub SaysPaired : (with_options : Bool) → List ℕ → PlacedMeaning → Type 0
 SaysPaired false line m = SaysPlain true line m
 SaysPaired true line m =

@@ -61,6 +61,8 @@ fn side_named(event: &Event) -> Side
             Side::A
         }
         Event::Deliver { side, .. } => side.other(),
+        Event::Later { side, .. } => *side,
+        Event::Moment { side } => *side,
         Event::Build { side } => *side,
         Event::Foreign { side, .. } => *side,
         Event::Send { side, .. } => *side,

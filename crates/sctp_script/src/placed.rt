@@ -8,7 +8,7 @@ ghost use Rattle.sctp_script.specs.inner.PlainAnswer.{FindsPlain, RefusesPlain, 
 use crate::limited_send::read_limited_send;
 use crate::line::{Acting, read_line};
 use crate::options::read_options;
-use crate::reset_line::read_reset_line;
+use crate::further_line::read_further_line;
 use sctp_events::{Event, PairConfig, TwoConfigs};
 use sctp_values::NoMemory;
 use sctp_words::LineError;
@@ -135,7 +135,7 @@ fn read_paired(alloc: Global, line: &[u8], with_options: bool) -> Result<Option<
 fn read_unlimited(alloc: Global, line: &[u8]) -> Result<Option<Placed>, LineError>
     ensures { MatchResult result (λ found. FindsUnlimited line.now found) (λ error. RefusesUnlimited line.now error) }
 {
-    match read_reset_line(line) {
+    match read_further_line(line) {
         Ok(Some(event)) => Ok(Some(Placed::Event(event))),
         Ok(None) => read_plain(alloc, line, true),
         Err(fault) => Err(LineError::Fault(fault)),

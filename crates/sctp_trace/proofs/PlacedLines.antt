@@ -4,7 +4,7 @@ use Rattle.sctp_model.specs.end.EndView.{Configuration}
 use Rattle.sctp_script.specs.Grammar.{Pairs, Says}
 use Rattle.sctp_script.specs.Places.{Place, Unpaired, Behind, Acted, Plain, Configures, SaysUnlimited, SaysPaired, SaysAt, is_paired}
 
--- a line about resets makes no pair
+-- a line of a further command makes no pair
 unlimited_plain : (line : List ℕ) (c : Configuration) → SaysUnlimited line (Plain (Pairs c)) → Says true line (Pairs c)
 unlimited_plain line c (inl (r, args, is, says)) = absurd says
 unlimited_plain line c (inr (none, says)) = says

@@ -1,7 +1,7 @@
 use Rattle.std.proofs.Common.{◌≡◌, [], length, refl, ap, arith}
 use Rattle.sctp_events.specs.Events.{side_meaning}
 use Rattle.sctp_script.proofs.FieldLemmas.{no_words}
-use Rattle.sctp_script.proofs.reset_line.read_reset.Goals as goal
+use Rattle.sctp_script.proofs.further_line.read_reset.Goals as goal
 
 pub returns : goal.returns
 returns c =
