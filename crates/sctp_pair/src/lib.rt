@@ -12,11 +12,13 @@
 //!   given key.
 //! - `Pair::of_two` and `Pair::of_two_with_key` make the same of two endpoints with configurations of their own. `open` between endpoints that
 //!   wouldn't agree is refused and changes nothing; `connect` opens them by packets.
-//! - `Pair::step` makes one step of the world and returns what that step answers: both endpoints opened without packets, time, random values,
-//!   a call, a packet built, one of a bag delivered, a third party's packet, a message sent, with or without a limit of retransmissions,
-//!   abandoned or taken, a stream reset, the peer's resets reported, shutdown, abort. If an allocation fails, an arriving packet has taken effect up to the failing chunk, and any other
-//!   event has changed nothing; only events that allocate can fail so (`TakesMemory` of `specs/Memory`), never random values, a call, the
-//!   report of a reset or a shutdown.
+//! - `Pair::step` makes one step of the world and returns what that step answers: both endpoints opened without packets, an endpoint's clock
+//!   that goes on, an endpoint notified of the time of its clock, both of these at both endpoints, random values, a call, a packet built, one
+//!   of a bag delivered, a third party's packet, a message sent, with or without a limit of retransmissions, abandoned or taken, a stream
+//!   reset, the peer's resets reported, shutdown, abort. If an allocation fails, an arriving packet has taken effect up to the failing chunk,
+//!   and any other event has changed nothing; only events that allocate can fail so (`TakesMemory` of `specs/Memory`), never a clock that goes
+//!   on alone, random values, a call, the report of a reset or a shutdown.
+//! - Each endpoint has a clock of its own; nothing compares the two. A time before a clock leaves it.
 //! - `Pair::run` makes the steps of several events and returns their answers.
 //! - **Both promise that the association is safe** (`Promised` of `specs/PairRuns`): if the course of the pair from its start meets the three
 //!   premises (FRESH: no third party's packet carries a tag that an endpoint generates in the run, or an INIT that proposes one;
