@@ -67,5 +67,5 @@ pub record AMessageArrivesByTwoClocks : Type 0 where
   pub again : last.a.sender.repeats 1 ≡ 1
   pub clock_a : last.clock_a ≡ 7000
   pub clock_b : last.clock_b ≡ 5
-  pub told_a : last.a.moment ≡ 7000
-  pub told_b : last.b.moment ≡ 5
+  pub moment_a : last.a.moment ≡ 7000
+  pub moment_b : last.b.moment ≡ 5

@@ -130,6 +130,6 @@ a_message_arrives_by_two_clocks = record {
   again = refl;
   clock_a = refl;
   clock_b = refl;
-  told_a = refl;
-  told_b = refl;
+  moment_a = refl;
+  moment_b = refl;
 }

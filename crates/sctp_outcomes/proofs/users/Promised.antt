@@ -9,7 +9,7 @@ use Rattle.sctp_model.specs.sender.SenderView.{Queued, IsDrained}
 use Rattle.sctp_model.specs.sender.Readers.{drained}
 use Rattle.sctp_model.specs.receiver.ReceiverView.{Handed, handed}
 use Rattle.sctp_model.specs.world.Calls.{Call}
-use Rattle.sctp_model.specs.world.Safe.{IsSent, WasHanded, IsHeldWhole, WasGivenUp as IsAskedUp}
+use Rattle.sctp_model.specs.world.Safe.{IsSent, WasHanded, IsHeldWhole, IsGivenUp as IsAskedUp}
 use Rattle.sctp_model.specs.end.EndView.{Ended, Completed, Phase, Idle, Listening, Calling, Echoing, Open, Over, ended_of, format_of}
 use Rattle.sctp_model.specs.world.World.{Side, A, B, other, World, end_of, log_of, Setup, start, configuration_of}
 use Rattle.sctp_model.specs.world.Steps.{last_of, PassesThrough}
